@@ -1,0 +1,6 @@
+//! Codec chains.
+#![tactic(auto)]
+
+pub mod order;
+
+pub use order::SubchunkWriteOrder;

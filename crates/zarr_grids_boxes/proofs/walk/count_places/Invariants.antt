@@ -1,0 +1,10 @@
+use Rattle.std.proofs.Common.{◌≡◌, ℕ, ◌<◌, ◌*◌, ◌^◌, get_or, drop}
+use Rattle.zarr_grids_boxes.specs.Boxes.{product}
+use Rattle.zarr_grids_boxes.proofs.walk.count_places.Given as goal
+
+abbrev pub invariant-loop-size : goal.invariant-loop-size
+invariant-loop-size l = record {
+  positive : 0 < product l.shape;
+  small : l.count < 2 ^ 63;
+  so_far : l.count * product (drop l.size-index l.shape) ≡ product l.shape;
+}

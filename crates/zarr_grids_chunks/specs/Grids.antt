@@ -1,0 +1,76 @@
+-- Chunk grids: in each dimension a function from chunk number to an interval.
+use Rattle.std.specs.Prelude.{◌≡◌, ℕ, ◌+◌, ◌-◌, ◌*◌, ◌/◌, ◌^◌, ◌<◌, List, [], ◌∷◌, map, replicate, length, Bool, true, false, ◌&&◌, nat_lt, if◌then◌else◌, Option, Some, None, option_map, option_and_then, is_some}
+use Rattle.std.specs.Option.{option_map_or}
+use Rattle.std.specs.List.{filter}
+use Rattle.zarr_grids_boxes.specs.Boxes.{Region, places, is_in_box, share_place}
+
+-- where a chunk lies along one dimension: its first number, and how many it has
+pub record Interval : Type 0 where
+  pub first : ℕ
+  pub count : ℕ
+
+-- one dimension of a grid
+pub data Dimension : Type 0 where
+  regular : (size edge : ℕ) → Dimension
+
+abbrev pub Grid : Type 0
+Grid = List Dimension
+
+-- the interval of a chunk number (Zarr core, regular grids: chunk k covers [k * edge, (k + 1) * edge))
+abbrev pub interval : Dimension → ℕ → Option Interval
+interval (regular size edge) k = Some (record { first = k * edge; count = edge })
+
+-- how many chunks the grid shape counts: the size divided by the edge, rounded up
+abbrev pub chunk_count : Dimension → ℕ
+chunk_count (regular size edge) = (size + (edge - 1)) / edge
+
+abbrev pub grid_shape : Grid → List ℕ
+grid_shape grid = map chunk_count grid
+
+-- an interval whose end passes 2^64 - 1 has no place in a box
+abbrev pub bounded : Interval → Option Interval
+bounded i = if nat_lt (i.first + i.count) (2 ^ 64) then Some i else None
+
+-- one dimension more of a box
+abbrev pub onto_box : Interval → Region → Region
+onto_box i box = record { start = i.first ∷ box.start; shape = i.count ∷ box.shape }
+
+-- the box of a chunk: the product of its intervals. A chunk whose end passes 2^64 - 1 has none
+abbrev pub chunk_box : Grid → List ℕ → Option Region
+chunk_box (d ∷ ds) (k ∷ ks) = option_and_then (λ i. option_map (onto_box i) (chunk_box ds ks)) (option_and_then bounded (interval d k))
+chunk_box [] [] = Some (record { start = []; shape = [] })
+chunk_box [] (k ∷ ks) = None
+chunk_box (d ∷ ds) [] = None
+
+-- whether a place lies in a chunk: in the chunk's box
+abbrev pub lies_in_chunk : Grid → List ℕ → List ℕ → Bool
+lies_in_chunk grid place chunk = option_map_or (λ box. is_in_box box.start box.shape place) (chunk_box grid chunk) false
+
+-- all chunk indices below the grid shape, row-major
+abbrev pub chunk_indices : Grid → List (List ℕ)
+chunk_indices grid = places (replicate (length grid) 0) (grid_shape grid)
+
+-- a chunk below the grid shape that has a box
+pub record IsBelow (grid : Grid) (chunk : List ℕ) (box : Region) : Type 0 where
+  pub below : is_in_box (replicate (length grid) 0) (grid_shape grid) chunk ≡ true
+  pub has_box : chunk_box grid chunk ≡ Some box
+
+-- a box of places has the grid's dimensions, and each place of it lies in a chunk below the grid shape
+pub record IsCovered (grid : Grid) (region : Region) : Type 0 where
+  pub rank : length region.start ≡ length grid
+  pub covered : (place : List ℕ) → is_in_box region.start region.shape place ≡ true
+    → (chunk : List ℕ) × (box : Region) × IsBelow grid chunk box × (is_in_box box.start box.shape place ≡ true)
+
+-- whether a chunk has a box that shares a place with a box of places
+abbrev pub is_met : Grid → Region → List ℕ → Bool
+is_met grid region chunk = option_map_or (λ box. share_place box.start box.shape region.start region.shape) (chunk_box grid chunk) false
+
+-- the chunks below the grid that share a place with a box, row-major
+abbrev pub met : Grid → Region → List (List ℕ)
+met grid region = filter (is_met grid region) (chunk_indices grid)
+
+-- the regular grid of an array's shape and its chunks' shape
+abbrev pub regular_grid : List ℕ → List ℕ → Grid
+regular_grid (n ∷ ns) (e ∷ es) = regular n e ∷ regular_grid ns es
+regular_grid [] es = []
+regular_grid (n ∷ ns) [] = []

@@ -1,0 +1,2 @@
+//! zarr_grids_chunks
+#![tactic(auto)]

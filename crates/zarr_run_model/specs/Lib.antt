@@ -1,0 +1,5 @@
+pub mod Tables
+pub mod Requests
+pub mod Worlds
+pub mod Steps
+pub mod Runs

@@ -1,0 +1,47 @@
+-- The arrays that a session holds, and how a store stands for them.
+use Rattle.std.specs.Prelude.{◌≡◌, ℕ, List, [], ◌∷◌, map, bytes_eq, if◌then◌else◌, Option, Some, None}
+use Rattle.std.specs.Ordering.{nat_cmp}
+use Rattle.std.specs.Cmp.Lexicographic.{slice_cmp}
+use Rattle.std.specs.FinMap.{FinMap, get, empty}
+use Rattle.zarr_grids_boxes.specs.Boxes.{Region, places}
+use Rattle.zarr_grids_chunks.specs.Grids.{IsBelow}
+use Rattle.zarr_grids_keys.specs.Keys.{chunk_key}
+use Rattle.zarr_codecs_cells.specs.Cells.{Cell}
+use Rattle.zarr_codecs_chain.specs.Chain.{ChunkStands}
+use Rattle.zarr_codecs_chain.specs.declared.order.SubchunkWriteOrder.{SubchunkWriteOrder}
+use Rattle.zarr_array_documents.specs.Documents.{Document}
+use Rattle.zarr_run_model.specs.Tables.{Table}
+
+-- an array that is held: its path, its document, its write order and its table
+pub record Held : Type 0 where
+  pub path : List ℕ
+  pub document : Document
+  pub order : SubchunkWriteOrder
+  pub table : Table
+
+-- the arrays that are held
+abbrev pub World : Type 0
+World = List Held
+
+-- the array that is held at a path, if there is one
+abbrev pub held_at : List ℕ → World → Option Held
+held_at path [] = None
+held_at path (h ∷ hs) = if bytes_eq path h.path then Some h else held_at path hs
+
+-- a new array: all its cells are the fill value
+abbrev pub begun : List ℕ → Document → SubchunkWriteOrder → Held
+begun path document order = record { path = path; document = document; order = order; table = empty }
+
+-- the arrays with another table at a path
+abbrev pub with_table : List ℕ → Table → World → World
+with_table path table [] = []
+with_table path table (h ∷ hs) = if bytes_eq path h.path then record h { table = table } ∷ hs else h ∷ with_table path table hs
+
+-- what a store maps its keys to
+abbrev pub StoreMap : Type 0
+StoreMap = FinMap (slice_cmp nat_cmp) (List ℕ)
+
+-- for each chunk below the grid shape that has a box, what is stored under its key stands for the cells of its box
+abbrev pub StoreStands : List ℕ → Document → StoreMap → (List ℕ → Cell) → Type 0
+StoreStands path document store cells = (chunk : List ℕ) (box : Region) → IsBelow document.grid chunk box
+    → ChunkStands document.chain document.fill (get store (chunk_key path document.keys chunk)) (map cells (places box.start box.shape))
