@@ -1,2 +1,4 @@
-//! zarr_grids_chunks
+//! Chunk grids: which chunks there are, where they lie, and which of them a box of places meets.
 #![tactic(auto)]
+
+pub mod regular;

@@ -1,0 +1,5 @@
+pub mod Sharing
+pub mod Filters
+pub mod RegularChunks
+pub mod Covers
+pub mod ChunksMet
