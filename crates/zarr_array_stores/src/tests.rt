@@ -1,0 +1,27 @@
+use crate::MemoryStore;
+use std::test::Fail;
+
+#[test]
+fn keeps_values(rt: HostRuntime) -> Result<(), Fail> {
+    let alloc = rt.alloc();
+    let mut store = MemoryStore::new(alloc);
+    assert!(rt; store.is_empty());
+    store.set("b/c/1", vec![in alloc; 1, 2, 3]?)?;
+    store.set("a", Vec::new(alloc))?;
+    store.set("b", vec![in alloc; 4]?)?;
+    store.set("b/c/1", vec![in alloc; 5, 6]?)?;
+    assert_eq!(rt; store.len(), 3);
+    assert_eq!(rt; store.get("b/c/1"), Some([5, 6].as_slice()));
+    assert_eq!(rt; store.size_key("b/c/1"), Some(2));
+    assert_eq!(rt; store.size_key("a"), Some(0));
+    assert!(rt; store.get("c").is_none());
+    store.erase("b");
+    store.erase("c");
+    assert!(rt; !store.contains_key("b"));
+    assert!(rt; store.contains_key("a"));
+    let keys = store.list()?;
+    assert_eq!(rt; keys.len(), 2);
+    assert_eq!(rt; keys[0].as_str(), "a");
+    assert_eq!(rt; keys[1].as_str(), "b/c/1");
+    Ok(())
+}

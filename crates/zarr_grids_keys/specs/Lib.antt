@@ -1,0 +1,5 @@
+pub mod Encodings
+pub mod Keys
+pub mod Laws
+pub mod Paths
+pub mod Separators
