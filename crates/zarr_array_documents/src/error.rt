@@ -1,0 +1,39 @@
+//! Why a document is refused, in the order of the checks.
+ghost use Rattle.std.specs.Prelude.{◌≡◌};
+ghost use Rattle.zarr_array_documents.specs.declared.error.DocumentError.TheVariants.{Memory};
+
+use std::alloc::AllocError;
+use thiserror::Error;
+
+/// The first check that refuses a document.
+#[derive(Clone, Copy, Debug, PartialEq, Eq, Error)]
+pub enum DocumentError {
+    /// A required field is missing or of another kind.
+    #[error("a required field is missing or of another kind")]
+    Fields,
+    /// A field is not known.
+    #[error("a field is not known")]
+    AdditionalField,
+    #[error("the codecs are not supported")]
+    Codecs,
+    #[error("the data type is not supported")]
+    DataTypes,
+    #[error("the chunk grid is not supported")]
+    ChunkGrid,
+    #[error("the chunk grid has another dimensionality than the array")]
+    Dimensionality,
+    #[error("the fill value is not a value of the data type")]
+    FillValue,
+    #[error("the chunk key encoding is not supported")]
+    ChunkKeyEncoding,
+    #[error("out of memory")]
+    Memory,
+}
+
+impl From<AllocError> for DocumentError {
+    ghost from_gives = { λ _ e. e ≡ Memory };
+
+    fn from(_error: AllocError) -> DocumentError {
+        DocumentError::Memory
+    }
+}
