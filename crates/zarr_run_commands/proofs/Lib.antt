@@ -1,0 +1,4 @@
+pub mod Taken
+pub mod Pairs
+pub mod Printed
+pub mod Appended

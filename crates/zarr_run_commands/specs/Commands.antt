@@ -1,0 +1,41 @@
+-- Commands and replies without the memory that holds them.
+use Rattle.std.specs.Prelude.{string_bytes}
+use Rattle.serde_json.specs.View.{view}
+use Rattle.zarr_grids_boxes.specs.Boxes.{Region}
+use Rattle.zarr_grids_boxes.specs.declared.subset.ArraySubset.{ArraySubset}
+use Rattle.zarr_codecs_cells.specs.Cells.{Payload, fixed}
+use Rattle.zarr_codecs_cells.specs.Json.{GivenCells, given_bytes, given_json}
+use Rattle.zarr_codecs_cells.specs.declared.array_bytes.ArrayBytes.{ArrayBytes}
+use Rattle.zarr_codecs_cells.specs.declared.array_bytes.ArrayBytes.TheVariants.{Fixed}
+use Rattle.zarr_run_model.specs.Requests.{Request, create, write_box, read_box, Answer, done, cells, refused}
+use Rattle.zarr_run_commands.specs.declared.command.CommandCells.{CommandCells}
+use Rattle.zarr_run_commands.specs.declared.command.CommandCells.TheVariants.{Bytes, Json}
+use Rattle.zarr_run_commands.specs.declared.command.Command.{Command}
+use Rattle.zarr_run_commands.specs.declared.command.Command.TheVariants.{Create, WriteBox, ReadBox}
+use Rattle.zarr_run_commands.specs.declared.command.Reply.{Reply}
+use Rattle.zarr_run_commands.specs.declared.command.Reply.TheVariants.{Done, Cells, Refused}
+
+-- the box that a subset is
+abbrev pub region_of : ArraySubset → Region
+region_of subset = record { start = subset.start.items; shape = subset.shape.items }
+
+-- the payload that array bytes are
+abbrev pub payload_of : ArrayBytes → Payload
+payload_of (Fixed bytes) = fixed bytes.items
+
+-- the cells that a command gives
+abbrev pub given : CommandCells → GivenCells
+given (Bytes bytes) = given_bytes (payload_of bytes)
+given (Json value) = given_json (view value)
+
+-- what a command asks
+abbrev pub asked : Command → Request
+asked (Create path document order) = create (string_bytes path) (view document) order
+asked (WriteBox path region values options) = write_box (string_bytes path) (region_of region) (given values) options
+asked (ReadBox path region options) = read_box (string_bytes path) (region_of region) options
+
+-- what a reply answers
+abbrev pub answered : Reply → Answer
+answered Done = done
+answered (Cells bytes) = cells (payload_of bytes)
+answered (Refused cause applied) = refused cause applied

@@ -1,0 +1,4 @@
+pub mod Commands
+pub mod Lines
+pub mod Answers
+pub mod Texts

@@ -1,0 +1,117 @@
+//! The fields of a line that are not taken as they stand.
+ghost use Rattle.std.specs.Prelude.{◌≡◌, ◌+◌, ◌^◌, ◌<◌, IfOk, IfSome, option_map};
+ghost use Rattle.serde_json.specs.View.{view, items_view, members_view};
+ghost use Rattle.zarr_run_commands.specs.Commands.{region_of};
+ghost use Rattle.zarr_run_commands.specs.Lines.{order_named, order_of, flag, options_of, line_options_of, interval_of, interval_in, region_of_pairs, box_of};
+
+use crate::members;
+use serde_json::{Map, Value};
+use std::alloc::{AllocError, Global};
+use zarr_codecs_cells::CodecOptions;
+use zarr_codecs_chain::SubchunkWriteOrder;
+use zarr_grids_boxes::ArraySubset;
+
+/// The write order of a line, `Unordered` where it has none.
+pub(crate) fn order(line: &Map<String, Value>) -> Option<SubchunkWriteOrder>
+    ensures { result ≡ order_of (members_view line.now.entries) }
+{
+    match members::member(line, "order") {
+        Some(order) => order_from_name(order.as_str()?),
+        None => Some(SubchunkWriteOrder::Unordered),
+    }
+}
+
+fn order_from_name(name: &str) -> Option<SubchunkWriteOrder>
+    ensures { result ≡ order_named name.now }
+{
+    match name {
+        "C" => Some(SubchunkWriteOrder::C),
+        "Unordered" => Some(SubchunkWriteOrder::Unordered),
+        "Random" => Some(SubchunkWriteOrder::Random),
+        _ => None,
+    }
+}
+
+/// The options of a line, all false where it has none.
+pub(crate) fn options(line: &Map<String, Value>) -> Option<CodecOptions>
+    ensures { result ≡ line_options_of (members_view line.now.entries) }
+{
+    match members::member(line, "options") {
+        Some(options) => read_options(options.as_object()?),
+        None => Some(CodecOptions {
+            store_empty_chunks: false,
+            experimental_partial_encoding: false,
+            workers: false,
+        }),
+    }
+}
+
+fn read_options(options: &Map<String, Value>) -> Option<CodecOptions>
+    ensures { result ≡ options_of (members_view options.now.entries) }
+{
+    if !members::has_only(options, &["partial", "empty", "workers"]) {
+        return None;
+    }
+    Some(CodecOptions {
+        experimental_partial_encoding: read_flag(options, "partial")?,
+        store_empty_chunks: read_flag(options, "empty")?,
+        workers: read_flag(options, "workers")?,
+    })
+}
+
+fn read_flag(options: &Map<String, Value>, name: &str) -> Option<bool>
+    ensures { result ≡ flag name.now (members_view options.now.entries) }
+{
+    match members::member(options, name) {
+        Some(value) => value.as_bool(),
+        None => Some(false),
+    }
+}
+
+/// The box of a line.
+pub(crate) fn region(
+    alloc: Global,
+    line: &Map<String, Value>,
+) -> Result<Option<ArraySubset>, AllocError>
+    ensures { IfOk result (λ found. option_map region_of found ≡ box_of (members_view line.now.entries)) }
+{
+    match members::member(line, "box") {
+        Some(Value::Array(pairs)) => read_region(alloc, pairs.as_slice()),
+        _ => Ok(None),
+    }
+}
+
+fn read_region(alloc: Global, pairs: &[Value]) -> Result<Option<ArraySubset>, AllocError>
+    ensures { IfOk result (λ found. option_map region_of found ≡ region_of_pairs (items_view pairs.now)) }
+{
+    let mut start = Vec::with_capacity(alloc, pairs.len())?;
+    let mut shape = Vec::with_capacity(alloc, pairs.len())?;
+    for pair in pairs {
+        let Some((first, size)) = read_interval(pair) else {
+            return Ok(None);
+        };
+        start.push(first)?;
+        shape.push(size)?;
+    }
+    Ok(Some(ArraySubset { start, shape }))
+}
+
+/// Where an interval starts and how long it is.
+fn read_interval(interval: &Value) -> Option<(u64, u64)>
+    ensures value { result ≡ interval_in (view interval.now) }
+    ensures fits { IfSome result (λ interval. interval.0 + interval.1 < 2 ^ 64) }
+{
+    read_pair(interval.as_array()?.as_slice())
+}
+
+fn read_pair(pair: &[Value]) -> Option<(u64, u64)>
+    ensures value { result ≡ interval_of (items_view pair.now) }
+    ensures fits { IfSome result (λ interval. interval.0 + interval.1 < 2 ^ 64) }
+{
+    let [start, end] = pair else {
+        return None;
+    };
+    let start = start.as_u64()?;
+    let end = end.as_u64()?;
+    Some((start, end.saturating_sub(start)))
+}

@@ -1,0 +1,15 @@
+//! Commands and replies of a session, and their lines.
+#![tactic(auto)]
+
+pub mod answer;
+pub mod command;
+mod field;
+pub mod line;
+mod members;
+mod operation;
+#[cfg(test)]
+mod tests;
+
+pub use answer::write_answer;
+pub use command::{Command, CommandCells, Reply};
+pub use line::read_command;

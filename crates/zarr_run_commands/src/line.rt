@@ -1,0 +1,108 @@
+//! The commands of lines.
+ghost use Rattle.std.specs.Prelude.{◌≡◌, IfOk, option_map};
+ghost use Rattle.serde_json.specs.View.{view, members_view};
+ghost use Rattle.zarr_run_commands.specs.Commands.{asked};
+ghost use Rattle.zarr_run_commands.specs.Lines.{Says, request_in, request_of, request_by};
+
+use crate::command::{Command, CommandCells};
+use crate::operation::Operation;
+use crate::{field, members};
+use serde_json::{Map, Value};
+use std::alloc::{AllocError, Global};
+
+/// The command of a line, or `None` where the line is no command.
+pub fn read_command(alloc: Global, line: &[u8]) -> Result<Option<Command>, AllocError>
+    ensures { IfOk result (λ said. Says line.now (option_map asked said)) }
+{
+    match Value::from_slice(alloc, line) {
+        Ok(value) => command_in(alloc, value),
+        Err(e) => {
+            if e.is_memory() {
+                return Err(AllocError);
+            }
+            Ok(None)
+        }
+    }
+}
+
+/// The command that a JSON value asks.
+fn command_in(alloc: Global, value: Value) -> Result<Option<Command>, AllocError>
+    ensures { IfOk result (λ said. option_map asked said ≡ request_in (view value)) }
+{
+    match value {
+        Value::Object(line) => command_of(alloc, line),
+        _ => Ok(None),
+    }
+}
+
+/// The command that an object's members ask.
+fn command_of(alloc: Global, line: Map<String, Value>) -> Result<Option<Command>, AllocError>
+    ensures { IfOk result (λ said. option_map asked said ≡ request_of (members_view line.entries)) }
+{
+    let Some(operation) = Operation::of_members(&line) else {
+        return Ok(None);
+    };
+    if !operation.has_fields(&line) {
+        return Ok(None);
+    }
+    match operation {
+        Operation::Create => Ok(create(line)),
+        Operation::WriteBox => write_box(alloc, line),
+        Operation::ReadBox => read_box(alloc, line),
+    }
+}
+
+fn create(mut line: Map<String, Value>) -> Option<Command>
+    ensures { option_map asked result ≡ request_by Operation.Create (members_view line.entries) }
+{
+    let order = field::order(&line)?;
+    let path = members::take_text(&mut line, "path")?;
+    let document = members::take(&mut line, "document")?;
+    Some(Command::Create {
+        path,
+        document,
+        order,
+    })
+}
+
+fn write_box(alloc: Global, mut line: Map<String, Value>) -> Result<Option<Command>, AllocError>
+    ensures { IfOk result (λ said. option_map asked said ≡ request_by Operation.WriteBox (members_view line.entries)) }
+{
+    let Some(options) = field::options(&line) else {
+        return Ok(None);
+    };
+    let Some(region) = field::region(alloc, &line)? else {
+        return Ok(None);
+    };
+    let Some(path) = members::take_text(&mut line, "path") else {
+        return Ok(None);
+    };
+    let Some(cells) = members::take(&mut line, "cells") else {
+        return Ok(None);
+    };
+    Ok(Some(Command::WriteBox {
+        path,
+        region,
+        cells: CommandCells::Json(cells),
+        options,
+    }))
+}
+
+fn read_box(alloc: Global, mut line: Map<String, Value>) -> Result<Option<Command>, AllocError>
+    ensures { IfOk result (λ said. option_map asked said ≡ request_by Operation.ReadBox (members_view line.entries)) }
+{
+    let Some(options) = field::options(&line) else {
+        return Ok(None);
+    };
+    let Some(region) = field::region(alloc, &line)? else {
+        return Ok(None);
+    };
+    let Some(path) = members::take_text(&mut line, "path") else {
+        return Ok(None);
+    };
+    Ok(Some(Command::ReadBox {
+        path,
+        region,
+        options,
+    }))
+}

@@ -1,0 +1,51 @@
+//! What a line asks for.
+ghost use Rattle.std.specs.Prelude.{◌≡◌};
+ghost use Rattle.serde_json.specs.View.{members_view};
+ghost use Rattle.zarr_array_documents.specs.Documents.{has_only};
+ghost use Rattle.zarr_run_commands.specs.Lines.{operation_named, operation_of, field_names};
+
+use crate::members;
+use serde_json::{Map, Value};
+
+/// The operations that a line may name.
+#[derive(Clone, Copy)]
+pub(crate) enum Operation {
+    Create,
+    WriteBox,
+    ReadBox,
+}
+
+impl Operation {
+    /// The operation that a line's members name.
+    pub(crate) fn of_members(members: &Map<String, Value>) -> Option<Operation>
+        ensures { result ≡ operation_of (members_view members.now.entries) }
+    {
+        let name = members::member(members, "op")?.as_str()?;
+        Operation::from_name(name)
+    }
+
+    /// The operation with this name.
+    fn from_name(name: &str) -> Option<Operation>
+        ensures { result ≡ operation_named name.now }
+    {
+        match name {
+            "create" => Some(Operation::Create),
+            "write_box" => Some(Operation::WriteBox),
+            "read_box" => Some(Operation::ReadBox),
+            _ => None,
+        }
+    }
+
+    /// Whether the operation has a field for each of these members.
+    pub(crate) fn has_fields(self, members: &Map<String, Value>) -> bool
+        ensures { result ≡ has_only (field_names self) (members_view members.now.entries) }
+    {
+        match self {
+            Operation::Create => members::has_only(members, &["op", "path", "document", "order"]),
+            Operation::WriteBox => {
+                members::has_only(members, &["op", "path", "box", "cells", "options"])
+            }
+            Operation::ReadBox => members::has_only(members, &["op", "path", "box", "options"]),
+        }
+    }
+}
