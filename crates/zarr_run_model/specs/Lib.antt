@@ -1,3 +1,4 @@
+pub mod Changes
 pub mod Tables
 pub mod Requests
 pub mod Worlds

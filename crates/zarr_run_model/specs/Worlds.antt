@@ -1,8 +1,6 @@
 -- The arrays that a session holds, and how a store stands for them.
 use Rattle.std.specs.Prelude.{◌≡◌, ℕ, List, [], ◌∷◌, map, bytes_eq, if◌then◌else◌, Option, Some, None}
-use Rattle.std.specs.Ordering.{nat_cmp}
-use Rattle.std.specs.Cmp.Lexicographic.{slice_cmp}
-use Rattle.std.specs.FinMap.{FinMap, get, empty}
+use Rattle.std.specs.FinMap.{get, empty}
 use Rattle.zarr_grids_boxes.specs.Boxes.{Region, places}
 use Rattle.zarr_grids_chunks.specs.Grids.{IsBelow}
 use Rattle.zarr_grids_keys.specs.Keys.{chunk_key}
@@ -10,6 +8,7 @@ use Rattle.zarr_codecs_cells.specs.Cells.{Cell}
 use Rattle.zarr_codecs_chain.specs.Chain.{ChunkStands}
 use Rattle.zarr_codecs_chain.specs.declared.order.SubchunkWriteOrder.{SubchunkWriteOrder}
 use Rattle.zarr_array_documents.specs.Documents.{Document}
+use Rattle.zarr_array_stores.specs.StoreMaps.{StoreMap}
 use Rattle.zarr_run_model.specs.Tables.{Table}
 
 -- an array that is held: its path, its document, its write order and its table
@@ -36,10 +35,6 @@ begun path document order = record { path = path; document = document; order = o
 abbrev pub with_table : List ℕ → Table → World → World
 with_table path table [] = []
 with_table path table (h ∷ hs) = if bytes_eq path h.path then record h { table = table } ∷ hs else h ∷ with_table path table hs
-
--- what a store maps its keys to
-abbrev pub StoreMap : Type 0
-StoreMap = FinMap (slice_cmp nat_cmp) (List ℕ)
 
 -- for each chunk below the grid shape that has a box, what is stored under its key stands for the cells of its box
 abbrev pub StoreStands : List ℕ → Document → StoreMap → (List ℕ → Cell) → Type 0

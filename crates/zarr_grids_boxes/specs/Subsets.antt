@@ -1,0 +1,6 @@
+-- The box that a subset is.
+use Rattle.zarr_grids_boxes.specs.Boxes.{Region}
+use Rattle.zarr_grids_boxes.specs.declared.subset.ArraySubset.{ArraySubset}
+
+abbrev pub region_of : ArraySubset → Region
+region_of subset = record { start = subset.start.items; shape = subset.shape.items }

@@ -1,0 +1,215 @@
+-- A write of a box, chunk by chunk.
+use Rattle.std.proofs.Common.{◌≡◌, ◌≢◌, ◌∙◌, ℕ, zero, suc, ◌+◌, ◌-◌, ◌*◌, ◌/◌, ◌^◌, ◌<◌, ◌≤◌, Bool, true, false, cond, if◌then◌else◌, ◌&&◌, ◌||◌, List, [], ◌∷◌, ◌++◌, length, map, get_or, take, replicate, refl, sym, ap, subst, ◌⊎◌, inl, inr, ⊎_elim, arith, Option, Some, None, MatchOption, All, IsTrue, bytes_eq}
+use Rattle.std.specs.Option.{option_map_or}
+use Rattle.std.specs.List.{range_with_len, flat_map, list_any}
+use Rattle.std.specs.FinMap.{get}
+use Rattle.std.proofs.Math.Bool.{and-true, and-false}
+use Rattle.std.proofs.Math.Nat.{le-mul_of_pos_right}
+use Rattle.std.proofs.lemmas.Slice.Eq.{bytes_eq-Decides}
+use Rattle.std.proofs.lemmas.Bool.{false≢true}
+use Rattle.std.proofs.lemmas.List.Folds.{list_any_at}
+use Rattle.std.proofs.lemmas.List.FromFn.{get_or-map-range_with_len, length-map-range_with_len}
+use Rattle.zarr_grids_boxes.specs.Boxes.{Region, product, places, place_at, ravel, each2, is_in_box, share_place, EndsFit, IsSmall}
+use Rattle.zarr_grids_boxes.specs.Laid.{laid, HasWidth, overlaid}
+use Rattle.zarr_grids_boxes.proofs.Dimensions.{positive_at, ravel_below}
+use Rattle.zarr_grids_boxes.proofs.Places.{length-each2, places_by_number, in_box_below}
+use Rattle.zarr_grids_boxes.proofs.InBox.{place_at-number}
+use Rattle.zarr_grids_chunks.specs.Grids.{Grid, IsBelow, IsCovered, chunk_box, lies_in_chunk, is_met, met, chunk_indices, regular_grid, grid_shape}
+use Rattle.zarr_grids_chunks.specs.Regular.{origin_of}
+use Rattle.zarr_grids_chunks.proofs.Filters.{told, any-filter, filter-any}
+use Rattle.zarr_grids_chunks.proofs.Sharing.{share_place-of}
+use Rattle.zarr_grids_chunks.proofs.RegularChunks.{chunk_box-regular, chunks_apart, length-regular_grid}
+use Rattle.zarr_grids_keys.specs.Keys.{KeyEncoding, chunk_key}
+use Rattle.zarr_grids_keys.specs.Laws.{has_separator}
+use Rattle.zarr_grids_keys.proofs.KeyLemmas.{chunk_key-injective}
+use Rattle.zarr_codecs_cells.specs.Cells.{DataType, uint8, Cell, is_value}
+use Rattle.zarr_codecs_chain.specs.Chain.{Chain, bytes, encoded, ChunkStands}
+use Rattle.zarr_array_documents.specs.Documents.{Document}
+use Rattle.zarr_array_documents.specs.Meanings.{meaning_of}
+use Rattle.zarr_array_documents.specs.declared.document.ArrayDocument.{ArrayDocument}
+use Rattle.zarr_array_stores.specs.StoreMaps.{StoreMap}
+use Rattle.zarr_run_model.specs.Changes.{with_chunks}
+use Rattle.zarr_run_model.specs.Worlds.{StoreStands}
+use Rattle.zarr_run_array.specs.Contents.{AreValues, WroteChunks, put}
+use Rattle.zarr_run_array.proofs.Standing.{values_width, encoded-laid, map-in_box, laid-in_box, put_same, put_other, put_stands}
+
+-- ---- a chunk's numbers are small
+get_or-each2 : (f : ℕ → ℕ → ℕ) (xs ys : List ℕ) (k : ℕ) → k < length xs → length xs ≡ length ys → get_or (each2 f xs ys) k 0 ≡ f (get_or xs k 0) (get_or ys k 0)
+get_or-each2 f [] ys k h l = absurd (omega arith)
+get_or-each2 f (x ∷ xs) [] k h l = absurd (omega arith)
+get_or-each2 f (x ∷ xs) (y ∷ ys) zero h l = refl
+get_or-each2 f (x ∷ xs) (y ∷ ys) (suc k) h l = get_or-each2 f xs ys k (omega arith) (omega arith)
+
+pub chunk_small : (es chunk : List ℕ) → 0 < product es → length chunk ≡ length es → EndsFit (origin_of es chunk) es → IsSmall chunk
+chunk_small es chunk pos l f k h =
+    let g : k < length es = omega arith in
+    let o = length-each2 (λ k e. k * e) chunk es l in
+    let e = get_or-each2 (λ k e. k * e) chunk es k h l in
+    let b = f k (omega arith) in
+    let m = le-mul_of_pos_right (get_or chunk k 0) (positive_at es k g pos) in
+    omega arith
+
+-- ---- a chunk of a document's grid
+pub record IsRegularBox (document : ArrayDocument) (chunk : List ℕ) (box : Region) : Type 0 where
+  pub is : box ≡ record { start = origin_of document.chunk_shape.items chunk; shape = document.chunk_shape.items }
+  pub rank : length box.start ≡ length box.shape
+  pub chunk_rank : length chunk ≡ length document.chunk_shape.items
+  pub fits : EndsFit (origin_of document.chunk_shape.items chunk) document.chunk_shape.items
+  pub small : IsSmall chunk
+
+pub regular_box : (document : ArrayDocument) (chunk : List ℕ) (box : Region) → chunk_box (meaning_of document).grid chunk ≡ Some box → IsRegularBox document chunk box
+regular_box document chunk box h =
+    let r = chunk_box-regular document.shape.items document.chunk_shape.items chunk box document.same h in
+    let n = length-each2 (λ k e. k * e) chunk document.chunk_shape.items r.1 in
+    record {
+      is = r.0;
+      rank = ap (λ (b : Region). length b.start) r.0 ∙ (n ∙ r.1) ∙ sym (ap (λ (b : Region). length b.shape) r.0);
+      chunk_rank = r.1;
+      fits = r.2;
+      small = chunk_small document.chunk_shape.items chunk document.positive r.1 r.2;
+    }
+
+-- where a place of a chunk lies
+pub lies_here : (grid : Grid) (chunk p : List ℕ) (box : Region) → chunk_box grid chunk ≡ Some box → lies_in_chunk grid p chunk ≡ is_in_box box.start box.shape p
+lies_here grid chunk p box h = ap (λ o. option_map_or (λ (b : Region). is_in_box b.start b.shape p) o false) h
+
+lies_has : (grid : Grid) (chunk p : List ℕ) → lies_in_chunk grid p chunk ≡ true → (box : Region) × (chunk_box grid chunk ≡ Some box) × (is_in_box box.start box.shape p ≡ true)
+lies_has grid chunk p h = go (chunk_box grid chunk) refl h where
+  go : (o : Option Region) → chunk_box grid chunk ≡ o → option_map_or (λ (b : Region). is_in_box b.start b.shape p) o false ≡ true → (box : Region) × (chunk_box grid chunk ≡ Some box) × (is_in_box box.start box.shape p ≡ true)
+  go None e t = absurd (false≢true t)
+  go (Some b) e t = (b, e, t)
+
+-- ---- one chunk written
+separated : (document : ArrayDocument) → IsTrue (has_separator (meaning_of document).keys)
+separated document = refl
+
+pub one_chunk : (path : List ℕ) (document : ArrayDocument) (region : Region) (given cells : List ℕ → Cell) (chunk : List ℕ) (box : Region) (s : Bool) (old : StoreMap) (value : List ℕ)
+  → AreValues uint8 given → AreValues uint8 cells → IsBelow (meaning_of document).grid chunk box
+  → value ≡ laid (overlaid region.start region.shape given cells) box.start box.shape
+  → StoreStands path (meaning_of document) old cells
+  → StoreStands path (meaning_of document) (put s document.fill_value old (chunk_key path (meaning_of document).keys chunk) value) (with_chunks (meaning_of document).grid region (chunk ∷ []) given cells)
+one_chunk path document region given cells chunk box s old value vg vc below is st d other b = ⊎_elim (λ t. same ((bytes_eq-Decides d chunk).0 t)) (λ t. apart (λ e. false≢true (sym t ∙ (bytes_eq-Decides d chunk).1 e))) (told (bytes_eq d chunk)) where
+  grid : Grid
+  grid = (meaning_of document).grid
+  new_cells : List ℕ → Cell
+  new_cells = with_chunks (meaning_of document).grid region (chunk ∷ []) given cells
+  overlay_width : HasWidth 1 (overlaid region.start region.shape given cells)
+  overlay_width p = elim (is_in_box region.start region.shape p) as (λ t. length (if t then given p else cells p) ≡ 1) [ true ↦ values_width given vg p | false ↦ values_width cells vc p ]
+  here : (p : List ℕ) → is_in_box other.start other.shape p ≡ true → d ≡ chunk → overlaid region.start region.shape given cells p ≡ with_chunks (meaning_of document).grid region (chunk ∷ []) given cells p
+  here p t e =
+      let l : lies_in_chunk (meaning_of document).grid p chunk ≡ true = ap (λ k. lies_in_chunk (meaning_of document).grid p k) (sym e) ∙ lies_here (meaning_of document).grid d p other b.has_box ∙ t in
+      sym (ap (λ a. if is_in_box region.start region.shape p && (a || false) then given p else cells p) l ∙ ap (λ a. if a then given p else cells p) (and-true (is_in_box region.start region.shape p)))
+  same : d ≡ chunk → ChunkStands bytes (document.fill_value ∷ []) (get (put s document.fill_value old (chunk_key path (meaning_of document).keys chunk) value) (chunk_key path (meaning_of document).keys d)) (map (with_chunks (meaning_of document).grid region (chunk ∷ []) given cells) (places other.start other.shape))
+  same e =
+      let o : Some box ≡ Some other = sym below.has_box ∙ ap (chunk_box (meaning_of document).grid) (sym e) ∙ b.has_box in
+      let q : box ≡ other = cc in
+      let v : value ≡ flat_map (overlaid region.start region.shape given cells) (places other.start other.shape) = is ∙ ap (λ (r : Region). laid (overlaid region.start region.shape given cells) r.start r.shape) q in
+      let stands = put_stands s document.fill_value value (overlaid region.start region.shape given cells) (places other.start other.shape) overlay_width v in
+      let rank = (regular_box document d other b.has_box).rank in
+      let P : List Cell → Type 0 = λ cs. ChunkStands bytes (document.fill_value ∷ []) (get (put s document.fill_value old (chunk_key path (meaning_of document).keys chunk) value) (chunk_key path (meaning_of document).keys d)) cs in
+      let Q : Option (List ℕ) → Type 0 = λ r. ChunkStands bytes (document.fill_value ∷ []) r (map (overlaid region.start region.shape given cells) (places other.start other.shape)) in
+      subst P (map-in_box _ _ other.start other.shape rank (λ p t. here p t e))
+        (subst Q (sym (ap (λ k. get (put s document.fill_value old (chunk_key path (meaning_of document).keys chunk) value) (chunk_key path (meaning_of document).keys k)) e ∙ put_same s document.fill_value old (chunk_key path (meaning_of document).keys chunk) value)) stands)
+  apart : (d ≡ chunk → ⊥) → ChunkStands bytes (document.fill_value ∷ []) (get (put s document.fill_value old (chunk_key path (meaning_of document).keys chunk) value) (chunk_key path (meaning_of document).keys d)) (map (with_chunks (meaning_of document).grid region (chunk ∷ []) given cells) (places other.start other.shape))
+  apart ne =
+      let rd = regular_box document d other b.has_box in
+      let rc = regular_box document chunk box below.has_box in
+      let key : chunk_key path (meaning_of document).keys d ≡ chunk_key path (meaning_of document).keys chunk → ⊥ = λ e. ne (chunk_key-injective path (meaning_of document).keys d chunk (separated document) rd.small rc.small e) in
+      let unmet : (p : List ℕ) → is_in_box other.start other.shape p ≡ true → cells p ≡ with_chunks (meaning_of document).grid region (chunk ∷ []) given cells p = λ p t. ⊎_elim
+          (λ l. let h = lies_has (meaning_of document).grid chunk p l in
+            absurd (ne (chunks_apart document.shape.items document.chunk_shape.items d chunk p other h.0 document.same document.positive b.has_box h.1 t h.2)))
+          (λ l. sym (ap (λ a. if is_in_box region.start region.shape p && (a || false) then given p else cells p) l ∙ ap (λ a. if a then given p else cells p) (and-false (is_in_box region.start region.shape p))))
+          (told (lies_in_chunk (meaning_of document).grid p chunk)) in
+      let P : List Cell → Type 0 = λ cs. ChunkStands bytes (document.fill_value ∷ []) (get (put s document.fill_value old (chunk_key path (meaning_of document).keys chunk) value) (chunk_key path (meaning_of document).keys d)) cs in
+      let Q : Option (List ℕ) → Type 0 = λ r. ChunkStands bytes (document.fill_value ∷ []) r (map cells (places other.start other.shape)) in
+      subst P (map-in_box _ _ other.start other.shape rd.rank unmet) (subst Q (sym (put_other s document.fill_value old _ value _ key)) (st d other b))
+
+-- ---- several chunks written
+pub stands_same : (path : List ℕ) (document : Document) (store : StoreMap) (f g : List ℕ → Cell) → ((p : List ℕ) → f p ≡ g p) → StoreStands path document store f → StoreStands path document store g
+stands_same path document store f g h st = let P : (List ℕ → Cell) → Type 0 = λ k. StoreStands path document store k in subst P (λ i p. h p i) st
+
+pub list_any-append : (p : List ℕ → Bool) (xs : List (List ℕ)) (x : List ℕ) → list_any p (xs ++ x ∷ []) ≡ (list_any p xs || p x)
+list_any-append p [] x = or_false (p x) where
+  or_false : (b : Bool) → (b || false) ≡ (false || b)
+  or_false true = refl
+  or_false false = refl
+list_any-append p (y ∷ xs) x = ap (λ b. p y || b) (list_any-append p xs x) ∙ regroup (p y) (list_any p xs) (p x) where
+  regroup : (a b c : Bool) → (a || (b || c)) ≡ ((a || b) || c)
+  regroup true b c = refl
+  regroup false b c = refl
+
+pub with_chunks-more : (grid : Grid) (region : Region) (cs : List (List ℕ)) (c : List ℕ) (given cells : List ℕ → Cell) (p : List ℕ)
+  → with_chunks grid region (c ∷ []) given (with_chunks grid region cs given cells) p ≡ with_chunks grid region (cs ++ c ∷ []) given cells p
+with_chunks-more grid region cs c given cells p =
+    cases (is_in_box region.start region.shape p) (lies_in_chunk grid p c) (list_any (lies_in_chunk grid p) cs)
+    ∙ ap (λ b. if is_in_box region.start region.shape p && b then given p else cells p) (sym (list_any-append (lies_in_chunk grid p) cs c)) where
+  cases : (i a b : Bool) → (if i && (a || false) then given p else (if i && b then given p else cells p)) ≡ (if i && (b || a) then given p else cells p)
+  cases true true true = refl
+  cases true true false = refl
+  cases true false true = refl
+  cases true false false = refl
+  cases false a b = refl
+
+pub with_chunks-none : (grid : Grid) (region : Region) (given cells : List ℕ → Cell) (p : List ℕ) → with_chunks grid region [] given cells p ≡ cells p
+with_chunks-none grid region given cells p = ap (λ b. if b then given p else cells p) (and-false (is_in_box region.start region.shape p))
+
+pub with_chunks-values : (grid : Grid) (region : Region) (cs : List (List ℕ)) (given cells : List ℕ → Cell) → AreValues uint8 given → AreValues uint8 cells → AreValues uint8 (with_chunks grid region cs given cells)
+with_chunks-values grid region cs given cells vg vc p = elim (is_in_box region.start region.shape p && list_any (lies_in_chunk grid p) cs) as (λ t. is_value uint8 (if t then given p else cells p) ≡ true) [ true ↦ vg p | false ↦ vc p ]
+
+-- no chunk written
+pub wrote_none : (path : List ℕ) (document : Document) (region : Region) (bs : List ℕ) (store : StoreMap) → WroteChunks path document region bs [] store store
+wrote_none path document region bs store = record { stands = λ given cells vg vc is st. stands_same path document store cells (with_chunks document.grid region [] given cells) (λ p. sym (with_chunks-none document.grid region given cells p)) st }
+
+-- one more
+pub wrote_more : (path : List ℕ) (document : ArrayDocument) (region : Region) (bs : List ℕ) (cs : List (List ℕ)) (c : List ℕ) (old mid new : StoreMap)
+  → WroteChunks path (meaning_of document) region bs cs old mid → WroteChunks path (meaning_of document) region bs (c ∷ []) mid new → WroteChunks path (meaning_of document) region bs (cs ++ c ∷ []) old new
+wrote_more path document region bs cs c old mid new first next = record {
+    stands = λ given cells vg vc is st.
+      let m = with_chunks (meaning_of document).grid region cs given cells in
+      let h = next.stands given m vg (with_chunks-values (meaning_of document).grid region cs given cells vg vc) is (first.stands given cells vg vc is st) in
+      stands_same path (meaning_of document) new (with_chunks (meaning_of document).grid region (c ∷ []) given m) (with_chunks (meaning_of document).grid region (cs ++ c ∷ []) given cells)
+        (with_chunks-more (meaning_of document).grid region cs c given cells) h;
+  }
+
+-- ---- all chunks met hold the whole box
+any_at : (p : List ℕ → Bool) (c : List ℕ) (xs : List (List ℕ)) → list_any (bytes_eq c) xs ≡ true → p c ≡ true → list_any p xs ≡ true
+any_at p c [] h t = absurd (false≢true h)
+any_at p c (x ∷ xs) h t = go (any_at p c xs) where
+  or_right : (b : Bool) → (b || true) ≡ true
+  or_right true = refl
+  or_right false = refl
+  go : (list_any (bytes_eq c) xs ≡ true → p c ≡ true → list_any p xs ≡ true) → list_any p (x ∷ xs) ≡ true
+  go i = ⊎_elim
+      (λ e. ap (λ b. b || list_any p xs) (ap p (sym ((bytes_eq-Decides c x).0 e)) ∙ t))
+      (λ e. ap (λ b. p x || b) (i (sym (ap (λ b. b || list_any (bytes_eq c) xs) e) ∙ h) t) ∙ or_right (p x))
+      (told (bytes_eq c x))
+
+-- each index of a box of indices stands in its list
+pub any_places : (ss es q : List ℕ) → length ss ≡ length es → is_in_box ss es q ≡ true → list_any (bytes_eq q) (places ss es) ≡ true
+any_places ss es q l t =
+    let i = ravel (each2 (λ p s. p - s) q ss) es in
+    let b : i < product es = ravel_below _ _ (in_box_below ss es q t) in
+    let z : 0 + i ≡ i = omega arith in
+    let k : i < length (map (place_at ss es) (range_with_len 0 (product es))) = rw (length-map-range_with_len (place_at ss es) 0 (product es)) b in
+    ap (list_any (bytes_eq q)) (places_by_number ss es l)
+    ∙ list_any_at (bytes_eq q) (map (place_at ss es) (range_with_len 0 (product es))) i [] k
+      ((bytes_eq-Decides q (get_or (map (place_at ss es) (range_with_len 0 (product es))) i [])).1 (sym (get_or-map-range_with_len (place_at ss es) 0 (product es) i i [] b z ∙ place_at-number ss es q t)))
+
+length-shape : (grid : Grid) → (let zeros : List ℕ = replicate (length grid) 0 in length zeros) ≡ length (grid_shape grid)
+length-shape [] = refl
+length-shape (d ∷ grid) = ap (λ n. suc n) (length-shape grid)
+
+-- a place of a covered box lies in a chunk met
+pub met-any : (grid : Grid) (region : Region) (p : List ℕ) → IsCovered grid region → is_in_box region.start region.shape p ≡ true → list_any (lies_in_chunk grid p) (met grid region) ≡ true
+met-any grid region p covered t =
+    let c = covered.covered p t in
+    let shares : is_met grid region c.0 ≡ true = ap (λ o. option_map_or (λ (b : Region). share_place b.start b.shape region.start region.shape) o false) c.2.has_box ∙ share_place-of c.1.start c.1.shape region.start region.shape p c.3 t in
+    let among = any_places (replicate (length grid) 0) (grid_shape grid) c.0 (length-shape grid) c.2.below in
+    any_at (lies_in_chunk grid p) c.0 (met grid region) (any-filter (is_met grid region) c.0 (chunk_indices grid) among shares) (lies_here grid c.0 p c.1 c.2.has_box ∙ c.3)
+
+pub with_chunks-met : (grid : Grid) (region : Region) (given cells : List ℕ → Cell) (p : List ℕ) → IsCovered grid region
+  → with_chunks grid region (met grid region) given cells p ≡ (if is_in_box region.start region.shape p then given p else cells p)
+with_chunks-met grid region given cells p covered = ⊎_elim
+    (λ t. ap (λ b. if is_in_box region.start region.shape p && b then given p else cells p) (met-any grid region p covered t) ∙ ap (λ b. if b then given p else cells p) (and-true (is_in_box region.start region.shape p)))
+    (λ t. ap (λ b. if b && list_any (lies_in_chunk grid p) (met grid region) then given p else cells p) t ∙ sym (ap (λ b. if b then given p else cells p) t))
+    (told (is_in_box region.start region.shape p))

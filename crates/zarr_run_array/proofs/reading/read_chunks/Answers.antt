@@ -1,0 +1,39 @@
+use Rattle.std.proofs.Common.{◌≡◌, ◌∙◌, ◌<◌, ◌≤◌, sym, ap, length, rules, arith}
+use Rattle.zarr_grids_boxes.specs.Boxes.{Region, product, place_at}
+use Rattle.zarr_grids_boxes.specs.Subsets.{region_of}
+use Rattle.zarr_array_documents.specs.Meanings.{meaning_of}
+use Rattle.zarr_run_array.proofs.MetChunks.{first_chunks, first_chunks-more, first_chunks-all, met_at, damage_at}
+use Rattle.zarr_run_array.proofs.reading.read_chunks.Goals as goal
+
+pub read_chunk-requires-clause-below : goal.read_chunk-requires-clause-below
+read_chunk-requires-clause-below c =
+    let chunks : Region = region_of c.args.chunks.now in
+    let at_place = rw (c.as_slice-first.ensures.value, c.as_slice-shape.ensures.value) at c.write_place.ensures in
+    let count : c.unwrap-met_count.result ≡ product c.as_slice-shape.result.now = search rules in
+    let total : c.unwrap-met_count.result ≡ product chunks.shape = rw c.as_slice-shape.ensures.value at count in
+    let below : c.loop-n.n < product chunks.shape = omega (arith, c.loop-n-test.true) in
+    rw at_place (met_at (meaning_of c.args.document.now).grid _ (region_of c.args.region.now) chunks c.loop-n.n (sym c.args.chunks.now.same) c.requires.met below)
+
+pub returns-in-Err-clause-damage : goal.returns-in-Err-clause-damage
+returns-in-Err-clause-damage c = λ e.
+    let chunks : Region = region_of c.args.chunks.now in
+    let at_place = rw (c.as_slice-first.ensures.value, c.as_slice-shape.ensures.value) at c.write_place.ensures in
+    let count : c.unwrap-met_count.result ≡ product c.as_slice-shape.result.now = search rules in
+    let total : c.unwrap-met_count.result ≡ product chunks.shape = rw c.as_slice-shape.ensures.value at count in
+    let below : c.loop-n.n < product chunks.shape = omega (arith, c.loop-n-test.true) in
+    damage_at c.args.path.now c.args.document.now (region_of c.args.region.now) chunks c.loop-n.n c.args.chunk_count c.write_place.new.place c.args.store.now (sym c.args.chunks.now.same) c.requires.met below at_place c.requires.chunk_count (c.in-Err.ensures.damage e)
+
+pub loop-n-preserved : goal.loop-n-preserved
+loop-n-preserved c = λ cells v st start.
+    let chunks : Region = region_of c.args.chunks.now in
+    let at_place = rw (c.as_slice-first.ensures.value, c.as_slice-shape.ensures.value) at c.write_place.ensures in
+    let so_far = c.in-Ok.ensures.ok cells (first_chunks chunks c.loop-n.n) v st (c.loop-n.invariant cells v st start) in
+    rw (first_chunks-more chunks c.loop-n.n, ← at_place) so_far
+
+pub returns-clause-ok : goal.returns-clause-ok
+returns-clause-ok c = λ cells v st start.
+    let chunks : Region = region_of c.args.chunks.now in
+    let count : c.unwrap-met_count.result ≡ product c.as_slice-shape.result.now = search rules in
+    let total : c.unwrap-met_count.result ≡ product chunks.shape = rw c.as_slice-shape.ensures.value at count in
+    let end : c.loop-n.n ≡ product chunks.shape = omega arith in
+    rw (← first_chunks-all (meaning_of c.args.document.now).grid _ (region_of c.args.region.now) chunks c.loop-n.n (sym c.args.chunks.now.same) c.requires.met end) (c.loop-n.invariant cells v st start)

@@ -1,0 +1,246 @@
+//! One chunk of an array.
+ghost use Rattle.std.specs.Prelude.{◌≡◌, ◌≢◌, ℕ, List, [], ◌∷◌, ◌++◌, ◌*◌, ◌<◌, ◌^◌, nat_le, ◌+◌, ◌&&◌, string_bytes, length, map, replicate, unwrap_or, IsTrue, true, IfOk, OnOk, OnErr, IfErr, Some, Ok, Err};
+ghost use Rattle.std.specs.FinMap.{get};
+ghost use Rattle.zarr_grids_boxes.specs.Boxes.{product, places, EndsFit};
+ghost use Rattle.zarr_grids_boxes.specs.Laid.{laid, overlaid, HasWidth};
+ghost use Rattle.zarr_grids_boxes.specs.Subsets.{region_of};
+ghost use Rattle.zarr_grids_chunks.specs.Grids.{IsBelow};
+ghost use Rattle.zarr_grids_chunks.specs.Regular.{origin_of};
+ghost use Rattle.zarr_grids_keys.specs.Keys.{chunk_key, default};
+ghost use Rattle.zarr_grids_keys.specs.Paths.{is_node_path};
+ghost use Rattle.zarr_codecs_cells.specs.Cells.{Cell};
+ghost use Rattle.zarr_codecs_chain.specs.Chain.{ChunkStands};
+ghost use Rattle.zarr_array_documents.specs.Meanings.{meaning_of};
+ghost use Rattle.zarr_run_model.specs.Worlds.{StoreStands};
+ghost use Rattle.zarr_run_array.specs.Contents.{AreValues, WroteChunks, put, read_so_far, contains_box, IsBase, IsDamaged};
+
+use std::alloc::{AllocError, Global};
+
+use zarr_array_documents::ArrayDocument;
+use zarr_array_stores::MemoryStore;
+use zarr_grids_boxes::ArraySubset;
+use zarr_grids_chunks::regular::write_chunk_origin;
+use zarr_grids_keys::{DefaultChunkKeyEncoding, write_chunk_key};
+use zarr_grids_runs::{is_all, overlay};
+
+/// Why a chunk is not read or written.
+#[derive(Clone, Copy, Debug, PartialEq, Eq)]
+pub enum ChunkFault {
+    /// The stored value has a wrong length.
+    Damage,
+    Memory,
+}
+
+/// Puts the cells of a chunk that lie in a region into the region's bytes.
+pub(crate) fn read_chunk(
+    path: &str,
+    document: &ArrayDocument,
+    region: &ArraySubset,
+    store: &MemoryStore,
+    chunk: &[u64],
+    count: u64,
+    origin: &mut [u64],
+    key: &mut String,
+    target: &mut [u8],
+) -> Result<(), ChunkFault>
+    requires path { IsTrue (is_node_path path.now) }
+    requires below { IsBelow (meaning_of document.now).grid chunk.now (record { start = origin_of document.now.chunk_shape.items chunk.now; shape = document.now.chunk_shape.items }) }
+    requires rank { length region.now.start.items ≡ length document.now.chunk_shape.items }
+    requires room { length origin.old ≡ length document.now.chunk_shape.items }
+    requires count { count ≡ product document.now.chunk_shape.items }
+    requires target { length target.old ≡ product region.now.shape.items * 1 }
+    ensures ok { OnOk result ((cells : List ℕ → Cell) (chunks : List (List ℕ)) → AreValues (meaning_of document.now).type cells → StoreStands path.now (meaning_of document.now) store.now cells
+        → target.old ≡ laid (read_so_far (meaning_of document.now).grid chunks cells (meaning_of document.now).fill) region.now.start.items region.now.shape.items
+        → target.new ≡ laid (read_so_far (meaning_of document.now).grid (chunks ++ chunk.now ∷ []) cells (meaning_of document.now).fill) region.now.start.items region.now.shape.items) }
+    ensures damage { result ≡ Err ChunkFault.Damage → IsDamaged path.now (meaning_of document.now) chunk.now count store.now }
+{
+    write_key(key, path, chunk)?;
+    match store.get(key) {
+        None => Ok(()),
+        Some(value) => place_value(document, region, chunk, count, value, origin, target),
+    }
+}
+
+/// Puts those cells of a chunk's value that lie in a region into the region's bytes.
+fn place_value(
+    document: &ArrayDocument,
+    region: &ArraySubset,
+    chunk: &[u64],
+    count: u64,
+    value: &[u8],
+    origin: &mut [u64],
+    target: &mut [u8],
+) -> Result<(), ChunkFault>
+    requires chunk { length chunk.now ≡ length document.now.chunk_shape.items }
+    requires rank { length region.now.start.items ≡ length document.now.chunk_shape.items }
+    requires room { length origin.old ≡ length document.now.chunk_shape.items }
+    requires fit { EndsFit (origin_of document.now.chunk_shape.items chunk.now) document.now.chunk_shape.items }
+    requires count { count ≡ product document.now.chunk_shape.items }
+    requires target { length target.old ≡ product region.now.shape.items * 1 }
+    ensures ok { OnOk result ((old new : List ℕ → Cell) → HasWidth 1 old → HasWidth 1 new → target.old ≡ laid old region.now.start.items region.now.shape.items
+        → value.now ≡ laid new (origin_of document.now.chunk_shape.items chunk.now) document.now.chunk_shape.items
+        → target.new ≡ laid (overlaid (origin_of document.now.chunk_shape.items chunk.now) document.now.chunk_shape.items new old) region.now.start.items region.now.shape.items) }
+    ensures damage { IfErr result (λ e. (e ≡ ChunkFault.Damage) × (length value.now ≢ count)) }
+{
+    if value.len() as u64 != count {
+        return Err(ChunkFault::Damage);
+    }
+    let chunk_shape = document.chunk_shape.as_slice();
+    let start = region.start.as_slice();
+    let shape = region.shape.as_slice();
+    write_chunk_origin(chunk, chunk_shape, origin);
+    overlay(target, start, shape, value, origin, chunk_shape, 1);
+    Ok(())
+}
+
+/// Writes the key of a chunk.
+fn write_key(key: &mut String, path: &str, chunk: &[u64]) -> Result<(), ChunkFault>
+    requires { IsTrue (is_node_path path.now) }
+    ensures ok { OnOk result (string_bytes key.new ≡ chunk_key path.now (default 47) chunk.now) }
+    ensures err { IfErr result (λ e. e ≡ ChunkFault.Memory) }
+{
+    match write_chunk_key(key, path, &DefaultChunkKeyEncoding::new_slash(), chunk) {
+        Ok(()) => Ok(()),
+        Err(_) => Err(ChunkFault::Memory),
+    }
+}
+
+/// Writes the cells of a region that lie in a chunk.
+pub(crate) fn write_chunk(
+    alloc: Global,
+    path: &str,
+    document: &ArrayDocument,
+    region: &ArraySubset,
+    bytes: &[u8],
+    store_empty: bool,
+    store: &mut MemoryStore,
+    chunk: &[u64],
+    count: u64,
+    origin: &mut [u64],
+    key: &mut String,
+) -> Result<(), ChunkFault>
+    requires path { IsTrue (is_node_path path.now) }
+    requires below { IsBelow (meaning_of document.now).grid chunk.now (record { start = origin_of document.now.chunk_shape.items chunk.now; shape = document.now.chunk_shape.items }) }
+    requires rank { length region.now.start.items ≡ length document.now.chunk_shape.items }
+    requires room { length origin.old ≡ length document.now.chunk_shape.items }
+    requires count { count ≡ product document.now.chunk_shape.items }
+    requires bytes { length bytes.now ≡ product region.now.shape.items * 1 }
+    ensures ok { OnOk result (WroteChunks path.now (meaning_of document.now) (region_of region.now) bytes.now (chunk.now ∷ []) store.old store.new) }
+    ensures err { OnErr result (store.new ≡ store.old) }
+    ensures damage { result ≡ Err ChunkFault.Damage → IsDamaged path.now (meaning_of document.now) chunk.now count store.old }
+{
+    write_key(key, path, chunk)?;
+    let chunk_shape = document.chunk_shape.as_slice();
+    let start = region.start.as_slice();
+    let shape = region.shape.as_slice();
+    write_chunk_origin(chunk, chunk_shape, origin);
+    let mut value = base_value(alloc, document, region, store, key, count, origin)?;
+    overlay(&mut value, origin, chunk_shape, bytes, start, shape, 1);
+    match put_value(store, key, document.fill_value, store_empty, value) {
+        Ok(()) => Ok(()),
+        Err(_) => Err(ChunkFault::Memory),
+    }
+}
+
+/// The bytes of a chunk over which a region's cells are put: what is stored, or the fill value where no key is. Where the
+/// region holds the whole chunk, what is stored is not looked at.
+fn base_value(
+    alloc: Global,
+    document: &ArrayDocument,
+    region: &ArraySubset,
+    store: &MemoryStore,
+    key: &str,
+    count: u64,
+    origin: &[u64],
+) -> Result<Vec<u8>, ChunkFault>
+    requires rank { length region.now.start.items ≡ length document.now.chunk_shape.items }
+    requires room { length origin.now ≡ length document.now.chunk_shape.items }
+    requires fit { EndsFit origin.now document.now.chunk_shape.items }
+    requires count { count ≡ product document.now.chunk_shape.items }
+    ensures length { IfOk result (λ value. length value.items ≡ count) }
+    ensures base { IfOk result (λ value. (given cells : List ℕ → Cell) → AreValues (meaning_of document.now).type cells
+        → ChunkStands (meaning_of document.now).chain (meaning_of document.now).fill (get store.now key.now) (map cells (places origin.now document.now.chunk_shape.items))
+        → IsBase (region_of region.now) (record { start = origin.now; shape = document.now.chunk_shape.items }) given cells value.items) }
+    ensures damage { result ≡ Err ChunkFault.Damage → (value : List ℕ) × (get store.now key.now ≡ Some value) × (length value ≢ count) }
+{
+    let chunk_shape = document.chunk_shape.as_slice();
+    let start = region.start.as_slice();
+    let shape = region.shape.as_slice();
+    if contains_box(start, shape, origin, chunk_shape) {
+        return fill_value_bytes(alloc, document.fill_value, count);
+    }
+    match store.get(key) {
+        None => fill_value_bytes(alloc, document.fill_value, count),
+        Some(value) => copy_of_length(alloc, value, count),
+    }
+}
+
+/// As many fill bytes.
+pub(crate) fn fill_value_bytes(alloc: Global, fill: u8, count: u64) -> Result<Vec<u8>, ChunkFault>
+    ensures ok { IfOk result (λ value. value.items ≡ replicate count fill) }
+    ensures err { IfErr result (λ e. e ≡ ChunkFault.Memory) }
+{
+    match vec![in alloc; fill; count as usize] {
+        Ok(value) => Ok(value),
+        Err(_) => Err(ChunkFault::Memory),
+    }
+}
+
+/// A copy of a value that has this length.
+fn copy_of_length(alloc: Global, value: &[u8], count: u64) -> Result<Vec<u8>, ChunkFault>
+    ensures ok { IfOk result (λ copy. (copy.items ≡ value.now) × (length value.now ≡ count)) }
+    ensures damage { result ≡ Err ChunkFault.Damage → length value.now ≢ count }
+{
+    if value.len() as u64 != count {
+        return Err(ChunkFault::Damage);
+    }
+    match Vec::from_slice(alloc, value) {
+        Ok(copy) => Ok(copy),
+        Err(_) => Err(ChunkFault::Memory),
+    }
+}
+
+/// Whether the second box lies in the first.
+fn contains_box(start: &[u64], shape: &[u64], inner_start: &[u64], inner_shape: &[u64]) -> bool
+    requires shape { length shape.now ≡ length start.now }
+    requires inner_start { length inner_start.now ≡ length start.now }
+    requires inner_shape { length inner_shape.now ≡ length start.now }
+    requires fit { EndsFit start.now shape.now }
+    requires inner_fit { EndsFit inner_start.now inner_shape.now }
+    ensures { result ≡ contains_box start.now shape.now inner_start.now inner_shape.now }
+{
+    for k in 0..start.len() {
+        if !contains_interval(start[k], shape[k], inner_start[k], inner_shape[k]) {
+            return false;
+        }
+    }
+    true
+}
+
+/// Whether the second interval lies in the first.
+fn contains_interval(start: u64, count: u64, inner_start: u64, inner_count: u64) -> bool
+    requires fit { start + count < 2 ^ 64 }
+    requires inner_fit { inner_start + inner_count < 2 ^ 64 }
+    ensures { result ≡ (nat_le start inner_start && nat_le (inner_start + inner_count) (start + count)) }
+{
+    start <= inner_start && inner_start + inner_count <= start + count
+}
+
+/// Puts the value of a chunk; unless empty chunks are stored, one that is all fill has no key.
+fn put_value(
+    store: &mut MemoryStore,
+    key: &str,
+    fill: u8,
+    store_empty: bool,
+    value: Vec<u8>,
+) -> Result<(), AllocError>
+    ensures ok { OnOk result (store.new ≡ put store_empty fill store.old key.now value.items) }
+    ensures err { OnErr result (store.new ≡ store.old) }
+{
+    if !store_empty && is_all(&value, fill) {
+        store.erase(key);
+        Ok(())
+    } else {
+        store.set(key, value)
+    }
+}

@@ -1,0 +1,122 @@
+//! Boxes written chunk by chunk.
+ghost use Rattle.std.specs.Prelude.{◌≡◌, ◌<◌, ◌*◌, ◌^◌, length, take, IsTrue, OnOk, IfErr};
+ghost use Rattle.zarr_grids_boxes.specs.Boxes.{product};
+ghost use Rattle.zarr_grids_boxes.specs.Subsets.{region_of};
+ghost use Rattle.zarr_grids_chunks.specs.Grids.{IsCovered, met};
+ghost use Rattle.zarr_grids_keys.specs.Paths.{is_node_path};
+ghost use Rattle.zarr_array_documents.specs.Meanings.{meaning_of};
+ghost use Rattle.zarr_run_array.specs.Contents.{WroteChunks, HasDamage, AreMet};
+
+use std::alloc::Global;
+
+use crate::chunk::{ChunkFault, write_chunk};
+use crate::room::{Room, chunks_met};
+use zarr_array_documents::ArrayDocument;
+use zarr_array_stores::MemoryStore;
+use zarr_grids_boxes::ArraySubset;
+use zarr_grids_boxes::walk::{count_places, write_place};
+
+/// Why a write stopped, and how many of the chunks met had been written before.
+#[derive(Clone, Copy, Debug, PartialEq, Eq)]
+pub struct WriteFault {
+    pub cause: ChunkFault,
+    pub applied: u64,
+}
+
+/// Writes the cells of a region that is not empty, row-major. `chunk_count` is the number of a chunk's cells. Unless empty
+/// chunks are stored, a chunk that becomes all fill loses its key.
+pub fn write_region(
+    alloc: Global,
+    path: &str,
+    document: &ArrayDocument,
+    region: &ArraySubset,
+    bytes: &[u8],
+    store_empty: bool,
+    chunk_count: u64,
+    store: &mut MemoryStore,
+) -> Result<(), WriteFault>
+    requires path { IsTrue (is_node_path path.now) }
+    requires covered { IsCovered (meaning_of document.now).grid (region_of region.now) }
+    requires bytes { length bytes.now ≡ product region.now.shape.items * 1 }
+    requires some { 0 < product region.now.shape.items }
+    requires small { product region.now.shape.items < 2 ^ 63 }
+    requires chunk_count { chunk_count ≡ product document.now.chunk_shape.items }
+    ensures ok { OnOk result (WroteChunks path.now (meaning_of document.now) (region_of region.now) bytes.now (met (meaning_of document.now).grid (region_of region.now)) store.old store.new) }
+    ensures wrote { IfErr result (λ fault. WroteChunks path.now (meaning_of document.now) (region_of region.now) bytes.now (take fault.applied (met (meaning_of document.now).grid (region_of region.now))) store.old store.new) }
+    ensures fewer { IfErr result (λ fault. fault.applied < length (met (meaning_of document.now).grid (region_of region.now))) }
+    ensures damage { IfErr result (λ fault. fault.cause ≡ ChunkFault.Damage → HasDamage path.now (meaning_of document.now) (region_of region.now) store.new) }
+{
+    let Ok(chunks) = chunks_met(alloc, document, region) else {
+        return Err(WriteFault { cause: ChunkFault::Memory, applied: 0 });
+    };
+    let Ok(mut room) = Room::new(alloc, document.chunk_shape.len()) else {
+        return Err(WriteFault { cause: ChunkFault::Memory, applied: 0 });
+    };
+    write_chunks(
+        alloc,
+        path,
+        document,
+        region,
+        bytes,
+        store_empty,
+        &chunks,
+        chunk_count,
+        store,
+        &mut room.chunk,
+        &mut room.origin,
+        &mut room.key,
+    )
+}
+
+/// Writes the cells of each chunk met.
+fn write_chunks(
+    alloc: Global,
+    path: &str,
+    document: &ArrayDocument,
+    region: &ArraySubset,
+    bytes: &[u8],
+    store_empty: bool,
+    chunks: &ArraySubset,
+    chunk_count: u64,
+    store: &mut MemoryStore,
+    chunk: &mut [u64],
+    origin: &mut [u64],
+    key: &mut String,
+) -> Result<(), WriteFault>
+    requires path { IsTrue (is_node_path path.now) }
+    requires rank { length region.now.start.items ≡ length document.now.chunk_shape.items }
+    requires small { product region.now.shape.items < 2 ^ 63 }
+    requires met { AreMet (meaning_of document.now).grid document.now.chunk_shape.items (region_of region.now) (region_of chunks.now) }
+    requires chunk { length chunk.old ≡ length document.now.chunk_shape.items }
+    requires origin { length origin.old ≡ length document.now.chunk_shape.items }
+    requires chunk_count { chunk_count ≡ product document.now.chunk_shape.items }
+    requires bytes { length bytes.now ≡ product region.now.shape.items * 1 }
+    ensures ok { OnOk result (WroteChunks path.now (meaning_of document.now) (region_of region.now) bytes.now (met (meaning_of document.now).grid (region_of region.now)) store.old store.new) }
+    ensures wrote { IfErr result (λ fault. WroteChunks path.now (meaning_of document.now) (region_of region.now) bytes.now (take fault.applied (met (meaning_of document.now).grid (region_of region.now))) store.old store.new) }
+    ensures fewer { IfErr result (λ fault. fault.applied < length (met (meaning_of document.now).grid (region_of region.now))) }
+    ensures damage { IfErr result (λ fault. fault.cause ≡ ChunkFault.Damage → HasDamage path.now (meaning_of document.now) (region_of region.now) store.new) }
+{
+    let first = chunks.start.as_slice();
+    let shape = chunks.shape.as_slice();
+    let met_count = count_places(shape).unwrap();
+    for n in 0..met_count {
+        write_place(first, shape, met_count, n, chunk);
+        match write_chunk(
+            alloc,
+            path,
+            document,
+            region,
+            bytes,
+            store_empty,
+            store,
+            chunk,
+            chunk_count,
+            origin,
+            key,
+        ) {
+            Ok(()) => {}
+            Err(cause) => return Err(WriteFault { cause, applied: n }),
+        }
+    }
+    Ok(())
+}
