@@ -1,4 +1,4 @@
-use Rattle.std.proofs.Common.{◌≡◌, ◌+◌, ◌-◌, ℕ, List, length, get_or}
+use Rattle.std.proofs.Common.{◌≡◌, ◌+◌, ◌-◌, ℕ, List, get_or}
 use Rattle.zarr_grids_boxes.specs.Laid.{laid, overlaid, HasWidth}
 use Rattle.zarr_grids_runs.proofs.Blocks.{half}
 use Rattle.zarr_grids_runs.proofs.Overlays.{part}
