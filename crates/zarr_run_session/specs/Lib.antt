@@ -1,1 +1,4 @@
+pub mod Boxes
+pub mod Causes
+pub mod Given
 pub mod Sessions

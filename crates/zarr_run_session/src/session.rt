@@ -1,19 +1,24 @@
 //! A session: the arrays that are held, over a store.
+ghost use Rattle.std.specs.Prelude.{◌≡◌};
+ghost use Rattle.zarr_grids_boxes.specs.Subsets.{region_of};
+ghost use Rattle.zarr_run_model.specs.Requests as ask;
+ghost use Rattle.zarr_run_commands.specs.Commands.{given};
+
+use serde_json::Value;
 use std::alloc::Global;
 
-use zarr_array_documents::ArrayDocument;
+use crate::answering::{held_at, refused, write_covered};
+use crate::boxes::{is_covered, read_cells};
+use crate::cause::cause_of_document;
+use crate::held::HeldArray;
+use zarr_array_documents::read_document;
 use zarr_array_stores::MemoryStore;
+use zarr_codecs_cells::{ArrayBytes, CodecOptions};
 use zarr_codecs_chain::SubchunkWriteOrder;
-use zarr_run_commands::{Command, Reply};
+use zarr_grids_boxes::ArraySubset;
+use zarr_grids_keys::is_node_path;
+use zarr_run_commands::{Command, CommandCells, Reply};
 use zarr_run_model::Cause;
-
-/// An array that is held: where it stands, what its document says, and its write order.
-#[derive(Drop)]
-pub struct HeldArray {
-    path: String,
-    document: ArrayDocument,
-    order: SubchunkWriteOrder,
-}
 
 /// Arrays in a store. So far one array at most is held.
 #[derive(Drop)]
@@ -24,12 +29,13 @@ pub struct Session {
 }
 
 impl Session {
-    ghost use Rattle.std.specs.Prelude.{◌≡◌, []};
+    ghost use Rattle.std.specs.Prelude.{[]};
     ghost use Rattle.std.specs.FinMap.{empty};
+    ghost use Rattle.serde_json.specs.View.{view};
     ghost use Rattle.zarr_run_model.specs.Worlds.{World};
     ghost use Rattle.zarr_run_model.specs.Steps.{Step};
     ghost use Rattle.zarr_run_commands.specs.Commands.{asked, answered};
-    ghost use Rattle.zarr_run_session.specs.Sessions.{IsIn, stored};
+    ghost use Rattle.zarr_run_session.specs.Sessions.{IsIn, StepsFrom, stored};
 
     /// A session over a store. It holds no array yet.
     pub fn new(alloc: Global, store: MemoryStore) -> Self
@@ -50,14 +56,91 @@ impl Session {
         self.store
     }
 
-    /// Runs one command.
+    /// Runs one command. A refused command changes at most what it says it applied.
     pub fn step(&mut self, command: &Command) -> Reply
         ensures steps { (old : World) → IsIn self.old old → (new : World) × Step old (asked command.now) (answered result) new × IsIn self.new new }
     {
         match command {
-            Command::Create { .. } => Reply::Refused { cause: Cause::Memory, applied: 0 },
-            Command::WriteBox { .. } => Reply::Refused { cause: Cause::Memory, applied: 0 },
-            Command::ReadBox { .. } => Reply::Refused { cause: Cause::Memory, applied: 0 },
+            Command::Create {
+                path,
+                document,
+                order,
+            } => self.create(path.as_str(), document, *order),
+            Command::WriteBox {
+                path,
+                region,
+                cells,
+                options,
+            } => self.write_box(path.as_str(), region, cells, *options),
+            Command::ReadBox {
+                path,
+                region,
+                options,
+            } => self.read_box(path.as_str(), region, *options),
+        }
+    }
+
+    /// Holds a new array.
+    fn create(&mut self, path: &str, document: &Value, order: SubchunkWriteOrder) -> Reply
+        ensures { StepsFrom self.old (ask.create path.now (view document.now) order) result self.new }
+    {
+        if !is_node_path(path) {
+            return refused(Cause::Path);
+        }
+        if self.array.is_some() {
+            return refused(Cause::PathTaken);
+        }
+        let document = match read_document(self.alloc, document) {
+            Ok(document) => document,
+            Err(error) => return refused(cause_of_document(error)),
+        };
+        let Ok(path) = String::from_str(self.alloc, path) else {
+            return refused(Cause::Memory);
+        };
+        prove!(document.fill_value <= u8::MAX);
+        self.array = Some(HeldArray {
+            path,
+            document,
+            order,
+        });
+        Reply::Done
+    }
+
+    /// Writes the cells of a box.
+    fn write_box(
+        &mut self,
+        path: &str,
+        region: &ArraySubset,
+        cells: &CommandCells,
+        options: CodecOptions,
+    ) -> Reply
+        ensures { StepsFrom self.old (ask.write_box path.now (region_of region.now) (given cells.now) options) result self.new }
+    {
+        if !is_node_path(path) {
+            return refused(Cause::Path);
+        }
+        let Some(array) = held_at(&self.array, path) else {
+            return refused(Cause::NoArray);
+        };
+        if !is_covered(array, region) {
+            return refused(Cause::Region);
+        }
+        write_covered(self.alloc, array, &mut self.store, region, cells, options)
+    }
+
+    /// Reads the cells of a box.
+    fn read_box(&mut self, path: &str, region: &ArraySubset, options: CodecOptions) -> Reply
+        ensures { StepsFrom self.old (ask.read_box path.now (region_of region.now) options) result self.new }
+    {
+        if !is_node_path(path) {
+            return refused(Cause::Path);
+        }
+        let Some(array) = held_at(&self.array, path) else {
+            return refused(Cause::NoArray);
+        };
+        match read_cells(self.alloc, array, &self.store, region) {
+            Ok(bytes) => Reply::Cells(ArrayBytes::Fixed(bytes)),
+            Err(cause) => refused(cause),
         }
     }
 }

@@ -1,0 +1,4 @@
+pub mod BoxLemmas
+pub mod StepLemmas
+pub mod CreateLemmas
+pub mod RunLemmas

@@ -1,0 +1,307 @@
+-- Steps over one array that is held.
+use Rattle.std.proofs.Common.{◌≡◌, ◌≢◌, ◌∙◌, ℕ, zero, suc, ◌+◌, ◌*◌, ◌<◌, ◌≤◌, Bool, true, false, if◌then◌else◌, ◌&&◌, List, [], ◌∷◌, length, map, take, get_or, refl, sym, ap, subst, arith, inl, inr, ◌⊎◌, ⊎_elim, Option, Some, None, IsTrue, bytes_eq, string_bytes, ◌-◌, ◌==◌, ◌++◌, eq-eqb}
+use Rattle.std.specs.List.{flat_map, list_all}
+use Rattle.std.specs.FinMap.{get, empty, get-empty}
+use Rattle.std.specs.Ordering.{nat_cmp}
+use Rattle.std.specs.Cmp.Lexicographic.{slice_cmp}
+use Rattle.std.proofs.Math.Dec.{ltb}
+use Rattle.std.proofs.lemmas.Bool.{false≢true, lt-ltb, eqb-true}
+use Rattle.std.proofs.lemmas.Slice.Eq.{bytes_eq-Decides}
+use Rattle.zarr_grids_boxes.specs.Boxes.{Region, product, places, each2, ravel, is_in_box}
+use Rattle.zarr_grids_boxes.specs.Laid.{laid, overlaid}
+use Rattle.zarr_grids_chunks.specs.Grids.{IsCovered, met}
+use Rattle.zarr_grids_chunks.proofs.Filters.{told}
+use Rattle.zarr_grids_keys.specs.Paths.{is_node_path}
+use Rattle.zarr_codecs_cells.specs.Cells.{Cell, DataType, uint8, is_value, fixed}
+use Rattle.zarr_codecs_cells.specs.Json.{GivenCells, given_in}
+use Rattle.zarr_codecs_cells.specs.declared.options.CodecOptions.{CodecOptions}
+use Rattle.zarr_codecs_chain.specs.Chain.{bytes, encoded}
+use Rattle.zarr_array_documents.specs.Documents.{Document}
+use Rattle.zarr_array_documents.specs.Meanings.{meaning_of}
+use Rattle.zarr_array_stores.specs.StoreMaps.{StoreMap}
+use Rattle.zarr_run_array.specs.Contents.{AreValues, ReadsBox, HasDamage, WroteChunks}
+use Rattle.zarr_run_array.proofs.Standing.{encoded-laid}
+use Rattle.zarr_run_array.proofs.ChunkWrites.{stands_same, with_chunks-values, with_chunks-none}
+use Rattle.zarr_run_array.proofs.ChunkReads.{wrong_length}
+use Rattle.zarr_run_model.specs.Changes.{cell_of_box, with_chunks}
+use Rattle.zarr_run_model.specs.Tables.{Table, cell, updated, changes, changes_in}
+use Rattle.zarr_run_model.specs.Requests.{Request, write_box, read_box, Answer, done, cells, refused}
+use Rattle.zarr_run_model.specs.Worlds.{Held, World, StoreStands, held_at, with_table}
+use Rattle.zarr_run_model.specs.Steps.{Step, MayRefuse, Gives, HasTooLarge, WriteRefuses, ReadRefuses, Writes, WritesFirst, Reads}
+use Rattle.zarr_run_model.specs.declared.cause.Cause.{Cause}
+use Rattle.zarr_run_model.specs.declared.cause.Cause.TheVariants as cause
+use Rattle.zarr_run_model.proofs.TableLemmas.{cell-chunks, cell-box, cells_of_box, value_at}
+use Rattle.zarr_run_session.specs.Boxes.{WroteBox, WroteFirst, BytesRefused, ReadRefused}
+use Rattle.zarr_run_session.specs.Given.{one_byte_cells}
+use Rattle.zarr_run_session.specs.Sessions.{IsHeld, Keeps, held_with, IsTableOf}
+use Rattle.zarr_run_session.specs.declared.held.HeldArray.{HeldArray}
+
+-- ---- cells of one byte
+pub bytes_values : (bs : List ℕ) → ((i : ℕ) → get_or bs i 0 < 256) → list_all (is_value uint8) (one_byte_cells bs) ≡ true
+bytes_values [] h = refl
+bytes_values (b ∷ bs) h = rw (lt-ltb b 256 (h 0), bytes_values bs (λ i. h (suc i))) refl
+
+pub length-cells : (bs : List ℕ) → length (one_byte_cells bs) ≡ length bs
+length-cells [] = refl
+length-cells (b ∷ bs) = ap (λ n. suc n) (length-cells bs)
+
+pub encoded-one_byte_cells : (bs : List ℕ) → encoded bytes (one_byte_cells bs) ≡ bs
+encoded-one_byte_cells [] = refl
+encoded-one_byte_cells (b ∷ bs) = ap (λ ys. b ∷ ys) (encoded-one_byte_cells bs)
+
+-- the cells given, as a function of places
+abbrev pub given_cells : Region → List ℕ → List ℕ → Cell
+given_cells region bs = cell_of_box region (one_byte_cells bs) (0 ∷ [])
+
+pub given_values : (region : Region) (bs : List ℕ) → list_all (is_value uint8) (one_byte_cells bs) ≡ true → AreValues uint8 (given_cells region bs)
+given_values region bs h p = value_at uint8 (one_byte_cells bs) (0 ∷ []) (ravel (each2 (λ p s. p - s) p region.start) region.shape) h refl
+
+pub given_laid : (region : Region) (bs : List ℕ) → length region.start ≡ length region.shape → length bs ≡ product region.shape → bs ≡ laid (given_cells region bs) region.start region.shape
+given_laid region bs l n =
+    sym (encoded-one_byte_cells bs)
+    ∙ ap (encoded bytes) (sym (cells_of_box region (one_byte_cells bs) (0 ∷ []) l (length-cells bs ∙ n)))
+    ∙ encoded-laid (given_cells region bs) (places region.start region.shape)
+
+-- ---- one array held
+found_here : (array : HeldArray) (table : Table) → bytes_eq (string_bytes array.path) (string_bytes array.path) ≡ true
+found_here array table = (bytes_eq-Decides (string_bytes array.path) (string_bytes array.path)).1 refl
+
+pub held_at-here : (array : HeldArray) (table : Table) → held_at (string_bytes array.path) (held_with array table ∷ []) ≡ Some (held_with array table)
+held_at-here array table = ap (λ b. if b then Some (held_with array table) else None) (found_here array table)
+
+with_table-here : (array : HeldArray) (table next : Table) → with_table (string_bytes array.path) next (held_with array table ∷ []) ≡ held_with array next ∷ []
+with_table-here array table next = ap (λ b. if b then (let hs : World = held_with array next ∷ [] in hs) else held_with array table ∷ []) (found_here array table)
+
+pub keeps_table : (array : HeldArray) (store : StoreMap) (table : Table) → IsTableOf array store table → Keeps (Some array) store (held_with array table ∷ [])
+keeps_table array store table t = record { path = refl; document = refl; order = refl; values = t.values; stands = t.stands }
+
+-- a world that a session with an array is in
+pub in_world : (Q : World → Type 0) (a : Option HeldArray) (array : HeldArray) (store : StoreMap) (w : World) → a ≡ Some array → Keeps a store w → ((table : Table) → IsTableOf array store table → Q (held_with array table ∷ [])) → Q w
+in_world Q a array store w e k f = let P : Option HeldArray → Type 0 = λ o. Keeps o store w in go w (subst P e k) where
+  go : (w : World) → Keeps (Some array) store w → Q w
+  go [] k = absurd k
+  go (h ∷ g ∷ hs) k = absurd k
+  go (h ∷ []) k =
+      let same : h ≡ held_with array h.table = λ i. record { path = k.path i; document = k.document i; order = k.order i; table = h.table } in
+      let T : Document → Type 0 = λ d. (p : List ℕ) → is_value d.type (cell d.fill h.table p) ≡ true in
+      let S : Held → Type 0 = λ x. StoreStands x.path x.document store (cell x.document.fill h.table) in
+      let R : Held → Type 0 = λ x. Q (x ∷ []) in
+      subst R (sym same) (f h.table (record { values = subst T k.document k.values; stands = subst S same k.stands }))
+
+-- ---- the table after a write
+pub table_after : (array : HeldArray) (region : Region) (bs : List ℕ) (old new : StoreMap) (table : Table) → length region.start ≡ length region.shape → list_all (is_value uint8) (one_byte_cells bs) ≡ true → length bs ≡ product region.shape
+  → WroteBox (string_bytes array.path) (meaning_of array.document) region bs old new → IsTableOf array old table
+  → IsTableOf array new (updated (meaning_of array.document).fill table (changes region (one_byte_cells bs)))
+table_after array region bs old new table l v n wrote t =
+    let fill = (meaning_of array.document).fill in
+    let same : (p : List ℕ) → overlaid region.start region.shape (given_cells region bs) (cell fill table) p ≡ cell fill (updated fill table (changes region (one_byte_cells bs))) p =
+    λ p. sym (cell-box fill table region (one_byte_cells bs) (0 ∷ []) p l (length-cells bs ∙ n)) in
+    record {
+      values = λ p. sym (ap (is_value uint8) (same p)) ∙ overlaid_values p;
+      stands = stands_same (string_bytes array.path) (meaning_of array.document) new _ _ same (wrote.stands (given_cells region bs) (cell fill table) (given_values region bs v) t.values (given_laid region bs l n) t.stands);
+    } where
+  overlaid_values : (p : List ℕ) → is_value uint8 (overlaid region.start region.shape (given_cells region bs) (cell (meaning_of array.document).fill table) p) ≡ true
+  overlaid_values p = elim (is_in_box region.start region.shape p) as (λ b. is_value uint8 (if b then given_cells region bs p else cell (meaning_of array.document).fill table p) ≡ true) [ true ↦ given_values region bs v p | false ↦ t.values p ]
+
+pub table_after_some : (array : HeldArray) (region : Region) (bs : List ℕ) (n : ℕ) (old new : StoreMap) (table : Table) → length region.start ≡ length region.shape → list_all (is_value uint8) (one_byte_cells bs) ≡ true → length bs ≡ product region.shape
+  → WroteChunks (string_bytes array.path) (meaning_of array.document) region bs (take n (met (meaning_of array.document).grid region)) old new → IsTableOf array old table
+  → IsTableOf array new (updated (meaning_of array.document).fill table (changes_in (meaning_of array.document).grid (take n (met (meaning_of array.document).grid region)) (changes region (one_byte_cells bs))))
+table_after_some array region bs n old new table l v m wrote t =
+    let fill = (meaning_of array.document).fill in
+    let grid = (meaning_of array.document).grid in
+    let chunks = take n (met grid region) in
+    let same : (p : List ℕ) → with_chunks grid region chunks (given_cells region bs) (cell fill table) p ≡ cell fill (updated fill table (changes_in grid chunks (changes region (one_byte_cells bs)))) p =
+    λ p. sym (cell-chunks fill table grid region (one_byte_cells bs) chunks (0 ∷ []) p l (length-cells bs ∙ m)) in
+    record {
+      values = λ p. sym (ap (is_value uint8) (same p)) ∙ with_chunks-values grid region chunks (given_cells region bs) (cell fill table) (given_values region bs v) t.values p;
+      stands = stands_same (string_bytes array.path) (meaning_of array.document) new _ _ same (wrote.stands (given_cells region bs) (cell fill table) (given_values region bs v) t.values (given_laid region bs l m) t.stands);
+    }
+
+-- a table has no damage
+pub no_damage : (array : HeldArray) (region : Region) (store : StoreMap) (table : Table) → IsTableOf array store table → HasDamage (string_bytes array.path) (meaning_of array.document) region store → ⊥
+no_damage array region store table t d = d.wrong (wrong_length (string_bytes array.path) array.document store (cell (meaning_of array.document).fill table) d.chunk d.value d.box t.stands t.values d.below d.found)
+
+-- ---- a write that is done
+pub write_done : (array : HeldArray) (old new : StoreMap) (region : Region) (g : GivenCells) (bs : List ℕ) (options : CodecOptions) (table : Table) → length region.start ≡ length region.shape → IsCovered (meaning_of array.document).grid region
+  → given_in uint8 g ≡ Some (one_byte_cells bs) → list_all (is_value uint8) (one_byte_cells bs) ≡ true → length bs ≡ product region.shape → WroteBox (string_bytes array.path) (meaning_of array.document) region bs old new → IsTableOf array old table
+  → (after : World) × Step (held_with array table ∷ []) (write_box (string_bytes array.path) region g options) done after × Keeps (Some array) new after
+write_done array old new region g bs options table l covered is v n wrote t =
+    let next = updated (meaning_of array.document).fill table (changes region (one_byte_cells bs)) in
+    (held_with array next ∷ [],
+     record {
+       node = array.node;
+       held = held_with array table;
+       found = held_at-here array table;
+       covered = covered;
+       values = one_byte_cells bs;
+       gives = (is, length-cells bs ∙ n);
+       updates = sym (with_table-here array table next);
+     },
+     keeps_table array new next (table_after array region bs old new table l v n wrote t))
+
+-- ---- a write that is refused
+write_cause : (array : HeldArray) (region : Region) (g : GivenCells) (bs : List ℕ) (options : CodecOptions) (table next : Table) (new : StoreMap) (c : Cause) → IsCovered (meaning_of array.document).grid region → given_in uint8 g ≡ Some (one_byte_cells bs)
+  → IsTableOf array new next → BytesRefused (string_bytes array.path) (meaning_of array.document) region bs new c → MayRefuse (held_with array table ∷ []) (write_box (string_bytes array.path) region g options) c
+write_cause array region g bs options table next new cause.Memory covered is t why = tt
+write_cause array region g bs options table next new cause.Damage covered is t why = absurd (no_damage array region new next t why)
+write_cause array region g bs options table next new cause.Data covered is t why =
+    let P : Option Held → Type 0 = λ o. WriteRefuses o region g cause.Data in
+    (array.node, subst P (sym (held_at-here array table)) (covered, λ cs gives.
+      let same : Some cs ≡ Some (one_byte_cells bs) = sym gives.0 ∙ is in
+      let e : cs ≡ one_byte_cells bs = cc in
+      why (sym (length-cells bs) ∙ sym (ap length e) ∙ gives.1)))
+write_cause array region g bs options table next new cause.Size covered is t why =
+    let P : Option Held → Type 0 = λ o. WriteRefuses o region g cause.Size in
+    (array.node, subst P (sym (held_at-here array table)) (covered, (one_byte_cells bs, (is, length-cells bs ∙ why.0)), why.1))
+write_cause array region g bs options table next new cause.Path covered is t why = absurd why
+write_cause array region g bs options table next new cause.PathTaken covered is t why = absurd why
+write_cause array region g bs options table next new cause.NoArray covered is t why = absurd why
+write_cause array region g bs options table next new cause.Document covered is t why = absurd why
+write_cause array region g bs options table next new cause.Region covered is t why = absurd why
+write_cause array region g bs options table next new cause.Fit covered is t why = absurd why
+write_cause array region g bs options table next new cause.Codec covered is t why = absurd why
+write_cause array region g bs options table next new cause.Store covered is t why = absurd why
+write_cause array region g bs options table next new cause.DocumentChanged covered is t why = absurd why
+
+-- no chunk was written
+table_kept : (array : HeldArray) (region : Region) (bs : List ℕ) (old new : StoreMap) (table : Table) → length region.start ≡ length region.shape → list_all (is_value uint8) (one_byte_cells bs) ≡ true
+  → WroteFirst (string_bytes array.path) (meaning_of array.document) region bs 0 old new → IsTableOf array old table → IsTableOf array new table
+table_kept array region bs old new table l v first t = ⊎_elim sized (λ e. other (λ n. false≢true (sym e ∙ eq-eqb (length bs) (product region.shape) n))) (told (length bs == product region.shape)) where
+  sized : (length bs == product region.shape) ≡ true → IsTableOf array new table
+  sized e =
+      let n = eqb-true (length bs) (product region.shape) e in
+      let f = cell (meaning_of array.document).fill table in
+      record {
+        values = t.values;
+        stands = stands_same (string_bytes array.path) (meaning_of array.document) new (with_chunks (meaning_of array.document).grid region [] (given_cells region bs) f) f (with_chunks-none (meaning_of array.document).grid region (given_cells region bs) f)
+          (first.wrote.stands (given_cells region bs) f (given_values region bs v) t.values (given_laid region bs l n) t.stands);
+      }
+  other : length bs ≢ product region.shape → IsTableOf array new table
+  other h = let P : StoreMap → Type 0 = λ m. IsTableOf array m table in subst P (sym (first.kept h)) t
+
+pub write_refused : (array : HeldArray) (old new : StoreMap) (region : Region) (g : GivenCells) (bs : List ℕ) (options : CodecOptions) (c : Cause) (n : ℕ) (table : Table) → length region.start ≡ length region.shape → IsCovered (meaning_of array.document).grid region
+  → given_in uint8 g ≡ Some (one_byte_cells bs) → list_all (is_value uint8) (one_byte_cells bs) ≡ true → WroteFirst (string_bytes array.path) (meaning_of array.document) region bs n old new
+  → BytesRefused (string_bytes array.path) (meaning_of array.document) region bs new c → IsTableOf array old table
+  → (after : World) × Step (held_with array table ∷ []) (write_box (string_bytes array.path) region g options) (refused c n) after × Keeps (Some array) new after
+write_refused array old new region g bs options c zero table l covered is v first why t =
+    let none = table_kept array region bs old new table l v first t in
+    (held_with array table ∷ [], (write_cause array region g bs options table table new c covered is none why, inl (refl, refl)), keeps_table array new table none)
+write_refused array old new region g bs options c (suc m) table l covered is v first why t =
+    let some : suc m ≢ 0 = λ e. absurd (cc e) in
+    let next = updated (meaning_of array.document).fill table (changes_in (meaning_of array.document).grid (take (suc m) (met (meaning_of array.document).grid region)) (changes region (one_byte_cells bs))) in
+    let after = table_after_some array region bs (suc m) old new table l v (first.sized some) first.wrote t in
+    (held_with array next ∷ [],
+     (write_cause array region g bs options table next new c covered is after why,
+      inr (record {
+        held = held_with array table;
+        found = held_at-here array table;
+        covered = covered;
+        values = one_byte_cells bs;
+        gives = (is, length-cells bs ∙ first.sized some);
+        fewer = first.fewer some;
+        updates = sym (with_table-here array table next);
+      })),
+     keeps_table array new next after)
+
+-- cells that are no values of the type
+pub given_refused : (array : HeldArray) (store : StoreMap) (region : Region) (g : GivenCells) (options : CodecOptions) (c : Cause) (table : Table) → IsCovered (meaning_of array.document).grid region
+  → (c ≢ cause.Memory → c ≡ cause.Data) → (c ≢ cause.Memory → given_in uint8 g ≡ None) → IsTableOf array store table
+  → (after : World) × Step (held_with array table ∷ []) (write_box (string_bytes array.path) region g options) (refused c 0) after × Keeps (Some array) store after
+given_refused array store region g options c table covered why none t = (held_with array table ∷ [], (may c why none, inl (refl, refl)), keeps_table array store table t) where
+  data_cause : given_in uint8 g ≡ None → WriteRefuses (Some (held_with array table)) region g cause.Data
+  data_cause n = (covered, λ cs gives. let e : Some cs ≡ None = sym gives.0 ∙ n in absurd (cc))
+  may : (c : Cause) → (c ≢ cause.Memory → c ≡ cause.Data) → (c ≢ cause.Memory → given_in uint8 g ≡ None) → MayRefuse (held_with array table ∷ []) (write_box (string_bytes array.path) region g options) c
+  may cause.Memory why none = tt
+  may cause.Data why none =
+      let P : Option Held → Type 0 = λ o. WriteRefuses o region g cause.Data in
+      (array.node, subst P (sym (held_at-here array table)) (data_cause (none (λ e. absurd (cc e)))))
+  may cause.Path why none = let e = why (λ e. absurd (cc e)) in absurd (cc)
+  may cause.PathTaken why none = let e = why (λ e. absurd (cc e)) in absurd (cc)
+  may cause.NoArray why none = let e = why (λ e. absurd (cc e)) in absurd (cc)
+  may cause.Document why none = let e = why (λ e. absurd (cc e)) in absurd (cc)
+  may cause.Region why none = let e = why (λ e. absurd (cc e)) in absurd (cc)
+  may cause.Size why none = let e = why (λ e. absurd (cc e)) in absurd (cc)
+  may cause.Fit why none = let e = why (λ e. absurd (cc e)) in absurd (cc)
+  may cause.Codec why none = let e = why (λ e. absurd (cc e)) in absurd (cc)
+  may cause.Store why none = let e = why (λ e. absurd (cc e)) in absurd (cc)
+  may cause.Damage why none = let e = why (λ e. absurd (cc e)) in absurd (cc)
+  may cause.DocumentChanged why none = let e = why (λ e. absurd (cc e)) in absurd (cc)
+
+-- ---- reads
+cells_of_laid : (f : List ℕ → Cell) (ps : List (List ℕ)) → AreValues uint8 f → one_byte_cells (flat_map f ps) ≡ map f ps
+cells_of_laid f [] v = refl
+cells_of_laid f (p ∷ ps) v = go (f p) (v p) refl (cells_of_laid f ps v) where
+  go : (c : Cell) → is_value uint8 c ≡ true → f p ≡ c → one_byte_cells (flat_map f ps) ≡ map f ps → one_byte_cells (f p ++ flat_map f ps) ≡ f p ∷ map f ps
+  go [] h e i = absurd (false≢true h)
+  go (b ∷ []) h e i = ap (λ (c : Cell). one_byte_cells (c ++ flat_map f ps)) e ∙ ap (λ (cs : List Cell). (b ∷ []) ∷ cs) i ∙ ap (λ (c : Cell). let cs : List Cell = c ∷ map f ps in cs) (sym e)
+  go (b ∷ d ∷ c) h e i = absurd (false≢true h)
+
+pub read_done : (array : HeldArray) (store : StoreMap) (region : Region) (bs : List ℕ) (options : CodecOptions) (table : Table) → IsCovered (meaning_of array.document).grid region
+  → ReadsBox (string_bytes array.path) (meaning_of array.document) region store bs → IsTableOf array store table
+  → (after : World) × Step (held_with array table ∷ []) (read_box (string_bytes array.path) region options) (cells (fixed bs)) after × Keeps (Some array) store after
+read_done array store region bs options table covered reads t =
+    let f = cell (meaning_of array.document).fill table in
+    (held_with array table ∷ [],
+     (record {
+       node = array.node;
+       held = held_with array table;
+       found = held_at-here array table;
+       covered = covered;
+       lists = ap one_byte_cells (reads.lists f t.values t.stands) ∙ cells_of_laid f (places region.start region.shape) t.values;
+     }, refl),
+     keeps_table array store table t)
+
+pub read_refused : (array : HeldArray) (store : StoreMap) (region : Region) (options : CodecOptions) (c : Cause) (table : Table) → ReadRefused (string_bytes array.path) (meaning_of array.document) region store c → IsTableOf array store table
+  → (after : World) × Step (held_with array table ∷ []) (read_box (string_bytes array.path) region options) (refused c 0) after × Keeps (Some array) store after
+read_refused array store region options c table why t = (held_with array table ∷ [], (may c why, refl, refl), keeps_table array store table t) where
+  at_held : (c : Cause) → ReadRefuses (Some (held_with array table)) region c → ReadRefuses (held_at (string_bytes array.path) (held_with array table ∷ [])) region c
+  at_held c h = let P : Option Held → Type 0 = λ o. ReadRefuses o region c in subst P (sym (held_at-here array table)) h
+  may : (c : Cause) → ReadRefused (string_bytes array.path) (meaning_of array.document) region store c → MayRefuse (held_with array table ∷ []) (read_box (string_bytes array.path) region options) c
+  may cause.Memory why = tt
+  may cause.Region why = (array.node, at_held cause.Region why)
+  may cause.Size why = (array.node, at_held cause.Size why)
+  may cause.Damage why = absurd (no_damage array region store table t why)
+  may cause.Path why = absurd why
+  may cause.PathTaken why = absurd why
+  may cause.NoArray why = absurd why
+  may cause.Document why = absurd why
+  may cause.Data why = absurd why
+  may cause.Fit why = absurd why
+  may cause.Codec why = absurd why
+  may cause.Store why = absurd why
+  may cause.DocumentChanged why = absurd why
+
+-- ---- no array at a path
+pub none_at : (a : Option HeldArray) (store : StoreMap) (w : World) (path : List ℕ) → Keeps a store w → ((other : HeldArray) → a ≡ Some other → string_bytes other.path ≢ path) → held_at path w ≡ None
+none_at None store [] path k h = refl
+none_at None store (x ∷ w) path k h = absurd k
+none_at (Some a) store [] path k h = absurd k
+none_at (Some a) store (x ∷ y ∷ w) path k h = absurd k
+none_at (Some a) store (x ∷ []) path k h = ⊎_elim
+    (λ t. absurd (h a refl (sym k.path ∙ sym ((bytes_eq-Decides path x.path).0 t))))
+    (λ t. ap (λ b. if b then Some x else None) t)
+    (told (bytes_eq path x.path))
+
+pub no_array_read : (w : World) (path : List ℕ) (region : Region) (options : CodecOptions) → is_node_path path ≡ true → held_at path w ≡ None → Step w (read_box path region options) (refused cause.NoArray 0) w
+no_array_read w path region options node none = let P : Option Held → Type 0 = λ o. ReadRefuses o region cause.NoArray in ((node, subst P (sym none) tt), refl, refl)
+
+pub no_array_write : (w : World) (path : List ℕ) (region : Region) (g : GivenCells) (options : CodecOptions) → is_node_path path ≡ true → held_at path w ≡ None → Step w (write_box path region g options) (refused cause.NoArray 0) w
+no_array_write w path region g options node none = let P : Option Held → Type 0 = λ o. WriteRefuses o region g cause.NoArray in ((node, subst P (sym none) tt), inl (refl, refl))
+
+-- a box that isn't covered
+pub uncovered_write : (array : HeldArray) (store : StoreMap) (region : Region) (g : GivenCells) (options : CodecOptions) (table : Table) → (IsCovered (meaning_of array.document).grid region → ⊥) → IsTableOf array store table
+  → (after : World) × Step (held_with array table ∷ []) (write_box (string_bytes array.path) region g options) (refused cause.Region 0) after × Keeps (Some array) store after
+uncovered_write array store region g options table h t =
+    let P : Option Held → Type 0 = λ o. WriteRefuses o region g cause.Region in
+    (held_with array table ∷ [], ((array.node, subst P (sym (held_at-here array table)) h), inl (refl, refl)), keeps_table array store table t)
+
+-- what holds over an array that is held holds in each world that has it
+pub from_held : (a : Option HeldArray) (array : HeldArray) (old new : StoreMap) (w : World) (path : List ℕ) (request : List ℕ → Request) (answer : Answer) → a ≡ Some array → string_bytes array.path ≡ path → Keeps a old w
+  → ((table : Table) → IsTableOf array old table → (after : World) × Step (held_with array table ∷ []) (request (string_bytes array.path)) answer after × Keeps (Some array) new after)
+  → (after : World) × Step w (request path) answer after × Keeps a new after
+from_held a array old new w path request answer e p k h =
+    in_world (λ w. (after : World) × Step w (request path) answer after × Keeps a new after) a array old w e k (λ table t.
+      let r = h table t in
+      let S : List ℕ → Type 0 = λ q. Step (held_with array table ∷ []) (request q) answer r.0 in
+      let K : Option HeldArray → Type 0 = λ o. Keeps o new r.0 in
+      (r.0, subst S p r.1, subst K (sym e) r.2))

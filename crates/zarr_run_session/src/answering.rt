@@ -1,0 +1,116 @@
+//! Replies over one array that is held.
+ghost use Rattle.std.specs.Prelude.{◌≡◌, ◌≢◌, Some, IfSome, IfNone, string_bytes};
+ghost use Rattle.zarr_grids_boxes.specs.Subsets.{region_of};
+ghost use Rattle.zarr_grids_chunks.specs.Grids.{IsCovered};
+ghost use Rattle.zarr_codecs_cells.specs.Cells.{uint8, fixed};
+ghost use Rattle.zarr_codecs_cells.specs.Json.{GivenCells, given_in, given_bytes};
+ghost use Rattle.zarr_array_documents.specs.Meanings.{meaning_of};
+ghost use Rattle.zarr_run_model.specs.Requests as ask;
+ghost use Rattle.zarr_run_commands.specs.Commands.{given, payload_of, answered};
+ghost use Rattle.zarr_run_session.specs.Given.{one_byte_cells};
+ghost use Rattle.zarr_run_session.specs.Sessions.{StepsHeld};
+ghost use Rattle.zarr_run_session.specs.declared.held.HeldArray.{HeldArray};
+
+use std::alloc::Global;
+
+use crate::boxes::write_cells;
+use crate::cells::json_bytes;
+use crate::held::HeldArray;
+use zarr_array_stores::MemoryStore;
+use zarr_codecs_cells::{ArrayBytes, CodecOptions};
+use zarr_grids_boxes::ArraySubset;
+use zarr_run_commands::{CommandCells, Reply};
+use zarr_run_model::Cause;
+
+/// A refusal before any chunk was written.
+pub(crate) fn refused(cause: Cause) -> Reply
+    ensures { answered result ≡ ask.refused cause 0 }
+{
+    Reply::Refused { cause, applied: 0 }
+}
+
+/// The array that is held at a path.
+pub(crate) fn held_at<'a>(array: &'a Option<HeldArray>, path: &str) -> Option<&'a HeldArray>
+    ensures some { IfSome result (λ found. (array.now ≡ Some found.now) × (string_bytes found.now.path ≡ path.now)) }
+    ensures none { IfNone result ((other : HeldArray) → array.now ≡ Some other → string_bytes other.path ≢ path.now) }
+{
+    match array {
+        Some(held) => {
+            if held.path.as_str() == path {
+                Some(held)
+            } else {
+                None
+            }
+        }
+        None => None,
+    }
+}
+
+/// Writes the cells of a region that is covered.
+pub(crate) fn write_covered(
+    alloc: Global,
+    array: &HeldArray,
+    store: &mut MemoryStore,
+    region: &ArraySubset,
+    cells: &CommandCells,
+    options: CodecOptions,
+) -> Reply
+    requires { IsCovered (meaning_of array.now.document).grid (region_of region.now) }
+    ensures { StepsHeld array.now (ask.write_box (string_bytes array.now.path) (region_of region.now) (given cells.now) options) store.old result store.new }
+{
+    match cells {
+        CommandCells::Bytes(bytes) => {
+            let bytes = fixed_bytes(bytes);
+            write_fixed(alloc, array, store, region, bytes, options)
+        }
+        CommandCells::Json(value) => match json_bytes(alloc, value) {
+            Ok(bytes) => write_given(alloc, array, store, region, bytes.as_slice(), options),
+            Err(cause) => refused(cause),
+        },
+    }
+}
+
+/// The bytes of cells of fixed width.
+fn fixed_bytes(cells: &ArrayBytes) -> &[u8]
+    ensures { payload_of cells.now ≡ fixed result.now }
+{
+    let ArrayBytes::Fixed(bytes) = cells;
+    bytes.as_slice()
+}
+
+/// Writes bytes as they were given.
+fn write_fixed(
+    alloc: Global,
+    array: &HeldArray,
+    store: &mut MemoryStore,
+    region: &ArraySubset,
+    bytes: &[u8],
+    options: CodecOptions,
+) -> Reply
+    requires { IsCovered (meaning_of array.now.document).grid (region_of region.now) }
+    ensures { StepsHeld array.now (ask.write_box (string_bytes array.now.path) (region_of region.now) (given_bytes (fixed bytes.now)) options) store.old result store.new }
+{
+    write_given(alloc, array, store, region, bytes, options)
+}
+
+/// Writes bytes, one for each cell of a region that is covered.
+fn write_given(
+    alloc: Global,
+    array: &HeldArray,
+    store: &mut MemoryStore,
+    region: &ArraySubset,
+    bytes: &[u8],
+    options: CodecOptions,
+) -> Reply
+    requires { IsCovered (meaning_of array.now.document).grid (region_of region.now) }
+    ensures { (cells : GivenCells) → given_in uint8 cells ≡ Some (one_byte_cells bytes.now)
+        → StepsHeld array.now (ask.write_box (string_bytes array.now.path) (region_of region.now) cells options) store.old result store.new }
+{
+    match write_cells(alloc, array, store, region, bytes, options.store_empty_chunks) {
+        Ok(()) => Reply::Done,
+        Err(refusal) => Reply::Refused {
+            cause: refusal.cause,
+            applied: refusal.applied,
+        },
+    }
+}
