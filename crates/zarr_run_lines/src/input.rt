@@ -1,0 +1,106 @@
+//! The lines of an input, up to limits.
+ghost use Rattle.std.specs.Prelude.{◌≡◌, ◌+◌, ◌≤◌, ℕ, List, [], ◌++◌, length, take, Option, Some, IfOk, IfErr, OnOk, IfSome, IsTrue, false};
+ghost use Rattle.std.specs.Io.BufRead.{take_through, strip_last, DropsThrough};
+ghost use Rattle.std.specs.Io.KnownBytes.{IsAtEnd};
+ghost use Rattle.std.specs.Io.Buffered.{reader_remaining};
+ghost use Rattle.std.specs.Io.Take.{take_remaining};
+ghost use Rattle.zarr_run_lines.specs.Reading.{IsLeft, TakesLine};
+
+use crate::lines::LinesFault;
+use std::alloc::Global;
+use std::io::{BufRead, BufReader, Error, ErrorKind, Read, Take};
+
+/// The most bytes that are read in one call.
+const MAX_BYTES: u64 = 4_294_967_296;
+
+/// The most lines that are run in one call.
+const MAX_LINES: u64 = 1_048_576;
+
+const BUFFER_BYTES: usize = 65_536;
+
+/// How much may still be read.
+#[derive(Drop)]
+pub(crate) struct Limits {
+    pub bytes: u64,
+    pub lines: u64,
+}
+
+impl Limits {
+    pub(crate) fn new() -> Self
+        ensures bytes { result.bytes ≡ 4294967296 }
+        ensures lines { result.lines ≡ 1048576 }
+    {
+        Limits {
+            bytes: MAX_BYTES,
+            lines: MAX_LINES,
+        }
+    }
+}
+
+/// A buffer in front of a reader. It takes one byte more than the limit, so that an input that passes it is seen.
+pub(crate) fn limited<R: Read + Drop>(
+    alloc: Global,
+    reader: R,
+) -> Result<BufReader<Take<R>>, LinesFault>
+    ensures ok { IfOk result (λ buffered. (text : List ℕ) → R.remaining reader ≡ Some text
+        → IsLeft (reader_remaining (take_remaining R.remaining) buffered) 4294967296 text) }
+    ensures err { IfErr result (λ fault. fault ≡ LinesFault.Memory) }
+{
+    match BufReader::with_capacity(alloc, BUFFER_BYTES, reader.take(MAX_BYTES + 1)) {
+        Ok(buffered) => Ok(buffered),
+        Err(_) => Err(LinesFault::Memory),
+    }
+}
+
+fn read_fault(error: &Error) -> LinesFault {
+    match error.kind() {
+        ErrorKind::OutOfMemory => LinesFault::Memory,
+        _ => LinesFault::Read,
+    }
+}
+
+/// Reads through the next line feed, or to the end.
+fn read_piece<B: BufRead>(reader: &mut B, line: &mut Vec<u8>) -> Result<usize, LinesFault>
+    ensures count { IfOk result (λ n. length line.new.items ≡ n) }
+    ensures bytes { OnOk result (IfSome (B.remaining reader.old) (λ xs. line.new.items ≡ take_through 10 xs)) }
+    ensures rest { OnOk result (DropsThrough (B.remaining reader.old) (B.remaining reader.new) 10) }
+{
+    line.clear();
+    match reader.read_until(b'\n', line) {
+        Ok(count) => Ok(count),
+        Err(e) => Err(read_fault(&e)),
+    }
+}
+
+/// Takes a line feed from the end.
+fn strip_feed(line: &mut Vec<u8>)
+    ensures { line.new.items ≡ strip_last 10 line.old.items }
+{
+    if let Some(b'\n') = line.last() {
+        let _ = line.pop();
+    }
+}
+
+/// Reads the next line, without its line feed. The answer is false at the end.
+pub(crate) fn next_line<B: BufRead>(
+    reader: &mut B,
+    limits: &mut Limits,
+    line: &mut Vec<u8>,
+) -> Result<bool, LinesFault>
+    ensures line { IfOk result (λ more. IsTrue more → (rest : List ℕ) → IsLeft (B.remaining reader.old) limits.old.bytes rest
+        → TakesLine (B.remaining reader.old) limits.old.bytes (B.remaining reader.new) limits.new.bytes line.new.items rest) }
+    ensures lines { IfOk result (λ more. IsTrue more → limits.new.lines + 1 ≡ limits.old.lines) }
+    ensures end { IfOk result (λ more. more ≡ false → (rest : List ℕ) → IsLeft (B.remaining reader.old) limits.old.bytes rest → rest ≡ []) }
+{
+    let count = read_piece(reader, line)?;
+    if count == 0 {
+        return Ok(false);
+    }
+    if count as u64 > limits.bytes || limits.lines == 0 {
+        return Err(LinesFault::Read);
+    }
+    limits.bytes -= count as u64;
+    limits.lines -= 1;
+    strip_feed(line);
+    Ok(true)
+}

@@ -1,0 +1,10 @@
+//! Commands read by lines, and their answers written by lines.
+#![tactic(auto)]
+
+mod answers;
+mod input;
+pub mod lines;
+#[cfg(test)]
+mod tests;
+
+pub use lines::{LinesFault, run_lines};

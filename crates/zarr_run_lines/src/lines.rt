@@ -1,0 +1,79 @@
+//! Running the lines of an input.
+ghost use Rattle.std.specs.Prelude.{◌≡◌, [], OnOk, OnErr, IfErr, IfSome};
+ghost use Rattle.std.specs.Io.KnownBytes.{append_known};
+ghost use Rattle.zarr_run_model.specs.Worlds.{World};
+ghost use Rattle.zarr_run_session.specs.Sessions.{IsIn};
+ghost use Rattle.zarr_run_lines.specs.Lines.{RunsAll, RunsSome, StandsAfterSome, IsWithinLimits};
+
+use crate::answers::{answer_line, write_before_wait, write_pending};
+use crate::input::{Limits, limited, next_line};
+use std::alloc::Global;
+use std::io::{Read, Write};
+use zarr_run_session::Session;
+
+/// Why lines were not run to their end.
+#[derive(Clone, Copy, Debug, PartialEq, Eq)]
+pub enum LinesFault {
+    /// The reader failed, or the input has more than 2^32 bytes or more than 1,048,576 lines.
+    Read,
+    /// The writer failed. How much of the answers was written is not known.
+    Write,
+    /// There was no memory. The answer of the last line that was run may be missing.
+    Memory,
+}
+
+/// Runs the lines of a reader, and writes a line of answer to each.
+///
+/// All answers are written and flushed before a read that may wait. The line that passes a limit is not run,
+/// and the answers before it are written.
+pub fn run_lines<R: Read + Drop, W: Write>(
+    alloc: Global,
+    session: &mut Session,
+    reader: R,
+    writer: &mut W,
+) -> Result<(), LinesFault>
+    ensures ok { (old : World) → IsIn session.old old → OnOk result ((new : World) × IsIn session.new new
+        × RunsAll (R.remaining reader) (W.contents writer.old) (W.contents writer.new) old new) }
+    ensures limits { (old : World) → IsIn session.old old → OnOk result (IfSome (R.remaining reader) IsWithinLimits) }
+    ensures err { (old : World) → IsIn session.old old → OnErr result ((new : World) × IsIn session.new new
+        × StandsAfterSome (R.remaining reader) old new) }
+    ensures read { (old : World) → IsIn session.old old → IfErr result (λ fault. fault ≡ LinesFault.Read → (new : World) × IsIn session.new new
+        × RunsSome (R.remaining reader) (W.contents writer.old) (W.contents writer.new) old new) }
+{
+    let mut pending = Vec::new(alloc);
+    match answer_lines(alloc, session, reader, writer, &mut pending) {
+        Ok(()) => write_pending(writer, &mut pending),
+        Err(LinesFault::Write) => Err(LinesFault::Write),
+        Err(fault) => {
+            write_pending(writer, &mut pending)?;
+            Err(fault)
+        }
+    }
+}
+
+/// Runs the lines of a reader. The last answers may be left in `pending`.
+fn answer_lines<R: Read + Drop, W: Write>(
+    alloc: Global,
+    session: &mut Session,
+    reader: R,
+    writer: &mut W,
+    pending: &mut Vec<u8>,
+) -> Result<(), LinesFault>
+    requires { pending.old.items ≡ [] }
+    ensures ok { (old : World) → IsIn session.old old → OnOk result ((new : World) × IsIn session.new new
+        × RunsAll (R.remaining reader) (W.contents writer.old) (append_known (W.contents writer.new) pending.new.items) old new) }
+    ensures limits { (old : World) → IsIn session.old old → OnOk result (IfSome (R.remaining reader) IsWithinLimits) }
+    ensures err { (old : World) → IsIn session.old old → OnErr result ((new : World) × IsIn session.new new
+        × StandsAfterSome (R.remaining reader) old new) }
+    ensures read { (old : World) → IsIn session.old old → IfErr result (λ fault. fault ≡ LinesFault.Read → (new : World) × IsIn session.new new
+        × RunsSome (R.remaining reader) (W.contents writer.old) (append_known (W.contents writer.new) pending.new.items) old new) }
+{
+    let mut reader = limited(alloc, reader)?;
+    let mut limits = Limits::new();
+    let mut line = Vec::new(alloc);
+    while next_line(&mut reader, &mut limits, &mut line)? {
+        answer_line(alloc, session, line.as_slice(), pending)?;
+        write_before_wait(&reader, writer, pending)?;
+    }
+    Ok(())
+}
