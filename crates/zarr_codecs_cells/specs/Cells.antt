@@ -1,5 +1,5 @@
 -- Data types and their cells.
-use Rattle.std.specs.Prelude.{ℕ, ◌^◌, List, [], ◌∷◌, map, Bool, false, nat_lt}
+use Rattle.std.specs.Prelude.{ℕ, List, [], ◌∷◌, map, Bool, false, nat_lt}
 
 -- what an array's cells are
 pub data DataType : Type 0 where

@@ -1,5 +1,5 @@
 -- Cells as JSON.
-use Rattle.std.specs.Prelude.{ℕ, List, [], ◌∷◌, map, Bool, nat_lt, if◌then◌else◌, Option, Some, None, option_map, option_and_then}
+use Rattle.std.specs.Prelude.{ℕ, List, [], ◌∷◌, map, nat_lt, if◌then◌else◌, Option, Some, None, option_map, option_and_then}
 use Rattle.std.specs.List.{list_all}
 use Rattle.serde_json.specs.Data.{Data, number, unsigned, array, Items, no_items, item}
 use Rattle.serde_json.specs.Find.{as_number, as_u64, as_array}

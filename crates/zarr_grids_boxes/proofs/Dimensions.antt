@@ -84,4 +84,3 @@ inner_more es k inner h p e = rw (e, product-drop es k h) (mul-div_cancel_left (
 
 pub digit_below : (es : List ℕ) (k r : ℕ) → k < length es → r < product (drop k es) → r / product (drop (k + 1) es) < get_or es k 0
 digit_below es k r h l = let p : 0 < product (drop k es) = omega arith in div_below r (product (drop (k + 1) es)) (get_or es k 0) (positive-drop es k h p).1 (rw (product-drop es k h) at l)
-

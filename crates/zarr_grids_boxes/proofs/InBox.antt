@@ -56,7 +56,6 @@ place_at-number (s ∷ ss) (e ∷ es) (p ∷ ps) h =
 pub length-places : (ss es : List ℕ) → length ss ≡ length es → length (places ss es) ≡ product es
 length-places ss es l = ap length (places_by_number ss es l) ∙ length-map-range_with_len (place_at ss es) 0 (product es)
 
-
 -- two functions that agree on the places of a box
 pub map-places : (f g : List ℕ → ℕ) (ss es : List ℕ) → length ss ≡ length es → ((n : ℕ) → n < product es → f (place_at ss es n) ≡ g (place_at ss es n)) → map f (places ss es) ≡ map g (places ss es)
 map-places f g ss es l h =
@@ -71,4 +70,3 @@ IsSmall-place_at ss es n l fit h k g =
     let b = place_at_below ss es n k l h j in
     let f = fit k j in
     omega arith
-

@@ -70,6 +70,7 @@ map-range_shift f g a b zero h = refl
 map-range_shift f g a b (suc n) h = ap (λ y. y ∷ map f (range_with_len (a + 1) n)) (at_zero f g a b (h 0 (omega arith))) ∙ ap (λ ys. g b ∷ ys) (map-range_shift f g (a + 1) (b + 1) n (λ i l. at_one f g a b i (h (suc i) (omega arith)))) where
   at_zero : {X : Type 0} (f g : ℕ → X) (a b : ℕ) → f (a + 0) ≡ g (b + 0) → f a ≡ g b
   at_zero f g a b e = let p : a + 0 ≡ a = omega arith in let q : b + 0 ≡ b = omega arith in sym (ap f p) ∙ e ∙ ap g q
+
   at_one : {X : Type 0} (f g : ℕ → X) (a b i : ℕ) → f (a + suc i) ≡ g (b + suc i) → f (a + 1 + i) ≡ g (b + 1 + i)
   at_one f g a b i e = let p : a + 1 + i ≡ a + suc i = omega arith in let q : b + suc i ≡ b + 1 + i = omega arith in ap f p ∙ e ∙ ap g q
 
@@ -108,8 +109,8 @@ places_by_number (s ∷ ss) (e ∷ es) l =
     ∙ ap (λ b. flat_map (λ k. map (λ n. k ∷ place_at ss es n) (range_with_len 0 (product es))) (range_with_len b e)) z
     ∙ blocks (λ k n. k ∷ place_at ss es n) s 0 e (product es)
     ∙ ap (λ b. map (place_at (s ∷ ss) (e ∷ es)) (range_with_len b (e * product es))) y where
-  flat_congr : {X Y : Type 0} (f g : X → List Y) (xs : List X) → ((x : X) → f x ≡ g x) → flat_map f xs ≡ flat_map g xs
-  flat_congr {X} {Y} f g xs h = ap (λ (k : X → List Y). flat_map k xs) (λ i x. h x i)
+      flat_congr : {X Y : Type 0} (f g : X → List Y) (xs : List X) → ((x : X) → f x ≡ g x) → flat_map f xs ≡ flat_map g xs
+      flat_congr {X} {Y} f g xs h = ap (λ (k : X → List Y). flat_map k xs) (λ i x. h x i)
 
 -- ---- a list made by number
 pub by_number_more : (f : ℕ → ℕ) (done new : List ℕ) (n x : ℕ) → done ≡ map f (range_with_len 0 n) → new ≡ done ++ x ∷ [] → x ≡ f n → new ≡ map f (range_with_len 0 (n + 1))

@@ -2,9 +2,8 @@
 ghost use Rattle.std.specs.Prelude.{◌≡◌, ◌↔◌, ◌+◌, ◌<◌, ◌^◌, length, slice_index, IsTrue, IfOk, IfErr};
 ghost use Rattle.zarr_grids_boxes.specs.Boxes.{EndsFit, product};
 
-use thiserror::Error;
-
 use crate::walk::has_no_place;
+use thiserror::Error;
 
 /// A box of places: where it starts and how long it is in each dimension. Each end fits 64 bits.
 #[derive(Debug, Drop)]

@@ -20,11 +20,11 @@ abbrev pub meets_along : ℕ → ℕ → ℕ → ℕ → Bool
 meets_along e s x k = ltb (k * e + e) (2 ^ 64) && ltb (max (k * e) s) (min (k * e + e) (s + x))
 
 is_met-cons : (n e : ℕ) (grid : Grid) (s x : ℕ) (ss xs : List ℕ) (k : ℕ) (r : List ℕ)
-  → is_met (regular n e ∷ grid) (record { start = s ∷ ss; shape = x ∷ xs }) (k ∷ r) ≡ (meets_along e s x k && is_met grid (record { start = ss; shape = xs }) r)
+    → is_met (regular n e ∷ grid) (record { start = s ∷ ss; shape = x ∷ xs }) (k ∷ r) ≡ (meets_along e s x k && is_met grid (record { start = ss; shape = xs }) r)
 is_met-cons n e grid s x ss xs k r = go (ltb (k * e + e) (2 ^ 64)) (chunk_box grid r) where
   go : (b : Bool) (o : Option Region) →
-    option_map_or (λ (box : Region). share_place box.start box.shape (s ∷ ss) (x ∷ xs)) (option_and_then (λ i. option_map (onto_box i) o) (if b then Some (let i : Interval = record { first = k * e; count = e } in i) else None)) false
-    ≡ ((b && ltb (max (k * e) s) (min (k * e + e) (s + x))) && option_map_or (λ (box : Region). share_place box.start box.shape ss xs) o false)
+      option_map_or (λ (box : Region). share_place box.start box.shape (s ∷ ss) (x ∷ xs)) (option_and_then (λ i. option_map (onto_box i) o) (if b then Some (let i : Interval = record { first = k * e; count = e } in i) else None)) false
+      ≡ ((b && ltb (max (k * e) s) (min (k * e + e) (s + x))) && option_map_or (λ (box : Region). share_place box.start box.shape ss xs) o false)
   go true (Some q) = refl
   go true None = none (ltb (max (k * e) s) (min (k * e + e) (s + x))) where
     none : (c : Bool) → false ≡ (c && false)
@@ -45,14 +45,14 @@ before_first e s x k pos h =
     let m = mul-le-mul_right e (let z : k + 1 ≤ s / e = omega arith in z) in
     let w : (k + 1) * e ≡ k * e + e = grind arith in
     falls (ltb (max (k * e) s) (min (k * e + e) (s + x))) refl (ltb (k * e + e) (2 ^ 64)) where
-  falls : (c : Bool) → c ≡ ltb (max (k * e) s) (min (k * e + e) (s + x)) → (b : Bool) → (b && c) ≡ false
-  falls true p b = let l = ltb-true (max (k * e) s) (min (k * e + e) (s + x)) (sym p) in
-      let d = div-mul-le_self s e in
-      let m = mul-le-mul_right e (let z : k + 1 ≤ s / e = omega arith in z) in
-      let w : (k + 1) * e ≡ k * e + e = grind arith in
-      absurd (omega arith)
-  falls false p true = refl
-  falls false p false = refl
+      falls : (c : Bool) → c ≡ ltb (max (k * e) s) (min (k * e + e) (s + x)) → (b : Bool) → (b && c) ≡ false
+      falls true p b = let l = ltb-true (max (k * e) s) (min (k * e + e) (s + x)) (sym p) in
+          let d = div-mul-le_self s e in
+          let m = mul-le-mul_right e (let z : k + 1 ≤ s / e = omega arith in z) in
+          let w : (k + 1) * e ≡ k * e + e = grind arith in
+          absurd (omega arith)
+      falls false p true = refl
+      falls false p false = refl
 
 between : (n e s x k : ℕ) → 0 < e → 0 < x → covers_along n e s x ≡ true → s / e ≤ k → k ≤ (s + (x - 1)) / e → meets_along e s x k ≡ true
 between n e s x k pos some h low up =
@@ -113,7 +113,7 @@ met_along n e s x pos some h =
 
 -- ---- in all dimensions
 met_each : (ns es ss xs : List ℕ) → length es ≡ length ns → length ss ≡ length ns → length xs ≡ length ss → 0 < product es → 0 < product xs → covers_each ns es ss xs ≡ true
-  → filter (is_met (regular_grid ns es) (record { start = ss; shape = xs })) (chunk_indices (regular_grid ns es)) ≡ places (first_met es ss) (count_met es ss xs)
+    → filter (is_met (regular_grid ns es) (record { start = ss; shape = xs })) (chunk_indices (regular_grid ns es)) ≡ places (first_met es ss) (count_met es ss xs)
 met_each [] [] [] [] l m r pos some h = refl
 met_each [] [] [] (x ∷ xs) l m r pos some h = absurd (omega arith)
 met_each [] [] (s ∷ ss) xs l m r pos some h = absurd (omega arith)
@@ -129,18 +129,18 @@ met_each (n ∷ ns) (e ∷ es) (s ∷ ss) (x ∷ xs) l m r pos some h =
     let grid = regular_grid ns es in
     let region : Region = record { start = ss; shape = xs } in
     filter-flat_map (is_met (regular n e ∷ grid) (record { start = s ∷ ss; shape = x ∷ xs })) (meets_along e s x) (is_met grid region) (is_met-cons n e grid s x ss xs)
-      (range_with_len 0 (chunk_count (regular n e))) (chunk_indices grid)
+    (range_with_len 0 (chunk_count (regular n e))) (chunk_indices grid)
     ∙ ap (λ rs. flat_map (λ k. map (λ r. k ∷ r) rs) (filter (meets_along e s x) (range_with_len 0 (chunk_count (regular n e))))) i
     ∙ ap (flat_map (λ k. map (λ r. k ∷ r) (places (first_met es ss) (count_met es ss xs)))) (met_along n e s x t.0 u.0 c.0)
 
 -- the chunks met are a box of chunk indices
 pub met-places : (ns es ss xs : List ℕ) → length es ≡ length ns → length xs ≡ length ss → 0 < product es → 0 < product xs → (covered : IsCovered (regular_grid ns es) (record { start = ss; shape = xs })) → length ss ≡ length ns
-  → met (regular_grid ns es) (record { start = ss; shape = xs }) ≡ places (first_met es ss) (count_met es ss xs)
+    → met (regular_grid ns es) (record { start = ss; shape = xs }) ≡ places (first_met es ss) (count_met es ss xs)
 met-places ns es ss xs l r pos some covered m = met_each ns es ss xs l m r pos some (IsCovered-covers ns es ss xs l r pos some covered)
 
 -- a chunk of that box is one below the grid shape, and has a box
 pub met_below : (ns es ss xs ks : List ℕ) → length es ≡ length ns → length ss ≡ length ns → length xs ≡ length ss → 0 < product es → 0 < product xs → covers_each ns es ss xs ≡ true
-  → is_in_box (first_met es ss) (count_met es ss xs) ks ≡ true → IsBelow (regular_grid ns es) ks (record { start = origin_of es ks; shape = es })
+    → is_in_box (first_met es ss) (count_met es ss xs) ks ≡ true → IsBelow (regular_grid ns es) ks (record { start = origin_of es ks; shape = es })
 met_below [] [] [] [] [] l m r pos some h i = record { below = refl; has_box = refl }
 met_below [] [] [] [] (k ∷ ks) l m r pos some h i = absurd (cc)
 met_below [] [] [] (x ∷ xs) ks l m r pos some h i = absurd (omega arith)
@@ -189,14 +189,14 @@ count_along-le e s x pos some =
     let up : q ≤ f + (x - 1) = most q f (x - 1) e pos d b in
     let low = div-le_self s e in
     (omega arith, omega arith) where
-  most : (q f y e : ℕ) → 0 < e → q * e ≤ s + y → s < f * e + e → q ≤ f + y
-  most q f y e pos d b = ⊎_elim
-      (λ h. let m = mul-le-mul_right e (let z : f + 1 + y ≤ q = omega arith in z) in
-        let w : (f + 1 + y) * e ≡ f * e + e + y * e = grind arith in
-        let v = le-mul_of_pos_right y pos in
-        absurd (omega arith))
-      (λ h. h)
-      (cases_lt (f + y) q)
+      most : (q f y e : ℕ) → 0 < e → q * e ≤ s + y → s < f * e + e → q ≤ f + y
+      most q f y e pos d b = ⊎_elim
+          (λ h. let m = mul-le-mul_right e (let z : f + 1 + y ≤ q = omega arith in z) in
+          let w : (f + 1 + y) * e ≡ f * e + e + y * e = grind arith in
+          let v = le-mul_of_pos_right y pos in
+          absurd (omega arith))
+          (λ h. h)
+          (cases_lt (f + y) q)
 
 pub product-count_met : (es ss xs : List ℕ) → length es ≡ length ss → length xs ≡ length ss → 0 < product es → 0 < product xs → product (count_met es ss xs) ≤ product xs
 product-count_met [] [] [] l r pos some = omega arith

@@ -89,7 +89,7 @@ last_place-in_box (s ∷ ss) (x ∷ xs) l pos =
     rw (le-leb s (s + (x - 1)) (omega arith), lt-ltb (s + (x - 1)) (s + x) (omega arith), last_place-in_box ss xs (omega arith) t.1) refl
 
 last_covers : (ns es ss xs ks : List ℕ) → length es ≡ length ns → length ss ≡ length ns → length xs ≡ length ss → length ks ≡ length es → 0 < product es
-  → is_in_box (replicate (length (regular_grid ns es)) 0) (grid_shape (regular_grid ns es)) ks ≡ true → EndsFit (origin_of es ks) es → is_in_box (origin_of es ks) es (last_place ss xs) ≡ true → covers_each ns es ss xs ≡ true
+    → is_in_box (replicate (length (regular_grid ns es)) 0) (grid_shape (regular_grid ns es)) ks ≡ true → EndsFit (origin_of es ks) es → is_in_box (origin_of es ks) es (last_place ss xs) ≡ true → covers_each ns es ss xs ≡ true
 last_covers [] es ss xs ks l m r q pos b f h = refl
 last_covers (n ∷ ns) [] ss xs ks l m r q pos b f h = absurd (omega arith)
 last_covers (n ∷ ns) (e ∷ es) [] xs ks l m r q pos b f h = absurd (omega arith)
@@ -110,9 +110,9 @@ last_covers (n ∷ ns) (e ∷ es) (s ∷ ss) (x ∷ xs) (k ∷ ks) l m r q pos b
 -- ---- the code's test says what the definition says
 pub covers-IsCovered : (ns es ss xs : List ℕ) → length es ≡ length ns → length ss ≡ length ns → length xs ≡ length ss → 0 < product es → covers_each ns es ss xs ≡ true → IsCovered (regular_grid ns es) (record { start = ss; shape = xs })
 covers-IsCovered ns es ss xs l m r pos h = record {
-    rank = m ∙ sym (length-regular_grid ns es l);
-    covered = λ p i. let c = covers_each-place ns es ss xs p l m r pos h i in (c.chunk, record { start = origin_of es c.chunk; shape = es }, c.below, c.here);
-  }
+  rank = m ∙ sym (length-regular_grid ns es l);
+  covered = λ p i. let c = covers_each-place ns es ss xs p l m r pos h i in (c.chunk, record { start = origin_of es c.chunk; shape = es }, c.below, c.here);
+}
 
 pub IsCovered-covers : (ns es ss xs : List ℕ) → length es ≡ length ns → length xs ≡ length ss → 0 < product es → 0 < product xs → IsCovered (regular_grid ns es) (record { start = ss; shape = xs }) → covers_each ns es ss xs ≡ true
 IsCovered-covers ns es ss xs l r pos some h =
@@ -135,12 +135,12 @@ empty_box (s ∷ ss) (x ∷ xs) (p ∷ ps) z h =
     let i : product xs ≡ 0 → ⊥ = λ y. empty_box ss xs ps y b.1 in
     let x_some : 0 < x = omega arith in
     go (product xs) refl x_some i where
-  go : (q : ℕ) → q ≡ product xs → 0 < x → (product xs ≡ 0 → ⊥) → ⊥
-  go zero e x_some i = i (sym e)
-  go (suc q) e x_some i =
-      let p : 0 < product xs = omega arith in
-      let m : 0 < x * product xs = mul-pos x_some p in
-      omega arith
+      go : (q : ℕ) → q ≡ product xs → 0 < x → (product xs ≡ 0 → ⊥) → ⊥
+      go zero e x_some i = i (sym e)
+      go (suc q) e x_some i =
+          let p : 0 < product xs = omega arith in
+          let m : 0 < x * product xs = mul-pos x_some p in
+          omega arith
 
 pub empty-IsCovered : (ns es ss xs : List ℕ) → length es ≡ length ns → length ss ≡ length ns → product xs ≡ 0 → IsCovered (regular_grid ns es) (record { start = ss; shape = xs })
 empty-IsCovered ns es ss xs l m z = record { rank = m ∙ sym (length-regular_grid ns es l); covered = λ p i. absurd (empty_box ss xs p z i) }

@@ -3,3 +3,4 @@ pub mod Filters
 pub mod RegularChunks
 pub mod Covers
 pub mod ChunksMet
+pub mod Partition

@@ -20,7 +20,7 @@ pub record IsBoxOf (n e k : ℕ) (grid : Grid) (ks : List ℕ) (box : Region) : 
 pub chunk_box-cons : (n e k : ℕ) (grid : Grid) (ks : List ℕ) (box : Region) → chunk_box (regular n e ∷ grid) (k ∷ ks) ≡ Some box → IsBoxOf n e k grid ks box
 chunk_box-cons n e k grid ks box h = go (ltb (k * e + e) (2 ^ 64)) (chunk_box grid ks) refl refl h where
   go : (b : Bool) (o : Option Region) → b ≡ ltb (k * e + e) (2 ^ 64) → o ≡ chunk_box grid ks
-    → option_and_then (λ i. option_map (onto_box i) o) (if b then Some (let i : Interval = record { first = k * e; count = e } in i) else None) ≡ Some box → IsBoxOf n e k grid ks box
+      → option_and_then (λ i. option_map (onto_box i) o) (if b then Some (let i : Interval = record { first = k * e; count = e } in i) else None) ≡ Some box → IsBoxOf n e k grid ks box
   go true (Some r) p q t = record { fits = ltb-true (k * e + e) (2 ^ 64) (sym p); rest = r; has_rest = sym q; is = cc }
   go true None p q t = absurd (cc)
   go false o p q t = absurd (cc)
@@ -30,7 +30,7 @@ chunk_box-some n e k grid ks rest f h = rw (lt-ltb (k * e + e) (2 ^ 64) f, h) re
 
 -- the box of a chunk that has one: its origin and the chunk shape
 pub chunk_box-regular : (ns es ks : List ℕ) (box : Region) → length es ≡ length ns → chunk_box (regular_grid ns es) ks ≡ Some box
-  → (box ≡ record { start = origin_of es ks; shape = es }) × (length ks ≡ length es) × EndsFit (origin_of es ks) es
+    → (box ≡ record { start = origin_of es ks; shape = es }) × (length ks ≡ length es) × EndsFit (origin_of es ks) es
 chunk_box-regular [] [] [] box l h = (cc, refl, λ k g. absurd (omega arith))
 chunk_box-regular [] [] (k ∷ ks) box l h = absurd (cc)
 chunk_box-regular [] (e ∷ es) ks box l h = absurd (omega arith)
@@ -40,9 +40,9 @@ chunk_box-regular (n ∷ ns) (e ∷ es) (k ∷ ks) box l h =
     let c = chunk_box-cons n e k (regular_grid ns es) ks box h in
     let i = chunk_box-regular ns es ks c.rest (omega arith) c.has_rest in
     (c.is ∙ ap (λ (r : Region). let b : Region = record { start = k * e ∷ r.start; shape = e ∷ r.shape } in b) i.0, (let m = i.1 in omega arith), fits c.fits i.2) where
-  fits : k * e + e < 2 ^ 64 → EndsFit (origin_of es ks) es → EndsFit (k * e ∷ origin_of es ks) (e ∷ es)
-  fits a b zero g = a
-  fits a b (suc j) g = b j (omega arith)
+      fits : k * e + e < 2 ^ 64 → EndsFit (origin_of es ks) es → EndsFit (k * e ∷ origin_of es ks) (e ∷ es)
+      fits a b zero g = a
+      fits a b (suc j) g = b j (omega arith)
 
 pub regular-chunk_box : (ns es ks : List ℕ) → length es ≡ length ns → length ks ≡ length es → EndsFit (origin_of es ks) es → chunk_box (regular_grid ns es) ks ≡ Some (record { start = origin_of es ks; shape = es })
 regular-chunk_box [] [] [] l m f = refl
@@ -84,7 +84,7 @@ same_chunk (e ∷ es) (x ∷ c) (y ∷ d) (q ∷ p) pos l m a b =
 
 -- two chunks share no place
 pub chunks_apart : (ns es c d p : List ℕ) (b1 b2 : Region) → length es ≡ length ns → 0 < product es → chunk_box (regular_grid ns es) c ≡ Some b1 → chunk_box (regular_grid ns es) d ≡ Some b2
-  → is_in_box b1.start b1.shape p ≡ true → is_in_box b2.start b2.shape p ≡ true → c ≡ d
+    → is_in_box b1.start b1.shape p ≡ true → is_in_box b2.start b2.shape p ≡ true → c ≡ d
 chunks_apart ns es c d p b1 b2 l pos h k a b =
     let x = chunk_box-regular ns es c b1 l h in
     let y = chunk_box-regular ns es d b2 l k in

@@ -59,7 +59,7 @@ pub record IsBelow (grid : Grid) (chunk : List ℕ) (box : Region) : Type 0 wher
 pub record IsCovered (grid : Grid) (region : Region) : Type 0 where
   pub rank : length region.start ≡ length grid
   pub covered : (place : List ℕ) → is_in_box region.start region.shape place ≡ true
-    → (chunk : List ℕ) × (box : Region) × IsBelow grid chunk box × (is_in_box box.start box.shape place ≡ true)
+      → (chunk : List ℕ) × (box : Region) × IsBelow grid chunk box × (is_in_box box.start box.shape place ≡ true)
 
 -- whether a chunk has a box that shares a place with a box of places
 abbrev pub is_met : Grid → Region → List ℕ → Bool

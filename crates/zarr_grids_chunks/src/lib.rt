@@ -1,4 +1,5 @@
 //! Chunk grids: which chunks there are, where they lie, and which of them a box of places meets.
 #![tactic(auto)]
 
+pub mod laws;
 pub mod regular;

@@ -5,7 +5,6 @@ ghost use Rattle.zarr_grids_chunks.specs.Grids.{regular_grid, IsCovered, IsBelow
 ghost use Rattle.zarr_grids_chunks.specs.Regular.{origin_of, first_met, count_along, count_met, covers_along, covers_each};
 
 use std::alloc::{AllocError, Global};
-
 use zarr_grids_boxes::ArraySubset;
 use zarr_grids_boxes::walk::has_no_place;
 
@@ -47,7 +46,11 @@ fn covers_interval(size: u64, edge: u64, start: u64, count: u64) -> bool
     requires fit { start + count < 2 ^ 64 }
     ensures { result ≡ covers_along size edge start count }
 {
-    let last = if count == 0 { start } else { start + (count - 1) };
+    let last = if count == 0 {
+        start
+    } else {
+        start + (count - 1)
+    };
     let first = last / edge * edge;
     first < size && edge <= u64::MAX - first
 }

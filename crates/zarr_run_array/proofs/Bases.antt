@@ -35,17 +35,17 @@ contains_box-place (s ∷ ss) (x ∷ xs) (t ∷ ts) (u ∷ us) (q ∷ p) l m n h
 
 -- fill bytes, where the region holds the whole chunk
 pub base_whole : (region box : Region) (given cells : List ℕ → Cell) (x n : ℕ) (value : List ℕ) → length region.shape ≡ length region.start → length box.start ≡ length region.start → length box.shape ≡ length region.start
-  → contains_box region.start region.shape box.start box.shape ≡ true → n ≡ product box.shape → value ≡ replicate n x → IsBase region box given cells value
+    → contains_box region.start region.shape box.start box.shape ≡ true → n ≡ product box.shape → value ≡ replicate n x → IsBase region box given cells value
 base_whole region box given cells x n value l m k h e is = record {
-    base = λ _. x ∷ [];
-    width = λ _. refl;
-    is = is ∙ ap (λ j. replicate j x) e ∙ laid-fill x box.start box.shape (m ∙ sym k);
-    same = λ p t. let i = contains_box-place region.start region.shape box.start box.shape p l m k h t in ap (λ b. if b then given p else x ∷ []) i ∙ sym (ap (λ b. if b then given p else cells p) i);
-  }
+  base = λ _. x ∷ [];
+  width = λ _. refl;
+  is = is ∙ ap (λ j. replicate j x) e ∙ laid-fill x box.start box.shape (m ∙ sym k);
+  same = λ p t. let i = contains_box-place region.start region.shape box.start box.shape p l m k h t in ap (λ b. if b then given p else x ∷ []) i ∙ sym (ap (λ b. if b then given p else cells p) i);
+}
 
 -- fill bytes, where there is no key
 pub base_absent : (region box : Region) (given cells : List ℕ → Cell) (x n : ℕ) (value : List ℕ) (stored : Option (List ℕ)) → length box.start ≡ length box.shape
-  → n ≡ product box.shape → value ≡ replicate n x → stored ≡ None → ChunkStands bytes (x ∷ []) stored (map cells (places box.start box.shape)) → IsBase region box given cells value
+    → n ≡ product box.shape → value ≡ replicate n x → stored ≡ None → ChunkStands bytes (x ∷ []) stored (map cells (places box.start box.shape)) → IsBase region box given cells value
 base_absent region box given cells x n value stored l e is none st =
     let P : Option (List ℕ) → Type 0 = λ o. ChunkStands bytes (x ∷ []) o (map cells (places box.start box.shape)) in
     let h : All (λ c. c ≡ x ∷ []) (map cells (places box.start box.shape)) = subst P none st in
@@ -58,7 +58,7 @@ base_absent region box given cells x n value stored l e is none st =
 
 -- what is stored
 pub base_stored : (region box : Region) (given cells : List ℕ → Cell) (x : ℕ) (value copy : List ℕ) (stored : Option (List ℕ)) → AreValues uint8 cells → copy ≡ value → stored ≡ Some value
-  → ChunkStands bytes (x ∷ []) stored (map cells (places box.start box.shape)) → IsBase region box given cells copy
+    → ChunkStands bytes (x ∷ []) stored (map cells (places box.start box.shape)) → IsBase region box given cells copy
 base_stored region box given cells x value copy stored v e found st =
     let P : Option (List ℕ) → Type 0 = λ o. ChunkStands bytes (x ∷ []) o (map cells (places box.start box.shape)) in
     let h : value ≡ flat_map (λ (c : Cell). c) (map cells (places box.start box.shape)) = subst P found st in
@@ -78,6 +78,6 @@ written_over n xs ys h = grind (arith, common_steps)
 
 -- a chunk whose cells were put over its base
 pub based_laid : (region box : Region) (given cells : List ℕ → Cell) (base value : List ℕ) → length box.start ≡ length box.shape → IsBase region box given cells base
-  → ((old : List ℕ → Cell) → HasWidth 1 old → base ≡ laid old box.start box.shape → value ≡ laid (overlaid region.start region.shape given old) box.start box.shape)
-  → value ≡ laid (overlaid region.start region.shape given cells) box.start box.shape
+    → ((old : List ℕ → Cell) → HasWidth 1 old → base ≡ laid old box.start box.shape → value ≡ laid (overlaid region.start region.shape given old) box.start box.shape)
+    → value ≡ laid (overlaid region.start region.shape given cells) box.start box.shape
 based_laid region box given cells base value l b h = h b.base b.width b.is ∙ laid-in_box _ _ box.start box.shape l b.same

@@ -84,21 +84,25 @@ separated : (document : ArrayDocument) → IsTrue (has_separator (meaning_of doc
 separated document = refl
 
 pub one_chunk : (path : List ℕ) (document : ArrayDocument) (region : Region) (given cells : List ℕ → Cell) (chunk : List ℕ) (box : Region) (s : Bool) (old : StoreMap) (value : List ℕ)
-  → AreValues uint8 given → AreValues uint8 cells → IsBelow (meaning_of document).grid chunk box
-  → value ≡ laid (overlaid region.start region.shape given cells) box.start box.shape
-  → StoreStands path (meaning_of document) old cells
-  → StoreStands path (meaning_of document) (put s document.fill_value old (chunk_key path (meaning_of document).keys chunk) value) (with_chunks (meaning_of document).grid region (chunk ∷ []) given cells)
+    → AreValues uint8 given → AreValues uint8 cells → IsBelow (meaning_of document).grid chunk box
+    → value ≡ laid (overlaid region.start region.shape given cells) box.start box.shape
+    → StoreStands path (meaning_of document) old cells
+    → StoreStands path (meaning_of document) (put s document.fill_value old (chunk_key path (meaning_of document).keys chunk) value) (with_chunks (meaning_of document).grid region (chunk ∷ []) given cells)
 one_chunk path document region given cells chunk box s old value vg vc below is st d other b = ⊎_elim (λ t. same ((bytes_eq-Decides d chunk).0 t)) (λ t. apart (λ e. false≢true (sym t ∙ (bytes_eq-Decides d chunk).1 e))) (told (bytes_eq d chunk)) where
   grid : Grid
   grid = (meaning_of document).grid
+
   new_cells : List ℕ → Cell
   new_cells = with_chunks (meaning_of document).grid region (chunk ∷ []) given cells
+
   overlay_width : HasWidth 1 (overlaid region.start region.shape given cells)
   overlay_width p = elim (is_in_box region.start region.shape p) as (λ t. length (if t then given p else cells p) ≡ 1) [ true ↦ values_width given vg p | false ↦ values_width cells vc p ]
+
   here : (p : List ℕ) → is_in_box other.start other.shape p ≡ true → d ≡ chunk → overlaid region.start region.shape given cells p ≡ with_chunks (meaning_of document).grid region (chunk ∷ []) given cells p
   here p t e =
       let l : lies_in_chunk (meaning_of document).grid p chunk ≡ true = ap (λ k. lies_in_chunk (meaning_of document).grid p k) (sym e) ∙ lies_here (meaning_of document).grid d p other b.has_box ∙ t in
       sym (ap (λ a. if is_in_box region.start region.shape p && (a || false) then given p else cells p) l ∙ ap (λ a. if a then given p else cells p) (and-true (is_in_box region.start region.shape p)))
+
   same : d ≡ chunk → ChunkStands bytes (document.fill_value ∷ []) (get (put s document.fill_value old (chunk_key path (meaning_of document).keys chunk) value) (chunk_key path (meaning_of document).keys d)) (map (with_chunks (meaning_of document).grid region (chunk ∷ []) given cells) (places other.start other.shape))
   same e =
       let o : Some box ≡ Some other = sym below.has_box ∙ ap (chunk_box (meaning_of document).grid) (sym e) ∙ b.has_box in
@@ -109,17 +113,18 @@ one_chunk path document region given cells chunk box s old value vg vc below is 
       let P : List Cell → Type 0 = λ cs. ChunkStands bytes (document.fill_value ∷ []) (get (put s document.fill_value old (chunk_key path (meaning_of document).keys chunk) value) (chunk_key path (meaning_of document).keys d)) cs in
       let Q : Option (List ℕ) → Type 0 = λ r. ChunkStands bytes (document.fill_value ∷ []) r (map (overlaid region.start region.shape given cells) (places other.start other.shape)) in
       subst P (map-in_box _ _ other.start other.shape rank (λ p t. here p t e))
-        (subst Q (sym (ap (λ k. get (put s document.fill_value old (chunk_key path (meaning_of document).keys chunk) value) (chunk_key path (meaning_of document).keys k)) e ∙ put_same s document.fill_value old (chunk_key path (meaning_of document).keys chunk) value)) stands)
+      (subst Q (sym (ap (λ k. get (put s document.fill_value old (chunk_key path (meaning_of document).keys chunk) value) (chunk_key path (meaning_of document).keys k)) e ∙ put_same s document.fill_value old (chunk_key path (meaning_of document).keys chunk) value)) stands)
+
   apart : (d ≡ chunk → ⊥) → ChunkStands bytes (document.fill_value ∷ []) (get (put s document.fill_value old (chunk_key path (meaning_of document).keys chunk) value) (chunk_key path (meaning_of document).keys d)) (map (with_chunks (meaning_of document).grid region (chunk ∷ []) given cells) (places other.start other.shape))
   apart ne =
       let rd = regular_box document d other b.has_box in
       let rc = regular_box document chunk box below.has_box in
       let key : chunk_key path (meaning_of document).keys d ≡ chunk_key path (meaning_of document).keys chunk → ⊥ = λ e. ne (chunk_key-injective path (meaning_of document).keys d chunk (separated document) rd.small rc.small e) in
       let unmet : (p : List ℕ) → is_in_box other.start other.shape p ≡ true → cells p ≡ with_chunks (meaning_of document).grid region (chunk ∷ []) given cells p = λ p t. ⊎_elim
-          (λ l. let h = lies_has (meaning_of document).grid chunk p l in
-            absurd (ne (chunks_apart document.shape.items document.chunk_shape.items d chunk p other h.0 document.same document.positive b.has_box h.1 t h.2)))
-          (λ l. sym (ap (λ a. if is_in_box region.start region.shape p && (a || false) then given p else cells p) l ∙ ap (λ a. if a then given p else cells p) (and-false (is_in_box region.start region.shape p))))
-          (told (lies_in_chunk (meaning_of document).grid p chunk)) in
+      (λ l. let h = lies_has (meaning_of document).grid chunk p l in
+      absurd (ne (chunks_apart document.shape.items document.chunk_shape.items d chunk p other h.0 document.same document.positive b.has_box h.1 t h.2)))
+      (λ l. sym (ap (λ a. if is_in_box region.start region.shape p && (a || false) then given p else cells p) l ∙ ap (λ a. if a then given p else cells p) (and-false (is_in_box region.start region.shape p))))
+      (told (lies_in_chunk (meaning_of document).grid p chunk)) in
       let P : List Cell → Type 0 = λ cs. ChunkStands bytes (document.fill_value ∷ []) (get (put s document.fill_value old (chunk_key path (meaning_of document).keys chunk) value) (chunk_key path (meaning_of document).keys d)) cs in
       let Q : Option (List ℕ) → Type 0 = λ r. ChunkStands bytes (document.fill_value ∷ []) r (map cells (places other.start other.shape)) in
       subst P (map-in_box _ _ other.start other.shape rd.rank unmet) (subst Q (sym (put_other s document.fill_value old _ value _ key)) (st d other b))
@@ -139,16 +144,16 @@ list_any-append p (y ∷ xs) x = ap (λ b. p y || b) (list_any-append p xs x) �
   regroup false b c = refl
 
 pub with_chunks-more : (grid : Grid) (region : Region) (cs : List (List ℕ)) (c : List ℕ) (given cells : List ℕ → Cell) (p : List ℕ)
-  → with_chunks grid region (c ∷ []) given (with_chunks grid region cs given cells) p ≡ with_chunks grid region (cs ++ c ∷ []) given cells p
+    → with_chunks grid region (c ∷ []) given (with_chunks grid region cs given cells) p ≡ with_chunks grid region (cs ++ c ∷ []) given cells p
 with_chunks-more grid region cs c given cells p =
     cases (is_in_box region.start region.shape p) (lies_in_chunk grid p c) (list_any (lies_in_chunk grid p) cs)
     ∙ ap (λ b. if is_in_box region.start region.shape p && b then given p else cells p) (sym (list_any-append (lies_in_chunk grid p) cs c)) where
-  cases : (i a b : Bool) → (if i && (a || false) then given p else (if i && b then given p else cells p)) ≡ (if i && (b || a) then given p else cells p)
-  cases true true true = refl
-  cases true true false = refl
-  cases true false true = refl
-  cases true false false = refl
-  cases false a b = refl
+      cases : (i a b : Bool) → (if i && (a || false) then given p else (if i && b then given p else cells p)) ≡ (if i && (b || a) then given p else cells p)
+      cases true true true = refl
+      cases true true false = refl
+      cases true false true = refl
+      cases true false false = refl
+      cases false a b = refl
 
 pub with_chunks-none : (grid : Grid) (region : Region) (given cells : List ℕ → Cell) (p : List ℕ) → with_chunks grid region [] given cells p ≡ cells p
 with_chunks-none grid region given cells p = ap (λ b. if b then given p else cells p) (and-false (is_in_box region.start region.shape p))
@@ -162,14 +167,14 @@ wrote_none path document region bs store = record { stands = λ given cells vg v
 
 -- one more
 pub wrote_more : (path : List ℕ) (document : ArrayDocument) (region : Region) (bs : List ℕ) (cs : List (List ℕ)) (c : List ℕ) (old mid new : StoreMap)
-  → WroteChunks path (meaning_of document) region bs cs old mid → WroteChunks path (meaning_of document) region bs (c ∷ []) mid new → WroteChunks path (meaning_of document) region bs (cs ++ c ∷ []) old new
+    → WroteChunks path (meaning_of document) region bs cs old mid → WroteChunks path (meaning_of document) region bs (c ∷ []) mid new → WroteChunks path (meaning_of document) region bs (cs ++ c ∷ []) old new
 wrote_more path document region bs cs c old mid new first next = record {
-    stands = λ given cells vg vc is st.
+  stands = λ given cells vg vc is st.
       let m = with_chunks (meaning_of document).grid region cs given cells in
       let h = next.stands given m vg (with_chunks-values (meaning_of document).grid region cs given cells vg vc) is (first.stands given cells vg vc is st) in
       stands_same path (meaning_of document) new (with_chunks (meaning_of document).grid region (c ∷ []) given m) (with_chunks (meaning_of document).grid region (cs ++ c ∷ []) given cells)
-        (with_chunks-more (meaning_of document).grid region cs c given cells) h;
-  }
+      (with_chunks-more (meaning_of document).grid region cs c given cells) h;
+}
 
 -- ---- all chunks met hold the whole box
 any_at : (p : List ℕ → Bool) (c : List ℕ) (xs : List (List ℕ)) → list_any (bytes_eq c) xs ≡ true → p c ≡ true → list_any p xs ≡ true
@@ -178,6 +183,7 @@ any_at p c (x ∷ xs) h t = go (any_at p c xs) where
   or_right : (b : Bool) → (b || true) ≡ true
   or_right true = refl
   or_right false = refl
+
   go : (list_any (bytes_eq c) xs ≡ true → p c ≡ true → list_any p xs ≡ true) → list_any p (x ∷ xs) ≡ true
   go i = ⊎_elim
       (λ e. ap (λ b. b || list_any p xs) (ap p (sym ((bytes_eq-Decides c x).0 e)) ∙ t))
@@ -193,7 +199,7 @@ any_places ss es q l t =
     let k : i < length (map (place_at ss es) (range_with_len 0 (product es))) = rw (length-map-range_with_len (place_at ss es) 0 (product es)) b in
     ap (list_any (bytes_eq q)) (places_by_number ss es l)
     ∙ list_any_at (bytes_eq q) (map (place_at ss es) (range_with_len 0 (product es))) i [] k
-      ((bytes_eq-Decides q (get_or (map (place_at ss es) (range_with_len 0 (product es))) i [])).1 (sym (get_or-map-range_with_len (place_at ss es) 0 (product es) i i [] b z ∙ place_at-number ss es q t)))
+    ((bytes_eq-Decides q (get_or (map (place_at ss es) (range_with_len 0 (product es))) i [])).1 (sym (get_or-map-range_with_len (place_at ss es) 0 (product es) i i [] b z ∙ place_at-number ss es q t)))
 
 length-shape : (grid : Grid) → (let zeros : List ℕ = replicate (length grid) 0 in length zeros) ≡ length (grid_shape grid)
 length-shape [] = refl
@@ -208,7 +214,7 @@ met-any grid region p covered t =
     any_at (lies_in_chunk grid p) c.0 (met grid region) (any-filter (is_met grid region) c.0 (chunk_indices grid) among shares) (lies_here grid c.0 p c.1 c.2.has_box ∙ c.3)
 
 pub with_chunks-met : (grid : Grid) (region : Region) (given cells : List ℕ → Cell) (p : List ℕ) → IsCovered grid region
-  → with_chunks grid region (met grid region) given cells p ≡ (if is_in_box region.start region.shape p then given p else cells p)
+    → with_chunks grid region (met grid region) given cells p ≡ (if is_in_box region.start region.shape p then given p else cells p)
 with_chunks-met grid region given cells p covered = ⊎_elim
     (λ t. ap (λ b. if is_in_box region.start region.shape p && b then given p else cells p) (met-any grid region p covered t) ∙ ap (λ b. if b then given p else cells p) (and-true (is_in_box region.start region.shape p)))
     (λ t. ap (λ b. if b && list_any (lies_in_chunk grid p) (met grid region) then given p else cells p) t ∙ sym (ap (λ b. if b then given p else cells p) t))

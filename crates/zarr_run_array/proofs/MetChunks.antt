@@ -35,7 +35,7 @@ length-met grid edges region chunks l m = sym (ap length m.listed) ∙ length-pl
 
 -- one of them
 pub met_at : (grid : Grid) (edges : List ℕ) (region chunks : Region) (n : ℕ) → length chunks.start ≡ length chunks.shape → AreMet grid edges region chunks → n < product chunks.shape
-  → IsBelow grid (place_at chunks.start chunks.shape n) (record { start = origin_of edges (place_at chunks.start chunks.shape n); shape = edges })
+    → IsBelow grid (place_at chunks.start chunks.shape n) (record { start = origin_of edges (place_at chunks.start chunks.shape n); shape = edges })
 met_at grid edges region chunks n l m h = m.below (place_at chunks.start chunks.shape n) (in_box-place_at chunks.start chunks.shape n l h)
 
 pub shares_at : (grid : Grid) (edges : List ℕ) (region chunks : Region) (n : ℕ) → length chunks.start ≡ length chunks.shape → AreMet grid edges region chunks → n < product chunks.shape → is_met grid region (place_at chunks.start chunks.shape n) ≡ true
@@ -51,19 +51,19 @@ rank_of document region covered = covered.rank ∙ length-regular_grid document.
 pub met_some : (document : ArrayDocument) (region : Region) → length region.shape ≡ length region.start → 0 < product region.shape → IsCovered (meaning_of document).grid region → 0 < length (met (meaning_of document).grid region)
 met_some document region l some covered =
     not_none (λ c. lies_in_chunk (meaning_of document).grid (last_place region.start region.shape) c) (met (meaning_of document).grid region) (met-any (meaning_of document).grid region (last_place region.start region.shape) covered (last_place-in_box region.start region.shape l some)) where
-  not_none : (p : List ℕ → Bool) (cs : List (List ℕ)) → list_any p cs ≡ true → 0 < length cs
-  not_none p [] h = absurd (false≢true h)
-  not_none p (c ∷ cs) h = omega arith
+      not_none : (p : List ℕ → Bool) (cs : List (List ℕ)) → list_any p cs ≡ true → 0 < length cs
+      not_none p [] h = absurd (false≢true h)
+      not_none p (c ∷ cs) h = omega arith
 
 -- the damage of one chunk is damage of the region
 pub damage_at : (path : List ℕ) (document : ArrayDocument) (region chunks : Region) (n count : ℕ) (chunk : List ℕ) (store : StoreMap) → length chunks.start ≡ length chunks.shape → AreMet (meaning_of document).grid document.chunk_shape.items region chunks
-  → n < product chunks.shape → chunk ≡ place_at chunks.start chunks.shape n → count ≡ product document.chunk_shape.items → IsDamaged path (meaning_of document) chunk count store → HasDamage path (meaning_of document) region store
+    → n < product chunks.shape → chunk ≡ place_at chunks.start chunks.shape n → count ≡ product document.chunk_shape.items → IsDamaged path (meaning_of document) chunk count store → HasDamage path (meaning_of document) region store
 damage_at path document region chunks n count chunk store l m h e k d = record {
-    chunk = chunk;
-    box = record { start = origin_of document.chunk_shape.items chunk; shape = document.chunk_shape.items };
-    below = rw e (met_at (meaning_of document).grid document.chunk_shape.items region chunks n l m h);
-    shares = ap (is_met (meaning_of document).grid region) e ∙ shares_at (meaning_of document).grid document.chunk_shape.items region chunks n l m h;
-    value = d.value;
-    found = d.found;
-    wrong = λ w. d.wrong (let one : product document.chunk_shape.items * 1 ≡ product document.chunk_shape.items = omega arith in w ∙ one ∙ sym k);
-  }
+  chunk = chunk;
+  box = record { start = origin_of document.chunk_shape.items chunk; shape = document.chunk_shape.items };
+  below = rw e (met_at (meaning_of document).grid document.chunk_shape.items region chunks n l m h);
+  shares = ap (is_met (meaning_of document).grid region) e ∙ shares_at (meaning_of document).grid document.chunk_shape.items region chunks n l m h;
+  value = d.value;
+  found = d.found;
+  wrong = λ w. d.wrong (let one : product document.chunk_shape.items * 1 ≡ product document.chunk_shape.items = omega arith in w ∙ one ∙ sym k);
+}

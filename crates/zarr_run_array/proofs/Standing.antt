@@ -81,7 +81,7 @@ pub all_fill : (x : ℕ) (cells : List ℕ → Cell) (ps : List (List ℕ)) → 
 all_fill x cells [] w h = All-nil (λ c. c ≡ x ∷ [])
 all_fill x cells (p ∷ ps) w h = go (cells p) (w p) refl h (all_fill x cells ps w) where
   go : (c : Cell) → length c ≡ 1 → cells p ≡ c → list_all (λ b. b == x) (cells p ++ flat_map cells ps) ≡ true
-    → (list_all (λ b. b == x) (flat_map cells ps) ≡ true → All (λ c. c ≡ x ∷ []) (map cells ps)) → All (λ c. c ≡ x ∷ []) (map cells (p ∷ ps))
+      → (list_all (λ b. b == x) (flat_map cells ps) ≡ true → All (λ c. c ≡ x ∷ []) (map cells ps)) → All (λ c. c ≡ x ∷ []) (map cells (p ∷ ps))
   go [] l e h i = absurd (omega arith)
   go (b ∷ c ∷ d) l e h i = absurd (omega arith)
   go (b ∷ []) l e h i =
@@ -102,9 +102,9 @@ found_put store_empty fill v = if not store_empty && list_all (λ b. b == fill) 
 get-put : (s : Bool) (fill : ℕ) (m : StoreMap) (k v q : List ℕ) → get (put s fill m k v) q ≡ (if bytes_eq q k then found_put s fill v else get m q)
 unfolding found_put
 get-put s fill m k v q = elim (not s && list_all (λ b. b == fill) v) as (λ t. get (if t then remove m k else insert m k v) q ≡ (if bytes_eq q k then (if t then None else Some v) else get m q)) [
-    | true ↦ get-remove nat_list_cmp_total m k q ∙ ap (λ b. cond b None (get m q)) (is_eq-slice_cmp q k)
-    | false ↦ get-insert nat_list_cmp_total m k v q ∙ ap (λ b. cond b (Some v) (get m q)) (is_eq-slice_cmp q k)
-  ]
+  | true ↦ get-remove nat_list_cmp_total m k q ∙ ap (λ b. cond b None (get m q)) (is_eq-slice_cmp q k)
+  | false ↦ get-insert nat_list_cmp_total m k v q ∙ ap (λ b. cond b (Some v) (get m q)) (is_eq-slice_cmp q k)
+]
 
 pub put_same : (s : Bool) (fill : ℕ) (m : StoreMap) (k v : List ℕ) → get (put s fill m k v) k ≡ found_put s fill v
 put_same s fill m k v = get-put s fill m k v k ∙ ap (λ b. cond b (found_put s fill v) (get m k)) ((bytes_eq-Decides k k).1 refl)

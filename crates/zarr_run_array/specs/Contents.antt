@@ -24,7 +24,7 @@ pub record ReadsBox (path : List ℕ) (document : Document) (region : Region) (s
 -- whatever cells the old store stood for, the new one stands for them with the box's cells in these chunks replaced
 pub record WroteChunks (path : List ℕ) (document : Document) (region : Region) (bytes : List ℕ) (chunks : List (List ℕ)) (old new : StoreMap) : Type 0 where
   pub stands : (given cells : List ℕ → Cell) → AreValues document.type given → AreValues document.type cells → bytes ≡ laid given region.start region.shape
-    → StoreStands path document old cells → StoreStands path document new (with_chunks document.grid region chunks given cells)
+      → StoreStands path document old cells → StoreStands path document new (with_chunks document.grid region chunks given cells)
 
 -- a chunk that shares a place with a box has a value of a wrong length
 pub record HasDamage (path : List ℕ) (document : Document) (region : Region) (store : StoreMap) : Type 0 where

@@ -15,7 +15,6 @@ ghost use Rattle.zarr_run_model.specs.Worlds.{StoreStands};
 ghost use Rattle.zarr_run_array.specs.Contents.{AreValues, WroteChunks, put, read_so_far, contains_box, IsBase, IsDamaged};
 
 use std::alloc::{AllocError, Global};
-
 use zarr_array_documents::ArrayDocument;
 use zarr_array_stores::MemoryStore;
 use zarr_grids_boxes::ArraySubset;

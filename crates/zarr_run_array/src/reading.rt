@@ -10,10 +10,9 @@ ghost use Rattle.zarr_array_documents.specs.Meanings.{meaning_of};
 ghost use Rattle.zarr_run_model.specs.Worlds.{StoreStands};
 ghost use Rattle.zarr_run_array.specs.Contents.{AreValues, ReadsBox, HasDamage, AreMet, read_so_far};
 
-use std::alloc::Global;
-
 use crate::chunk::{ChunkFault, fill_value_bytes, read_chunk};
 use crate::room::{Room, chunks_met};
+use std::alloc::Global;
 use zarr_array_documents::ArrayDocument;
 use zarr_array_stores::MemoryStore;
 use zarr_grids_boxes::ArraySubset;
@@ -93,7 +92,17 @@ fn read_chunks(
     let met_count = count_places(shape).unwrap();
     for n in 0..met_count {
         write_place(first, shape, met_count, n, chunk);
-        match read_chunk(path, document, region, store, chunk, chunk_count, origin, key, target) {
+        match read_chunk(
+            path,
+            document,
+            region,
+            store,
+            chunk,
+            chunk_count,
+            origin,
+            key,
+            target,
+        ) {
             Ok(()) => {}
             Err(fault) => return Err(fault),
         }

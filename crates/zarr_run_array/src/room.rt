@@ -7,7 +7,6 @@ ghost use Rattle.zarr_array_documents.specs.Meanings.{meaning_of};
 ghost use Rattle.zarr_run_array.specs.Contents.{AreMet};
 
 use std::alloc::{AllocError, Global};
-
 use zarr_array_documents::ArrayDocument;
 use zarr_grids_boxes::ArraySubset;
 use zarr_grids_chunks::regular::chunks_in_array_subset;

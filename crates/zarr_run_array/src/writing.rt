@@ -7,10 +7,9 @@ ghost use Rattle.zarr_grids_keys.specs.Paths.{is_node_path};
 ghost use Rattle.zarr_array_documents.specs.Meanings.{meaning_of};
 ghost use Rattle.zarr_run_array.specs.Contents.{WroteChunks, HasDamage, AreMet};
 
-use std::alloc::Global;
-
 use crate::chunk::{ChunkFault, write_chunk};
 use crate::room::{Room, chunks_met};
+use std::alloc::Global;
 use zarr_array_documents::ArrayDocument;
 use zarr_array_stores::MemoryStore;
 use zarr_grids_boxes::ArraySubset;
@@ -47,10 +46,16 @@ pub fn write_region(
     ensures damage { IfErr result (λ fault. fault.cause ≡ ChunkFault.Damage → HasDamage path.now (meaning_of document.now) (region_of region.now) store.new) }
 {
     let Ok(chunks) = chunks_met(alloc, document, region) else {
-        return Err(WriteFault { cause: ChunkFault::Memory, applied: 0 });
+        return Err(WriteFault {
+            cause: ChunkFault::Memory,
+            applied: 0,
+        });
     };
     let Ok(mut room) = Room::new(alloc, document.chunk_shape.len()) else {
-        return Err(WriteFault { cause: ChunkFault::Memory, applied: 0 });
+        return Err(WriteFault {
+            cause: ChunkFault::Memory,
+            applied: 0,
+        });
     };
     write_chunks(
         alloc,

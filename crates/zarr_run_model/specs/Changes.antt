@@ -1,5 +1,5 @@
 -- Cells as a function of places, and what a write of a box changes.
-use Rattle.std.specs.Prelude.{◌≡◌, ℕ, ◌-◌, List, [], ◌∷◌, ◌&&◌, slice_index_or, if◌then◌else◌}
+use Rattle.std.specs.Prelude.{ℕ, ◌-◌, List, ◌&&◌, slice_index_or, if◌then◌else◌}
 use Rattle.std.specs.List.{list_any}
 use Rattle.zarr_grids_boxes.specs.Boxes.{Region, each2, ravel, is_in_box}
 use Rattle.zarr_grids_chunks.specs.Grids.{Grid, lies_in_chunk}

@@ -1,5 +1,5 @@
 -- What a session may answer to a command, and what each command changes.
-use Rattle.std.specs.Prelude.{◌≡◌, ◌≢◌, ◌⊎◌, ℕ, ◌+◌, ◌*◌, ◌^◌, ◌<◌, ◌≤◌, List, [], ◌∷◌, ◌++◌, map, take, length, Bool, true, false, Option, Some, None, Ok, IsErr}
+use Rattle.std.specs.Prelude.{◌≡◌, ◌≢◌, ◌⊎◌, ℕ, ◌*◌, ◌^◌, ◌<◌, ◌≤◌, List, [], ◌∷◌, ◌++◌, map, take, length, true, false, Option, Some, None, Ok, IsErr}
 use Rattle.serde_json.specs.Data.{Data}
 use Rattle.zarr_grids_boxes.specs.Boxes.{Region, product, places}
 use Rattle.zarr_grids_chunks.specs.Grids.{IsBelow, IsCovered, met, is_met}
@@ -10,7 +10,7 @@ use Rattle.zarr_codecs_chain.specs.declared.order.SubchunkWriteOrder.{SubchunkWr
 use Rattle.zarr_array_documents.specs.Documents.{Document, read_document}
 use Rattle.zarr_run_model.specs.declared.cause.Cause.{Cause}
 use Rattle.zarr_run_model.specs.declared.cause.Cause.TheVariants as cause
-use Rattle.zarr_run_model.specs.Tables.{Table, cell, updated, changes, changes_in}
+use Rattle.zarr_run_model.specs.Tables.{cell, updated, changes, changes_in}
 use Rattle.zarr_run_model.specs.Requests.{Request, create, write_box, read_box, Answer, done, cells, refused}
 use Rattle.zarr_run_model.specs.Worlds.{Held, World, held_at, begun, with_table}
 

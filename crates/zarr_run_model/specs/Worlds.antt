@@ -1,5 +1,5 @@
 -- The arrays that a session holds, and how a store stands for them.
-use Rattle.std.specs.Prelude.{◌≡◌, ℕ, List, [], ◌∷◌, map, bytes_eq, if◌then◌else◌, Option, Some, None}
+use Rattle.std.specs.Prelude.{ℕ, List, [], ◌∷◌, map, bytes_eq, if◌then◌else◌, Option, Some, None}
 use Rattle.std.specs.FinMap.{get, empty}
 use Rattle.zarr_grids_boxes.specs.Boxes.{Region, places}
 use Rattle.zarr_grids_chunks.specs.Grids.{IsBelow}

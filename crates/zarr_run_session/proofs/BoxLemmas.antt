@@ -36,9 +36,9 @@ reads_empty path document region store bytes l z e = record { lists = λ cells v
 
 pub wrote_empty : (path : List ℕ) (document : Document) (region : Region) (bytes : List ℕ) (store : StoreMap) → product region.shape ≡ 0 → WroteBox path document region bytes store store
 wrote_empty path document region bytes store z = record {
-    stands = λ given cells vg vc is st. stands_same path document store cells (overlaid region.start region.shape given cells)
+  stands = λ given cells vg vc is st. stands_same path document store cells (overlaid region.start region.shape given cells)
       (λ p. ⊎_elim (λ t. absurd (empty_box region.start region.shape p z t)) (λ t. sym (ap (λ b. if b then given p else cells p) t)) (told (is_in_box region.start region.shape p))) st;
-  }
+}
 
 -- ---- too large
 pub large : (n : ℕ) → (n < 2 ^ 63 → ⊥) → 2 ^ 63 ≤ n
@@ -66,6 +66,6 @@ wrote_no_chunk path document region bytes store = record { wrote = wrote_none pa
 
 pub wrote_whole : (path : List ℕ) (document : Document) (region : Region) (bytes : List ℕ) (old new : StoreMap) → IsCovered document.grid region → WroteChunks path document region bytes (met document.grid region) old new → WroteBox path document region bytes old new
 wrote_whole path document region bytes old new covered h = record {
-    stands = λ given cells vg vc is st. stands_same path document new (with_chunks document.grid region (met document.grid region) given cells) (overlaid region.start region.shape given cells)
+  stands = λ given cells vg vc is st. stands_same path document new (with_chunks document.grid region (met document.grid region) given cells) (overlaid region.start region.shape given cells)
       (λ p. with_chunks-met document.grid region given cells p covered) (h.stands given cells vg vc is st);
-  }
+}

@@ -40,15 +40,15 @@ all_fill fill (p ∷ ps) = All-cons (λ c. c ≡ fill) (cell fill empty p) (map 
 
 pub keeps_new : (array : HeldArray) (store : StoreMap) (path : List ℕ) → string_bytes array.path ≡ path → array.document.fill_value < 256 → store ≡ empty → Keeps (Some array) store (begun path (meaning_of array.document) array.order ∷ [])
 keeps_new array store path at_path small e = record {
-    path = sym at_path;
-    document = refl;
-    order = refl;
-    values = λ p. ap (is_value uint8) (fill_at (array.document.fill_value ∷ []) p) ∙ lt-ltb array.document.fill_value 256 small;
-    stands = λ chunk box below.
+  path = sym at_path;
+  document = refl;
+  order = refl;
+  values = λ p. ap (is_value uint8) (fill_at (array.document.fill_value ∷ []) p) ∙ lt-ltb array.document.fill_value 256 small;
+  stands = λ chunk box below.
       let key = chunk_key path (meaning_of array.document).keys chunk in
       let P : Option (List ℕ) → Type 0 = λ o. ChunkStands bytes (array.document.fill_value ∷ []) o (map (cell (array.document.fill_value ∷ []) empty) (places box.start box.shape)) in
       subst P (sym (ap (λ (m : StoreMap). get m key) e ∙ get-empty (slice_cmp nat_cmp) key)) (all_fill (array.document.fill_value ∷ []) (places box.start box.shape));
-  }
+}
 
 why_err : (d : Data) (e : DocumentError) → read_document d ≡ Err e → IsErr (read_document d)
 why_err d e h = let P : Result Document DocumentError → Type 0 = λ r. IsErr r in subst P (sym h) refl

@@ -20,7 +20,7 @@ run-more old mid new (q ∷ rs) (b ∷ answers) r a e s = (e.0, e.1, run-more e.
 
 -- the next command of a list
 pub run-take : (old mid new : World) (cs : List Command) (i : ℕ) (d : Command) (rs : List Reply) (r : Reply) → i < length cs → Run old (map asked (take i cs)) (map answered rs) mid → Step mid (asked (get_or cs i d)) (answered r) new
-  → Run old (map asked (take (i + 1) cs)) (map answered (rs ++ r ∷ [])) new
+    → Run old (map asked (take (i + 1) cs)) (map answered (rs ++ r ∷ [])) new
 run-take old mid new cs i d rs r h ran s =
     rw (take_more cs i d h, map-append asked (take i cs) (get_or cs i d ∷ []), map-append answered rs (r ∷ [])) (run-more old mid new (map asked (take i cs)) (map answered rs) (asked (get_or cs i d)) (answered r) ran s)
 

@@ -90,8 +90,8 @@ in_world Q a array store w e k f = let P : Option HeldArray → Type 0 = λ o. K
 
 -- ---- the table after a write
 pub table_after : (array : HeldArray) (region : Region) (bs : List ℕ) (old new : StoreMap) (table : Table) → length region.start ≡ length region.shape → list_all (is_value uint8) (one_byte_cells bs) ≡ true → length bs ≡ product region.shape
-  → WroteBox (string_bytes array.path) (meaning_of array.document) region bs old new → IsTableOf array old table
-  → IsTableOf array new (updated (meaning_of array.document).fill table (changes region (one_byte_cells bs)))
+    → WroteBox (string_bytes array.path) (meaning_of array.document) region bs old new → IsTableOf array old table
+    → IsTableOf array new (updated (meaning_of array.document).fill table (changes region (one_byte_cells bs)))
 table_after array region bs old new table l v n wrote t =
     let fill = (meaning_of array.document).fill in
     let same : (p : List ℕ) → overlaid region.start region.shape (given_cells region bs) (cell fill table) p ≡ cell fill (updated fill table (changes region (one_byte_cells bs))) p =
@@ -100,12 +100,12 @@ table_after array region bs old new table l v n wrote t =
       values = λ p. sym (ap (is_value uint8) (same p)) ∙ overlaid_values p;
       stands = stands_same (string_bytes array.path) (meaning_of array.document) new _ _ same (wrote.stands (given_cells region bs) (cell fill table) (given_values region bs v) t.values (given_laid region bs l n) t.stands);
     } where
-  overlaid_values : (p : List ℕ) → is_value uint8 (overlaid region.start region.shape (given_cells region bs) (cell (meaning_of array.document).fill table) p) ≡ true
-  overlaid_values p = elim (is_in_box region.start region.shape p) as (λ b. is_value uint8 (if b then given_cells region bs p else cell (meaning_of array.document).fill table p) ≡ true) [ true ↦ given_values region bs v p | false ↦ t.values p ]
+      overlaid_values : (p : List ℕ) → is_value uint8 (overlaid region.start region.shape (given_cells region bs) (cell (meaning_of array.document).fill table) p) ≡ true
+      overlaid_values p = elim (is_in_box region.start region.shape p) as (λ b. is_value uint8 (if b then given_cells region bs p else cell (meaning_of array.document).fill table p) ≡ true) [ true ↦ given_values region bs v p | false ↦ t.values p ]
 
 pub table_after_some : (array : HeldArray) (region : Region) (bs : List ℕ) (n : ℕ) (old new : StoreMap) (table : Table) → length region.start ≡ length region.shape → list_all (is_value uint8) (one_byte_cells bs) ≡ true → length bs ≡ product region.shape
-  → WroteChunks (string_bytes array.path) (meaning_of array.document) region bs (take n (met (meaning_of array.document).grid region)) old new → IsTableOf array old table
-  → IsTableOf array new (updated (meaning_of array.document).fill table (changes_in (meaning_of array.document).grid (take n (met (meaning_of array.document).grid region)) (changes region (one_byte_cells bs))))
+    → WroteChunks (string_bytes array.path) (meaning_of array.document) region bs (take n (met (meaning_of array.document).grid region)) old new → IsTableOf array old table
+    → IsTableOf array new (updated (meaning_of array.document).fill table (changes_in (meaning_of array.document).grid (take n (met (meaning_of array.document).grid region)) (changes region (one_byte_cells bs))))
 table_after_some array region bs n old new table l v m wrote t =
     let fill = (meaning_of array.document).fill in
     let grid = (meaning_of array.document).grid in
@@ -123,33 +123,39 @@ no_damage array region store table t d = d.wrong (wrong_length (string_bytes arr
 
 -- ---- a write that is done
 pub write_done : (array : HeldArray) (old new : StoreMap) (region : Region) (g : GivenCells) (bs : List ℕ) (options : CodecOptions) (table : Table) → length region.start ≡ length region.shape → IsCovered (meaning_of array.document).grid region
-  → given_in uint8 g ≡ Some (one_byte_cells bs) → list_all (is_value uint8) (one_byte_cells bs) ≡ true → length bs ≡ product region.shape → WroteBox (string_bytes array.path) (meaning_of array.document) region bs old new → IsTableOf array old table
-  → (after : World) × Step (held_with array table ∷ []) (write_box (string_bytes array.path) region g options) done after × Keeps (Some array) new after
+    → given_in uint8 g ≡ Some (one_byte_cells bs) → list_all (is_value uint8) (one_byte_cells bs) ≡ true → length bs ≡ product region.shape → WroteBox (string_bytes array.path) (meaning_of array.document) region bs old new → IsTableOf array old table
+    → (after : World) × Step (held_with array table ∷ []) (write_box (string_bytes array.path) region g options) done after × Keeps (Some array) new after
 write_done array old new region g bs options table l covered is v n wrote t =
-    let next = updated (meaning_of array.document).fill table (changes region (one_byte_cells bs)) in
-    (held_with array next ∷ [],
-     record {
-       node = array.node;
-       held = held_with array table;
-       found = held_at-here array table;
-       covered = covered;
-       values = one_byte_cells bs;
-       gives = (is, length-cells bs ∙ n);
-       updates = sym (with_table-here array table next);
-     },
-     keeps_table array new next (table_after array region bs old new table l v n wrote t))
+    let next = updated (meaning_of array.document).fill table (changes region (one_byte_cells bs)) in (
+      held_with array next ∷ [],
+      record {
+        node = array.node;
+        held = held_with array table;
+        found = held_at-here array table;
+        covered = covered;
+        values = one_byte_cells bs;
+        gives = (is, length-cells bs ∙ n);
+        updates = sym (with_table-here array table next);
+      },
+      keeps_table array new next (table_after array region bs old new table l v n wrote t),
+    )
 
 -- ---- a write that is refused
 write_cause : (array : HeldArray) (region : Region) (g : GivenCells) (bs : List ℕ) (options : CodecOptions) (table next : Table) (new : StoreMap) (c : Cause) → IsCovered (meaning_of array.document).grid region → given_in uint8 g ≡ Some (one_byte_cells bs)
-  → IsTableOf array new next → BytesRefused (string_bytes array.path) (meaning_of array.document) region bs new c → MayRefuse (held_with array table ∷ []) (write_box (string_bytes array.path) region g options) c
+    → IsTableOf array new next → BytesRefused (string_bytes array.path) (meaning_of array.document) region bs new c → MayRefuse (held_with array table ∷ []) (write_box (string_bytes array.path) region g options) c
 write_cause array region g bs options table next new cause.Memory covered is t why = tt
 write_cause array region g bs options table next new cause.Damage covered is t why = absurd (no_damage array region new next t why)
 write_cause array region g bs options table next new cause.Data covered is t why =
-    let P : Option Held → Type 0 = λ o. WriteRefuses o region g cause.Data in
-    (array.node, subst P (sym (held_at-here array table)) (covered, λ cs gives.
-      let same : Some cs ≡ Some (one_byte_cells bs) = sym gives.0 ∙ is in
-      let e : cs ≡ one_byte_cells bs = cc in
-      why (sym (length-cells bs) ∙ sym (ap length e) ∙ gives.1)))
+    let P : Option Held → Type 0 = λ o. WriteRefuses o region g cause.Data in (
+      array.node,
+      subst P (sym (held_at-here array table)) (
+        covered,
+        λ cs gives.
+            let same : Some cs ≡ Some (one_byte_cells bs) = sym gives.0 ∙ is in
+            let e : cs ≡ one_byte_cells bs = cc in
+            why (sym (length-cells bs) ∙ sym (ap length e) ∙ gives.1),
+      ),
+    )
 write_cause array region g bs options table next new cause.Size covered is t why =
     let P : Option Held → Type 0 = λ o. WriteRefuses o region g cause.Size in
     (array.node, subst P (sym (held_at-here array table)) (covered, (one_byte_cells bs, (is, length-cells bs ∙ why.0)), why.1))
@@ -165,7 +171,7 @@ write_cause array region g bs options table next new cause.DocumentChanged cover
 
 -- no chunk was written
 table_kept : (array : HeldArray) (region : Region) (bs : List ℕ) (old new : StoreMap) (table : Table) → length region.start ≡ length region.shape → list_all (is_value uint8) (one_byte_cells bs) ≡ true
-  → WroteFirst (string_bytes array.path) (meaning_of array.document) region bs 0 old new → IsTableOf array old table → IsTableOf array new table
+    → WroteFirst (string_bytes array.path) (meaning_of array.document) region bs 0 old new → IsTableOf array old table → IsTableOf array new table
 table_kept array region bs old new table l v first t = ⊎_elim sized (λ e. other (λ n. false≢true (sym e ∙ eq-eqb (length bs) (product region.shape) n))) (told (length bs == product region.shape)) where
   sized : (length bs == product region.shape) ≡ true → IsTableOf array new table
   sized e =
@@ -174,42 +180,47 @@ table_kept array region bs old new table l v first t = ⊎_elim sized (λ e. oth
       record {
         values = t.values;
         stands = stands_same (string_bytes array.path) (meaning_of array.document) new (with_chunks (meaning_of array.document).grid region [] (given_cells region bs) f) f (with_chunks-none (meaning_of array.document).grid region (given_cells region bs) f)
-          (first.wrote.stands (given_cells region bs) f (given_values region bs v) t.values (given_laid region bs l n) t.stands);
+            (first.wrote.stands (given_cells region bs) f (given_values region bs v) t.values (given_laid region bs l n) t.stands);
       }
+
   other : length bs ≢ product region.shape → IsTableOf array new table
   other h = let P : StoreMap → Type 0 = λ m. IsTableOf array m table in subst P (sym (first.kept h)) t
 
 pub write_refused : (array : HeldArray) (old new : StoreMap) (region : Region) (g : GivenCells) (bs : List ℕ) (options : CodecOptions) (c : Cause) (n : ℕ) (table : Table) → length region.start ≡ length region.shape → IsCovered (meaning_of array.document).grid region
-  → given_in uint8 g ≡ Some (one_byte_cells bs) → list_all (is_value uint8) (one_byte_cells bs) ≡ true → WroteFirst (string_bytes array.path) (meaning_of array.document) region bs n old new
-  → BytesRefused (string_bytes array.path) (meaning_of array.document) region bs new c → IsTableOf array old table
-  → (after : World) × Step (held_with array table ∷ []) (write_box (string_bytes array.path) region g options) (refused c n) after × Keeps (Some array) new after
+    → given_in uint8 g ≡ Some (one_byte_cells bs) → list_all (is_value uint8) (one_byte_cells bs) ≡ true → WroteFirst (string_bytes array.path) (meaning_of array.document) region bs n old new
+    → BytesRefused (string_bytes array.path) (meaning_of array.document) region bs new c → IsTableOf array old table
+    → (after : World) × Step (held_with array table ∷ []) (write_box (string_bytes array.path) region g options) (refused c n) after × Keeps (Some array) new after
 write_refused array old new region g bs options c zero table l covered is v first why t =
     let none = table_kept array region bs old new table l v first t in
     (held_with array table ∷ [], (write_cause array region g bs options table table new c covered is none why, inl (refl, refl)), keeps_table array new table none)
 write_refused array old new region g bs options c (suc m) table l covered is v first why t =
     let some : suc m ≢ 0 = λ e. absurd (cc e) in
     let next = updated (meaning_of array.document).fill table (changes_in (meaning_of array.document).grid (take (suc m) (met (meaning_of array.document).grid region)) (changes region (one_byte_cells bs))) in
-    let after = table_after_some array region bs (suc m) old new table l v (first.sized some) first.wrote t in
-    (held_with array next ∷ [],
-     (write_cause array region g bs options table next new c covered is after why,
-      inr (record {
-        held = held_with array table;
-        found = held_at-here array table;
-        covered = covered;
-        values = one_byte_cells bs;
-        gives = (is, length-cells bs ∙ first.sized some);
-        fewer = first.fewer some;
-        updates = sym (with_table-here array table next);
-      })),
-     keeps_table array new next after)
+    let after = table_after_some array region bs (suc m) old new table l v (first.sized some) first.wrote t in (
+      held_with array next ∷ [],
+      (
+        write_cause array region g bs options table next new c covered is after why,
+        inr (record {
+          held = held_with array table;
+          found = held_at-here array table;
+          covered = covered;
+          values = one_byte_cells bs;
+          gives = (is, length-cells bs ∙ first.sized some);
+          fewer = first.fewer some;
+          updates = sym (with_table-here array table next);
+        }),
+      ),
+      keeps_table array new next after,
+    )
 
 -- cells that are no values of the type
 pub given_refused : (array : HeldArray) (store : StoreMap) (region : Region) (g : GivenCells) (options : CodecOptions) (c : Cause) (table : Table) → IsCovered (meaning_of array.document).grid region
-  → (c ≢ cause.Memory → c ≡ cause.Data) → (c ≢ cause.Memory → given_in uint8 g ≡ None) → IsTableOf array store table
-  → (after : World) × Step (held_with array table ∷ []) (write_box (string_bytes array.path) region g options) (refused c 0) after × Keeps (Some array) store after
+    → (c ≢ cause.Memory → c ≡ cause.Data) → (c ≢ cause.Memory → given_in uint8 g ≡ None) → IsTableOf array store table
+    → (after : World) × Step (held_with array table ∷ []) (write_box (string_bytes array.path) region g options) (refused c 0) after × Keeps (Some array) store after
 given_refused array store region g options c table covered why none t = (held_with array table ∷ [], (may c why none, inl (refl, refl)), keeps_table array store table t) where
   data_cause : given_in uint8 g ≡ None → WriteRefuses (Some (held_with array table)) region g cause.Data
   data_cause n = (covered, λ cs gives. let e : Some cs ≡ None = sym gives.0 ∙ n in absurd (cc))
+
   may : (c : Cause) → (c ≢ cause.Memory → c ≡ cause.Data) → (c ≢ cause.Memory → given_in uint8 g ≡ None) → MayRefuse (held_with array table ∷ []) (write_box (string_bytes array.path) region g options) c
   may cause.Memory why none = tt
   may cause.Data why none =
@@ -237,25 +248,30 @@ cells_of_laid f (p ∷ ps) v = go (f p) (v p) refl (cells_of_laid f ps v) where
   go (b ∷ d ∷ c) h e i = absurd (false≢true h)
 
 pub read_done : (array : HeldArray) (store : StoreMap) (region : Region) (bs : List ℕ) (options : CodecOptions) (table : Table) → IsCovered (meaning_of array.document).grid region
-  → ReadsBox (string_bytes array.path) (meaning_of array.document) region store bs → IsTableOf array store table
-  → (after : World) × Step (held_with array table ∷ []) (read_box (string_bytes array.path) region options) (cells (fixed bs)) after × Keeps (Some array) store after
+    → ReadsBox (string_bytes array.path) (meaning_of array.document) region store bs → IsTableOf array store table
+    → (after : World) × Step (held_with array table ∷ []) (read_box (string_bytes array.path) region options) (cells (fixed bs)) after × Keeps (Some array) store after
 read_done array store region bs options table covered reads t =
-    let f = cell (meaning_of array.document).fill table in
-    (held_with array table ∷ [],
-     (record {
-       node = array.node;
-       held = held_with array table;
-       found = held_at-here array table;
-       covered = covered;
-       lists = ap one_byte_cells (reads.lists f t.values t.stands) ∙ cells_of_laid f (places region.start region.shape) t.values;
-     }, refl),
-     keeps_table array store table t)
+    let f = cell (meaning_of array.document).fill table in (
+      held_with array table ∷ [],
+      (
+        record {
+          node = array.node;
+          held = held_with array table;
+          found = held_at-here array table;
+          covered = covered;
+          lists = ap one_byte_cells (reads.lists f t.values t.stands) ∙ cells_of_laid f (places region.start region.shape) t.values;
+        },
+        refl,
+      ),
+      keeps_table array store table t,
+    )
 
 pub read_refused : (array : HeldArray) (store : StoreMap) (region : Region) (options : CodecOptions) (c : Cause) (table : Table) → ReadRefused (string_bytes array.path) (meaning_of array.document) region store c → IsTableOf array store table
-  → (after : World) × Step (held_with array table ∷ []) (read_box (string_bytes array.path) region options) (refused c 0) after × Keeps (Some array) store after
+    → (after : World) × Step (held_with array table ∷ []) (read_box (string_bytes array.path) region options) (refused c 0) after × Keeps (Some array) store after
 read_refused array store region options c table why t = (held_with array table ∷ [], (may c why, refl, refl), keeps_table array store table t) where
   at_held : (c : Cause) → ReadRefuses (Some (held_with array table)) region c → ReadRefuses (held_at (string_bytes array.path) (held_with array table ∷ [])) region c
   at_held c h = let P : Option Held → Type 0 = λ o. ReadRefuses o region c in subst P (sym (held_at-here array table)) h
+
   may : (c : Cause) → ReadRefused (string_bytes array.path) (meaning_of array.document) region store c → MayRefuse (held_with array table ∷ []) (read_box (string_bytes array.path) region options) c
   may cause.Memory why = tt
   may cause.Region why = (array.node, at_held cause.Region why)
@@ -290,18 +306,18 @@ no_array_write w path region g options node none = let P : Option Held → Type 
 
 -- a box that isn't covered
 pub uncovered_write : (array : HeldArray) (store : StoreMap) (region : Region) (g : GivenCells) (options : CodecOptions) (table : Table) → (IsCovered (meaning_of array.document).grid region → ⊥) → IsTableOf array store table
-  → (after : World) × Step (held_with array table ∷ []) (write_box (string_bytes array.path) region g options) (refused cause.Region 0) after × Keeps (Some array) store after
+    → (after : World) × Step (held_with array table ∷ []) (write_box (string_bytes array.path) region g options) (refused cause.Region 0) after × Keeps (Some array) store after
 uncovered_write array store region g options table h t =
     let P : Option Held → Type 0 = λ o. WriteRefuses o region g cause.Region in
     (held_with array table ∷ [], ((array.node, subst P (sym (held_at-here array table)) h), inl (refl, refl)), keeps_table array store table t)
 
 -- what holds over an array that is held holds in each world that has it
 pub from_held : (a : Option HeldArray) (array : HeldArray) (old new : StoreMap) (w : World) (path : List ℕ) (request : List ℕ → Request) (answer : Answer) → a ≡ Some array → string_bytes array.path ≡ path → Keeps a old w
-  → ((table : Table) → IsTableOf array old table → (after : World) × Step (held_with array table ∷ []) (request (string_bytes array.path)) answer after × Keeps (Some array) new after)
-  → (after : World) × Step w (request path) answer after × Keeps a new after
+    → ((table : Table) → IsTableOf array old table → (after : World) × Step (held_with array table ∷ []) (request (string_bytes array.path)) answer after × Keeps (Some array) new after)
+    → (after : World) × Step w (request path) answer after × Keeps a new after
 from_held a array old new w path request answer e p k h =
     in_world (λ w. (after : World) × Step w (request path) answer after × Keeps a new after) a array old w e k (λ table t.
-      let r = h table t in
-      let S : List ℕ → Type 0 = λ q. Step (held_with array table ∷ []) (request q) answer r.0 in
-      let K : Option HeldArray → Type 0 = λ o. Keeps o new r.0 in
-      (r.0, subst S p r.1, subst K (sym e) r.2))
+    let r = h table t in
+    let S : List ℕ → Type 0 = λ q. Step (held_with array table ∷ []) (request q) answer r.0 in
+    let K : Option HeldArray → Type 0 = λ o. Keeps o new r.0 in
+    (r.0, subst S p r.1, subst K (sym e) r.2))

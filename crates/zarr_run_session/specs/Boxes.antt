@@ -15,7 +15,7 @@ use Rattle.zarr_run_model.specs.declared.cause.Cause.TheVariants as cause
 -- whatever cells the old store stood for, the new one stands for them with the box's cells replaced
 pub record WroteBox (path : List ℕ) (document : Document) (region : Region) (bytes : List ℕ) (old new : StoreMap) : Type 0 where
   pub stands : (given cells : List ℕ → Cell) → AreValues document.type given → AreValues document.type cells → bytes ≡ laid given region.start region.shape
-    → StoreStands path document old cells → StoreStands path document new (overlaid region.start region.shape given cells)
+      → StoreStands path document old cells → StoreStands path document new (overlaid region.start region.shape given cells)
 
 -- of a box's cells those were written that lie in the first chunks met; where there are any, the bytes were as many as the box's
 pub record WroteFirst (path : List ℕ) (document : Document) (region : Region) (bytes : List ℕ) (applied : ℕ) (old new : StoreMap) : Type 0 where

@@ -11,11 +11,10 @@ ghost use Rattle.zarr_run_session.specs.Given.{one_byte_cells};
 ghost use Rattle.zarr_run_session.specs.Sessions.{StepsHeld};
 ghost use Rattle.zarr_run_session.specs.declared.held.HeldArray.{HeldArray};
 
-use std::alloc::Global;
-
 use crate::boxes::write_cells;
 use crate::cells::json_bytes;
 use crate::held::HeldArray;
+use std::alloc::Global;
 use zarr_array_stores::MemoryStore;
 use zarr_codecs_cells::{ArrayBytes, CodecOptions};
 use zarr_grids_boxes::ArraySubset;
@@ -106,7 +105,14 @@ fn write_given(
     ensures { (cells : GivenCells) → given_in uint8 cells ≡ Some (one_byte_cells bytes.now)
         → StepsHeld array.now (ask.write_box (string_bytes array.now.path) (region_of region.now) cells options) store.old result store.new }
 {
-    match write_cells(alloc, array, store, region, bytes, options.store_empty_chunks) {
+    match write_cells(
+        alloc,
+        array,
+        store,
+        region,
+        bytes,
+        options.store_empty_chunks,
+    ) {
         Ok(()) => Reply::Done,
         Err(refusal) => Reply::Refused {
             cause: refusal.cause,

@@ -7,10 +7,9 @@ ghost use Rattle.zarr_array_documents.specs.Meanings.{meaning_of};
 ghost use Rattle.zarr_run_array.specs.Contents.{ReadsBox};
 ghost use Rattle.zarr_run_session.specs.Boxes.{WroteBox, WroteFirst, BytesRefused, ReadRefused};
 
-use std::alloc::Global;
-
 use crate::cause::cause_of_chunk;
 use crate::held::HeldArray;
+use std::alloc::Global;
 use zarr_array_stores::MemoryStore;
 use zarr_grids_boxes::ArraySubset;
 use zarr_grids_boxes::walk::count_places;
@@ -62,7 +61,15 @@ pub(crate) fn read_cells(
         return Err(Cause::Size);
     };
     let path = array.path.as_str();
-    match read_region(alloc, path, &array.document, region, count, chunk_count, store) {
+    match read_region(
+        alloc,
+        path,
+        &array.document,
+        region,
+        count,
+        chunk_count,
+        store,
+    ) {
         Ok(bytes) => Ok(bytes),
         Err(fault) => Err(cause_of_chunk(fault)),
     }
@@ -85,20 +92,38 @@ pub(crate) fn write_cells(
 {
     let shape = region.shape.as_slice();
     let Some(count) = count_places(shape) else {
-        return Err(Refusal { cause: Cause::Data, applied: 0 });
+        return Err(Refusal {
+            cause: Cause::Data,
+            applied: 0,
+        });
     };
     if bytes.len() as u64 != count {
-        return Err(Refusal { cause: Cause::Data, applied: 0 });
+        return Err(Refusal {
+            cause: Cause::Data,
+            applied: 0,
+        });
     }
     if count == 0 {
         return Ok(());
     }
     let chunk_shape = array.document.chunk_shape.as_slice();
     let Some(chunk_count) = count_places(chunk_shape) else {
-        return Err(Refusal { cause: Cause::Size, applied: 0 });
+        return Err(Refusal {
+            cause: Cause::Size,
+            applied: 0,
+        });
     };
     let path = array.path.as_str();
-    match write_region(alloc, path, &array.document, region, bytes, store_empty, chunk_count, store) {
+    match write_region(
+        alloc,
+        path,
+        &array.document,
+        region,
+        bytes,
+        store_empty,
+        chunk_count,
+        store,
+    ) {
         Ok(()) => Ok(()),
         Err(fault) => Err(Refusal {
             cause: cause_of_chunk(fault.cause),

@@ -6,9 +6,8 @@ ghost use Rattle.zarr_run_model.specs.Runs.{Run};
 ghost use Rattle.zarr_run_commands.specs.Commands.{asked, answered};
 ghost use Rattle.zarr_run_session.specs.Sessions.{AllStand};
 
-use std::alloc::{AllocError, Global};
-
 use crate::session::Session;
+use std::alloc::{AllocError, Global};
 use zarr_array_stores::MemoryStore;
 use zarr_run_commands::{Command, Reply};
 

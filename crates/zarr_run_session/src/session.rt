@@ -4,13 +4,12 @@ ghost use Rattle.zarr_grids_boxes.specs.Subsets.{region_of};
 ghost use Rattle.zarr_run_model.specs.Requests as ask;
 ghost use Rattle.zarr_run_commands.specs.Commands.{given};
 
-use serde_json::Value;
-use std::alloc::Global;
-
 use crate::answering::{held_at, refused, write_covered};
 use crate::boxes::{is_covered, read_cells};
 use crate::cause::cause_of_document;
 use crate::held::HeldArray;
+use serde_json::Value;
+use std::alloc::Global;
 use zarr_array_documents::read_document;
 use zarr_array_stores::MemoryStore;
 use zarr_codecs_cells::{ArrayBytes, CodecOptions};

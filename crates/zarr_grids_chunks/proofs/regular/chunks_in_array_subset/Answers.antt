@@ -7,9 +7,9 @@ use Rattle.zarr_grids_chunks.proofs.regular.chunks_in_array_subset.Goals as goal
 
 pub invariant_of-result : goal.invariant_of-result
 invariant_of-result c = rw (c.in_ok-first.ensures, c.in_ok-count.ensures) (record {
-    same = length-count_met _ _ _ c.requires.rank c.requires.same ∙ sym (length-each2 (λ s e. s / e) _ _ (sym c.requires.rank));
-    fit = met_fits _ _ _ c.requires.rank c.requires.same c.requires.positive c.requires.some c.requires.fit;
-  })
+  same = length-count_met _ _ _ c.requires.rank c.requires.same ∙ sym (length-each2 (λ s e. s / e) _ _ (sym c.requires.rank));
+  fit = met_fits _ _ _ c.requires.rank c.requires.same c.requires.positive c.requires.some c.requires.fit;
+})
 
 pub returns-clause-met : goal.returns-clause-met
 returns-clause-met c = λ ns l covered. rw (c.in_ok-first.ensures, c.in_ok-count.ensures) (sym (met-places ns _ _ _ l c.requires.same c.requires.positive c.requires.some covered (sym c.requires.rank ∙ l)))

@@ -27,5 +27,5 @@ returns-in-Some-clause-ok c = on_ok c.place_value.result (λ placed cells chunks
     let key : c.deref.result.now ≡ chunk_key c.args.path.now (default 47) c.args.chunk.now = c.deref.ensures ∙ c.in_ok-write_key.ensures.ok in
     let found : get c.args.store.now (chunk_key c.args.path.now (default 47) c.args.chunk.now) ≡ Some c.in-Some.value.now = ap (get c.args.store.now) (sym key) ∙ sym c.in-Some.ensures in
     laid_present (meaning_of c.args.document.now).grid (region_of c.args.region.now) chunks c.args.chunk.now cells _ _ _ c.requires.below.has_box
-      (placed (read_so_far (meaning_of c.args.document.now).grid chunks cells (meaning_of c.args.document.now).fill) cells (so_far_width (meaning_of c.args.document.now).grid chunks cells c.args.document.now.fill_value (values_width cells v)) (values_width cells v) e
-        (value_laid c.args.path.now c.args.document.now c.args.store.now cells c.args.chunk.now c.in-Some.value.now _ st c.requires.below found))) c.place_value.ensures.ok
+    (placed (read_so_far (meaning_of c.args.document.now).grid chunks cells (meaning_of c.args.document.now).fill) cells (so_far_width (meaning_of c.args.document.now).grid chunks cells c.args.document.now.fill_value (values_width cells v)) (values_width cells v) e
+    (value_laid c.args.path.now c.args.document.now c.args.store.now cells c.args.chunk.now c.in-Some.value.now _ st c.requires.below found))) c.place_value.ensures.ok

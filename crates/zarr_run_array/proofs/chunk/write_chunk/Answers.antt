@@ -42,8 +42,8 @@ returns-in-Ok-clause-ok c =
     let based = rw (origin, key) at c.in_ok-value.ensures.base in
     record {
       stands = λ given cells vg vc is st.
-        let b = based given cells vc (st c.args.chunk.now box c.requires.below) in
-        let value = based_laid region box given cells c.in_ok-value.value.items c.overlay.new.target r.rank b (λ old w e. over old given w (values_width given vg) e is) in
-        let P : StoreMap → Type 0 = λ m. StoreStands c.args.path.now (meaning_of c.args.document.now) m (with_chunks (meaning_of c.args.document.now).grid region (c.args.chunk.now ∷ []) given cells) in
-        subst P (sym put) (one_chunk c.args.path.now c.args.document.now region given cells c.args.chunk.now box c.args.store_empty c.args.store.now c.overlay.new.target vg vc c.requires.below value st);
+          let b = based given cells vc (st c.args.chunk.now box c.requires.below) in
+          let value = based_laid region box given cells c.in_ok-value.value.items c.overlay.new.target r.rank b (λ old w e. over old given w (values_width given vg) e is) in
+          let P : StoreMap → Type 0 = λ m. StoreStands c.args.path.now (meaning_of c.args.document.now) m (with_chunks (meaning_of c.args.document.now).grid region (c.args.chunk.now ∷ []) given cells) in
+          subst P (sym put) (one_chunk c.args.path.now c.args.document.now region given cells c.args.chunk.now box c.args.store_empty c.args.store.now c.overlay.new.target vg vc c.requires.below value st);
     }

@@ -48,7 +48,7 @@ loop-n-preserved c =
     let chunks : Region = region_of c.args.chunks.now in
     let at_place = rw (c.as_slice-first.ensures.value, c.as_slice-shape.ensures.value) at c.write_place.ensures in
     rw (first_chunks-more chunks c.loop-n.n, ← at_place)
-      (wrote_more c.args.path.now c.args.document.now (region_of c.args.region.now) c.args.bytes.now (first_chunks chunks c.loop-n.n) c.write_place.new.place c.args.store.now c.loop-n.store c.write_chunk.new.store c.loop-n.invariant c.in-Ok.ensures.ok)
+    (wrote_more c.args.path.now c.args.document.now (region_of c.args.region.now) c.args.bytes.now (first_chunks chunks c.loop-n.n) c.write_place.new.place c.args.store.now c.loop-n.store c.write_chunk.new.store c.loop-n.invariant c.in-Ok.ensures.ok)
 
 pub returns-clause-ok : goal.returns-clause-ok
 returns-clause-ok c =

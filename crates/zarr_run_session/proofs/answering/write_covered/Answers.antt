@@ -13,4 +13,4 @@ returns-in-Bytes c = rw (ap given c.in-Bytes.is ∙ ap given_bytes c.fixed_bytes
 pub returns-in-Err : goal.returns-in-Err
 returns-in-Err c = λ table t.
     rw c.refused.ensures (given_refused c.args.array.now c.args.store.now (region_of c.args.region.now) (given c.args.cells.now) c.args.options c.in-Err.cause table c.requires c.in-Err.ensures.cause
-      (λ h. ap (given_in uint8) (ap given c.in-Json.is) ∙ c.in-Err.ensures.none h) t)
+    (λ h. ap (given_in uint8) (ap given c.in-Json.is) ∙ c.in-Err.ensures.none h) t)

@@ -8,13 +8,14 @@ pub returns : goal.returns
 returns c = λ before k.
     let n = keeps_none _ _ before (sym c.is_some.ensures ∙ c.if-is_some.false) k in
     let after : World = begun c.args.path.now (meaning_of c.in-Ok.document) c.args.order ∷ [] in
-    let small : c.in-Ok.document.fill_value < 256 = omega arith in
-    (after,
-     record {
-       node = sym c.is_node_path.ensures ∙ c.if-not-is_node_path.false;
-       free = n.0;
-       meaning = meaning_of c.in-Ok.document;
-       opens = c.in-Ok.ensures.ok;
-       holds = sym (ap (λ w. w ++ after) n.0);
-     },
-     keeps_new _ c.args.self.now.store c.args.path.now c.in-Ok-from_str.ensures.ok small n.1)
+    let small : c.in-Ok.document.fill_value < 256 = omega arith in (
+      after,
+      record {
+        node = sym c.is_node_path.ensures ∙ c.if-not-is_node_path.false;
+        free = n.0;
+        meaning = meaning_of c.in-Ok.document;
+        opens = c.in-Ok.ensures.ok;
+        holds = sym (ap (λ w. w ++ after) n.0);
+      },
+      keeps_new _ c.args.self.now.store c.args.path.now c.in-Ok-from_str.ensures.ok small n.1,
+    )

@@ -1,0 +1,17 @@
+//! Laws of chunks and boxes. Each function does nothing: its contract is the law.
+ghost use Rattle.zarr_grids_chunks.specs.Laws.{SharedPlaces, ChunksApart, ChunksMetCover};
+
+/// Two boxes share a place exactly where some place lies in both.
+pub fn shared_places()
+    ensures { SharedPlaces }
+{}
+
+/// Two chunks share no place: with `chunks_met_cover`, the chunks met partition a covered box.
+pub fn chunks_apart()
+    ensures { ChunksApart }
+{}
+
+/// Each place of a covered box lies in one of the chunks that it meets.
+pub fn chunks_met_cover()
+    ensures { ChunksMetCover }
+{}
