@@ -7,6 +7,7 @@ use Rattle.zarr_grids_boxes.specs.Boxes.{Region, product, places, is_in_box}
 use Rattle.zarr_grids_boxes.specs.Laid.{laid, HasWidth, overlaid}
 use Rattle.zarr_grids_chunks.specs.Grids.{Grid, IsBelow, IsCovered, chunk_box, lies_in_chunk, met}
 use Rattle.zarr_grids_chunks.proofs.Filters.{told}
+use Rattle.zarr_grids_chunks.proofs.Partition.{lies_here, met-any}
 use Rattle.zarr_grids_keys.specs.Keys.{chunk_key}
 use Rattle.zarr_codecs_cells.specs.Cells.{uint8, Cell}
 use Rattle.zarr_codecs_chain.specs.Chain.{bytes, ChunkStands}
@@ -17,7 +18,7 @@ use Rattle.zarr_array_stores.specs.StoreMaps.{StoreMap}
 use Rattle.zarr_run_model.specs.Worlds.{StoreStands}
 use Rattle.zarr_run_array.specs.Contents.{AreValues, read_so_far, ReadsBox}
 use Rattle.zarr_run_array.proofs.Standing.{values_width, encoded-laid, laid-in_box, laid-fill, all_in_box, length-laid}
-use Rattle.zarr_run_array.proofs.ChunkWrites.{lies_here, list_any-append, met-any, regular_box}
+use Rattle.zarr_run_array.proofs.ChunkWrites.{list_any-append, regular_box}
 
 -- what is stored for a chunk
 pub value_laid : (path : List ℕ) (document : ArrayDocument) (store : StoreMap) (cells : List ℕ → Cell) (chunk value : List ℕ) (box : Region)

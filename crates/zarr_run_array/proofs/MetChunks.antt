@@ -15,7 +15,7 @@ use Rattle.zarr_array_documents.specs.Meanings.{meaning_of}
 use Rattle.zarr_array_documents.specs.declared.document.ArrayDocument.{ArrayDocument}
 use Rattle.zarr_array_stores.specs.StoreMaps.{StoreMap}
 use Rattle.zarr_run_array.specs.Contents.{AreMet, HasDamage, IsDamaged}
-use Rattle.zarr_run_array.proofs.ChunkWrites.{any_places, met-any}
+use Rattle.zarr_grids_chunks.proofs.Partition.{any_places, met-any}
 
 -- the first chunks met
 abbrev pub first_chunks : Region → ℕ → List (List ℕ)

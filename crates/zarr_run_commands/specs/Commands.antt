@@ -1,8 +1,7 @@
 -- Commands and replies without the memory that holds them.
 use Rattle.std.specs.Prelude.{string_bytes}
 use Rattle.serde_json.specs.View.{view}
-use Rattle.zarr_grids_boxes.specs.Boxes.{Region}
-use Rattle.zarr_grids_boxes.specs.declared.subset.ArraySubset.{ArraySubset}
+use Rattle.zarr_grids_boxes.specs.Subsets.{region_of}
 use Rattle.zarr_codecs_cells.specs.Cells.{Payload, fixed}
 use Rattle.zarr_codecs_cells.specs.Json.{GivenCells, given_bytes, given_json}
 use Rattle.zarr_codecs_cells.specs.declared.array_bytes.ArrayBytes.{ArrayBytes}
@@ -14,10 +13,6 @@ use Rattle.zarr_run_commands.specs.declared.command.Command.{Command}
 use Rattle.zarr_run_commands.specs.declared.command.Command.TheVariants.{Create, WriteBox, ReadBox}
 use Rattle.zarr_run_commands.specs.declared.command.Reply.{Reply}
 use Rattle.zarr_run_commands.specs.declared.command.Reply.TheVariants.{Done, Cells, Refused}
-
--- the box that a subset is
-abbrev pub region_of : ArraySubset → Region
-region_of subset = record { start = subset.start.items; shape = subset.shape.items }
 
 -- the payload that array bytes are
 abbrev pub payload_of : ArrayBytes → Payload

@@ -61,9 +61,9 @@ progress-line input left left' before after after' bytes bytes' lines lines' pen
   answers = more-answers before after after' pending pending' pending'' p.out (text ++ 10 ∷ []) p.answers is kept;
   number = one-more _ lines lines' p.done line refl one p.number;
   reads = λ whole e.
-    let now = p.reads whole e in
-    let took = takes now.0 now.1 in
-    (drop_through 10 now.0, took.left, moved whole now.0 line p.done now.2 (next left left' bytes bytes' line now.0 took), fewer (length whole) (length now.0) (length (drop_through 10 now.0)) bytes bytes' now.3 took.count);
+      let now = p.reads whole e in
+      let took = takes now.0 now.1 in
+      (drop_through 10 now.0, took.left, moved whole now.0 line p.done now.2 (next left left' bytes bytes' line now.0 took), fewer (length whole) (length now.0) (length (drop_through 10 now.0)) bytes bytes' now.3 took.count);
 }
 
 -- after a fault before a line

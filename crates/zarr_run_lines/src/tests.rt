@@ -86,7 +86,10 @@ fn a_failing_read_is_a_read_fault(rt: HostRuntime) -> std::result::Result<(), Fa
         let reader = FailingReader { left: calls };
         let ran = run_lines(alloc, &mut session, reader, &mut output);
         assert!(rt; ran == Err(LinesFault::Read));
-        assert_eq!(rt; output.len(), calls as usize * b"{\"fault\":\"line\"}\n".len());
+        assert_eq!(rt;
+            output.len(),
+            calls as usize * b"{\"fault\":\"line\"}\n".len()
+        );
     }
     Ok(())
 }
@@ -124,7 +127,10 @@ fn a_failing_write_is_a_write_fault(rt: HostRuntime) -> std::result::Result<(), 
         let mut writer = FailingWriter { writes, flushes };
         let reader = FailingReader { left: 2 };
         let ran = run_lines(alloc, &mut session, reader, &mut writer);
-        assert!(rt; ran == Err(LinesFault::Write), "after {writes} writes and {flushes} flushes");
+        assert!(rt;
+            ran == Err(LinesFault::Write),
+            "after {writes} writes and {flushes} flushes"
+        );
     }
     Ok(())
 }

@@ -84,6 +84,7 @@ pub record Writes (path : List ℕ) (region : Region) (given : GivenCells) (old 
   pub covered : IsCovered held.document.grid region
   pub values : List Cell
   pub gives : Gives held.document region given values
+  pub fits : ¬ HasTooLarge held.document region
   pub updates : new ≡ with_table path (updated held.document.fill held.table (changes region values)) old
 
 -- of the cells of a box, those stand in the table that lie in the first n chunks met; n is less than their number
@@ -102,6 +103,7 @@ pub record Reads (path : List ℕ) (region : Region) (payload : Payload) (world 
   pub held : Held
   pub found : held_at path world ≡ Some held
   pub covered : IsCovered held.document.grid region
+  pub fits : ¬ HasTooLarge held.document region
   pub lists : cells_in held.document.type payload ≡ map (cell held.document.fill held.table) (places region.start region.shape)
 
 -- from old, a session may give this answer to the command and go on to new

@@ -8,7 +8,7 @@ use Rattle.zarr_grids_boxes.specs.Laid.{laid, overlaid}
 use Rattle.zarr_grids_boxes.proofs.InBox.{length-places}
 use Rattle.zarr_grids_chunks.specs.Grids.{IsCovered, is_met, met}
 use Rattle.zarr_grids_chunks.proofs.Filters.{told}
-use Rattle.zarr_grids_chunks.proofs.Sharing.{share_place-of}
+use Rattle.zarr_grids_chunks.proofs.Sharing.{share_place-of, share_place-has}
 use Rattle.zarr_grids_chunks.proofs.Covers.{last_place, last_place-in_box, empty_box}
 use Rattle.zarr_codecs_cells.specs.Cells.{Cell}
 use Rattle.zarr_array_documents.specs.Documents.{Document}
@@ -69,3 +69,21 @@ wrote_whole path document region bytes old new covered h = record {
   stands = λ given cells vg vc is st. stands_same path document new (with_chunks document.grid region (met document.grid region) given cells) (overlaid region.start region.shape given cells)
       (λ p. with_chunks-met document.grid region given cells p covered) (h.stands given cells vg vc is st);
 }
+
+-- ---- not too large
+not_large : (n : ℕ) → n < 2 ^ 63 → 2 ^ 63 ≤ n * 1 → ⊥
+not_large n h g = let o : n * 1 ≡ n = omega arith in omega arith
+
+pub fits_small : (document : ArrayDocument) (region : Region) → product region.shape < 2 ^ 63 → product document.chunk_shape.items < 2 ^ 63 → HasTooLarge (meaning_of document) region → ⊥
+fits_small document region a b (inl h) = not_large (product region.shape) a h
+fits_small document region a b (inr (chunk, box, below, shares, large)) =
+    let e : product box.shape ≡ product document.chunk_shape.items = ap (λ (b : Region). product b.shape) (regular_box document chunk box below.has_box).is in
+    not_large (product box.shape) (omega arith) large
+
+-- an empty box meets no chunk
+pub fits_empty : (document : ArrayDocument) (region : Region) → product region.shape ≡ 0 → HasTooLarge (meaning_of document) region → ⊥
+fits_empty document region z (inl h) = not_large (product region.shape) (omega arith) h
+fits_empty document region z (inr (chunk, box, below, shares, large)) =
+    let s : share_place box.start box.shape region.start region.shape ≡ true = sym (ap (λ o. option_map_or (λ (b : Region). share_place b.start b.shape region.start region.shape) o false) below.has_box) ∙ shares in
+    let p = share_place-has box.start box.shape region.start region.shape s in
+    empty_box region.start region.shape p.0 z p.2

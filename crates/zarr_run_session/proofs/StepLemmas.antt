@@ -122,10 +122,10 @@ pub no_damage : (array : HeldArray) (region : Region) (store : StoreMap) (table 
 no_damage array region store table t d = d.wrong (wrong_length (string_bytes array.path) array.document store (cell (meaning_of array.document).fill table) d.chunk d.value d.box t.stands t.values d.below d.found)
 
 -- ---- a write that is done
-pub write_done : (array : HeldArray) (old new : StoreMap) (region : Region) (g : GivenCells) (bs : List ℕ) (options : CodecOptions) (table : Table) → length region.start ≡ length region.shape → IsCovered (meaning_of array.document).grid region
+pub write_done : (array : HeldArray) (old new : StoreMap) (region : Region) (g : GivenCells) (bs : List ℕ) (options : CodecOptions) (table : Table) → (HasTooLarge (meaning_of array.document) region → ⊥) → length region.start ≡ length region.shape → IsCovered (meaning_of array.document).grid region
     → given_in uint8 g ≡ Some (one_byte_cells bs) → list_all (is_value uint8) (one_byte_cells bs) ≡ true → length bs ≡ product region.shape → WroteBox (string_bytes array.path) (meaning_of array.document) region bs old new → IsTableOf array old table
     → (after : World) × Step (held_with array table ∷ []) (write_box (string_bytes array.path) region g options) done after × Keeps (Some array) new after
-write_done array old new region g bs options table l covered is v n wrote t =
+write_done array old new region g bs options table fits l covered is v n wrote t =
     let next = updated (meaning_of array.document).fill table (changes region (one_byte_cells bs)) in (
       held_with array next ∷ [],
       record {
@@ -135,6 +135,7 @@ write_done array old new region g bs options table l covered is v n wrote t =
         covered = covered;
         values = one_byte_cells bs;
         gives = (is, length-cells bs ∙ n);
+        fits = fits;
         updates = sym (with_table-here array table next);
       },
       keeps_table array new next (table_after array region bs old new table l v n wrote t),
@@ -247,10 +248,10 @@ cells_of_laid f (p ∷ ps) v = go (f p) (v p) refl (cells_of_laid f ps v) where
   go (b ∷ []) h e i = ap (λ (c : Cell). one_byte_cells (c ++ flat_map f ps)) e ∙ ap (λ (cs : List Cell). (b ∷ []) ∷ cs) i ∙ ap (λ (c : Cell). let cs : List Cell = c ∷ map f ps in cs) (sym e)
   go (b ∷ d ∷ c) h e i = absurd (false≢true h)
 
-pub read_done : (array : HeldArray) (store : StoreMap) (region : Region) (bs : List ℕ) (options : CodecOptions) (table : Table) → IsCovered (meaning_of array.document).grid region
+pub read_done : (array : HeldArray) (store : StoreMap) (region : Region) (bs : List ℕ) (options : CodecOptions) (table : Table) → (HasTooLarge (meaning_of array.document) region → ⊥) → IsCovered (meaning_of array.document).grid region
     → ReadsBox (string_bytes array.path) (meaning_of array.document) region store bs → IsTableOf array store table
     → (after : World) × Step (held_with array table ∷ []) (read_box (string_bytes array.path) region options) (cells (fixed bs)) after × Keeps (Some array) store after
-read_done array store region bs options table covered reads t =
+read_done array store region bs options table fits covered reads t =
     let f = cell (meaning_of array.document).fill table in (
       held_with array table ∷ [],
       (
@@ -259,6 +260,7 @@ read_done array store region bs options table covered reads t =
           held = held_with array table;
           found = held_at-here array table;
           covered = covered;
+          fits = fits;
           lists = ap one_byte_cells (reads.lists f t.values t.stands) ∙ cells_of_laid f (places region.start region.shape) t.values;
         },
         refl,

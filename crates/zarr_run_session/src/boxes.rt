@@ -5,6 +5,7 @@ ghost use Rattle.zarr_grids_boxes.specs.Subsets.{region_of};
 ghost use Rattle.zarr_grids_chunks.specs.Grids.{IsCovered};
 ghost use Rattle.zarr_array_documents.specs.Meanings.{meaning_of};
 ghost use Rattle.zarr_run_array.specs.Contents.{ReadsBox};
+ghost use Rattle.zarr_run_model.specs.Steps.{HasTooLarge};
 ghost use Rattle.zarr_run_session.specs.Boxes.{WroteBox, WroteFirst, BytesRefused, ReadRefused};
 
 use crate::cause::cause_of_chunk;
@@ -42,6 +43,7 @@ pub(crate) fn read_cells(
     store: &MemoryStore,
     region: &ArraySubset,
 ) -> Result<Vec<u8>, Cause>
+    ensures fits { OnOk result (¬ HasTooLarge (meaning_of array.now.document) (region_of region.now)) }
     ensures covered { OnOk result (IsCovered (meaning_of array.now.document).grid (region_of region.now)) }
     ensures ok { IfOk result (λ bytes. ReadsBox (string_bytes array.now.path) (meaning_of array.now.document) (region_of region.now) store.now bytes.items) }
     ensures err { IfErr result (λ cause. ReadRefused (string_bytes array.now.path) (meaning_of array.now.document) (region_of region.now) store.now cause) }
@@ -85,6 +87,7 @@ pub(crate) fn write_cells(
     store_empty: bool,
 ) -> Result<(), Refusal>
     requires covered { IsCovered (meaning_of array.now.document).grid (region_of region.now) }
+    ensures fits { OnOk result (¬ HasTooLarge (meaning_of array.now.document) (region_of region.now)) }
     ensures sized { OnOk result (length bytes.now ≡ product region.now.shape.items) }
     ensures ok { OnOk result (WroteBox (string_bytes array.now.path) (meaning_of array.now.document) (region_of region.now) bytes.now store.old store.new) }
     ensures cause { IfErr result (λ refusal. BytesRefused (string_bytes array.now.path) (meaning_of array.now.document) (region_of region.now) bytes.now store.new refusal.cause) }

@@ -2,7 +2,7 @@ use Rattle.std.proofs.Common.{◌≡◌, ◌∙◌, ◌<◌, ◌^◌, sym, ap, a
 use Rattle.zarr_grids_boxes.specs.Boxes.{Region, product}
 use Rattle.zarr_grids_boxes.specs.Subsets.{region_of}
 use Rattle.zarr_array_documents.specs.Meanings.{meaning_of}
-use Rattle.zarr_run_session.proofs.BoxLemmas.{reads_empty, chunk_too_large}
+use Rattle.zarr_run_session.proofs.BoxLemmas.{reads_empty, chunk_too_large, fits_small, fits_empty}
 use Rattle.zarr_run_session.proofs.boxes.read_cells.Goals as goal
 
 pub returns-then-count-eq0-clause-ok : goal.returns-then-count-eq0-clause-ok
@@ -19,3 +19,14 @@ returns-in_default-count_places-clause-err c =
     let some : 0 < product c.args.region.now.shape.items = omega arith in
     let covered = c.is_covered.ensures.0 c.if-not-is_covered.false in
     (covered, chunk_too_large c.args.array.now.document (region_of c.args.region.now) c.args.region.now.same some covered large)
+
+pub returns-then-count-eq0-clause-fits : goal.returns-then-count-eq0-clause-fits
+returns-then-count-eq0-clause-fits c =
+    let count = rw c.as_slice-shape.ensures.value at c.in-Some.ensures in
+    fits_empty c.args.array.now.document (region_of c.args.region.now) (sym count.1 ∙ c.if-count-eq0.true)
+
+pub returns-in-Ok-clause-fits : goal.returns-in-Ok-clause-fits
+returns-in-Ok-clause-fits c =
+    let count = rw c.as_slice-shape.ensures.value at c.in-Some.ensures in
+    let chunk_count = rw c.as_slice-chunk_shape.ensures.value at c.in-Some-count_places.ensures in
+    fits_small c.args.array.now.document (region_of c.args.region.now) count.0 chunk_count.0

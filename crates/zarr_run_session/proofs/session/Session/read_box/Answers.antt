@@ -13,7 +13,7 @@ returns-in_default c = λ before k.
 pub returns-in-Ok : goal.returns-in-Ok
 returns-in-Ok c = λ before k.
     from_held _ c.in-Some.array.now c.args.self.now.store c.args.self.now.store before c.args.path.now (λ path. ask.read_box path (region_of c.args.region.now) c.args.options) (ask.cells (fixed c.in-Ok.bytes.items)) c.in-Some.ensures.some.0 c.in-Some.ensures.some.1 k
-    (λ table t. read_done c.in-Some.array.now c.args.self.now.store (region_of c.args.region.now) c.in-Ok.bytes.items c.args.options table c.in-Ok.ensures.covered c.in-Ok.ensures.ok t)
+    (λ table t. read_done c.in-Some.array.now c.args.self.now.store (region_of c.args.region.now) c.in-Ok.bytes.items c.args.options table c.in-Ok.ensures.fits c.in-Ok.ensures.covered c.in-Ok.ensures.ok t)
 
 pub returns-in-Err : goal.returns-in-Err
 returns-in-Err c = λ before k.

@@ -1,0 +1,10 @@
+//! Tests over whole sessions.
+
+mod boxes;
+mod damage;
+mod extremes;
+mod lines;
+mod memory;
+mod reference;
+mod refusals;
+mod support;

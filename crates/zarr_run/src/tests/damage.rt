@@ -1,0 +1,62 @@
+//! Stored values of a wrong length.
+
+use crate::Cause;
+use crate::tests::support::{Bench, Unmade, is_cells, is_done, is_refused};
+use std::alloc::Global;
+use std::test::Fail;
+use zarr_array_stores::MemoryStore;
+
+/// An array of 4 by 4 zeros over a store that began with a value at one key.
+fn begun_with(alloc: Global, key: &str, value: &[u8]) -> Result<Bench, Unmade> {
+    let mut store = MemoryStore::new(alloc);
+    store.set(key, Vec::from_slice(alloc, value)?)?;
+    Bench::over(alloc, store, "[4,4]", "[2,2]", "0")
+}
+
+#[test]
+fn refuses_damaged_values(rt: HostRuntime) -> Result<(), Fail> {
+    let alloc = rt.alloc();
+    let values: [&[u8]; 3] = [&[], &[1, 2, 3], &[1, 2, 3, 4, 5]];
+    for (k, value) in values.iter().enumerate() {
+        let mut bench = begun_with(alloc, "a/c/0/0", value)?;
+        let read = bench.read(&[(0, 1), (0, 1)])?;
+        assert!(rt; is_refused(&read, Cause::Damage, 0), "read {k}");
+        let wrote = bench.write(&[(1, 3), (1, 3)], "[1,2,3,4]")?;
+        assert!(rt; is_refused(&wrote, Cause::Damage, 0), "write {k}");
+        let whole = bench.write(&[(0, 2), (0, 2)], "[5,6,7,8]")?;
+        assert!(rt; is_done(&whole), "whole {k}");
+        let again = bench.read(&[(0, 2), (0, 2)])?;
+        assert!(rt; is_cells(&again, &[5, 6, 7, 8]), "again {k}");
+        let store = bench.close();
+        assert_eq!(rt; store.len(), 1);
+        assert!(rt;
+            store.get("a/c/0/0") == Some([5u8, 6, 7, 8].as_slice()),
+            "stored {k}"
+        );
+    }
+    Ok(())
+}
+
+#[test]
+fn counts_the_chunks_before_a_damaged_one(rt: HostRuntime) -> Result<(), Fail> {
+    let alloc = rt.alloc();
+    let mut bench = begun_with(alloc, "a/c/1/0", &[9])?;
+    let wrote = bench.write(&[(1, 3), (1, 3)], "[1,2,3,4]")?;
+    assert!(rt; is_refused(&wrote, Cause::Damage, 2));
+    let read = bench.read(&[(0, 2), (0, 4)])?;
+    assert!(rt; is_cells(&read, &[0, 0, 0, 0, 0, 1, 2, 0]));
+    let store = bench.close();
+    assert_eq!(rt; store.len(), 3);
+    assert!(rt; store.get("a/c/0/0") == Some([0u8, 0, 0, 1].as_slice()));
+    assert!(rt; store.get("a/c/0/1") == Some([0u8, 0, 2, 0].as_slice()));
+    assert!(rt; store.get("a/c/1/0") == Some([9u8].as_slice()));
+    Ok(())
+}
+
+#[test]
+fn reads_what_a_store_began_with(rt: HostRuntime) -> Result<(), Fail> {
+    let mut bench = begun_with(rt.alloc(), "a/c/0/1", &[1, 2, 3, 4])?;
+    let read = bench.read(&[(0, 2), (0, 4)])?;
+    assert!(rt; is_cells(&read, &[0, 0, 1, 2, 0, 0, 3, 4]));
+    Ok(())
+}

@@ -1,0 +1,216 @@
+//! Commands from literals, and what replies say.
+
+use crate::{Cause, Command, CommandCells, Reply, Session};
+use serde_json::{Error, Value};
+use std::alloc::{AllocError, AllocFailed, Global};
+use zarr_array_stores::MemoryStore;
+use zarr_codecs_cells::{ArrayBytes, CodecOptions};
+use zarr_codecs_chain::SubchunkWriteOrder;
+use zarr_grids_boxes::{ArraySubset, ArraySubsetError};
+
+/// The options of a write that stores chunks of fill values too.
+pub(crate) const STORING_EMPTY: CodecOptions = CodecOptions {
+    store_empty_chunks: true,
+    experimental_partial_encoding: false,
+    workers: false,
+};
+
+/// Why a test's values could not be made.
+#[derive(Debug, Drop)]
+pub(crate) enum Unmade {
+    Memory,
+    Json,
+    Region,
+    Array,
+}
+
+impl From<AllocError> for Unmade {
+    fn from(_error: AllocError) -> Self {
+        Unmade::Memory
+    }
+}
+
+impl<T: Drop> From<AllocFailed<T>> for Unmade {
+    fn from(_error: AllocFailed<T>) -> Self {
+        Unmade::Memory
+    }
+}
+
+impl From<Error> for Unmade {
+    fn from(_error: Error) -> Self {
+        Unmade::Json
+    }
+}
+
+impl From<ArraySubsetError> for Unmade {
+    fn from(_error: ArraySubsetError) -> Self {
+        Unmade::Region
+    }
+}
+
+/// The region between starts and ends.
+pub(crate) fn region(alloc: Global, ranges: &[(u64, u64)]) -> Result<ArraySubset, Unmade> {
+    let mut start = Vec::new(alloc);
+    let mut shape = Vec::new(alloc);
+    for range in ranges {
+        start.push(range.0)?;
+        shape.push(range.1.saturating_sub(range.0))?;
+    }
+    Ok(ArraySubset::new_with_start_shape(start, shape)?)
+}
+
+/// The document of a uint8 array with a regular grid.
+pub(crate) fn document(
+    alloc: Global,
+    shape: &str,
+    chunk_shape: &str,
+    fill_value: &str,
+) -> Result<Value, Unmade> {
+    let text = format!(in alloc;
+        "{{\"zarr_format\":3,\"node_type\":\"array\",\"shape\":{shape},\"data_type\":\"uint8\",\"chunk_grid\":{{\"name\":\"regular\",\"configuration\":{{\"chunk_shape\":{chunk_shape}}}}},\"chunk_key_encoding\":{{\"name\":\"default\"}},\"fill_value\":{fill_value},\"codecs\":[\"bytes\"]}}"
+    )?;
+    Ok(Value::from_str(alloc, text.as_str())?)
+}
+
+/// The document of an array of 4 by 4 zeros in chunks of 2 by 2.
+pub(crate) fn array_of_zeros(alloc: Global) -> Result<Value, Unmade> {
+    document(alloc, "[4,4]", "[2,2]", "0")
+}
+
+/// A command that creates an array.
+pub(crate) fn create(alloc: Global, path: &str, document: Value) -> Result<Command, Unmade> {
+    Ok(Command::Create {
+        path: String::from_str(alloc, path)?,
+        document,
+        order: SubchunkWriteOrder::Unordered,
+    })
+}
+
+/// A command that writes JSON cells.
+pub(crate) fn write_box(
+    alloc: Global,
+    path: &str,
+    ranges: &[(u64, u64)],
+    cells: &str,
+) -> Result<Command, Unmade> {
+    Ok(Command::WriteBox {
+        path: String::from_str(alloc, path)?,
+        region: region(alloc, ranges)?,
+        cells: CommandCells::Json(Value::from_str(alloc, cells)?),
+        options: CodecOptions::default(),
+    })
+}
+
+/// A command that writes bytes.
+pub(crate) fn write_bytes(
+    alloc: Global,
+    path: &str,
+    ranges: &[(u64, u64)],
+    cells: &[u8],
+    options: CodecOptions,
+) -> Result<Command, Unmade> {
+    let bytes = Vec::from_slice(alloc, cells)?;
+    Ok(Command::WriteBox {
+        path: String::from_str(alloc, path)?,
+        region: region(alloc, ranges)?,
+        cells: CommandCells::Bytes(ArrayBytes::Fixed(bytes)),
+        options,
+    })
+}
+
+/// A command that reads.
+pub(crate) fn read_box(
+    alloc: Global,
+    path: &str,
+    ranges: &[(u64, u64)],
+) -> Result<Command, Unmade> {
+    Ok(Command::ReadBox {
+        path: String::from_str(alloc, path)?,
+        region: region(alloc, ranges)?,
+        options: CodecOptions::default(),
+    })
+}
+
+pub(crate) fn is_done(reply: &Reply) -> bool {
+    matches!(reply, Reply::Done)
+}
+
+pub(crate) fn is_cells(reply: &Reply, want: &[u8]) -> bool {
+    match reply {
+        Reply::Cells(ArrayBytes::Fixed(bytes)) => bytes.as_slice() == want,
+        _ => false,
+    }
+}
+
+pub(crate) fn is_refused(reply: &Reply, want: Cause, count: u64) -> bool {
+    match reply {
+        Reply::Refused { cause, applied } => *cause == want && *applied == count,
+        _ => false,
+    }
+}
+
+/// A session whose commands name the path `/a`.
+#[derive(Drop)]
+pub(crate) struct Bench {
+    alloc: Global,
+    session: Session,
+}
+
+impl Bench {
+    /// A session over an empty store that holds one array.
+    pub(crate) fn with_array(
+        alloc: Global,
+        shape: &str,
+        chunk_shape: &str,
+        fill_value: &str,
+    ) -> Result<Self, Unmade> {
+        let store = MemoryStore::new(alloc);
+        Self::over(alloc, store, shape, chunk_shape, fill_value)
+    }
+
+    /// A session over a store that holds one array.
+    pub(crate) fn over(
+        alloc: Global,
+        store: MemoryStore,
+        shape: &str,
+        chunk_shape: &str,
+        fill_value: &str,
+    ) -> Result<Self, Unmade> {
+        let mut session = Session::new(alloc, store);
+        let document = document(alloc, shape, chunk_shape, fill_value)?;
+        let reply = session.step(&create(alloc, "/a", document)?);
+        if !is_done(&reply) {
+            return Err(Unmade::Array);
+        }
+        Ok(Bench { alloc, session })
+    }
+
+    pub(crate) fn step(&mut self, command: &Command) -> Reply {
+        self.session.step(command)
+    }
+
+    pub(crate) fn write(&mut self, ranges: &[(u64, u64)], cells: &str) -> Result<Reply, Unmade> {
+        let command = write_box(self.alloc, "/a", ranges, cells)?;
+        Ok(self.session.step(&command))
+    }
+
+    pub(crate) fn write_bytes(
+        &mut self,
+        ranges: &[(u64, u64)],
+        cells: &[u8],
+        options: CodecOptions,
+    ) -> Result<Reply, Unmade> {
+        let command = write_bytes(self.alloc, "/a", ranges, cells, options)?;
+        Ok(self.session.step(&command))
+    }
+
+    pub(crate) fn read(&mut self, ranges: &[(u64, u64)]) -> Result<Reply, Unmade> {
+        let command = read_box(self.alloc, "/a", ranges)?;
+        Ok(self.session.step(&command))
+    }
+
+    /// The store, as the commands left it.
+    pub(crate) fn close(self) -> MemoryStore {
+        self.session.close()
+    }
+}
