@@ -1,10 +1,10 @@
 -- One dimension more, in a loop over the dimensions.
-use Rattle.std.proofs.Common.{◌≡◌, ℕ, zero, suc, ◌+◌, ◌-◌, ◌*◌, ◌/◌, ◌%◌, ◌^◌, ◌<◌, ◌≤◌, List, [], ◌∷◌, ◌++◌, length, get_or, take, drop, set, refl, sym, ap, ◌∙◌, arith, rules}
-use Rattle.std.proofs.lemmas.List.{drop_more, take_more_set, drop_all, take_all}
+use Rattle.std.proofs.Common.{◌≡◌, ℕ, zero, suc, ◌+◌, ◌*◌, ◌/◌, ◌%◌, ◌^◌, ◌<◌, ◌≤◌, List, [], ◌∷◌, ◌++◌, length, get_or, take, drop, set, refl, sym, ap, ◌∙◌, arith}
+use Rattle.std.proofs.lemmas.List.{drop_more}
 use Rattle.std.proofs.lemmas.Grind.{common_steps}
-use Rattle.std.proofs.Math.Nat.{mul-div_cancel_left, mul-pos, mul_comm, mul_assoc, le-mul_of_pos_right, div-mul-le_self, div-le_self}
-use Rattle.std.proofs.lemmas.Nat.{mod_below, div_below, mul-add-lt, le-div}
-use Rattle.zarr_grids_boxes.specs.Boxes.{product, place_at, ravel, each2, IsIndex, EndsFit}
+use Rattle.std.proofs.Math.Nat.{mul-div_cancel_left, mul-pos, mul_comm, mul_assoc, le-mul_of_pos_right}
+use Rattle.std.proofs.lemmas.Nat.{div_below, mul-add-lt}
+use Rattle.zarr_grids_boxes.specs.Boxes.{product, place_at, ravel, IsIndex}
 
 pub product-drop : (es : List ℕ) (k : ℕ) → k < length es → product (drop k es) ≡ get_or es k 0 * product (drop (k + 1) es)
 product-drop es k h = rw (drop_more es k 0) refl

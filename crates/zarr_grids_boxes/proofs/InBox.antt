@@ -1,12 +1,12 @@
 -- Which places lie in a box, and their numbers.
-use Rattle.std.proofs.Common.{◌≡◌, ◌∙◌, ℕ, zero, suc, ◌+◌, ◌-◌, ◌*◌, ◌/◌, ◌%◌, ◌^◌, ◌<◌, ◌≤◌, Bool, true, false, ◌&&◌, List, [], ◌∷◌, ◌++◌, length, map, get_or, refl, sym, ap, subst, arith, rules}
+use Rattle.std.proofs.Common.{◌≡◌, ◌∙◌, ℕ, ◌+◌, ◌-◌, ◌/◌, ◌%◌, ◌<◌, true, List, [], ◌∷◌, length, map, refl, sym, ap, arith}
 use Rattle.std.specs.List.{range_with_len}
 use Rattle.std.proofs.Math.Dec.{leb, ltb}
-use Rattle.std.proofs.lemmas.Bool.{le-leb, lt-ltb, leb-true, ltb-true}
+use Rattle.std.proofs.lemmas.Bool.{le-leb, lt-ltb, leb-true}
 use Rattle.std.proofs.lemmas.List.FromFn.{length-map-range_with_len}
 use Rattle.std.proofs.lemmas.Nat.{mod_below, div_below, div-mul-add, mod-mul-add, div-add-mod'}
 use Rattle.std.proofs.lemmas.Simd.{map-map}
-use Rattle.zarr_grids_boxes.specs.Boxes.{product, places, place_at, ravel, each2, is_in_box, IsIndex, IsSmall, EndsFit}
+use Rattle.zarr_grids_boxes.specs.Boxes.{product, places, place_at, ravel, each2, is_in_box, IsSmall, EndsFit}
 use Rattle.zarr_grids_boxes.proofs.Dimensions.{positive-drop, ravel_below}
 use Rattle.zarr_grids_boxes.proofs.Places.{places_by_number, both, in_box_below, map-range_shift, place_at_below, length-place_at}
 

@@ -1,5 +1,5 @@
 -- Boxes of places: a start and a length in each dimension.
-use Rattle.std.specs.Prelude.{◌≡◌, ℕ, ◌+◌, ◌-◌, ◌*◌, ◌/◌, ◌%◌, ◌^◌, ◌<◌, List, [], ◌∷◌, map, length, slice_index, Bool, true, false, ◌&&◌, nat_le, nat_lt, min, max}
+use Rattle.std.specs.Prelude.{◌≡◌, ℕ, ◌+◌, ◌*◌, ◌/◌, ◌%◌, ◌^◌, ◌<◌, List, [], ◌∷◌, map, length, slice_index, Bool, true, false, ◌&&◌, nat_le, nat_lt, min, max}
 use Rattle.std.specs.List.{range_with_len, flat_map}
 
 -- a box: where it starts and how long it is in each dimension

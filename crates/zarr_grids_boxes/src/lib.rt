@@ -2,6 +2,8 @@
 #![tactic(auto)]
 
 pub mod subset;
+#[cfg(test)]
+mod tests;
 pub mod walk;
 
 pub use subset::{ArraySubset, ArraySubsetError};

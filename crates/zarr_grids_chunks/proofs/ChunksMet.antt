@@ -1,19 +1,19 @@
 -- The chunks that a covered box meets, by division.
-use Rattle.std.proofs.Common.{◌≡◌, ◌∙◌, ℕ, zero, suc, ◌+◌, ◌-◌, ◌*◌, ◌/◌, ◌^◌, ◌<◌, ◌≤◌, ◌==◌, max, min, Bool, true, false, cond, if◌then◌else◌, ◌&&◌, List, [], ◌∷◌, ◌++◌, length, map, get_or, replicate, sym, ap, refl, subst, arith, Option, Some, None, option_map, option_and_then, ◌⊎◌, ⊎_elim, bytes_eq, append-nil}
-use Rattle.std.specs.List.{range_with_len, flat_map, filter, list_any}
+use Rattle.std.proofs.Common.{◌≡◌, ◌∙◌, ℕ, zero, suc, ◌+◌, ◌-◌, ◌*◌, ◌/◌, ◌^◌, ◌<◌, ◌≤◌, ◌==◌, max, min, Bool, true, false, if◌then◌else◌, ◌&&◌, List, [], ◌∷◌, ◌++◌, length, map, sym, ap, refl, arith, Option, Some, None, option_map, option_and_then, ⊎_elim, append-nil}
+use Rattle.std.specs.List.{range_with_len, flat_map, filter}
 use Rattle.std.specs.Option.{option_map_or}
-use Rattle.std.proofs.Math.Dec.{leb, ltb}
+use Rattle.std.proofs.Math.Dec.{ltb}
 use Rattle.std.proofs.Math.Nat.{div-mul-le_self, lt-div-mul-add, mul-le-mul_right, mul-le-mul, le-mul_of_pos_right, div-le_self}
-use Rattle.std.proofs.lemmas.Nat.{le-div, div_below}
-use Rattle.std.proofs.lemmas.Bool.{false≢true, le-leb, lt-ltb, leb-true, ltb-true, eqb-true, cases_lt}
-use Rattle.zarr_grids_boxes.specs.Boxes.{Region, product, rows, spans, places, each2, is_in_box, share_place, EndsFit}
+use Rattle.std.proofs.lemmas.Nat.{le-div}
+use Rattle.std.proofs.lemmas.Bool.{le-leb, lt-ltb, leb-true, ltb-true, eqb-true, cases_lt}
+use Rattle.zarr_grids_boxes.specs.Boxes.{Region, product, places, is_in_box, share_place, EndsFit}
 use Rattle.zarr_grids_boxes.proofs.Dimensions.{positive-drop}
-use Rattle.zarr_grids_boxes.proofs.Places.{both, length-each2, range_with_len-append}
-use Rattle.zarr_grids_chunks.specs.Grids.{Grid, regular, Interval, bounded, onto_box, chunk_count, grid_shape, chunk_box, regular_grid, chunk_indices, is_met, met, IsBelow, IsCovered}
+use Rattle.zarr_grids_boxes.proofs.Places.{both, range_with_len-append}
+use Rattle.zarr_grids_chunks.specs.Grids.{Grid, regular, Interval, onto_box, chunk_count, chunk_box, regular_grid, chunk_indices, is_met, met, IsBelow, IsCovered}
 use Rattle.zarr_grids_chunks.specs.Regular.{origin_of, first_met, count_along, count_met, covers_along, covers_each}
-use Rattle.zarr_grids_chunks.proofs.Filters.{told, filter-append, filter-flat_map, none_kept, all_kept}
-use Rattle.zarr_grids_chunks.proofs.RegularChunks.{chunk_box-some, regular-chunk_box}
-use Rattle.zarr_grids_chunks.proofs.Covers.{covers-place, InChunk, IsCovered-covers}
+use Rattle.zarr_grids_chunks.proofs.Filters.{filter-append, filter-flat_map, none_kept, all_kept}
+use Rattle.zarr_grids_chunks.proofs.RegularChunks.{chunk_box-some}
+use Rattle.zarr_grids_chunks.proofs.Covers.{covers-place, IsCovered-covers}
 
 -- ---- along one dimension: a chunk meets an interval, and its end fits
 abbrev pub meets_along : ℕ → ℕ → ℕ → ℕ → Bool

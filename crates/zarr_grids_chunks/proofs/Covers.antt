@@ -1,13 +1,13 @@
 -- A box of places that the chunks below the grid shape cover.
-use Rattle.std.proofs.Common.{◌≡◌, ◌∙◌, ℕ, zero, suc, ◌+◌, ◌-◌, ◌*◌, ◌/◌, ◌^◌, ◌<◌, ◌≤◌, Bool, true, false, ◌&&◌, List, [], ◌∷◌, length, map, replicate, sym, ap, refl, subst, arith, Option, Some}
-use Rattle.std.proofs.Math.Dec.{leb, ltb}
+use Rattle.std.proofs.Common.{◌≡◌, ◌∙◌, ℕ, zero, suc, ◌+◌, ◌-◌, ◌*◌, ◌/◌, ◌^◌, ◌<◌, ◌≤◌, true, List, [], ◌∷◌, length, replicate, sym, ap, refl, arith}
+use Rattle.std.proofs.Math.Dec.{ltb}
 use Rattle.std.proofs.Math.Nat.{div-mul-le_self, lt-div-mul-add, mul-le-mul_right, mul-pos}
-use Rattle.std.proofs.lemmas.Nat.{le-div, div_below}
+use Rattle.std.proofs.lemmas.Nat.{le-div}
 use Rattle.std.proofs.lemmas.Bool.{le-leb, lt-ltb, leb-true, ltb-true}
 use Rattle.zarr_grids_boxes.specs.Boxes.{Region, product, each2, is_in_box, EndsFit}
 use Rattle.zarr_grids_boxes.proofs.Dimensions.{positive-drop}
-use Rattle.zarr_grids_boxes.proofs.Places.{both, length-each2}
-use Rattle.zarr_grids_chunks.specs.Grids.{regular, chunk_count, grid_shape, chunk_box, regular_grid, IsBelow, IsCovered}
+use Rattle.zarr_grids_boxes.proofs.Places.{both}
+use Rattle.zarr_grids_chunks.specs.Grids.{regular, chunk_count, grid_shape, regular_grid, IsBelow, IsCovered}
 use Rattle.zarr_grids_chunks.specs.Regular.{origin_of, covers_along, covers_each}
 use Rattle.zarr_grids_chunks.proofs.RegularChunks.{chunk_box-some, chunk_box-regular, length-regular_grid, number_of_interval}
 

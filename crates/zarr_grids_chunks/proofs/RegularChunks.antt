@@ -1,13 +1,12 @@
 -- The chunks of a regular grid.
-use Rattle.std.proofs.Common.{◌≡◌, ◌∙◌, ℕ, zero, suc, ◌+◌, ◌-◌, ◌*◌, ◌/◌, ◌^◌, ◌<◌, ◌≤◌, Bool, true, false, cond, if◌then◌else◌, ◌&&◌, List, [], ◌∷◌, length, map, get_or, replicate, sym, ap, refl, subst, arith, Option, Some, None, option_map, option_and_then, ◌⊎◌, ⊎_elim}
-use Rattle.std.proofs.Math.Dec.{leb, ltb}
-use Rattle.std.proofs.Math.Nat.{div-mul-le_self}
+use Rattle.std.proofs.Common.{◌≡◌, ◌∙◌, ℕ, zero, suc, ◌+◌, ◌*◌, ◌/◌, ◌^◌, ◌<◌, ◌≤◌, Bool, true, false, if◌then◌else◌, List, [], ◌∷◌, length, sym, ap, refl, arith, Option, Some, None, option_map, option_and_then}
+use Rattle.std.proofs.Math.Dec.{ltb}
 use Rattle.std.proofs.lemmas.Nat.{le-div, div_below}
-use Rattle.std.proofs.lemmas.Bool.{false≢true, le-leb, lt-ltb, leb-true, ltb-true}
-use Rattle.zarr_grids_boxes.specs.Boxes.{Region, product, each2, is_in_box, EndsFit}
+use Rattle.std.proofs.lemmas.Bool.{lt-ltb, leb-true, ltb-true}
+use Rattle.zarr_grids_boxes.specs.Boxes.{Region, product, is_in_box, EndsFit}
 use Rattle.zarr_grids_boxes.proofs.Dimensions.{positive-drop}
 use Rattle.zarr_grids_boxes.proofs.Places.{both}
-use Rattle.zarr_grids_chunks.specs.Grids.{Grid, Dimension, regular, Interval, interval, chunk_count, grid_shape, bounded, onto_box, chunk_box, regular_grid, IsBelow}
+use Rattle.zarr_grids_chunks.specs.Grids.{Grid, regular, Interval, onto_box, chunk_box, regular_grid}
 use Rattle.zarr_grids_chunks.specs.Regular.{origin_of}
 
 -- the box of a regular chunk in one dimension more

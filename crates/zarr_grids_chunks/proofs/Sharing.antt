@@ -1,8 +1,8 @@
 -- Two boxes share a place.
-use Rattle.std.proofs.Common.{◌≡◌, ℕ, ◌+◌, ◌<◌, ◌≤◌, max, min, Bool, true, false, ◌&&◌, List, [], ◌∷◌, refl, arith}
+use Rattle.std.proofs.Common.{◌≡◌, ℕ, ◌+◌, max, min, true, List, [], ◌∷◌, refl, arith}
 use Rattle.std.proofs.Math.Dec.{leb, ltb}
 use Rattle.std.proofs.lemmas.Bool.{le-leb, lt-ltb, leb-true, ltb-true}
-use Rattle.zarr_grids_boxes.specs.Boxes.{is_in_box, share_place, each2}
+use Rattle.zarr_grids_boxes.specs.Boxes.{is_in_box, share_place}
 use Rattle.zarr_grids_boxes.proofs.Places.{both}
 
 -- boxes that have a place in common share it

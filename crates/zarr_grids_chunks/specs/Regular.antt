@@ -1,5 +1,5 @@
 -- Regular grids in numbers: what a division finds.
-use Rattle.std.specs.Prelude.{◌≡◌, ℕ, ◌+◌, ◌-◌, ◌*◌, ◌/◌, ◌^◌, List, [], ◌∷◌, Bool, true, ◌&&◌, ◌==◌, nat_lt, if◌then◌else◌}
+use Rattle.std.specs.Prelude.{ℕ, ◌+◌, ◌-◌, ◌*◌, ◌/◌, ◌^◌, List, [], ◌∷◌, Bool, true, ◌&&◌, ◌==◌, nat_lt, if◌then◌else◌}
 use Rattle.zarr_grids_boxes.specs.Boxes.{each2}
 
 -- the first place of a chunk

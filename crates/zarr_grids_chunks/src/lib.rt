@@ -3,3 +3,5 @@
 
 pub mod laws;
 pub mod regular;
+#[cfg(test)]
+mod tests;

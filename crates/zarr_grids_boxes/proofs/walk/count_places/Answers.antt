@@ -1,6 +1,6 @@
 use Rattle.std.proofs.Common.{arith}
 use Rattle.std.proofs.lemmas.Grind.{common_steps}
-use Rattle.zarr_grids_boxes.proofs.Dimensions.{too_large, so_far_more}
+use Rattle.zarr_grids_boxes.proofs.Dimensions.{so_far_more}
 use Rattle.zarr_grids_boxes.proofs.walk.count_places.Goals as goal
 
 pub loop-size-preserved : goal.loop-size-preserved

@@ -1,4 +1,4 @@
-use Rattle.std.proofs.Common.{◌≡◌, ◌<◌, ◌++◌, length, take, drop}
+use Rattle.std.proofs.Common.{◌≡◌, ◌<◌, ◌++◌, take, drop}
 use Rattle.zarr_grids_boxes.specs.Boxes.{product, place_at}
 use Rattle.zarr_grids_boxes.proofs.walk.write_place.Given as goal
 

@@ -1,8 +1,7 @@
-use Rattle.std.proofs.Common.{◌≡◌, ◌∙◌, ◌/◌, sym, ap, length}
+use Rattle.std.proofs.Common.{◌∙◌, ◌/◌, sym, ap, length}
 use Rattle.zarr_grids_boxes.proofs.Places.{length-each2}
 use Rattle.zarr_grids_chunks.proofs.ChunksMet.{met-places, met_below, met_fits, length-count_met, product-count_met}
 use Rattle.zarr_grids_chunks.proofs.Covers.{IsCovered-covers}
-use Rattle.zarr_grids_chunks.proofs.RegularChunks.{length-regular_grid}
 use Rattle.zarr_grids_chunks.proofs.regular.chunks_in_array_subset.Goals as goal
 
 pub invariant_of-result : goal.invariant_of-result

@@ -1,0 +1,56 @@
+//! The script as lines.
+
+use crate::script::{CREATE, READ, WRITINGS};
+use std::alloc::{AllocError, Global};
+use zarr_array_stores::MemoryStore;
+use zarr_run::{LinesFault, Session, run_lines};
+
+/// The answers with ample memory.
+const ANSWERS: &str =
+    "{\"done\":true}\n{\"done\":true}\n{\"done\":true}\n{\"done\":true}\n{\"cells\":[0,5,6,7,0,8,9,10,0,0,0,0,0,0,0,0]}\n";
+
+/// How the answer to a command that memory was refused for ends.
+const REFUSED: &str = ",\"refused\":\"Memory\"}";
+
+fn push_line(text: &mut Vec<u8>, line: &str) -> Result<(), AllocError> {
+    text.extend_from_slice(line.as_bytes())?;
+    text.push(b'\n')?;
+    Ok(())
+}
+
+fn lines(alloc: Global) -> Result<Vec<u8>, AllocError> {
+    let mut text = Vec::new(alloc);
+    push_line(&mut text, CREATE)?;
+    for writing in WRITINGS {
+        push_line(&mut text, writing.line)?;
+    }
+    push_line(&mut text, READ)?;
+    Ok(text)
+}
+
+/// Whether answers are those with ample memory, up to the first one that says want of memory or to their end.
+fn are_as_stated(answers: &[u8]) -> bool {
+    for (answer, want) in answers
+        .split(|b| *b == b'\n')
+        .zip(ANSWERS.as_bytes().split(|b| *b == b'\n'))
+    {
+        if answer != want {
+            return answer.is_empty() || answer.ends_with(REFUSED.as_bytes());
+        }
+    }
+    answers.len() <= ANSWERS.len()
+}
+
+/// Whether the lines answer as stated. The writer takes memory too, so it can fail.
+pub(crate) fn run_as_stated(alloc: Global) -> bool {
+    let Ok(text) = lines(alloc) else {
+        return true;
+    };
+    let mut session = Session::new(alloc, MemoryStore::new(alloc));
+    let mut answers = Vec::new(alloc);
+    match run_lines(alloc, &mut session, text.as_slice(), &mut answers) {
+        Ok(()) => are_as_stated(answers.as_slice()),
+        Err(LinesFault::Read) => false,
+        Err(_) => are_as_stated(answers.as_slice()),
+    }
+}
