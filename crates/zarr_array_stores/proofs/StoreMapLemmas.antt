@@ -1,5 +1,6 @@
 -- A tree with text keys, as a finite map.
-use Rattle.std.proofs.Common.{◌≡◌, ℕ, List, [], ◌∷◌, ◌++◌, Option, Some, None, Bool, true, false, cond, IsTrue, ◌↔◌, nat_eq, map, length, refl, sym, ap, ◌∙◌, append-nil, arith, Vec, option_map}
+use Rattle.std.proofs.Common.{◌≡◌, ℕ, List, [], ◌∷◌, ◌++◌, Option, Some, None, Bool, true, false, cond, IsTrue, ◌↔◌, nat_eq, map, length, refl, sym, ap, ◌∙◌, append-nil, arith, Vec, option_map, take, drop}
+use Rattle.std.proofs.lemmas.Grind.{common_steps}
 use Rattle.std.specs.Prelude.{String}
 use Rattle.std.specs.String.{string_bytes, string_cmp}
 use Rattle.std.specs.declared.alloc.Global.{Global}
@@ -17,6 +18,7 @@ use Rattle.std.specs.FinMap.{find, put, entries-insert, get-from_entries, get-in
 use Rattle.std.specs.FinMap.Entries.{by_order}
 use Rattle.std.proofs.lemmas.Bool.{eqb-true, eq-eqb}
 use Rattle.std.proofs.lemmas.Cmp.{nat_list_cmp_total}
+use Rattle.std.proofs.lemmas.Slice.Eq.{bytes_eq-Decides}
 use Rattle.std.proofs.lemmas.Map.Lookups.{exact_bytes}
 use Rattle.std.proofs.lemmas.Map.Text.{is_eq-slice_cmp}
 use Rattle.zarr_array_stores.specs.StoreMaps.{StoreMap, key_bytes, plain_entries}
@@ -107,3 +109,24 @@ key_bytes-more keys c x left rest all e same so_far = key_bytes-push keys c x re
 -- no key is left
 pub key_bytes-all : (keys left : List (String Global)) (all : List (List ℕ)) → left ≡ [] → key_bytes keys ++ key_bytes left ≡ all → key_bytes keys ≡ all
 key_bytes-all keys left all e so_far = sym (append-nil (key_bytes keys)) ∙ sym (ap (λ ks. key_bytes keys ++ key_bytes ks) e) ∙ so_far
+
+-- a vector whose items were all written
+pub written_over : (n : ℕ) (xs ys : List ℕ) → length xs ≡ n → take n (xs ++ drop (length xs) ys) ≡ xs
+written_over n xs ys h = grind (arith, common_steps)
+
+-- a value put in place of itself
+pub insert_same : (m : StoreMap) (k v : List ℕ) → fin.get m k ≡ Some v → fin.insert m k v ≡ m
+insert_same m k v found = same_map nat_list_cmp_total exact_bytes _ _ (λ q.
+    get-insert nat_list_cmp_total m k v q ∙ ap (λ b. cond b (Some v) (fin.get m q)) (sym (bytes_eq-slice_cmp k q)) ∙ at q (bytes_eq k q) refl) where
+      at : (q : List ℕ) (b : Bool) → bytes_eq k q ≡ b → cond b (Some v) (fin.get m q) ≡ fin.get m q
+      at q true e = sym found ∙ ap (fin.get m) ((bytes_eq-Decides k q).0 e)
+      at q false e = refl
+
+-- a value that was put goes with its key
+pub remove_insert : (m : StoreMap) (k v : List ℕ) → fin.remove (fin.insert m k v) k ≡ fin.remove m k
+remove_insert m k v = same_map nat_list_cmp_total exact_bytes _ _ (λ q.
+    get-remove nat_list_cmp_total (fin.insert m k v) k q ∙ ap (cond (eq_by_cmp (slice_cmp nat_cmp) q k) None) (get-insert nat_list_cmp_total m k v q) ∙ twice (eq_by_cmp (slice_cmp nat_cmp) q k) (fin.get m q)
+    ∙ sym (get-remove nat_list_cmp_total m k q)) where
+      twice : (b : Bool) (o : Option (List ℕ)) → cond b None (cond b (Some v) o) ≡ cond b None o
+      twice true o = refl
+      twice false o = refl

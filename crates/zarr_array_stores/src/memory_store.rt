@@ -1,7 +1,7 @@
 //! A store in memory.
-ghost use Rattle.std.specs.Prelude.{◌≡◌, ◌↔◌, IsTrue, ℕ, List, length, Option, Some, None, IfOk, OnOk, OnErr, option_map};
+ghost use Rattle.std.specs.Prelude.{◌≡◌, ◌↔◌, IsTrue, ℕ, List, length, Option, Some, None, IfOk, OnOk, OnErr, IfSome, IfNone, option_map};
 ghost use Rattle.std.specs.FinMap as map;
-ghost use Rattle.zarr_array_stores.specs.StoreMaps.{key_bytes, value_found};
+ghost use Rattle.zarr_array_stores.specs.StoreMaps.{Changed, key_bytes, value_found};
 
 use std::alloc::{AllocError, Global};
 use std::collections::BTreeMap;
@@ -102,6 +102,18 @@ impl MemoryStore {
         let owned = String::from_str(self.alloc, key)?;
         self.values.insert(owned, value)?;
         Ok(())
+    }
+
+    /// Changes the value at a key where it stands, if there is one.
+    pub fn change<R, F: FnOnce(&mut [u8]) -> R + Drop>(&mut self, key: &str, change: F) -> Option<R>
+        requires { F.IsAlwaysCallable change }
+        ensures none { IfNone result ((map.get self.old key.now ≡ None) × (self.new ≡ self.old)) }
+        ensures some { IfSome result (λ given. Changed F.FnOnce change self.old key.now given self.new) }
+    {
+        if let Some(value) = self.values.get_mut(key) {
+            return Some(change(value.as_mut_slice()));
+        }
+        None
     }
 
     /// Takes the value at a key out, if there is one.

@@ -25,3 +25,21 @@ fn keeps_values(rt: HostRuntime) -> Result<(), Fail> {
     assert_eq!(rt; keys[1].as_str(), "b/c/1");
     Ok(())
 }
+
+#[test]
+fn changes_a_value_where_it_stands(rt: HostRuntime) -> Result<(), Fail> {
+    let alloc = rt.alloc();
+    let mut store = MemoryStore::new(alloc);
+    store.set("a", vec![in alloc; 1, 2, 3]?)?;
+    store.set("b", vec![in alloc; 4, 5]?)?;
+    let count = store.change("a", |value| {
+        value.reverse();
+        value.len()
+    });
+    assert_eq!(rt; count, Some(3));
+    assert_eq!(rt; store.get("a"), Some([3, 2, 1].as_slice()));
+    assert_eq!(rt; store.get("b"), Some([4, 5].as_slice()));
+    assert!(rt; store.change("c", |value| value.fill(0)).is_none());
+    assert_eq!(rt; store.len(), 2);
+    Ok(())
+}

@@ -4,7 +4,6 @@ mod boxes;
 mod damage;
 mod extremes;
 mod lines;
-mod memory;
 mod reference;
 mod refusals;
 mod support;

@@ -1,8 +1,7 @@
 -- A read of a box, chunk by chunk.
-use Rattle.std.proofs.Common.{◌≡◌, ◌≢◌, ◌∙◌, ℕ, ◌+◌, ◌*◌, ◌<◌, ◌≤◌, Bool, true, false, if◌then◌else◌, ◌&&◌, ◌||◌, List, [], ◌∷◌, ◌++◌, length, map, replicate, refl, sym, ap, subst, ◌⊎◌, ⊎_elim, arith, Option, Some, None, All}
+use Rattle.std.proofs.Common.{◌≡◌, ◌∙◌, ℕ, ◌*◌, Bool, true, false, if◌then◌else◌, ◌||◌, List, [], ◌∷◌, ◌++◌, length, map, replicate, refl, sym, ap, subst, ⊎_elim, Option, Some, None, All}
 use Rattle.std.specs.List.{flat_map, list_any}
 use Rattle.std.specs.FinMap.{get}
-use Rattle.std.proofs.lemmas.Bool.{false≢true}
 use Rattle.zarr_grids_boxes.specs.Boxes.{Region, product, places, is_in_box}
 use Rattle.zarr_grids_boxes.specs.Laid.{laid, HasWidth, overlaid}
 use Rattle.zarr_grids_chunks.specs.Grids.{Grid, IsBelow, IsCovered, chunk_box, lies_in_chunk, met}
@@ -11,35 +10,35 @@ use Rattle.zarr_grids_chunks.proofs.Partition.{lies_here, met-any}
 use Rattle.zarr_grids_keys.specs.Keys.{chunk_key}
 use Rattle.zarr_codecs_cells.specs.Cells.{uint8, Cell}
 use Rattle.zarr_codecs_chain.specs.Chain.{bytes, ChunkStands}
-use Rattle.zarr_array_documents.specs.Documents.{Document}
 use Rattle.zarr_array_documents.specs.Meanings.{meaning_of}
 use Rattle.zarr_array_documents.specs.declared.document.ArrayDocument.{ArrayDocument}
 use Rattle.zarr_array_stores.specs.StoreMaps.{StoreMap}
 use Rattle.zarr_run_model.specs.Worlds.{StoreStands}
-use Rattle.zarr_run_array.specs.Contents.{AreValues, read_so_far, ReadsBox}
+use Rattle.zarr_run_array.specs.Contents.{AreValues, read_so_far}
 use Rattle.zarr_run_array.proofs.Standing.{values_width, encoded-laid, laid-in_box, laid-fill, all_in_box, length-laid}
-use Rattle.zarr_run_array.proofs.ChunkWrites.{list_any-append, regular_box}
+use Rattle.zarr_run_array.proofs.Listed.{list_any-append}
+use Rattle.zarr_run_array.proofs.ChunkWrites.{regular_box}
 
 -- what is stored for a chunk
-pub value_laid : (path : List ℕ) (document : ArrayDocument) (store : StoreMap) (cells : List ℕ → Cell) (chunk value : List ℕ) (box : Region)
-    → StoreStands path (meaning_of document) store cells → IsBelow (meaning_of document).grid chunk box → get store (chunk_key path (meaning_of document).keys chunk) ≡ Some value → value ≡ laid cells box.start box.shape
-value_laid path document store cells chunk value box st below found =
-    let P : Option (List ℕ) → Type 0 = λ o. ChunkStands bytes (document.fill_value ∷ []) o (map cells (places box.start box.shape)) in
-    let h : value ≡ flat_map (λ (c : Cell). c) (map cells (places box.start box.shape)) = subst P found (st chunk box below) in
+pub value_laid : (x : ℕ) (stored : Option (List ℕ)) (cells : List ℕ → Cell) (value : List ℕ) (box : Region)
+    → ChunkStands bytes (x ∷ []) stored (map cells (places box.start box.shape)) → stored ≡ Some value → value ≡ laid cells box.start box.shape
+value_laid x stored cells value box st found =
+    let P : Option (List ℕ) → Type 0 = λ o. ChunkStands bytes (x ∷ []) o (map cells (places box.start box.shape)) in
+    let h : value ≡ flat_map (λ (c : Cell). c) (map cells (places box.start box.shape)) = subst P found st in
     h ∙ encoded-laid cells (places box.start box.shape)
 
-pub absent_fill : (path : List ℕ) (document : ArrayDocument) (store : StoreMap) (cells : List ℕ → Cell) (chunk : List ℕ) (box : Region) (p : List ℕ)
-    → StoreStands path (meaning_of document) store cells → IsBelow (meaning_of document).grid chunk box → get store (chunk_key path (meaning_of document).keys chunk) ≡ None → is_in_box box.start box.shape p ≡ true → cells p ≡ document.fill_value ∷ []
-absent_fill path document store cells chunk box p st below found t =
-    let P : Option (List ℕ) → Type 0 = λ o. ChunkStands bytes (document.fill_value ∷ []) o (map cells (places box.start box.shape)) in
-    let h : All (λ c. c ≡ document.fill_value ∷ []) (map cells (places box.start box.shape)) = subst P found (st chunk box below) in
-    all_in_box (λ c. c ≡ document.fill_value ∷ []) cells box.start box.shape p (regular_box document chunk box below.has_box).rank h t
+pub absent_fill : (x : ℕ) (stored : Option (List ℕ)) (cells : List ℕ → Cell) (box : Region) (p : List ℕ) → length box.start ≡ length box.shape
+    → ChunkStands bytes (x ∷ []) stored (map cells (places box.start box.shape)) → stored ≡ None → is_in_box box.start box.shape p ≡ true → cells p ≡ x ∷ []
+absent_fill x stored cells box p l st none t =
+    let P : Option (List ℕ) → Type 0 = λ o. ChunkStands bytes (x ∷ []) o (map cells (places box.start box.shape)) in
+    let h : All (λ c. c ≡ x ∷ []) (map cells (places box.start box.shape)) = subst P none st in
+    all_in_box (λ c. c ≡ x ∷ []) cells box.start box.shape p l h t
 
 -- a value of a wrong length stands for nothing
 pub wrong_length : (path : List ℕ) (document : ArrayDocument) (store : StoreMap) (cells : List ℕ → Cell) (chunk value : List ℕ) (box : Region)
     → StoreStands path (meaning_of document) store cells → AreValues uint8 cells → IsBelow (meaning_of document).grid chunk box → get store (chunk_key path (meaning_of document).keys chunk) ≡ Some value → length value ≡ product box.shape * 1
 wrong_length path document store cells chunk value box st v below found =
-    ap length (value_laid path document store cells chunk value box st below found) ∙ length-laid cells 1 box.start box.shape (regular_box document chunk box below.has_box).rank (values_width cells v)
+    ap length (value_laid document.fill_value _ cells value box (st chunk box below) found) ∙ length-laid cells 1 box.start box.shape (regular_box document chunk box below.has_box).rank (values_width cells v)
 
 -- ---- one chunk read
 pub read_present : (grid : Grid) (cs : List (List ℕ)) (c : List ℕ) (cells : List ℕ → Cell) (fill : Cell) (box : Region) (p : List ℕ) → chunk_box grid c ≡ Some box

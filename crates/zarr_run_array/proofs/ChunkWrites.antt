@@ -1,37 +1,34 @@
 -- A write of a box, chunk by chunk.
-use Rattle.std.proofs.Common.{◌≡◌, ◌≢◌, ◌∙◌, ℕ, zero, suc, ◌+◌, ◌-◌, ◌*◌, ◌/◌, ◌^◌, ◌<◌, ◌≤◌, Bool, true, false, cond, if◌then◌else◌, ◌&&◌, ◌||◌, List, [], ◌∷◌, ◌++◌, length, map, get_or, take, replicate, refl, sym, ap, subst, ◌⊎◌, inl, inr, ⊎_elim, arith, Option, Some, None, MatchOption, All, IsTrue, bytes_eq}
-use Rattle.std.specs.Option.{option_map_or}
-use Rattle.std.specs.List.{range_with_len, flat_map, list_any}
+use Rattle.std.proofs.Common.{◌≡◌, ◌∙◌, ℕ, zero, suc, ◌*◌, ◌<◌, Bool, true, false, if◌then◌else◌, ◌&&◌, ◌||◌, List, [], ◌∷◌, ◌++◌, length, map, get_or, refl, sym, ap, subst, ⊎_elim, arith, Option, Some, IsTrue, bytes_eq}
+use Rattle.std.specs.List.{flat_map, list_any}
 use Rattle.std.specs.FinMap.{get}
 use Rattle.std.proofs.Math.Bool.{and-true, and-false}
 use Rattle.std.proofs.Math.Nat.{le-mul_of_pos_right}
 use Rattle.std.proofs.lemmas.Slice.Eq.{bytes_eq-Decides}
 use Rattle.std.proofs.lemmas.Bool.{false≢true}
-use Rattle.std.proofs.lemmas.List.Folds.{list_any_at}
-use Rattle.std.proofs.lemmas.List.FromFn.{get_or-map-range_with_len, length-map-range_with_len}
-use Rattle.zarr_grids_boxes.specs.Boxes.{Region, product, places, place_at, ravel, each2, is_in_box, share_place, EndsFit, IsSmall}
+use Rattle.zarr_grids_boxes.specs.Boxes.{Region, product, places, each2, is_in_box, EndsFit, IsSmall}
 use Rattle.zarr_grids_boxes.specs.Laid.{laid, HasWidth, overlaid}
-use Rattle.zarr_grids_boxes.proofs.Dimensions.{positive_at, ravel_below}
-use Rattle.zarr_grids_boxes.proofs.Places.{length-each2, places_by_number, in_box_below}
-use Rattle.zarr_grids_boxes.proofs.InBox.{place_at-number}
-use Rattle.zarr_grids_chunks.specs.Grids.{Grid, IsBelow, IsCovered, chunk_box, lies_in_chunk, is_met, met, chunk_indices, regular_grid, grid_shape}
+use Rattle.zarr_grids_boxes.proofs.Dimensions.{positive_at}
+use Rattle.zarr_grids_boxes.proofs.Places.{length-each2}
+use Rattle.zarr_grids_chunks.specs.Grids.{Grid, IsBelow, IsCovered, chunk_box, lies_in_chunk, met}
 use Rattle.zarr_grids_chunks.specs.Regular.{origin_of}
-use Rattle.zarr_grids_chunks.proofs.Filters.{told, any-filter, filter-any}
+use Rattle.zarr_grids_chunks.proofs.Filters.{told}
 use Rattle.zarr_grids_chunks.proofs.Partition.{lies_here, lies_has, met-any}
-use Rattle.zarr_grids_chunks.proofs.RegularChunks.{chunk_box-regular, chunks_apart, length-regular_grid}
-use Rattle.zarr_grids_keys.specs.Keys.{KeyEncoding, chunk_key}
+use Rattle.zarr_grids_chunks.proofs.RegularChunks.{chunk_box-regular, chunks_apart}
+use Rattle.zarr_grids_keys.specs.Keys.{chunk_key}
 use Rattle.zarr_grids_keys.specs.Laws.{has_separator}
 use Rattle.zarr_grids_keys.proofs.KeyLemmas.{chunk_key-injective}
-use Rattle.zarr_codecs_cells.specs.Cells.{DataType, uint8, Cell, is_value}
-use Rattle.zarr_codecs_chain.specs.Chain.{Chain, bytes, encoded, ChunkStands}
+use Rattle.zarr_codecs_cells.specs.Cells.{uint8, Cell, is_value}
+use Rattle.zarr_codecs_chain.specs.Chain.{bytes, ChunkStands}
 use Rattle.zarr_array_documents.specs.Documents.{Document}
 use Rattle.zarr_array_documents.specs.Meanings.{meaning_of}
 use Rattle.zarr_array_documents.specs.declared.document.ArrayDocument.{ArrayDocument}
 use Rattle.zarr_array_stores.specs.StoreMaps.{StoreMap}
 use Rattle.zarr_run_model.specs.Changes.{with_chunks}
 use Rattle.zarr_run_model.specs.Worlds.{StoreStands}
-use Rattle.zarr_run_array.specs.Contents.{AreValues, WroteChunks, put}
-use Rattle.zarr_run_array.proofs.Standing.{values_width, encoded-laid, map-in_box, laid-in_box, put_same, put_other, put_stands}
+use Rattle.zarr_run_array.specs.Contents.{AreValues, put}
+use Rattle.zarr_run_array.proofs.Listed.{list_any-append}
+use Rattle.zarr_run_array.proofs.Standing.{values_width, map-in_box, put_same, put_other, put_stands}
 
 -- ---- a chunk's numbers are small
 get_or-each2 : (f : ℕ → ℕ → ℕ) (xs ys : List ℕ) (k : ℕ) → k < length xs → length xs ≡ length ys → get_or (each2 f xs ys) k 0 ≡ f (get_or xs k 0) (get_or ys k 0)
@@ -123,16 +120,6 @@ one_chunk path document region given cells chunk box s old value vg vc below is 
 pub stands_same : (path : List ℕ) (document : Document) (store : StoreMap) (f g : List ℕ → Cell) → ((p : List ℕ) → f p ≡ g p) → StoreStands path document store f → StoreStands path document store g
 stands_same path document store f g h st = let P : (List ℕ → Cell) → Type 0 = λ k. StoreStands path document store k in subst P (λ i p. h p i) st
 
-pub list_any-append : (p : List ℕ → Bool) (xs : List (List ℕ)) (x : List ℕ) → list_any p (xs ++ x ∷ []) ≡ (list_any p xs || p x)
-list_any-append p [] x = or_false (p x) where
-  or_false : (b : Bool) → (b || false) ≡ (false || b)
-  or_false true = refl
-  or_false false = refl
-list_any-append p (y ∷ xs) x = ap (λ b. p y || b) (list_any-append p xs x) ∙ regroup (p y) (list_any p xs) (p x) where
-  regroup : (a b c : Bool) → (a || (b || c)) ≡ ((a || b) || c)
-  regroup true b c = refl
-  regroup false b c = refl
-
 pub with_chunks-more : (grid : Grid) (region : Region) (cs : List (List ℕ)) (c : List ℕ) (given cells : List ℕ → Cell) (p : List ℕ)
     → with_chunks grid region (c ∷ []) given (with_chunks grid region cs given cells) p ≡ with_chunks grid region (cs ++ c ∷ []) given cells p
 with_chunks-more grid region cs c given cells p =
@@ -150,21 +137,6 @@ with_chunks-none grid region given cells p = ap (λ b. if b then given p else ce
 
 pub with_chunks-values : (grid : Grid) (region : Region) (cs : List (List ℕ)) (given cells : List ℕ → Cell) → AreValues uint8 given → AreValues uint8 cells → AreValues uint8 (with_chunks grid region cs given cells)
 with_chunks-values grid region cs given cells vg vc p = elim (is_in_box region.start region.shape p && list_any (lies_in_chunk grid p) cs) as (λ t. is_value uint8 (if t then given p else cells p) ≡ true) [ true ↦ vg p | false ↦ vc p ]
-
--- no chunk written
-pub wrote_none : (path : List ℕ) (document : Document) (region : Region) (bs : List ℕ) (store : StoreMap) → WroteChunks path document region bs [] store store
-wrote_none path document region bs store = record { stands = λ given cells vg vc is st. stands_same path document store cells (with_chunks document.grid region [] given cells) (λ p. sym (with_chunks-none document.grid region given cells p)) st }
-
--- one more
-pub wrote_more : (path : List ℕ) (document : ArrayDocument) (region : Region) (bs : List ℕ) (cs : List (List ℕ)) (c : List ℕ) (old mid new : StoreMap)
-    → WroteChunks path (meaning_of document) region bs cs old mid → WroteChunks path (meaning_of document) region bs (c ∷ []) mid new → WroteChunks path (meaning_of document) region bs (cs ++ c ∷ []) old new
-wrote_more path document region bs cs c old mid new first next = record {
-  stands = λ given cells vg vc is st.
-      let m = with_chunks (meaning_of document).grid region cs given cells in
-      let h = next.stands given m vg (with_chunks-values (meaning_of document).grid region cs given cells vg vc) is (first.stands given cells vg vc is st) in
-      stands_same path (meaning_of document) new (with_chunks (meaning_of document).grid region (c ∷ []) given m) (with_chunks (meaning_of document).grid region (cs ++ c ∷ []) given cells)
-      (with_chunks-more (meaning_of document).grid region cs c given cells) h;
-}
 
 -- ---- all chunks met hold the whole box
 pub with_chunks-met : (grid : Grid) (region : Region) (given cells : List ℕ → Cell) (p : List ℕ) → IsCovered grid region

@@ -1,10 +1,7 @@
 -- How a store stands for cells, chunk by chunk.
-use Rattle.std.proofs.Common.{◌≡◌, ◌≢◌, ◌∙◌, ℕ, zero, suc, ◌+◌, ◌-◌, ◌*◌, ◌/◌, ◌^◌, ◌<◌, ◌≤◌, ◌==◌, Bool, true, false, cond, not, if◌then◌else◌, ◌&&◌, ◌||◌, List, [], ◌∷◌, ◌++◌, length, map, get_or, take, replicate, refl, sym, ap, subst, ◌⊎◌, inl, inr, ⊎_elim, arith, rules, Option, Some, None, MatchOption, unwrap_or, All, IsTrue, bytes_eq}
-use Rattle.std.specs.Option.{option_map_or}
-use Rattle.std.specs.List.{range_with_len, flat_map, list_all, list_any}
+use Rattle.std.proofs.Common.{◌≡◌, ◌∙◌, ℕ, zero, suc, ◌+◌, ◌-◌, ◌*◌, ◌<◌, ◌==◌, Bool, true, false, cond, not, if◌then◌else◌, ◌&&◌, List, [], ◌∷◌, ◌++◌, length, map, replicate, refl, sym, ap, subst, ⊎_elim, arith, Option, Some, None, All, bytes_eq, is_some, eq-eqb}
+use Rattle.std.specs.List.{range_with_len, flat_map, list_all}
 use Rattle.std.specs.FinMap.{get, insert, remove, get-insert, get-remove}
-use Rattle.std.proofs.Math.Bool.{and-true, and-false}
-use Rattle.std.proofs.Math.Nat.{le-mul_of_pos_right}
 use Rattle.std.proofs.lemmas.Cmp.{nat_list_cmp_total}
 use Rattle.std.proofs.lemmas.Map.Text.{is_eq-slice_cmp}
 use Rattle.std.proofs.lemmas.Slice.Eq.{bytes_eq-Decides}
@@ -13,21 +10,15 @@ use Rattle.std.proofs.lemmas.List.{length-append}
 use Rattle.std.proofs.lemmas.List.Elements.{All-get_or, All-nil, All-cons}
 use Rattle.std.proofs.lemmas.List.FromFn.{get_or-map-range_with_len, length-map-range_with_len}
 use Rattle.std.proofs.lemmas.Simd.{map-map}
-use Rattle.zarr_grids_boxes.specs.Boxes.{Region, product, places, place_at, ravel, each2, is_in_box, share_place, EndsFit, IsSmall}
-use Rattle.zarr_grids_boxes.specs.Laid.{laid, HasWidth, overlaid}
-use Rattle.zarr_grids_boxes.proofs.Dimensions.{positive_at, ravel_below}
-use Rattle.zarr_grids_boxes.proofs.Places.{both, places_by_number, in_box_below, map-range_shift, length-each2}
+use Rattle.zarr_grids_boxes.specs.Boxes.{product, places, place_at, ravel, each2, is_in_box}
+use Rattle.zarr_grids_boxes.specs.Laid.{laid, HasWidth}
+use Rattle.zarr_grids_boxes.proofs.Dimensions.{ravel_below}
+use Rattle.zarr_grids_boxes.proofs.Places.{both, places_by_number, in_box_below, map-range_shift}
 use Rattle.zarr_grids_boxes.proofs.InBox.{in_box-place_at, place_at-number, length-places}
-use Rattle.zarr_grids_chunks.specs.Grids.{Grid, IsBelow, IsCovered, chunk_box, lies_in_chunk, is_met, met, chunk_indices, regular_grid, grid_shape}
-use Rattle.zarr_grids_chunks.specs.Regular.{origin_of}
-use Rattle.zarr_grids_chunks.proofs.Filters.{told, any-filter, filter-any}
-use Rattle.zarr_grids_chunks.proofs.Sharing.{share_place-of}
-use Rattle.zarr_grids_chunks.proofs.RegularChunks.{chunk_box-regular, chunks_apart}
-use Rattle.zarr_grids_keys.specs.Keys.{chunk_key}
-use Rattle.zarr_codecs_cells.specs.Cells.{DataType, uint8, Cell, is_value}
-use Rattle.zarr_codecs_chain.specs.Chain.{Chain, bytes, encoded, ChunkStands}
+use Rattle.zarr_grids_chunks.proofs.Filters.{told}
+use Rattle.zarr_codecs_cells.specs.Cells.{uint8, Cell, is_value}
+use Rattle.zarr_codecs_chain.specs.Chain.{bytes, encoded, ChunkStands}
 use Rattle.zarr_array_stores.specs.StoreMaps.{StoreMap}
-use Rattle.zarr_run_model.specs.Changes.{with_chunks}
 use Rattle.zarr_run_array.specs.Contents.{AreValues, put}
 
 -- ---- cells and bytes
@@ -124,3 +115,23 @@ put_stands s x v cells ps w e = go s (list_all (λ b. b == x) v) refl where
   go true false h = e ∙ sym (encoded-laid cells ps)
   go false true h = all_fill x cells ps w (sym (ap (list_all (λ b. b == x)) e) ∙ h)
   go false false h = e ∙ sym (encoded-laid cells ps)
+
+-- where empty chunks are stored, a key is there
+pub stored_put : (x : ℕ) (v : List ℕ) → is_some (found_put true x v) ≡ true
+unfolding found_put
+stored_put x v = refl
+
+all_encoded : (x n : ℕ) → list_all (λ b. b == x) (encoded bytes (replicate n (x ∷ []))) ≡ true
+all_encoded x zero = refl
+all_encoded x (suc n) = ap (λ b. b && list_all (λ b. b == x) (encoded bytes (replicate n (x ∷ [])))) (eq-eqb x x refl) ∙ all_encoded x n
+
+-- where they aren't, what is there is not all fill
+pub erased_put : (x n : ℕ) (v w : List ℕ) → found_put false x v ≡ Some w → w ≡ encoded bytes (replicate n (x ∷ [])) → ⊥
+unfolding found_put
+erased_put x n v w h e = go (list_all (λ b. b == x) v) refl h where
+  go : (a : Bool) → list_all (λ b. b == x) v ≡ a → (if true && a then None else Some v) ≡ Some w → ⊥
+  go true t k = absurd (cc)
+  go false t k =
+      let o : Some v ≡ Some w = k in
+      let q : v ≡ w = cc in
+      false≢true (sym t ∙ ap (list_all (λ b. b == x)) (q ∙ e) ∙ all_encoded x n)

@@ -1,5 +1,6 @@
 //! One chunk of an array.
-ghost use Rattle.std.specs.Prelude.{◌≡◌, ◌≢◌, ℕ, List, [], ◌∷◌, ◌++◌, ◌*◌, ◌<◌, ◌^◌, nat_le, ◌+◌, ◌&&◌, string_bytes, length, map, replicate, unwrap_or, IsTrue, true, IfOk, OnOk, OnErr, IfErr, Some, Ok, Err};
+ghost use Rattle.std.specs.Prelude.{◌≡◌, ◌≢◌, ℕ, List, [], ◌∷◌, ◌++◌, ◌*◌, ◌<◌, ◌^◌, nat_le, ◌+◌, ◌==◌, ◌&&◌, not, string_bytes, length, map, replicate, IsTrue, true, false, IfOk, OnOk, OnErr, IfErr, IfSome, IfNone, Some, None, Ok, Err};
+ghost use Rattle.std.specs.List.{list_all};
 ghost use Rattle.std.specs.FinMap.{get};
 ghost use Rattle.zarr_grids_boxes.specs.Boxes.{product, places, EndsFit};
 ghost use Rattle.zarr_grids_boxes.specs.Laid.{laid, overlaid, HasWidth};
@@ -11,8 +12,7 @@ ghost use Rattle.zarr_grids_keys.specs.Paths.{is_node_path};
 ghost use Rattle.zarr_codecs_cells.specs.Cells.{Cell};
 ghost use Rattle.zarr_codecs_chain.specs.Chain.{ChunkStands};
 ghost use Rattle.zarr_array_documents.specs.Meanings.{meaning_of};
-ghost use Rattle.zarr_run_model.specs.Worlds.{StoreStands};
-ghost use Rattle.zarr_run_array.specs.Contents.{AreValues, WroteChunks, put, read_so_far, contains_box, IsBase, IsDamaged};
+ghost use Rattle.zarr_run_array.specs.Contents.{AreValues, WroteChunks, put, read_so_far, contains_box, IsPutOver, ChangedValue, IsDamaged, HasLength};
 
 use std::alloc::{AllocError, Global};
 use zarr_array_documents::ArrayDocument;
@@ -48,10 +48,12 @@ pub(crate) fn read_chunk(
     requires room { length origin.old ≡ length document.now.chunk_shape.items }
     requires count { count ≡ product document.now.chunk_shape.items }
     requires target { length target.old ≡ product region.now.shape.items * 1 }
-    ensures ok { OnOk result ((cells : List ℕ → Cell) (chunks : List (List ℕ)) → AreValues (meaning_of document.now).type cells → StoreStands path.now (meaning_of document.now) store.now cells
+    ensures ok { OnOk result ((cells : List ℕ → Cell) (chunks : List (List ℕ)) → AreValues (meaning_of document.now).type cells
+        → ChunkStands (meaning_of document.now).chain (meaning_of document.now).fill (get store.now (chunk_key path.now (meaning_of document.now).keys chunk.now)) (map cells (places (origin_of document.now.chunk_shape.items chunk.now) document.now.chunk_shape.items))
         → target.old ≡ laid (read_so_far (meaning_of document.now).grid chunks cells (meaning_of document.now).fill) region.now.start.items region.now.shape.items
         → target.new ≡ laid (read_so_far (meaning_of document.now).grid (chunks ++ chunk.now ∷ []) cells (meaning_of document.now).fill) region.now.start.items region.now.shape.items) }
     ensures damage { result ≡ Err ChunkFault.Damage → IsDamaged path.now (meaning_of document.now) chunk.now count store.now }
+    ensures seen { OnOk result (HasLength path.now (meaning_of document.now) chunk.now count store.now) }
 {
     write_key(key, path, chunk)?;
     match store.get(key) {
@@ -80,6 +82,7 @@ fn place_value(
         → value.now ≡ laid new (origin_of document.now.chunk_shape.items chunk.now) document.now.chunk_shape.items
         → target.new ≡ laid (overlaid (origin_of document.now.chunk_shape.items chunk.now) document.now.chunk_shape.items new old) region.now.start.items region.now.shape.items) }
     ensures damage { IfErr result (λ e. (e ≡ ChunkFault.Damage) × (length value.now ≢ count)) }
+    ensures seen { OnOk result (length value.now ≡ count) }
 {
     if value.len() as u64 != count {
         return Err(ChunkFault::Damage);
@@ -104,7 +107,8 @@ fn write_key(key: &mut String, path: &str, chunk: &[u64]) -> Result<(), ChunkFau
     }
 }
 
-/// Writes the cells of a region that lie in a chunk.
+/// Writes the cells of a region that lie in a chunk: over the stored value, or over fill values where no key is. Where the
+/// region holds the whole chunk, a stored value of any length may be replaced.
 pub(crate) fn write_chunk(
     alloc: Global,
     path: &str,
@@ -124,53 +128,149 @@ pub(crate) fn write_chunk(
     requires room { length origin.old ≡ length document.now.chunk_shape.items }
     requires count { count ≡ product document.now.chunk_shape.items }
     requires bytes { length bytes.now ≡ product region.now.shape.items * 1 }
-    ensures ok { OnOk result (WroteChunks path.now (meaning_of document.now) (region_of region.now) bytes.now (chunk.now ∷ []) store.old store.new) }
+    ensures ok { OnOk result (WroteChunks path.now (meaning_of document.now) (region_of region.now) bytes.now store_empty (chunk.now ∷ []) store.old store.new) }
     ensures err { OnErr result (store.new ≡ store.old) }
     ensures damage { result ≡ Err ChunkFault.Damage → IsDamaged path.now (meaning_of document.now) chunk.now count store.old }
+    ensures seen { OnOk result (contains_box region.now.start.items region.now.shape.items (origin_of document.now.chunk_shape.items chunk.now) document.now.chunk_shape.items ≡ false
+        → HasLength path.now (meaning_of document.now) chunk.now count store.old) }
 {
     write_key(key, path, chunk)?;
     let chunk_shape = document.chunk_shape.as_slice();
-    let start = region.start.as_slice();
-    let shape = region.shape.as_slice();
     write_chunk_origin(chunk, chunk_shape, origin);
-    let mut value = base_value(alloc, document, region, store, key, count, origin)?;
-    overlay(&mut value, origin, chunk_shape, bytes, start, shape, 1);
-    match put_value(store, key, document.fill_value, store_empty, value) {
-        Ok(()) => Ok(()),
-        Err(_) => Err(ChunkFault::Memory),
+    if change_value(
+        store,
+        key,
+        document,
+        region,
+        bytes,
+        store_empty,
+        origin,
+        count,
+    )? {
+        return Ok(());
     }
+    put_new_value(
+        alloc,
+        store,
+        key,
+        document,
+        region,
+        bytes,
+        store_empty,
+        origin,
+        count,
+    )
 }
 
-/// The bytes of a chunk over which a region's cells are put: what is stored, or the fill value where no key is. Where the
-/// region holds the whole chunk, what is stored is not looked at.
-fn base_value(
-    alloc: Global,
+/// Changes a chunk's stored value where it stands. Says whether there was one, not counting one of a wrong length of which
+/// nothing is to stay.
+fn change_value(
+    store: &mut MemoryStore,
+    key: &str,
     document: &ArrayDocument,
     region: &ArraySubset,
-    store: &MemoryStore,
-    key: &str,
-    count: u64,
+    bytes: &[u8],
+    store_empty: bool,
     origin: &[u64],
-) -> Result<Vec<u8>, ChunkFault>
+    count: u64,
+) -> Result<bool, ChunkFault>
     requires rank { length region.now.start.items ≡ length document.now.chunk_shape.items }
     requires room { length origin.now ≡ length document.now.chunk_shape.items }
     requires fit { EndsFit origin.now document.now.chunk_shape.items }
     requires count { count ≡ product document.now.chunk_shape.items }
-    ensures length { IfOk result (λ value. length value.items ≡ count) }
-    ensures base { IfOk result (λ value. (given cells : List ℕ → Cell) → AreValues (meaning_of document.now).type cells
-        → ChunkStands (meaning_of document.now).chain (meaning_of document.now).fill (get store.now key.now) (map cells (places origin.now document.now.chunk_shape.items))
-        → IsBase (region_of region.now) (record { start = origin.now; shape = document.now.chunk_shape.items }) given cells value.items) }
-    ensures damage { result ≡ Err ChunkFault.Damage → (value : List ℕ) × (get store.now key.now ≡ Some value) × (length value ≢ count) }
+    requires bytes { length bytes.now ≡ product region.now.shape.items * 1 }
+    ensures changed { result ≡ Ok true → ChangedValue (region_of region.now) (record { start = origin.now; shape = document.now.chunk_shape.items }) bytes.now store_empty document.now.fill_value count key.now store.old store.new }
+    ensures free { result ≡ Ok false → contains_box region.now.start.items region.now.shape.items origin.now document.now.chunk_shape.items ≡ false → get store.old key.now ≡ None }
+    ensures kept { result ≡ Ok false → store.new ≡ store.old }
+    ensures err { OnErr result (store.new ≡ store.old) }
+    ensures damage { IfErr result (λ e. (value : List ℕ) × (get store.old key.now ≡ Some value) × (length value ≢ count)) }
+{
+    let Some(outcome) = store.change(key, |value| {
+        put_cells(value, document, region, bytes, store_empty, origin, count)
+    }) else {
+        return Ok(false);
+    };
+    match outcome {
+        Some(false) => Ok(true),
+        Some(true) => {
+            store.erase(key);
+            Ok(true)
+        }
+        None => {
+            let chunk_shape = document.chunk_shape.as_slice();
+            let start = region.start.as_slice();
+            let shape = region.shape.as_slice();
+            if contains_box(start, shape, origin, chunk_shape) {
+                Ok(false)
+            } else {
+                Err(ChunkFault::Damage)
+            }
+        }
+    }
+}
+
+/// Puts those cells of a region that lie in a chunk over the chunk's value, if that has the right length. Says whether the
+/// value is then all fill, and is not to be stored.
+fn put_cells(
+    value: &mut [u8],
+    document: &ArrayDocument,
+    region: &ArraySubset,
+    bytes: &[u8],
+    store_empty: bool,
+    origin: &[u64],
+    count: u64,
+) -> Option<bool>
+    requires rank { length region.now.start.items ≡ length document.now.chunk_shape.items }
+    requires room { length origin.now ≡ length document.now.chunk_shape.items }
+    requires fit { EndsFit origin.now document.now.chunk_shape.items }
+    requires count { count ≡ product document.now.chunk_shape.items }
+    requires bytes { length bytes.now ≡ product region.now.shape.items * 1 }
+    ensures damage { IfNone result ((length value.old ≢ count) × (value.new ≡ value.old)) }
+    ensures length { IfSome result (λ _. length value.old ≡ count) }
+    ensures over { IfSome result (λ _. IsPutOver (region_of region.now) (record { start = origin.now; shape = document.now.chunk_shape.items }) bytes.now value.old value.new) }
+    ensures empty { result ≡ Some true → (not store_empty && list_all (λ b. b == document.now.fill_value) value.new) ≡ true }
+    ensures stays { result ≡ Some false → (not store_empty && list_all (λ b. b == document.now.fill_value) value.new) ≡ false }
+{
+    if value.len() as u64 != count {
+        return None;
+    }
+    let chunk_shape = document.chunk_shape.as_slice();
+    let start = region.start.as_slice();
+    let shape = region.shape.as_slice();
+    overlay(value, origin, chunk_shape, bytes, start, shape, 1);
+    Some(!store_empty && is_all(value, document.fill_value))
+}
+
+/// Puts a chunk's value anew: those cells of a region that lie in the chunk, over fill values.
+fn put_new_value(
+    alloc: Global,
+    store: &mut MemoryStore,
+    key: &str,
+    document: &ArrayDocument,
+    region: &ArraySubset,
+    bytes: &[u8],
+    store_empty: bool,
+    origin: &[u64],
+    count: u64,
+) -> Result<(), ChunkFault>
+    requires rank { length region.now.start.items ≡ length document.now.chunk_shape.items }
+    requires room { length origin.now ≡ length document.now.chunk_shape.items }
+    requires fit { EndsFit origin.now document.now.chunk_shape.items }
+    requires count { count ≡ product document.now.chunk_shape.items }
+    requires bytes { length bytes.now ≡ product region.now.shape.items * 1 }
+    ensures ok { OnOk result ((value : List ℕ) × IsPutOver (region_of region.now) (record { start = origin.now; shape = document.now.chunk_shape.items }) bytes.now (replicate count document.now.fill_value) value
+        × (store.new ≡ put store_empty document.now.fill_value store.old key.now value)) }
+    ensures kept { OnErr result (store.new ≡ store.old) }
+    ensures err { IfErr result (λ e. e ≡ ChunkFault.Memory) }
 {
     let chunk_shape = document.chunk_shape.as_slice();
     let start = region.start.as_slice();
     let shape = region.shape.as_slice();
-    if contains_box(start, shape, origin, chunk_shape) {
-        return fill_value_bytes(alloc, document.fill_value, count);
-    }
-    match store.get(key) {
-        None => fill_value_bytes(alloc, document.fill_value, count),
-        Some(value) => copy_of_length(alloc, value, count),
+    let mut value = fill_value_bytes(alloc, document.fill_value, count)?;
+    overlay(&mut value, origin, chunk_shape, bytes, start, shape, 1);
+    match put_value(store, key, document.fill_value, store_empty, value) {
+        Ok(()) => Ok(()),
+        Err(_) => Err(ChunkFault::Memory),
     }
 }
 
@@ -181,20 +281,6 @@ pub(crate) fn fill_value_bytes(alloc: Global, fill: u8, count: u64) -> Result<Ve
 {
     match vec![in alloc; fill; count as usize] {
         Ok(value) => Ok(value),
-        Err(_) => Err(ChunkFault::Memory),
-    }
-}
-
-/// A copy of a value that has this length.
-fn copy_of_length(alloc: Global, value: &[u8], count: u64) -> Result<Vec<u8>, ChunkFault>
-    ensures ok { IfOk result (λ copy. (copy.items ≡ value.now) × (length value.now ≡ count)) }
-    ensures damage { result ≡ Err ChunkFault.Damage → length value.now ≢ count }
-{
-    if value.len() as u64 != count {
-        return Err(ChunkFault::Damage);
-    }
-    match Vec::from_slice(alloc, value) {
-        Ok(copy) => Ok(copy),
         Err(_) => Err(ChunkFault::Memory),
     }
 }

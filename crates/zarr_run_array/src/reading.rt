@@ -7,8 +7,7 @@ ghost use Rattle.zarr_grids_chunks.specs.Grids.{IsCovered, met};
 ghost use Rattle.zarr_grids_keys.specs.Paths.{is_node_path};
 ghost use Rattle.zarr_codecs_cells.specs.Cells.{Cell};
 ghost use Rattle.zarr_array_documents.specs.Meanings.{meaning_of};
-ghost use Rattle.zarr_run_model.specs.Worlds.{StoreStands};
-ghost use Rattle.zarr_run_array.specs.Contents.{AreValues, ReadsBox, HasDamage, AreMet, read_so_far};
+ghost use Rattle.zarr_run_array.specs.Contents.{AreValues, MetStand, ReadsBox, HasDamage, AreMet, read_so_far};
 
 use crate::chunk::{ChunkFault, fill_value_bytes, read_chunk};
 use crate::room::{Room, chunks_met};
@@ -36,14 +35,17 @@ pub fn read_region(
     requires chunk_count { chunk_count ≡ product document.now.chunk_shape.items }
     ensures ok { IfOk result (λ bytes. ReadsBox path.now (meaning_of document.now) (region_of region.now) store.now bytes.items) }
     ensures damage { result ≡ Err ChunkFault.Damage → HasDamage path.now (meaning_of document.now) (region_of region.now) store.now }
+    ensures seen { OnOk result (¬ HasDamage path.now (meaning_of document.now) (region_of region.now) store.now) }
 {
     let mut bytes = fill_value_bytes(alloc, document.fill_value, count)?;
     let Ok(chunks) = chunks_met(alloc, document, region) else {
         return Err(ChunkFault::Memory);
     };
-    let Ok(mut room) = Room::new(alloc, document.chunk_shape.len()) else {
+    let rank = document.chunk_shape.len();
+    let Ok(mut room) = Room::new(alloc, rank) else {
         return Err(ChunkFault::Memory);
     };
+    let (chunk, origin) = room.places.split_at_mut(rank);
     match read_chunks(
         path,
         document,
@@ -51,8 +53,8 @@ pub fn read_region(
         &chunks,
         chunk_count,
         store,
-        &mut room.chunk,
-        &mut room.origin,
+        chunk,
+        origin,
         &mut room.key,
         &mut bytes,
     ) {
@@ -82,10 +84,11 @@ fn read_chunks(
     requires origin { length origin.old ≡ length document.now.chunk_shape.items }
     requires chunk_count { chunk_count ≡ product document.now.chunk_shape.items }
     requires target { length target.old ≡ product region.now.shape.items * 1 }
-    ensures ok { OnOk result ((cells : List ℕ → Cell) → AreValues (meaning_of document.now).type cells → StoreStands path.now (meaning_of document.now) store.now cells
+    ensures ok { OnOk result ((cells : List ℕ → Cell) → AreValues (meaning_of document.now).type cells → MetStand path.now (meaning_of document.now) (region_of region.now) store.now cells
         → target.old ≡ laid (read_so_far (meaning_of document.now).grid [] cells (meaning_of document.now).fill) region.now.start.items region.now.shape.items
         → target.new ≡ laid (read_so_far (meaning_of document.now).grid (met (meaning_of document.now).grid (region_of region.now)) cells (meaning_of document.now).fill) region.now.start.items region.now.shape.items) }
     ensures damage { result ≡ Err ChunkFault.Damage → HasDamage path.now (meaning_of document.now) (region_of region.now) store.now }
+    ensures seen { OnOk result (¬ HasDamage path.now (meaning_of document.now) (region_of region.now) store.now) }
 {
     let first = chunks.start.as_slice();
     let shape = chunks.shape.as_slice();

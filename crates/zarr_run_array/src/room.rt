@@ -1,5 +1,5 @@
 //! Memory that is made once for all chunks of a command.
-ghost use Rattle.std.specs.Prelude.{◌≡◌, ◌<◌, IfOk, length};
+ghost use Rattle.std.specs.Prelude.{◌≡◌, ◌<◌, ◌+◌, ◌^◌, IfOk, length};
 ghost use Rattle.zarr_grids_boxes.specs.Boxes.{product};
 ghost use Rattle.zarr_grids_boxes.specs.Subsets.{region_of};
 ghost use Rattle.zarr_grids_chunks.specs.Grids.{IsCovered};
@@ -11,24 +11,25 @@ use zarr_array_documents::ArrayDocument;
 use zarr_grids_boxes::ArraySubset;
 use zarr_grids_chunks::regular::chunks_in_array_subset;
 
-/// Room for a chunk's index, its first place and its key.
+/// How long a key there is room for at once.
+const KEY_BYTES: usize = 64;
+
+/// Room for a chunk's index and then its first place, and for its key.
 #[derive(Drop)]
 pub(crate) struct Room {
-    pub chunk: Vec<u64>,
-    pub origin: Vec<u64>,
+    pub places: Vec<u64>,
     pub key: String,
 }
 
 impl Room {
     /// Room for chunks of this many dimensions.
     pub(crate) fn new(alloc: Global, rank: usize) -> Result<Self, AllocError>
-        ensures chunk { IfOk result (λ room. length room.chunk.items ≡ rank) }
-        ensures origin { IfOk result (λ room. length room.origin.items ≡ rank) }
+        requires { rank + rank < 2 ^ 64 }
+        ensures { IfOk result (λ room. length room.places.items ≡ rank + rank) }
     {
         Ok(Room {
-            chunk: vec![in alloc; 0; rank]?,
-            origin: vec![in alloc; 0; rank]?,
-            key: String::new(alloc),
+            places: vec![in alloc; 0; rank + rank]?,
+            key: String::with_capacity(alloc, KEY_BYTES)?,
         })
     }
 }

@@ -5,7 +5,7 @@ ghost use Rattle.zarr_grids_boxes.specs.Subsets.{region_of};
 ghost use Rattle.zarr_grids_chunks.specs.Grids.{IsCovered, met};
 ghost use Rattle.zarr_grids_keys.specs.Paths.{is_node_path};
 ghost use Rattle.zarr_array_documents.specs.Meanings.{meaning_of};
-ghost use Rattle.zarr_run_array.specs.Contents.{WroteChunks, HasDamage, AreMet};
+ghost use Rattle.zarr_run_array.specs.Contents.{WroteChunks, HasDamage, HasPartDamage, AreMet};
 
 use crate::chunk::{ChunkFault, write_chunk};
 use crate::room::{Room, chunks_met};
@@ -40,10 +40,11 @@ pub fn write_region(
     requires some { 0 < product region.now.shape.items }
     requires small { product region.now.shape.items < 2 ^ 63 }
     requires chunk_count { chunk_count ≡ product document.now.chunk_shape.items }
-    ensures ok { OnOk result (WroteChunks path.now (meaning_of document.now) (region_of region.now) bytes.now (met (meaning_of document.now).grid (region_of region.now)) store.old store.new) }
-    ensures wrote { IfErr result (λ fault. WroteChunks path.now (meaning_of document.now) (region_of region.now) bytes.now (take fault.applied (met (meaning_of document.now).grid (region_of region.now))) store.old store.new) }
+    ensures ok { OnOk result (WroteChunks path.now (meaning_of document.now) (region_of region.now) bytes.now store_empty (met (meaning_of document.now).grid (region_of region.now)) store.old store.new) }
+    ensures wrote { IfErr result (λ fault. WroteChunks path.now (meaning_of document.now) (region_of region.now) bytes.now store_empty (take fault.applied (met (meaning_of document.now).grid (region_of region.now))) store.old store.new) }
     ensures fewer { IfErr result (λ fault. fault.applied < length (met (meaning_of document.now).grid (region_of region.now))) }
     ensures damage { IfErr result (λ fault. fault.cause ≡ ChunkFault.Damage → HasDamage path.now (meaning_of document.now) (region_of region.now) store.new) }
+    ensures seen { OnOk result (¬ HasPartDamage path.now (meaning_of document.now) (region_of region.now) store.old) }
 {
     let Ok(chunks) = chunks_met(alloc, document, region) else {
         return Err(WriteFault {
@@ -51,12 +52,14 @@ pub fn write_region(
             applied: 0,
         });
     };
-    let Ok(mut room) = Room::new(alloc, document.chunk_shape.len()) else {
+    let rank = document.chunk_shape.len();
+    let Ok(mut room) = Room::new(alloc, rank) else {
         return Err(WriteFault {
             cause: ChunkFault::Memory,
             applied: 0,
         });
     };
+    let (chunk, origin) = room.places.split_at_mut(rank);
     write_chunks(
         alloc,
         path,
@@ -67,8 +70,8 @@ pub fn write_region(
         &chunks,
         chunk_count,
         store,
-        &mut room.chunk,
-        &mut room.origin,
+        chunk,
+        origin,
         &mut room.key,
     )
 }
@@ -96,10 +99,11 @@ fn write_chunks(
     requires origin { length origin.old ≡ length document.now.chunk_shape.items }
     requires chunk_count { chunk_count ≡ product document.now.chunk_shape.items }
     requires bytes { length bytes.now ≡ product region.now.shape.items * 1 }
-    ensures ok { OnOk result (WroteChunks path.now (meaning_of document.now) (region_of region.now) bytes.now (met (meaning_of document.now).grid (region_of region.now)) store.old store.new) }
-    ensures wrote { IfErr result (λ fault. WroteChunks path.now (meaning_of document.now) (region_of region.now) bytes.now (take fault.applied (met (meaning_of document.now).grid (region_of region.now))) store.old store.new) }
+    ensures ok { OnOk result (WroteChunks path.now (meaning_of document.now) (region_of region.now) bytes.now store_empty (met (meaning_of document.now).grid (region_of region.now)) store.old store.new) }
+    ensures wrote { IfErr result (λ fault. WroteChunks path.now (meaning_of document.now) (region_of region.now) bytes.now store_empty (take fault.applied (met (meaning_of document.now).grid (region_of region.now))) store.old store.new) }
     ensures fewer { IfErr result (λ fault. fault.applied < length (met (meaning_of document.now).grid (region_of region.now))) }
     ensures damage { IfErr result (λ fault. fault.cause ≡ ChunkFault.Damage → HasDamage path.now (meaning_of document.now) (region_of region.now) store.new) }
+    ensures seen { OnOk result (¬ HasPartDamage path.now (meaning_of document.now) (region_of region.now) store.old) }
 {
     let first = chunks.start.as_slice();
     let shape = chunks.shape.as_slice();

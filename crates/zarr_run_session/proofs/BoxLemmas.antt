@@ -1,13 +1,13 @@
 -- Boxes of a held array.
-use Rattle.std.proofs.Common.{◌≡◌, ◌≢◌, ◌∙◌, ℕ, zero, suc, ◌+◌, ◌*◌, ◌<◌, ◌≤◌, ◌^◌, Bool, true, false, if◌then◌else◌, List, [], ◌∷◌, length, refl, sym, ap, subst, arith, inl, inr, ◌⊎◌, ⊎_elim, Option, Some}
+use Rattle.std.proofs.Common.{◌≡◌, ◌∙◌, ℕ, ◌*◌, ◌<◌, ◌≤◌, ◌^◌, Bool, true, false, if◌then◌else◌, List, [], ◌∷◌, length, refl, sym, ap, arith, inl, inr, ⊎_elim}
 use Rattle.std.specs.Option.{option_map_or}
 use Rattle.std.specs.List.{flat_map}
-use Rattle.std.proofs.lemmas.Bool.{false≢true, cases_lt}
+use Rattle.std.proofs.lemmas.Bool.{cases_lt}
 use Rattle.zarr_grids_boxes.specs.Boxes.{Region, product, places, is_in_box, share_place}
 use Rattle.zarr_grids_boxes.specs.Laid.{laid, overlaid}
 use Rattle.zarr_grids_boxes.proofs.InBox.{length-places}
-use Rattle.zarr_grids_chunks.specs.Grids.{IsCovered, is_met, met}
-use Rattle.zarr_grids_chunks.proofs.Filters.{told}
+use Rattle.zarr_grids_chunks.specs.Grids.{IsBelow, IsCovered, is_met, met, chunk_indices}
+use Rattle.zarr_grids_chunks.proofs.Filters.{told, filter-any}
 use Rattle.zarr_grids_chunks.proofs.Sharing.{share_place-of, share_place-has}
 use Rattle.zarr_grids_chunks.proofs.Covers.{last_place, last_place-in_box, empty_box}
 use Rattle.zarr_codecs_cells.specs.Cells.{Cell}
@@ -15,8 +15,9 @@ use Rattle.zarr_array_documents.specs.Documents.{Document}
 use Rattle.zarr_array_documents.specs.Meanings.{meaning_of}
 use Rattle.zarr_array_documents.specs.declared.document.ArrayDocument.{ArrayDocument}
 use Rattle.zarr_array_stores.specs.StoreMaps.{StoreMap}
-use Rattle.zarr_run_array.specs.Contents.{ReadsBox, WroteChunks}
-use Rattle.zarr_run_array.proofs.ChunkWrites.{regular_box, stands_same, with_chunks-met, wrote_none}
+use Rattle.zarr_run_array.specs.Contents.{ReadsBox, WroteChunks, is_listed}
+use Rattle.zarr_run_array.proofs.ChunkWrites.{regular_box, stands_same, with_chunks-met}
+use Rattle.zarr_run_array.proofs.ChunksWritten.{wrote_none}
 use Rattle.zarr_run_model.specs.Steps.{HasTooLarge}
 use Rattle.zarr_run_model.specs.Changes.{with_chunks}
 use Rattle.zarr_run_session.specs.Boxes.{WroteBox, WroteFirst}
@@ -34,10 +35,25 @@ laid_empty cells ss es l z = ap (λ ps. let f : List (List ℕ) → List ℕ = �
 pub reads_empty : (path : List ℕ) (document : Document) (region : Region) (store : StoreMap) (bytes : List ℕ) → length region.shape ≡ length region.start → product region.shape ≡ 0 → bytes ≡ [] → ReadsBox path document region store bytes
 reads_empty path document region store bytes l z e = record { lists = λ cells v st. e ∙ sym (laid_empty cells region.start region.shape (sym l) z) }
 
-pub wrote_empty : (path : List ℕ) (document : Document) (region : Region) (bytes : List ℕ) (store : StoreMap) → product region.shape ≡ 0 → WroteBox path document region bytes store store
-wrote_empty path document region bytes store z = record {
+-- an empty box meets no chunk
+shares_none : (region box : Region) → product region.shape ≡ 0 → share_place box.start box.shape region.start region.shape ≡ true → ⊥
+shares_none region box z s = let p = share_place-has box.start box.shape region.start region.shape s in empty_box region.start region.shape p.0 z p.2
+
+meets_none : (document : Document) (region : Region) (chunk : List ℕ) (box : Region) → product region.shape ≡ 0 → IsBelow document.grid chunk box → is_met document.grid region chunk ≡ true → ⊥
+meets_none document region chunk box z below shares = shares_none region box z (sym (ap (λ o. option_map_or (λ (b : Region). share_place b.start b.shape region.start region.shape) o false) below.has_box) ∙ shares)
+
+none_met : (document : Document) (region : Region) (chunk : List ℕ) (box : Region) → product region.shape ≡ 0 → IsBelow document.grid chunk box → is_listed (met document.grid region) chunk ≡ true → ⊥
+none_met document region chunk box z below l = meets_none document region chunk box z below (filter-any (is_met document.grid region) chunk (chunk_indices document.grid) l)
+
+pub wrote_empty : (path : List ℕ) (document : Document) (region : Region) (bytes : List ℕ) (s : Bool) (store : StoreMap) → product region.shape ≡ 0 → WroteBox path document region bytes s store store
+wrote_empty path document region bytes s store z = record {
   stands = λ given cells vg vc is st. stands_same path document store cells (overlaid region.start region.shape given cells)
       (λ p. ⊎_elim (λ t. absurd (empty_box region.start region.shape p z t)) (λ t. sym (ap (λ b. if b then given p else cells p) t)) (told (is_in_box region.start region.shape p))) st;
+  others = λ key ne. refl;
+  keys = record {
+    stored = λ e d box below l. absurd (none_met document region d box z below l);
+    erased = λ e d box below l. absurd (none_met document region d box z below l);
+  };
 }
 
 -- ---- too large
@@ -61,13 +77,15 @@ chunk_too_large document region l some covered h =
     inr (c.0, c.1, c.2, shares, too_large (product c.1.shape) (λ g. h (omega arith)))
 
 -- ---- writes
-pub wrote_no_chunk : (path : List ℕ) (document : Document) (region : Region) (bytes : List ℕ) (store : StoreMap) → WroteFirst path document region bytes 0 store store
-wrote_no_chunk path document region bytes store = record { wrote = wrote_none path document region bytes store; fewer = λ h. absurd (h refl); sized = λ h. absurd (h refl); kept = λ h. refl }
+pub wrote_no_chunk : (path : List ℕ) (document : Document) (region : Region) (bytes : List ℕ) (s : Bool) (store : StoreMap) → WroteFirst path document region bytes s 0 store store
+wrote_no_chunk path document region bytes s store = record { wrote = wrote_none path document region bytes s store; fewer = λ h. absurd (h refl); sized = λ h. absurd (h refl); kept = λ h. refl }
 
-pub wrote_whole : (path : List ℕ) (document : Document) (region : Region) (bytes : List ℕ) (old new : StoreMap) → IsCovered document.grid region → WroteChunks path document region bytes (met document.grid region) old new → WroteBox path document region bytes old new
-wrote_whole path document region bytes old new covered h = record {
+pub wrote_whole : (path : List ℕ) (document : Document) (region : Region) (bytes : List ℕ) (s : Bool) (old new : StoreMap) → IsCovered document.grid region → WroteChunks path document region bytes s (met document.grid region) old new → WroteBox path document region bytes s old new
+wrote_whole path document region bytes s old new covered h = record {
   stands = λ given cells vg vc is st. stands_same path document new (with_chunks document.grid region (met document.grid region) given cells) (overlaid region.start region.shape given cells)
       (λ p. with_chunks-met document.grid region given cells p covered) (h.stands given cells vg vc is st);
+  others = h.others;
+  keys = h.keys;
 }
 
 -- ---- not too large
@@ -80,10 +98,6 @@ fits_small document region a b (inr (chunk, box, below, shares, large)) =
     let e : product box.shape ≡ product document.chunk_shape.items = ap (λ (b : Region). product b.shape) (regular_box document chunk box below.has_box).is in
     not_large (product box.shape) (omega arith) large
 
--- an empty box meets no chunk
 pub fits_empty : (document : ArrayDocument) (region : Region) → product region.shape ≡ 0 → HasTooLarge (meaning_of document) region → ⊥
 fits_empty document region z (inl h) = not_large (product region.shape) (omega arith) h
-fits_empty document region z (inr (chunk, box, below, shares, large)) =
-    let s : share_place box.start box.shape region.start region.shape ≡ true = sym (ap (λ o. option_map_or (λ (b : Region). share_place b.start b.shape region.start region.shape) o false) below.has_box) ∙ shares in
-    let p = share_place-has box.start box.shape region.start region.shape s in
-    empty_box region.start region.shape p.0 z p.2
+fits_empty document region z (inr (chunk, box, below, shares, large)) = meets_none (meaning_of document) region chunk box z below shares

@@ -1,12 +1,12 @@
 -- A new array.
-use Rattle.std.proofs.Common.{◌≡◌, ◌≢◌, ◌∙◌, ℕ, ◌<◌, Bool, true, false, List, [], ◌∷◌, map, refl, sym, ap, subst, Option, Some, None, is_some, All, unwrap_or, Ok, Err, Result, IsErr, MatchOption, string_bytes}
+use Rattle.std.proofs.Common.{◌≡◌, ◌≢◌, ◌∙◌, ℕ, ◌<◌, true, false, List, [], ◌∷◌, map, refl, sym, ap, subst, Option, Some, None, is_some, All, unwrap_or, Err, Result, IsErr, string_bytes}
 use Rattle.std.specs.FinMap.{get, empty, get-empty}
 use Rattle.std.specs.Ordering.{nat_cmp}
 use Rattle.std.specs.Cmp.Lexicographic.{slice_cmp}
 use Rattle.std.proofs.lemmas.Bool.{false≢true, lt-ltb}
 use Rattle.std.proofs.lemmas.List.Elements.{All-nil, All-cons}
 use Rattle.serde_json.specs.Data.{Data}
-use Rattle.zarr_grids_boxes.specs.Boxes.{Region, places}
+use Rattle.zarr_grids_boxes.specs.Boxes.{places}
 use Rattle.zarr_grids_keys.specs.Paths.{is_node_path}
 use Rattle.zarr_grids_keys.specs.Keys.{chunk_key}
 use Rattle.zarr_codecs_cells.specs.Cells.{Cell, uint8, is_value}
@@ -17,10 +17,10 @@ use Rattle.zarr_array_documents.specs.Meanings.{meaning_of}
 use Rattle.zarr_array_documents.specs.declared.error.DocumentError.{DocumentError}
 use Rattle.zarr_array_documents.specs.declared.error.DocumentError.TheVariants as document
 use Rattle.zarr_array_stores.specs.StoreMaps.{StoreMap}
-use Rattle.zarr_run_model.specs.Tables.{Table, cell}
-use Rattle.zarr_run_model.specs.Requests.{create, done, refused}
+use Rattle.zarr_run_model.specs.Tables.{cell}
+use Rattle.zarr_run_model.specs.Requests.{create, refused}
 use Rattle.zarr_run_model.specs.Worlds.{World, begun}
-use Rattle.zarr_run_model.specs.Steps.{Step, CreateRefuses}
+use Rattle.zarr_run_model.specs.Steps.{Step}
 use Rattle.zarr_run_session.specs.Causes.{cause_of_document}
 use Rattle.zarr_run_session.specs.Sessions.{Keeps}
 use Rattle.zarr_run_session.specs.declared.held.HeldArray.{HeldArray}

@@ -1,10 +1,6 @@
 -- Steps over one array that is held.
-use Rattle.std.proofs.Common.{◌≡◌, ◌≢◌, ◌∙◌, ℕ, zero, suc, ◌+◌, ◌*◌, ◌<◌, ◌≤◌, Bool, true, false, if◌then◌else◌, ◌&&◌, List, [], ◌∷◌, length, map, take, get_or, refl, sym, ap, subst, arith, inl, inr, ◌⊎◌, ⊎_elim, Option, Some, None, IsTrue, bytes_eq, string_bytes, ◌-◌, ◌==◌, ◌++◌, eq-eqb}
+use Rattle.std.proofs.Common.{◌≡◌, ◌≢◌, ◌∙◌, ℕ, zero, suc, ◌<◌, Bool, true, false, if◌then◌else◌, List, [], ◌∷◌, length, map, take, get_or, refl, sym, ap, subst, inl, inr, ⊎_elim, Option, Some, None, bytes_eq, string_bytes, ◌-◌, ◌==◌, ◌++◌, eq-eqb}
 use Rattle.std.specs.List.{flat_map, list_all}
-use Rattle.std.specs.FinMap.{get, empty, get-empty}
-use Rattle.std.specs.Ordering.{nat_cmp}
-use Rattle.std.specs.Cmp.Lexicographic.{slice_cmp}
-use Rattle.std.proofs.Math.Dec.{ltb}
 use Rattle.std.proofs.lemmas.Bool.{false≢true, lt-ltb, eqb-true}
 use Rattle.std.proofs.lemmas.Slice.Eq.{bytes_eq-Decides}
 use Rattle.zarr_grids_boxes.specs.Boxes.{Region, product, places, each2, ravel, is_in_box}
@@ -12,7 +8,7 @@ use Rattle.zarr_grids_boxes.specs.Laid.{laid, overlaid}
 use Rattle.zarr_grids_chunks.specs.Grids.{IsCovered, met}
 use Rattle.zarr_grids_chunks.proofs.Filters.{told}
 use Rattle.zarr_grids_keys.specs.Paths.{is_node_path}
-use Rattle.zarr_codecs_cells.specs.Cells.{Cell, DataType, uint8, is_value, fixed}
+use Rattle.zarr_codecs_cells.specs.Cells.{Cell, uint8, is_value, fixed}
 use Rattle.zarr_codecs_cells.specs.Json.{GivenCells, given_in}
 use Rattle.zarr_codecs_cells.specs.declared.options.CodecOptions.{CodecOptions}
 use Rattle.zarr_codecs_chain.specs.Chain.{bytes, encoded}
@@ -27,13 +23,13 @@ use Rattle.zarr_run_model.specs.Changes.{cell_of_box, with_chunks}
 use Rattle.zarr_run_model.specs.Tables.{Table, cell, updated, changes, changes_in}
 use Rattle.zarr_run_model.specs.Requests.{Request, write_box, read_box, Answer, done, cells, refused}
 use Rattle.zarr_run_model.specs.Worlds.{Held, World, StoreStands, held_at, with_table}
-use Rattle.zarr_run_model.specs.Steps.{Step, MayRefuse, Gives, HasTooLarge, WriteRefuses, ReadRefuses, Writes, WritesFirst, Reads}
+use Rattle.zarr_run_model.specs.Steps.{Step, MayRefuse, HasTooLarge, WriteRefuses, ReadRefuses}
 use Rattle.zarr_run_model.specs.declared.cause.Cause.{Cause}
 use Rattle.zarr_run_model.specs.declared.cause.Cause.TheVariants as cause
 use Rattle.zarr_run_model.proofs.TableLemmas.{cell-chunks, cell-box, cells_of_box, value_at}
 use Rattle.zarr_run_session.specs.Boxes.{WroteBox, WroteFirst, BytesRefused, ReadRefused}
 use Rattle.zarr_run_session.specs.Given.{one_byte_cells}
-use Rattle.zarr_run_session.specs.Sessions.{IsHeld, Keeps, held_with, IsTableOf}
+use Rattle.zarr_run_session.specs.Sessions.{Keeps, held_with, IsTableOf}
 use Rattle.zarr_run_session.specs.declared.held.HeldArray.{HeldArray}
 
 -- ---- cells of one byte
@@ -89,10 +85,10 @@ in_world Q a array store w e k f = let P : Option HeldArray → Type 0 = λ o. K
       subst R (sym same) (f h.table (record { values = subst T k.document k.values; stands = subst S same k.stands }))
 
 -- ---- the table after a write
-pub table_after : (array : HeldArray) (region : Region) (bs : List ℕ) (old new : StoreMap) (table : Table) → length region.start ≡ length region.shape → list_all (is_value uint8) (one_byte_cells bs) ≡ true → length bs ≡ product region.shape
-    → WroteBox (string_bytes array.path) (meaning_of array.document) region bs old new → IsTableOf array old table
+pub table_after : (array : HeldArray) (region : Region) (bs : List ℕ) (s : Bool) (old new : StoreMap) (table : Table) → length region.start ≡ length region.shape → list_all (is_value uint8) (one_byte_cells bs) ≡ true → length bs ≡ product region.shape
+    → WroteBox (string_bytes array.path) (meaning_of array.document) region bs s old new → IsTableOf array old table
     → IsTableOf array new (updated (meaning_of array.document).fill table (changes region (one_byte_cells bs)))
-table_after array region bs old new table l v n wrote t =
+table_after array region bs s old new table l v n wrote t =
     let fill = (meaning_of array.document).fill in
     let same : (p : List ℕ) → overlaid region.start region.shape (given_cells region bs) (cell fill table) p ≡ cell fill (updated fill table (changes region (one_byte_cells bs))) p =
     λ p. sym (cell-box fill table region (one_byte_cells bs) (0 ∷ []) p l (length-cells bs ∙ n)) in
@@ -103,10 +99,10 @@ table_after array region bs old new table l v n wrote t =
       overlaid_values : (p : List ℕ) → is_value uint8 (overlaid region.start region.shape (given_cells region bs) (cell (meaning_of array.document).fill table) p) ≡ true
       overlaid_values p = elim (is_in_box region.start region.shape p) as (λ b. is_value uint8 (if b then given_cells region bs p else cell (meaning_of array.document).fill table p) ≡ true) [ true ↦ given_values region bs v p | false ↦ t.values p ]
 
-pub table_after_some : (array : HeldArray) (region : Region) (bs : List ℕ) (n : ℕ) (old new : StoreMap) (table : Table) → length region.start ≡ length region.shape → list_all (is_value uint8) (one_byte_cells bs) ≡ true → length bs ≡ product region.shape
-    → WroteChunks (string_bytes array.path) (meaning_of array.document) region bs (take n (met (meaning_of array.document).grid region)) old new → IsTableOf array old table
+pub table_after_some : (array : HeldArray) (region : Region) (bs : List ℕ) (s : Bool) (n : ℕ) (old new : StoreMap) (table : Table) → length region.start ≡ length region.shape → list_all (is_value uint8) (one_byte_cells bs) ≡ true → length bs ≡ product region.shape
+    → WroteChunks (string_bytes array.path) (meaning_of array.document) region bs s (take n (met (meaning_of array.document).grid region)) old new → IsTableOf array old table
     → IsTableOf array new (updated (meaning_of array.document).fill table (changes_in (meaning_of array.document).grid (take n (met (meaning_of array.document).grid region)) (changes region (one_byte_cells bs))))
-table_after_some array region bs n old new table l v m wrote t =
+table_after_some array region bs s n old new table l v m wrote t =
     let fill = (meaning_of array.document).fill in
     let grid = (meaning_of array.document).grid in
     let chunks = take n (met grid region) in
@@ -122,10 +118,10 @@ pub no_damage : (array : HeldArray) (region : Region) (store : StoreMap) (table 
 no_damage array region store table t d = d.wrong (wrong_length (string_bytes array.path) array.document store (cell (meaning_of array.document).fill table) d.chunk d.value d.box t.stands t.values d.below d.found)
 
 -- ---- a write that is done
-pub write_done : (array : HeldArray) (old new : StoreMap) (region : Region) (g : GivenCells) (bs : List ℕ) (options : CodecOptions) (table : Table) → (HasTooLarge (meaning_of array.document) region → ⊥) → length region.start ≡ length region.shape → IsCovered (meaning_of array.document).grid region
-    → given_in uint8 g ≡ Some (one_byte_cells bs) → list_all (is_value uint8) (one_byte_cells bs) ≡ true → length bs ≡ product region.shape → WroteBox (string_bytes array.path) (meaning_of array.document) region bs old new → IsTableOf array old table
+pub write_done : (array : HeldArray) (old new : StoreMap) (region : Region) (g : GivenCells) (bs : List ℕ) (options : CodecOptions) (s : Bool) (table : Table) → (HasTooLarge (meaning_of array.document) region → ⊥) → length region.start ≡ length region.shape → IsCovered (meaning_of array.document).grid region
+    → given_in uint8 g ≡ Some (one_byte_cells bs) → list_all (is_value uint8) (one_byte_cells bs) ≡ true → length bs ≡ product region.shape → WroteBox (string_bytes array.path) (meaning_of array.document) region bs s old new → IsTableOf array old table
     → (after : World) × Step (held_with array table ∷ []) (write_box (string_bytes array.path) region g options) done after × Keeps (Some array) new after
-write_done array old new region g bs options table fits l covered is v n wrote t =
+write_done array old new region g bs options s table fits l covered is v n wrote t =
     let next = updated (meaning_of array.document).fill table (changes region (one_byte_cells bs)) in (
       held_with array next ∷ [],
       record {
@@ -138,7 +134,7 @@ write_done array old new region g bs options table fits l covered is v n wrote t
         fits = fits;
         updates = sym (with_table-here array table next);
       },
-      keeps_table array new next (table_after array region bs old new table l v n wrote t),
+      keeps_table array new next (table_after array region bs s old new table l v n wrote t),
     )
 
 -- ---- a write that is refused
@@ -171,9 +167,9 @@ write_cause array region g bs options table next new cause.Store covered is t wh
 write_cause array region g bs options table next new cause.DocumentChanged covered is t why = absurd why
 
 -- no chunk was written
-table_kept : (array : HeldArray) (region : Region) (bs : List ℕ) (old new : StoreMap) (table : Table) → length region.start ≡ length region.shape → list_all (is_value uint8) (one_byte_cells bs) ≡ true
-    → WroteFirst (string_bytes array.path) (meaning_of array.document) region bs 0 old new → IsTableOf array old table → IsTableOf array new table
-table_kept array region bs old new table l v first t = ⊎_elim sized (λ e. other (λ n. false≢true (sym e ∙ eq-eqb (length bs) (product region.shape) n))) (told (length bs == product region.shape)) where
+table_kept : (array : HeldArray) (region : Region) (bs : List ℕ) (s : Bool) (old new : StoreMap) (table : Table) → length region.start ≡ length region.shape → list_all (is_value uint8) (one_byte_cells bs) ≡ true
+    → WroteFirst (string_bytes array.path) (meaning_of array.document) region bs s 0 old new → IsTableOf array old table → IsTableOf array new table
+table_kept array region bs s old new table l v first t = ⊎_elim sized (λ e. other (λ n. false≢true (sym e ∙ eq-eqb (length bs) (product region.shape) n))) (told (length bs == product region.shape)) where
   sized : (length bs == product region.shape) ≡ true → IsTableOf array new table
   sized e =
       let n = eqb-true (length bs) (product region.shape) e in
@@ -187,17 +183,17 @@ table_kept array region bs old new table l v first t = ⊎_elim sized (λ e. oth
   other : length bs ≢ product region.shape → IsTableOf array new table
   other h = let P : StoreMap → Type 0 = λ m. IsTableOf array m table in subst P (sym (first.kept h)) t
 
-pub write_refused : (array : HeldArray) (old new : StoreMap) (region : Region) (g : GivenCells) (bs : List ℕ) (options : CodecOptions) (c : Cause) (n : ℕ) (table : Table) → length region.start ≡ length region.shape → IsCovered (meaning_of array.document).grid region
-    → given_in uint8 g ≡ Some (one_byte_cells bs) → list_all (is_value uint8) (one_byte_cells bs) ≡ true → WroteFirst (string_bytes array.path) (meaning_of array.document) region bs n old new
+pub write_refused : (array : HeldArray) (old new : StoreMap) (region : Region) (g : GivenCells) (bs : List ℕ) (options : CodecOptions) (s : Bool) (c : Cause) (n : ℕ) (table : Table) → length region.start ≡ length region.shape → IsCovered (meaning_of array.document).grid region
+    → given_in uint8 g ≡ Some (one_byte_cells bs) → list_all (is_value uint8) (one_byte_cells bs) ≡ true → WroteFirst (string_bytes array.path) (meaning_of array.document) region bs s n old new
     → BytesRefused (string_bytes array.path) (meaning_of array.document) region bs new c → IsTableOf array old table
     → (after : World) × Step (held_with array table ∷ []) (write_box (string_bytes array.path) region g options) (refused c n) after × Keeps (Some array) new after
-write_refused array old new region g bs options c zero table l covered is v first why t =
-    let none = table_kept array region bs old new table l v first t in
+write_refused array old new region g bs options s c zero table l covered is v first why t =
+    let none = table_kept array region bs s old new table l v first t in
     (held_with array table ∷ [], (write_cause array region g bs options table table new c covered is none why, inl (refl, refl)), keeps_table array new table none)
-write_refused array old new region g bs options c (suc m) table l covered is v first why t =
+write_refused array old new region g bs options s c (suc m) table l covered is v first why t =
     let some : suc m ≢ 0 = λ e. absurd (cc e) in
     let next = updated (meaning_of array.document).fill table (changes_in (meaning_of array.document).grid (take (suc m) (met (meaning_of array.document).grid region)) (changes region (one_byte_cells bs))) in
-    let after = table_after_some array region bs (suc m) old new table l v (first.sized some) first.wrote t in (
+    let after = table_after_some array region bs s (suc m) old new table l v (first.sized some) first.wrote t in (
       held_with array next ∷ [],
       (
         write_cause array region g bs options table next new c covered is after why,
@@ -261,7 +257,7 @@ read_done array store region bs options table fits covered reads t =
           found = held_at-here array table;
           covered = covered;
           fits = fits;
-          lists = ap one_byte_cells (reads.lists f t.values t.stands) ∙ cells_of_laid f (places region.start region.shape) t.values;
+          lists = ap one_byte_cells (reads.lists f t.values (λ chunk box below shares. t.stands chunk box below)) ∙ cells_of_laid f (places region.start region.shape) t.values;
         },
         refl,
       ),

@@ -1,25 +1,29 @@
 -- Boxes of a held array: what reading and writing them leaves, and when they are refused.
-use Rattle.std.specs.Prelude.{◌≡◌, ◌≢◌, ℕ, ◌<◌, List, length, take}
+use Rattle.std.specs.Prelude.{◌≡◌, ◌≢◌, ℕ, ◌<◌, List, length, take, Bool, true}
+use Rattle.std.specs.FinMap.{get}
 use Rattle.zarr_grids_boxes.specs.Boxes.{Region, product}
 use Rattle.zarr_grids_boxes.specs.Laid.{laid, overlaid}
 use Rattle.zarr_grids_chunks.specs.Grids.{IsCovered, met}
+use Rattle.zarr_grids_keys.specs.Keys.{chunk_key}
 use Rattle.zarr_codecs_cells.specs.Cells.{Cell}
 use Rattle.zarr_array_documents.specs.Documents.{Document}
 use Rattle.zarr_array_stores.specs.StoreMaps.{StoreMap}
-use Rattle.zarr_run_array.specs.Contents.{AreValues, HasDamage, WroteChunks}
+use Rattle.zarr_run_array.specs.Contents.{AreValues, HasDamage, HasKeys, WroteChunks, is_listed}
 use Rattle.zarr_run_model.specs.Steps.{HasTooLarge}
 use Rattle.zarr_run_model.specs.Worlds.{StoreStands}
 use Rattle.zarr_run_model.specs.declared.cause.Cause.{Cause}
 use Rattle.zarr_run_model.specs.declared.cause.Cause.TheVariants as cause
 
--- whatever cells the old store stood for, the new one stands for them with the box's cells replaced
-pub record WroteBox (path : List ℕ) (document : Document) (region : Region) (bytes : List ℕ) (old new : StoreMap) : Type 0 where
+-- whatever cells the old store stood for, the new one stands for them with the box's cells replaced; no key but those of the chunks met changed
+pub record WroteBox (path : List ℕ) (document : Document) (region : Region) (bytes : List ℕ) (store_empty : Bool) (old new : StoreMap) : Type 0 where
   pub stands : (given cells : List ℕ → Cell) → AreValues document.type given → AreValues document.type cells → bytes ≡ laid given region.start region.shape
       → StoreStands path document old cells → StoreStands path document new (overlaid region.start region.shape given cells)
+  pub others : (key : List ℕ) → ((chunk : List ℕ) → is_listed (met document.grid region) chunk ≡ true → key ≢ chunk_key path document.keys chunk) → get new key ≡ get old key
+  pub keys : HasKeys path document store_empty (met document.grid region) new
 
 -- of a box's cells those were written that lie in the first chunks met; where there are any, the bytes were as many as the box's
-pub record WroteFirst (path : List ℕ) (document : Document) (region : Region) (bytes : List ℕ) (applied : ℕ) (old new : StoreMap) : Type 0 where
-  pub wrote : WroteChunks path document region bytes (take applied (met document.grid region)) old new
+pub record WroteFirst (path : List ℕ) (document : Document) (region : Region) (bytes : List ℕ) (store_empty : Bool) (applied : ℕ) (old new : StoreMap) : Type 0 where
+  pub wrote : WroteChunks path document region bytes store_empty (take applied (met document.grid region)) old new
   pub fewer : applied ≢ 0 → applied < length (met document.grid region)
   pub sized : applied ≢ 0 → length bytes ≡ product region.shape
   pub kept : length bytes ≢ product region.shape → new ≡ old

@@ -1,4 +1,5 @@
 pub mod Boxes
 pub mod Causes
 pub mod Given
+pub mod Keys
 pub mod Sessions

@@ -37,6 +37,10 @@ IsIn session world = Keeps session.array session.store world
 abbrev pub stored : Session → StoreMap
 stored session = session.store
 
+-- the array that a session holds, if there is one
+abbrev pub array_of : Session → Option HeldArray
+array_of session = session.array
+
 -- the array with a table
 abbrev pub held_with : HeldArray → Table → Held
 held_with array table = record { path = string_bytes array.path; document = meaning_of array.document; order = array.order; table = table }

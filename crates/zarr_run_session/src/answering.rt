@@ -8,6 +8,7 @@ ghost use Rattle.zarr_array_documents.specs.Meanings.{meaning_of};
 ghost use Rattle.zarr_run_model.specs.Requests as ask;
 ghost use Rattle.zarr_run_commands.specs.Commands.{given, payload_of, answered};
 ghost use Rattle.zarr_run_session.specs.Given.{one_byte_cells};
+ghost use Rattle.zarr_run_session.specs.Keys.{WroteKeys};
 ghost use Rattle.zarr_run_session.specs.Sessions.{StepsHeld};
 ghost use Rattle.zarr_run_session.specs.declared.held.HeldArray.{HeldArray};
 
@@ -55,7 +56,8 @@ pub(crate) fn write_covered(
     options: CodecOptions,
 ) -> Reply
     requires { IsCovered (meaning_of array.now.document).grid (region_of region.now) }
-    ensures { StepsHeld array.now (ask.write_box (string_bytes array.now.path) (region_of region.now) (given cells.now) options) store.old result store.new }
+    ensures steps { StepsHeld array.now (ask.write_box (string_bytes array.now.path) (region_of region.now) (given cells.now) options) store.old result store.new }
+    ensures keys { WroteKeys array.now (region_of region.now) options (answered result) store.old store.new }
 {
     match cells {
         CommandCells::Bytes(bytes) => {
@@ -87,7 +89,8 @@ fn write_fixed(
     options: CodecOptions,
 ) -> Reply
     requires { IsCovered (meaning_of array.now.document).grid (region_of region.now) }
-    ensures { StepsHeld array.now (ask.write_box (string_bytes array.now.path) (region_of region.now) (given_bytes (fixed bytes.now)) options) store.old result store.new }
+    ensures steps { StepsHeld array.now (ask.write_box (string_bytes array.now.path) (region_of region.now) (given_bytes (fixed bytes.now)) options) store.old result store.new }
+    ensures keys { WroteKeys array.now (region_of region.now) options (answered result) store.old store.new }
 {
     write_given(alloc, array, store, region, bytes, options)
 }
@@ -102,8 +105,9 @@ fn write_given(
     options: CodecOptions,
 ) -> Reply
     requires { IsCovered (meaning_of array.now.document).grid (region_of region.now) }
-    ensures { (cells : GivenCells) → given_in uint8 cells ≡ Some (one_byte_cells bytes.now)
+    ensures steps { (cells : GivenCells) → given_in uint8 cells ≡ Some (one_byte_cells bytes.now)
         → StepsHeld array.now (ask.write_box (string_bytes array.now.path) (region_of region.now) cells options) store.old result store.new }
+    ensures keys { WroteKeys array.now (region_of region.now) options (answered result) store.old store.new }
 {
     match write_cells(
         alloc,

@@ -51,6 +51,21 @@ pub(crate) fn read_cells(
     if !is_covered(array, region) {
         return Err(Cause::Region);
     }
+    read_covered(alloc, array, store, region)
+}
+
+/// Reads the cells of a region that is covered.
+fn read_covered(
+    alloc: Global,
+    array: &HeldArray,
+    store: &MemoryStore,
+    region: &ArraySubset,
+) -> Result<Vec<u8>, Cause>
+    requires { IsCovered (meaning_of array.now.document).grid (region_of region.now) }
+    ensures fits { OnOk result (¬ HasTooLarge (meaning_of array.now.document) (region_of region.now)) }
+    ensures ok { IfOk result (λ bytes. ReadsBox (string_bytes array.now.path) (meaning_of array.now.document) (region_of region.now) store.now bytes.items) }
+    ensures err { IfErr result (λ cause. ReadRefused (string_bytes array.now.path) (meaning_of array.now.document) (region_of region.now) store.now cause) }
+{
     let shape = region.shape.as_slice();
     let Some(count) = count_places(shape) else {
         return Err(Cause::Size);
@@ -89,9 +104,9 @@ pub(crate) fn write_cells(
     requires covered { IsCovered (meaning_of array.now.document).grid (region_of region.now) }
     ensures fits { OnOk result (¬ HasTooLarge (meaning_of array.now.document) (region_of region.now)) }
     ensures sized { OnOk result (length bytes.now ≡ product region.now.shape.items) }
-    ensures ok { OnOk result (WroteBox (string_bytes array.now.path) (meaning_of array.now.document) (region_of region.now) bytes.now store.old store.new) }
+    ensures ok { OnOk result (WroteBox (string_bytes array.now.path) (meaning_of array.now.document) (region_of region.now) bytes.now store_empty store.old store.new) }
     ensures cause { IfErr result (λ refusal. BytesRefused (string_bytes array.now.path) (meaning_of array.now.document) (region_of region.now) bytes.now store.new refusal.cause) }
-    ensures wrote { IfErr result (λ refusal. WroteFirst (string_bytes array.now.path) (meaning_of array.now.document) (region_of region.now) bytes.now refusal.applied store.old store.new) }
+    ensures wrote { IfErr result (λ refusal. WroteFirst (string_bytes array.now.path) (meaning_of array.now.document) (region_of region.now) bytes.now store_empty refusal.applied store.old store.new) }
 {
     let shape = region.shape.as_slice();
     let Some(count) = count_places(shape) else {

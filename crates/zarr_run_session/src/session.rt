@@ -3,6 +3,7 @@ ghost use Rattle.std.specs.Prelude.{◌≡◌};
 ghost use Rattle.zarr_grids_boxes.specs.Subsets.{region_of};
 ghost use Rattle.zarr_run_model.specs.Requests as ask;
 ghost use Rattle.zarr_run_commands.specs.Commands.{given};
+ghost use Rattle.zarr_run_session.specs.Keys.{LeavesKeys};
 
 use crate::answering::{held_at, refused, write_covered};
 use crate::boxes::{is_covered, read_cells};
@@ -34,7 +35,7 @@ impl Session {
     ghost use Rattle.zarr_run_model.specs.Worlds.{World};
     ghost use Rattle.zarr_run_model.specs.Steps.{Step};
     ghost use Rattle.zarr_run_commands.specs.Commands.{asked, answered};
-    ghost use Rattle.zarr_run_session.specs.Sessions.{IsIn, StepsFrom, stored};
+    ghost use Rattle.zarr_run_session.specs.Sessions.{IsIn, StepsFrom, array_of, stored};
 
     /// A session over a store. It holds no array yet.
     pub fn new(alloc: Global, store: MemoryStore) -> Self
@@ -58,6 +59,7 @@ impl Session {
     /// Runs one command. A refused command changes at most what it says it applied.
     pub fn step(&mut self, command: &Command) -> Reply
         ensures steps { (old : World) → IsIn self.old old → (new : World) × Step old (asked command.now) (answered result) new × IsIn self.new new }
+        ensures keys { LeavesKeys (array_of self.old) (asked command.now) (answered result) (stored self.old) (stored self.new) }
     {
         match command {
             Command::Create {
@@ -81,7 +83,8 @@ impl Session {
 
     /// Holds a new array.
     fn create(&mut self, path: &str, document: &Value, order: SubchunkWriteOrder) -> Reply
-        ensures { StepsFrom self.old (ask.create path.now (view document.now) order) result self.new }
+        ensures steps { StepsFrom self.old (ask.create path.now (view document.now) order) result self.new }
+        ensures store { stored self.new ≡ stored self.old }
     {
         if !is_node_path(path) {
             return refused(Cause::Path);
@@ -113,7 +116,8 @@ impl Session {
         cells: &CommandCells,
         options: CodecOptions,
     ) -> Reply
-        ensures { StepsFrom self.old (ask.write_box path.now (region_of region.now) (given cells.now) options) result self.new }
+        ensures steps { StepsFrom self.old (ask.write_box path.now (region_of region.now) (given cells.now) options) result self.new }
+        ensures keys { LeavesKeys (array_of self.old) (ask.write_box path.now (region_of region.now) (given cells.now) options) (answered result) (stored self.old) (stored self.new) }
     {
         if !is_node_path(path) {
             return refused(Cause::Path);
@@ -129,7 +133,8 @@ impl Session {
 
     /// Reads the cells of a box.
     fn read_box(&mut self, path: &str, region: &ArraySubset, options: CodecOptions) -> Reply
-        ensures { StepsFrom self.old (ask.read_box path.now (region_of region.now) options) result self.new }
+        ensures steps { StepsFrom self.old (ask.read_box path.now (region_of region.now) options) result self.new }
+        ensures store { stored self.new ≡ stored self.old }
     {
         if !is_node_path(path) {
             return refused(Cause::Path);

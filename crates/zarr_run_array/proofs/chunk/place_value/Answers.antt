@@ -1,5 +1,3 @@
-use Rattle.std.proofs.Common.{◌≡◌, ◌∙◌, sym, ap}
-use Rattle.zarr_grids_boxes.specs.Laid.{laid, overlaid}
 use Rattle.zarr_run_array.proofs.chunk.place_value.Goals as goal
 
 pub write_chunk_origin-requires-clause-fit : goal.write_chunk_origin-requires-clause-fit

@@ -2,7 +2,7 @@ use Rattle.std.proofs.Common.{◌≡◌, ◌∙◌, sym, ap, length, rules, repl
 use Rattle.zarr_grids_boxes.specs.Boxes.{Region}
 use Rattle.zarr_grids_boxes.specs.Subsets.{region_of}
 use Rattle.zarr_array_documents.specs.Meanings.{meaning_of}
-use Rattle.zarr_run_array.proofs.Bases.{written_over}
+use Rattle.zarr_run_array.proofs.ChunkValues.{written_over}
 use Rattle.zarr_run_array.proofs.ChunkReads.{laid_start, laid_all}
 use Rattle.zarr_run_array.proofs.MetChunks.{rank_of}
 use Rattle.zarr_run_array.proofs.reading.read_region.Goals as goal
@@ -17,6 +17,6 @@ returns-in-Ok-read_chunks-clause-ok c =
     let size : length c.read_chunks.new.target ≡ c.in_ok-bytes.bytes.len = search rules in
     rw (written_over c.in_ok-bytes.bytes.len c.read_chunks.new.target c.in_ok-bytes.bytes.items size) (record {
       lists = λ cells v st.
-          c.in-Ok-read_chunks.ensures.ok cells v st (c.deref_mut-3.ensures.value ∙ c.in_ok-bytes.ensures.ok ∙ ap (λ n. replicate n c.args.document.now.fill_value) c.requires.count ∙ laid_start grid region cells c.args.document.now.fill_value (sym c.args.region.now.same))
+          c.in-Ok-read_chunks.ensures.ok cells v st (c.deref_mut-2.ensures.value ∙ c.in_ok-bytes.ensures.ok ∙ ap (λ n. replicate n c.args.document.now.fill_value) c.requires.count ∙ laid_start grid region cells c.args.document.now.fill_value (sym c.args.region.now.same))
           ∙ laid_all grid region cells (meaning_of c.args.document.now).fill (sym c.args.region.now.same) c.requires.covered;
     })

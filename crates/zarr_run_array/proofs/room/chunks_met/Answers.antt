@@ -1,6 +1,5 @@
-use Rattle.std.proofs.Common.{◌≡◌, ◌∙◌, sym, length}
+use Rattle.std.proofs.Common.{sym}
 use Rattle.zarr_grids_boxes.specs.Subsets.{region_of}
-use Rattle.zarr_run_array.proofs.Bases.{if_ok}
 use Rattle.zarr_run_array.proofs.MetChunks.{rank_of}
 use Rattle.zarr_run_array.proofs.room.chunks_met.Goals as goal
 

@@ -1,4 +1,4 @@
-use Rattle.std.proofs.Common.{[], get_or, subst, rules}
+use Rattle.std.proofs.Common.{[], subst, rules}
 use Rattle.zarr_run_model.specs.Steps.{Step}
 use Rattle.zarr_run_commands.specs.Commands.{asked, answered}
 use Rattle.zarr_run_commands.specs.declared.command.Command.{Command}

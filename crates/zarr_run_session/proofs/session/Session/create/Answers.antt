@@ -1,11 +1,11 @@
-use Rattle.std.proofs.Common.{◌≡◌, ◌∙◌, ◌<◌, ◌≤◌, [], ◌∷◌, ◌++◌, refl, sym, ap, arith}
+use Rattle.std.proofs.Common.{◌∙◌, ◌<◌, [], ◌∷◌, ◌++◌, sym, ap, arith}
 use Rattle.zarr_array_documents.specs.Meanings.{meaning_of}
 use Rattle.zarr_run_model.specs.Worlds.{World, begun}
 use Rattle.zarr_run_session.proofs.CreateLemmas.{keeps_none, keeps_new}
 use Rattle.zarr_run_session.proofs.session.Session.create.Goals as goal
 
-pub returns : goal.returns
-returns c = λ before k.
+pub returns-clause-steps : goal.returns-clause-steps
+returns-clause-steps c = λ before k.
     let n = keeps_none _ _ before (sym c.is_some.ensures ∙ c.if-is_some.false) k in
     let after : World = begun c.args.path.now (meaning_of c.in-Ok.document) c.args.order ∷ [] in
     let small : c.in-Ok.document.fill_value < 256 = omega arith in (

@@ -1,10 +1,9 @@
-use Rattle.std.proofs.Common.{◌≡◌, ◌∙◌, sym, ap}
 use Rattle.zarr_grids_boxes.specs.Subsets.{region_of}
 use Rattle.zarr_run_commands.specs.Commands.{given, answered}
 use Rattle.zarr_run_model.specs.Requests as ask
 use Rattle.zarr_run_session.proofs.StepLemmas.{from_held}
 use Rattle.zarr_run_session.proofs.session.Session.write_box.Goals as goal
 
-pub returns : goal.returns
-returns c = λ before k.
-    from_held _ c.in-Some.array.now c.args.self.now.store c.write_covered.new.store before c.args.path.now (λ path. ask.write_box path (region_of c.args.region.now) (given c.args.cells.now) c.args.options) (answered c.write_covered.result) c.in-Some.ensures.some.0 c.in-Some.ensures.some.1 k c.write_covered.ensures
+pub returns-clause-steps : goal.returns-clause-steps
+returns-clause-steps c = λ before k.
+    from_held _ c.in-Some.array.now c.args.self.now.store c.write_covered.new.store before c.args.path.now (λ path. ask.write_box path (region_of c.args.region.now) (given c.args.cells.now) c.args.options) (answered c.write_covered.result) c.in-Some.ensures.some.0 c.in-Some.ensures.some.1 k c.write_covered.ensures.steps

@@ -1,9 +1,8 @@
-use Rattle.std.proofs.Common.{◌≡◌, ◌∙◌, ◌<◌, ◌^◌, sym, ap, arith}
-use Rattle.zarr_grids_boxes.specs.Boxes.{Region, product}
+use Rattle.std.proofs.Common.{◌∙◌, ◌<◌, sym, arith}
+use Rattle.zarr_grids_boxes.specs.Boxes.{product}
 use Rattle.zarr_grids_boxes.specs.Subsets.{region_of}
-use Rattle.zarr_array_documents.specs.Meanings.{meaning_of}
 use Rattle.zarr_run_session.proofs.BoxLemmas.{reads_empty, chunk_too_large, fits_small, fits_empty}
-use Rattle.zarr_run_session.proofs.boxes.read_cells.Goals as goal
+use Rattle.zarr_run_session.proofs.boxes.read_covered.Goals as goal
 
 pub returns-then-count-eq0-clause-ok : goal.returns-then-count-eq0-clause-ok
 returns-then-count-eq0-clause-ok c =
@@ -17,8 +16,7 @@ returns-in_default-count_places-clause-err c =
     let is = count.1 in
     let not_zero = c.if-count-eq0.false in
     let some : 0 < product c.args.region.now.shape.items = omega arith in
-    let covered = c.is_covered.ensures.0 c.if-not-is_covered.false in
-    (covered, chunk_too_large c.args.array.now.document (region_of c.args.region.now) c.args.region.now.same some covered large)
+    (c.requires, chunk_too_large c.args.array.now.document (region_of c.args.region.now) c.args.region.now.same some c.requires large)
 
 pub returns-then-count-eq0-clause-fits : goal.returns-then-count-eq0-clause-fits
 returns-then-count-eq0-clause-fits c =
