@@ -32,7 +32,7 @@ is_met-cons n e grid s x ss xs k r = go (ltb (k * e + e) (2 ^ 64)) (chunk_box gr
     none false = refl
   go false o = refl
 
-count_along-some : (e s x : ℕ) → 0 < x → count_along e s x ≡ (s + (x - 1)) / e - s / e + 1
+pub count_along-some : (e s x : ℕ) → 0 < x → count_along e s x ≡ (s + (x - 1)) / e - s / e + 1
 count_along-some e s x h = ap (λ b. if b then 0 else (s + (x - 1)) / e - s / e + 1) (not_zero (x == 0) refl) where
   not_zero : (b : Bool) → (x == 0) ≡ b → (x == 0) ≡ false
   not_zero true t = let z = eqb-true x 0 t in absurd (omega arith)

@@ -61,6 +61,11 @@ pub record IsCovered (grid : Grid) (region : Region) : Type 0 where
   pub covered : (place : List ℕ) → is_in_box region.start region.shape place ≡ true
       → (chunk : List ℕ) × (box : Region) × IsBelow grid chunk box × (is_in_box box.start box.shape place ≡ true)
 
+-- each chunk of a box of chunk indices lies below the grid shape and has a box
+pub record AreBelow (grid : Grid) (chunks : Region) : Type 0 where
+  pub rank : length chunks.start ≡ length grid
+  pub below : (chunk : List ℕ) → is_in_box chunks.start chunks.shape chunk ≡ true → (box : Region) × IsBelow grid chunk box
+
 -- whether a chunk has a box that shares a place with a box of places
 abbrev pub is_met : Grid → Region → List ℕ → Bool
 is_met grid region chunk = option_map_or (λ box. share_place box.start box.shape region.start region.shape) (chunk_box grid chunk) false

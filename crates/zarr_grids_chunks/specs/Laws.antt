@@ -1,8 +1,8 @@
 -- Laws of chunks and boxes.
-use Rattle.std.specs.Prelude.{◌≡◌, ℕ, ◌<◌, List, length, true}
+use Rattle.std.specs.Prelude.{◌≡◌, ℕ, ◌<◌, List, [], ◌∷◌, length, true}
 use Rattle.std.specs.List.{list_any}
 use Rattle.zarr_grids_boxes.specs.Boxes.{Region, product, is_in_box, share_place}
-use Rattle.zarr_grids_chunks.specs.Grids.{regular_grid, lies_in_chunk, IsCovered, met}
+use Rattle.zarr_grids_chunks.specs.Grids.{regular_grid, lies_in_chunk, IsBelow, IsCovered, met}
 
 -- two boxes share a place exactly where a place lies in both
 abbrev pub SharedPlaces : Type 0
@@ -19,3 +19,12 @@ ChunksApart = (array_shape chunk_shape chunk other place : List ℕ) → length 
 abbrev pub ChunksMetCover : Type 0
 ChunksMetCover = (array_shape chunk_shape : List ℕ) (region : Region) (place : List ℕ) → IsCovered (regular_grid array_shape chunk_shape) region → is_in_box region.start region.shape place ≡ true
     → list_any (lies_in_chunk (regular_grid array_shape chunk_shape) place) (met (regular_grid array_shape chunk_shape) region) ≡ true
+
+-- the box of a chunk below the grid shape is covered
+abbrev pub ChunkCovered : Type 0
+ChunkCovered = (array_shape chunk_shape chunk : List ℕ) (box : Region) → IsBelow (regular_grid array_shape chunk_shape) chunk box → IsCovered (regular_grid array_shape chunk_shape) box
+
+-- the box of a chunk below the grid shape meets that chunk alone
+abbrev pub ChunkMetAlone : Type 0
+ChunkMetAlone = (array_shape chunk_shape chunk : List ℕ) (box : Region) → length chunk_shape ≡ length array_shape → 0 < product chunk_shape
+    → IsBelow (regular_grid array_shape chunk_shape) chunk box → met (regular_grid array_shape chunk_shape) box ≡ chunk ∷ []

@@ -32,3 +32,18 @@ covers_each [] es ss xs = true
 covers_each (n ∷ ns) [] ss xs = true
 covers_each (n ∷ ns) (e ∷ es) [] xs = true
 covers_each (n ∷ ns) (e ∷ es) (s ∷ ss) [] = true
+
+-- whether a chunk number lies below the grid shape and its interval's end fits
+abbrev pub below_along : ℕ → ℕ → ℕ → Bool
+below_along n e k = nat_lt (k * e) n && nat_lt (k * e + e) (2 ^ 64)
+
+-- the same in each dimension
+abbrev pub below_each : List ℕ → List ℕ → List ℕ → Bool
+below_each (n ∷ ns) (e ∷ es) (k ∷ ks) = below_along n e k && below_each ns es ks
+below_each [] es ks = true
+below_each (n ∷ ns) [] ks = true
+below_each (n ∷ ns) (e ∷ es) [] = true
+
+-- the last index of a box that is not empty
+abbrev pub last_index : List ℕ → List ℕ → List ℕ
+last_index start shape = each2 (λ s x. s + (x - 1)) start shape

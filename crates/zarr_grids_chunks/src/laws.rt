@@ -1,5 +1,5 @@
 //! Laws of chunks and boxes. Each function does nothing: its contract is the law.
-ghost use Rattle.zarr_grids_chunks.specs.Laws.{SharedPlaces, ChunksApart, ChunksMetCover};
+ghost use Rattle.zarr_grids_chunks.specs.Laws.{SharedPlaces, ChunksApart, ChunksMetCover, ChunkCovered, ChunkMetAlone};
 
 /// Two boxes share a place exactly where some place lies in both.
 pub fn shared_places()
@@ -14,4 +14,14 @@ pub fn chunks_apart()
 /// Each place of a covered box lies in one of the chunks that it meets.
 pub fn chunks_met_cover()
     ensures { ChunksMetCover }
+{}
+
+/// The box of a chunk below the grid shape is covered, also where it ends past the array.
+pub fn chunk_covered()
+    ensures { ChunkCovered }
+{}
+
+/// The box of a chunk below the grid shape meets that chunk and no other.
+pub fn chunk_met_alone()
+    ensures { ChunkMetAlone }
 {}

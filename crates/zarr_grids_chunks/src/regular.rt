@@ -76,6 +76,7 @@ pub fn chunks_in_array_subset(
         → IsBelow (regular_grid array_shape chunk_shape.now) chunk (record { start = origin_of chunk_shape.now chunk; shape = chunk_shape.now })) }
     ensures rank { IfOk result (λ chunks. length chunks.start.items ≡ length start.now) }
     ensures few { IfOk result (λ chunks. product chunks.shape.items ≤ product shape.now) }
+    ensures divided { IfOk result (λ chunks. (chunks.start.items ≡ first_met chunk_shape.now start.now) × (chunks.shape.items ≡ count_met chunk_shape.now start.now shape.now)) }
 {
     let first = first_chunk_met(alloc, chunk_shape, start)?;
     let count = count_chunks_met(alloc, chunk_shape, start, shape)?;
@@ -146,4 +147,21 @@ pub fn write_chunk_origin(chunk: &[u64], chunk_shape: &[u64], origin: &mut [u64]
     for k in 0..chunk.len() {
         origin[k] = chunk[k] * chunk_shape[k];
     }
+}
+
+/// The box of a chunk: its origin, and the chunk shape.
+pub fn chunk_subset(
+    alloc: Global,
+    chunk_shape: &[u64],
+    chunk: &[u64],
+) -> Result<ArraySubset, AllocError>
+    requires rank { length chunk_shape.now ≡ length chunk.now }
+    requires fit { EndsFit (origin_of chunk_shape.now chunk.now) chunk_shape.now }
+    ensures start { IfOk result (λ subset. subset.start.items ≡ origin_of chunk_shape.now chunk.now) }
+    ensures shape { IfOk result (λ subset. subset.shape.items ≡ chunk_shape.now) }
+{
+    let mut start = vec![in alloc; 0u64; chunk.len()]?;
+    write_chunk_origin(chunk, chunk_shape, &mut start);
+    let shape = chunk_shape.to_vec(alloc)?;
+    Ok(ArraySubset { start, shape })
 }

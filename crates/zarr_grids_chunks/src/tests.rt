@@ -1,5 +1,8 @@
 //! Regular grids with values worked out by hand.
-use crate::laws::{chunks_apart, chunks_met_cover, shared_places};
+
+mod below;
+
+use crate::laws::{chunk_covered, chunk_met_alone, chunks_apart, chunks_met_cover, shared_places};
 use crate::regular::{chunks_in_array_subset, covers, write_chunk_origin};
 use std::alloc::Global;
 use std::process::Abort;
@@ -29,7 +32,7 @@ fn assert_covers(
 }
 
 /// Asserts that a box, as (start, shape), meets these chunks, as (first, count).
-fn assert_meets(
+pub fn assert_meets(
     rt: &impl Abort,
     alloc: Global,
     chunk_shape: &[u64],
@@ -191,4 +194,6 @@ fn laws_return() {
     shared_places();
     chunks_apart();
     chunks_met_cover();
+    chunk_covered();
+    chunk_met_alone();
 }

@@ -1,14 +1,18 @@
--- The key of a chunk determines the chunk.
-use Rattle.std.proofs.Common.{◌≡◌, ℕ, suc, ◌^◌, ◌<◌, true, false, cond, IsTrue, ◌||◌, ◌==◌, List, [], ◌∷◌, ◌++◌, drop, refl, ap₂, arith, codes}
+-- The key of a chunk determines the chunk, that of a document the document.
+use Rattle.std.proofs.Common.{◌≡◌, ℕ, suc, ◌^◌, ◌<◌, true, false, cond, IsTrue, ◌||◌, ◌==◌, List, [], ◌∷◌, ◌++◌, take, drop, refl, ap, ap₂, arith, codes}
 use Rattle.std.specs.List.{flat_map}
 use Rattle.std.specs.Fmt.{decimal}
 use Rattle.std.specs.Str.{bytes_eq}
 use Rattle.std.specs.Str.Parse.{AllDigits}
-use Rattle.std.proofs.lemmas.Bool.{eqb-true}
+use Rattle.std.proofs.lemmas.Bool.{both_ways, eqb-true}
 use Rattle.std.proofs.lemmas.Fmt.{decimal_injective, decimal_is_IsNumeral}
 use Rattle.std.proofs.lemmas.List.{append_cancel_left}
+use Rattle.std.proofs.lemmas.Slice.Eq.{bytes_eq-Decides}
 use Rattle.std.proofs.lemmas.Str.Parse.{digit_at}
 use Rattle.zarr_grids_boxes.specs.Boxes.{IsSmall}
+use Rattle.zarr_grids_keys.specs.declared.document_name.DocumentName.{DocumentName}
+use Rattle.zarr_grids_keys.specs.declared.document_name.DocumentName.TheVariants.{ZarrJson, ZArray, ZAttrs}
+use Rattle.zarr_grids_keys.specs.Documents.{document_name, document_key}
 use Rattle.zarr_grids_keys.specs.Keys.{KeyEncoding, default, encoded_key, key_below, chunk_key}
 use Rattle.zarr_grids_keys.specs.Laws.{has_separator}
 
@@ -76,3 +80,31 @@ key_below-injective path x y e =
 -- chunks with one key are one
 pub chunk_key-injective : (path : List ℕ) (keys : KeyEncoding) (c d : List ℕ) → IsTrue (has_separator keys) → IsSmall c → IsSmall d → chunk_key path keys c ≡ chunk_key path keys d → c ≡ d
 chunk_key-injective path keys c d h p q e = encoded_key-injective keys c d h p q (key_below-injective path (encoded_key keys c) (encoded_key keys d) e)
+
+apart : (x y : List ℕ) → bytes_eq x y ≡ false → x ≡ y → ⊥
+apart x y r e = both_ways (bytes_eq x y) r ((bytes_eq-Decides x y).1 e)
+
+-- no encoded key is the name of a document: it begins with c
+encoded_key-no_name : (keys : KeyEncoding) (chunk : List ℕ) (name : DocumentName) → encoded_key keys chunk ≡ document_name name → ⊥
+encoded_key-no_name (default separator) chunk ZarrJson e = apart (codes "c") (codes "z") refl (ap (take 1) e)
+encoded_key-no_name (default separator) chunk ZArray e = apart (codes "c") (codes ".") refl (ap (take 1) e)
+encoded_key-no_name (default separator) chunk ZAttrs e = apart (codes "c") (codes ".") refl (ap (take 1) e)
+
+-- no chunk's key is that of a document of the same array
+pub chunk_key-no_document : (path : List ℕ) (keys : KeyEncoding) (chunk : List ℕ) (name : DocumentName) → chunk_key path keys chunk ≡ document_key path name → ⊥
+chunk_key-no_document path keys chunk name e = encoded_key-no_name keys chunk name (key_below-injective path (encoded_key keys chunk) (document_name name) e)
+
+document_name-injective : (name other : DocumentName) → document_name name ≡ document_name other → name ≡ other
+document_name-injective ZarrJson ZarrJson e = refl
+document_name-injective ZarrJson ZArray e = absurd (apart _ _ refl e)
+document_name-injective ZarrJson ZAttrs e = absurd (apart _ _ refl e)
+document_name-injective ZArray ZarrJson e = absurd (apart _ _ refl e)
+document_name-injective ZArray ZArray e = refl
+document_name-injective ZArray ZAttrs e = absurd (apart _ _ refl e)
+document_name-injective ZAttrs ZarrJson e = absurd (apart _ _ refl e)
+document_name-injective ZAttrs ZArray e = absurd (apart _ _ refl e)
+document_name-injective ZAttrs ZAttrs e = refl
+
+-- documents with one key below a path are one
+pub document_key-injective : (path : List ℕ) (name other : DocumentName) → document_key path name ≡ document_key path other → name ≡ other
+document_key-injective path name other e = document_name-injective name other (key_below-injective path (document_name name) (document_name other) e)

@@ -1,7 +1,15 @@
--- Laws of chunk keys.
-use Rattle.std.specs.Prelude.{◌≡◌, ℕ, List, take, codes, Bool, ◌||◌, ◌==◌, IsTrue}
+-- Laws of store keys and of related paths.
+use Rattle.std.specs.Prelude.{◌≡◌, ◌≢◌, ◌↔◌, ℕ, List, ◌∷◌, ◌++◌, take, codes, bytes_eq, Bool, false, ◌||◌, ◌==◌, IsTrue, MatchOption}
+use Rattle.std.specs.BTreeMap.Range.{IsInRange}
+use Rattle.std.specs.Cmp.Lexicographic.{slice_cmp}
+use Rattle.std.specs.declared.ops.Bound.TheVariants.{Included, Excluded}
+use Rattle.std.specs.Ordering.{nat_cmp}
 use Rattle.zarr_grids_boxes.specs.Boxes.{IsSmall}
-use Rattle.zarr_grids_keys.specs.Keys.{KeyEncoding, default, encoded_key, chunk_key}
+use Rattle.zarr_grids_keys.specs.declared.document_name.DocumentName.{DocumentName}
+use Rattle.zarr_grids_keys.specs.Documents.{document_key}
+use Rattle.zarr_grids_keys.specs.Keys.{KeyEncoding, default, encoded_key, key_below, chunk_key}
+use Rattle.zarr_grids_keys.specs.Paths.{is_node_path}
+use Rattle.zarr_grids_keys.specs.Related.{is_under, is_related, parent_path, IsReached}
 
 -- whether the separator is a slash or a dot
 abbrev pub has_separator : KeyEncoding → Bool
@@ -14,3 +22,51 @@ KeysDiffer = (path : List ℕ) (keys : KeyEncoding) (c d : List ℕ) → IsTrue 
 -- the first byte of an encoded key is c
 abbrev pub KeysBeginWithC : Type 0
 KeysBeginWithC = (keys : KeyEncoding) (chunk : List ℕ) → take 1 (encoded_key keys chunk) ≡ codes "c"
+
+-- no matter what the names are, the store keys below two unrelated node paths differ
+abbrev pub UnrelatedKeysDiffer : Type 0
+UnrelatedKeysDiffer = (p q x y : List ℕ) → IsTrue (is_node_path p) → IsTrue (is_node_path q) → is_related p q ≡ false → key_below p x ≡ key_below q y → ⊥
+
+-- no key of a chunk of an array is the key of one of its documents
+abbrev pub ChunksAreNoDocuments : Type 0
+ChunksAreNoDocuments = (path : List ℕ) (keys : KeyEncoding) (chunk : List ℕ) (name : DocumentName) → chunk_key path keys chunk ≡ document_key path name → ⊥
+
+-- documents of one node whose keys are equal are equal
+abbrev pub DocumentKeysDiffer : Type 0
+DocumentKeysDiffer = (path : List ℕ) (name other : DocumentName) → document_key path name ≡ document_key path other → name ≡ other
+
+-- whether two paths are related doesn't hang on which comes first
+abbrev pub RelatedIsSymmetric : Type 0
+RelatedIsSymmetric = (p q : List ℕ) → is_related p q ≡ is_related q p
+
+-- each path is related to itself
+abbrev pub RelatedIsReflexive : Type 0
+RelatedIsReflexive = (p : List ℕ) → IsTrue (is_related p p)
+
+-- what is related to a node path is related to each node path above that
+abbrev pub RelatedAbove : Type 0
+RelatedAbove = (p q r : List ℕ) → IsTrue (is_node_path p) → IsTrue (is_node_path q) → IsTrue (is_node_path r) → IsTrue (is_under p q) → IsTrue (is_related q r) → IsTrue (is_related p r)
+
+-- a node path below one that lies below another lies below that other
+abbrev pub UnderIsTransitive : Type 0
+UnderIsTransitive = (p q r : List ℕ) → IsTrue (is_node_path p) → IsTrue (is_node_path q) → IsTrue (is_node_path r) → IsTrue (is_under p q) → IsTrue (is_under q r) → IsTrue (is_under p r)
+
+-- no node path lies below itself
+abbrev pub UnderIsStrict : Type 0
+UnderIsStrict = (p : List ℕ) → IsTrue (is_node_path p) → is_under p p ≡ false
+
+-- what lies below a path other than `/` begins with that path and a slash, and all that begins so lies below it
+abbrev pub UnderBeginsWithPath : Type 0
+UnderBeginsWithPath = (p q : List ℕ) → p ≢ codes "/" → IsTrue (is_under p q) ↔ ((rest : List ℕ) × (q ≡ p ++ 47 ∷ rest))
+
+-- in the order of bytes, what lies below a path other than `/` stands from the path and a slash up to the path and a 0, the byte after the slash, and nothing else stands there
+abbrev pub UnderIsRange : Type 0
+UnderIsRange = (p q : List ℕ) → p ≢ codes "/" → IsTrue (is_under p q) ↔ IsInRange (slice_cmp nat_cmp) (Included (p ++ codes "/")) (Excluded (p ++ codes "0")) q
+
+-- above a node path lie its parent and what lies above that, and nothing lies above `/`
+abbrev pub AboveByParent : Type 0
+AboveByParent = (path above : List ℕ) → IsTrue (is_node_path path) → IsTrue (is_node_path above) → MatchOption (parent_path path) (is_under above path ≡ false) (λ parent. is_under above path ≡ (bytes_eq above parent || is_under above parent))
+
+-- the node paths above another are those that its parent, the parent of that, and so on, reach
+abbrev pub AboveIsReached : Type 0
+AboveIsReached = (path above : List ℕ) → IsTrue (is_node_path path) → IsTrue (is_node_path above) → IsTrue (is_under above path) ↔ IsReached above path

@@ -1,5 +1,6 @@
-//! Laws of chunk keys. Each function does nothing: its contract is the law.
-ghost use Rattle.zarr_grids_keys.specs.Laws.{KeysDiffer, KeysBeginWithC};
+//! Laws of store keys and of related paths. Each function does nothing: its contract is the law.
+ghost use Rattle.zarr_grids_keys.specs.Laws.{KeysDiffer, KeysBeginWithC, UnrelatedKeysDiffer, ChunksAreNoDocuments, DocumentKeysDiffer};
+ghost use Rattle.zarr_grids_keys.specs.Laws.{RelatedIsSymmetric, RelatedIsReflexive, RelatedAbove, UnderIsTransitive, UnderIsStrict, UnderBeginsWithPath, UnderIsRange, AboveByParent, AboveIsReached};
 
 /// The chunks of an array have different keys.
 pub fn keys_differ()
@@ -9,4 +10,66 @@ pub fn keys_differ()
 /// The encoded key of a chunk begins with `c`, so it is not empty.
 pub fn keys_begin_with_c()
     ensures { KeysBeginWithC }
+{}
+
+/// The store keys below two unrelated node paths differ, so no chunk or document of one array has
+/// a key that a chunk or document of an unrelated one has.
+pub fn unrelated_keys_differ()
+    ensures { UnrelatedKeysDiffer }
+{}
+
+/// The keys of an array's chunks are not those of its documents.
+pub fn chunks_are_no_documents()
+    ensures { ChunksAreNoDocuments }
+{}
+
+/// The three documents of a node have different keys.
+pub fn document_keys_differ()
+    ensures { DocumentKeysDiffer }
+{}
+
+/// Whether two paths are related is the same from either side.
+pub fn related_is_symmetric()
+    ensures { RelatedIsSymmetric }
+{}
+
+/// Each path is related to itself.
+pub fn related_is_reflexive()
+    ensures { RelatedIsReflexive }
+{}
+
+/// What is related to a node path is related to each above it, so what is unrelated to one is
+/// unrelated to all below it.
+pub fn related_above()
+    ensures { RelatedAbove }
+{}
+
+/// A node path below one that lies below another lies below that other.
+pub fn under_is_transitive()
+    ensures { UnderIsTransitive }
+{}
+
+/// No node path lies below itself.
+pub fn under_is_strict()
+    ensures { UnderIsStrict }
+{}
+
+/// Below a path other than `/` lies what begins with it and a slash.
+pub fn under_begins_with_path()
+    ensures { UnderBeginsWithPath }
+{}
+
+/// In a map that is sorted by bytes, what lies below a path other than `/` is one range of keys.
+pub fn under_is_range()
+    ensures { UnderIsRange }
+{}
+
+/// Above a node path lie its parent and what lies above that; nothing lies above `/`.
+pub fn above_by_parent()
+    ensures { AboveByParent }
+{}
+
+/// The node paths above another are its parent, the parent of that, and so on.
+pub fn above_is_reached()
+    ensures { AboveIsReached }
 {}

@@ -10,7 +10,7 @@ pub fn is_node_path(path: &str) -> bool
     path == "/" || (begins_with_slash(bytes) && !ends_with_slash(bytes) && !has_double_slash(bytes))
 }
 
-fn begins_with_slash(bytes: &[u8]) -> bool
+pub(crate) fn begins_with_slash(bytes: &[u8]) -> bool
     ensures { result ≡ begins_with_slash bytes.now }
 {
     matches!(bytes.first(), Some(b'/'))

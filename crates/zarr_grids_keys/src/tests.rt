@@ -1,4 +1,7 @@
-use crate::{ChunkKeySeparator, DefaultChunkKeyEncoding, chunk_key, is_node_path, write_chunk_key};
+use crate::{
+    ChunkKeySeparator, DefaultChunkKeyEncoding, DocumentName, are_related, chunk_key, document_key,
+    is_node_path, parent_path, write_chunk_key,
+};
 use std::test::Fail;
 
 #[test]
@@ -44,4 +47,65 @@ fn tells_node_paths(rt: HostRuntime) {
     for path in ["", "a", "//", "/a/", "/a//b", "//a", "é/", " /"] {
         assert!(rt; !is_node_path(path), "at {path}");
     }
+}
+
+#[test]
+fn writes_document_keys(rt: HostRuntime) -> Result<(), Fail> {
+    let alloc = rt.alloc();
+    assert_eq!(rt;
+        document_key(alloc, "/", DocumentName::ZarrJson)?.as_str(),
+        "zarr.json"
+    );
+    assert_eq!(rt;
+        document_key(alloc, "/a/b", DocumentName::ZarrJson)?.as_str(),
+        "a/b/zarr.json"
+    );
+    assert_eq!(rt;
+        document_key(alloc, "/a", DocumentName::ZArray)?.as_str(),
+        "a/.zarray"
+    );
+    assert_eq!(rt;
+        document_key(alloc, "/foo/bär", DocumentName::ZAttrs)?.as_str(),
+        "foo/bär/.zattrs"
+    );
+    Ok(())
+}
+
+#[test]
+fn tells_related_paths(rt: HostRuntime) {
+    for (path, other) in [
+        ("/a", "/a"),
+        ("/", "/"),
+        ("/", "/a/b"),
+        ("/a", "/a/b"),
+        ("/a", "/a/b/c"),
+        ("/é", "/é/b"),
+    ] {
+        assert!(rt; are_related(path, other), "at {path} and {other}");
+        assert!(rt; are_related(other, path), "at {other} and {path}");
+    }
+    for (path, other) in [
+        ("/a", "/ab"),
+        ("/a", "/b"),
+        ("/a/b", "/a/c"),
+        ("/a", "/a!b"),
+        ("/a/b", "/ab"),
+    ] {
+        assert!(rt; !are_related(path, other), "at {path} and {other}");
+        assert!(rt; !are_related(other, path), "at {other} and {path}");
+    }
+}
+
+#[test]
+fn finds_parents(rt: HostRuntime) {
+    for (path, parent) in [
+        ("/a", "/"),
+        ("/a/b", "/a"),
+        ("/ab/c/de", "/ab/c"),
+        ("/é/ü", "/é"),
+    ] {
+        assert!(rt; is_node_path(path), "at {path}");
+        assert!(rt; parent_path(path) == Some(parent), "at {path}");
+    }
+    assert!(rt; parent_path("/") == None);
 }
