@@ -1,6 +1,7 @@
 //! Tests over whole sessions.
 
 mod boxes;
+mod chunks;
 mod damage;
 mod extremes;
 mod lines;

@@ -6,3 +6,4 @@ pub mod ChunkReads
 pub mod ChunkValues
 pub mod MetChunks
 pub mod Lengths
+pub mod Erased

@@ -96,7 +96,7 @@ fn place_value(
 }
 
 /// Writes the key of a chunk.
-fn write_key(key: &mut String, path: &str, chunk: &[u64]) -> Result<(), ChunkFault>
+pub(crate) fn write_key(key: &mut String, path: &str, chunk: &[u64]) -> Result<(), ChunkFault>
     requires { IsTrue (is_node_path path.now) }
     ensures ok { OnOk result (string_bytes key.new ≡ chunk_key path.now (default 47) chunk.now) }
     ensures err { IfErr result (λ e. e ≡ ChunkFault.Memory) }

@@ -2,10 +2,14 @@
 #![tactic(auto)]
 
 mod chunk;
+pub mod erasing;
 pub mod reading;
 mod room;
+#[cfg(test)]
+mod tests;
 pub mod writing;
 
 pub use chunk::ChunkFault;
+pub use erasing::{EraseFault, erase_chunks};
 pub use reading::read_region;
 pub use writing::{WriteFault, write_region};

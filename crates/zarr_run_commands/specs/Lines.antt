@@ -2,16 +2,16 @@
 use Rattle.std.specs.Prelude.{◌≡◌, ℕ, ◌-◌, List, [], ◌∷◌, Bool, false, bytes_eq, codes, if◌then◌else◌, Option, Some, None, option_map, option_and_then, IsUtf8}
 use Rattle.serde_json.specs.Data.{Data, Items, no_items, item, Members}
 use Rattle.serde_json.specs.Find.{get_member, as_bool, as_number, as_u64, as_str, as_array, as_object}
-use Rattle.serde_json.specs.Read.{read}
+use Rattle.serde_json.specs.Read.{read as json_of}
 use Rattle.zarr_grids_boxes.specs.Boxes.{Region}
 use Rattle.zarr_codecs_cells.specs.Json.{given_json}
 use Rattle.zarr_codecs_cells.specs.declared.options.CodecOptions.{CodecOptions}
 use Rattle.zarr_codecs_chain.specs.declared.order.SubchunkWriteOrder.{SubchunkWriteOrder}
 use Rattle.zarr_codecs_chain.specs.declared.order.SubchunkWriteOrder.TheVariants.{Random, C, Unordered}
-use Rattle.zarr_array_documents.specs.Documents.{has_only}
-use Rattle.zarr_run_model.specs.Requests.{Request, create, write_box, read_box}
+use Rattle.zarr_array_documents.specs.Documents.{has_only, sizes_in}
+use Rattle.zarr_run_model.specs.Requests.{Target, in_box, in_chunk, Request, create, write, read, erase}
 use Rattle.zarr_run_commands.specs.declared.operation.Operation.{Operation}
-use Rattle.zarr_run_commands.specs.declared.operation.Operation.TheVariants.{Create, WriteBox, ReadBox}
+use Rattle.zarr_run_commands.specs.declared.operation.Operation.TheVariants.{Create, WriteBox, WriteChunk, ReadBox, ReadChunk, EraseChunks}
 
 -- ---- fields of an object
 
@@ -103,13 +103,19 @@ abbrev pub operation_named : List ℕ → Option Operation
 operation_named name =
     if bytes_eq name (codes "create") then Some Create else
     (if bytes_eq name (codes "write_box") then Some WriteBox else
-    (if bytes_eq name (codes "read_box") then Some ReadBox else None))
+    (if bytes_eq name (codes "write_chunk") then Some WriteChunk else
+    (if bytes_eq name (codes "read_box") then Some ReadBox else
+    (if bytes_eq name (codes "read_chunk") then Some ReadChunk else
+    (if bytes_eq name (codes "erase_chunks") then Some EraseChunks else None)))))
 
 -- the fields that a line with this operation may have
 abbrev pub field_names : Operation → List (List ℕ)
 field_names Create = codes "op" ∷ codes "path" ∷ codes "document" ∷ codes "order" ∷ []
 field_names WriteBox = codes "op" ∷ codes "path" ∷ codes "box" ∷ codes "cells" ∷ codes "options" ∷ []
+field_names WriteChunk = codes "op" ∷ codes "path" ∷ codes "chunk" ∷ codes "cells" ∷ codes "options" ∷ []
 field_names ReadBox = codes "op" ∷ codes "path" ∷ codes "box" ∷ codes "options" ∷ []
+field_names ReadChunk = codes "op" ∷ codes "path" ∷ codes "chunk" ∷ codes "options" ∷ []
+field_names EraseChunks = codes "op" ∷ codes "path" ∷ codes "box" ∷ []
 
 -- the operation that an object's members say
 abbrev pub operation_of : Members → Option Operation
@@ -127,21 +133,36 @@ order_of = optional order_in Unordered (codes "order")
 abbrev pub box_of : Members → Option Region
 box_of = needed region_in (codes "box")
 
+-- the chunk whose indices the members say: a list of whole numbers
+abbrev pub chunk_of : Members → Option (List ℕ)
+chunk_of = needed sizes_in (codes "chunk")
+
 -- the options that the members say, all false where they have none
 abbrev pub line_options_of : Members → Option CodecOptions
 line_options_of = optional options_in no_options (codes "options")
+
+-- what the members ask to be written to this target
+abbrev pub write_of : Option Target → Members → Option Request
+write_of target ms =
+    option_and_then (λ path. option_and_then (λ meant. option_and_then (λ cells. option_map (λ options. write path meant (given_json cells) options)
+    (line_options_of ms)) (get_member (codes "cells") ms)) target) (path_of ms)
+
+-- what the members ask to be read of this target
+abbrev pub read_of : Option Target → Members → Option Request
+read_of target ms =
+    option_and_then (λ path. option_and_then (λ meant. option_map (λ options. read path meant options)
+    (line_options_of ms)) target) (path_of ms)
 
 -- what the members ask by this operation
 abbrev pub request_by : Operation → Members → Option Request
 request_by Create ms =
     option_and_then (λ path. option_and_then (λ document. option_map (λ order. create path document order)
     (order_of ms)) (get_member (codes "document") ms)) (path_of ms)
-request_by WriteBox ms =
-    option_and_then (λ path. option_and_then (λ region. option_and_then (λ cells. option_map (λ options. write_box path region (given_json cells) options)
-    (line_options_of ms)) (get_member (codes "cells") ms)) (box_of ms)) (path_of ms)
-request_by ReadBox ms =
-    option_and_then (λ path. option_and_then (λ region. option_map (λ options. read_box path region options)
-    (line_options_of ms)) (box_of ms)) (path_of ms)
+request_by WriteBox ms = write_of (option_map in_box (box_of ms)) ms
+request_by WriteChunk ms = write_of (option_map in_chunk (chunk_of ms)) ms
+request_by ReadBox ms = read_of (option_map in_box (box_of ms)) ms
+request_by ReadChunk ms = read_of (option_map in_chunk (chunk_of ms)) ms
+request_by EraseChunks ms = option_and_then (λ path. option_map (λ chunks. erase path chunks) (box_of ms)) (path_of ms)
 
 -- what the members ask; a field that the operation does not have is refused
 abbrev pub request_of : Members → Option Request
@@ -153,5 +174,5 @@ request_in d = option_and_then request_of (as_object d)
 
 -- what a line asks, or nothing: it is UTF-8 and its JSON asks this
 abbrev pub Says : List ℕ → Option Request → Type 0
-Says line None = IsUtf8 line → option_and_then request_in (read line) ≡ None
-Says line (Some request) = IsUtf8 line × (option_and_then request_in (read line) ≡ Some request)
+Says line None = IsUtf8 line → option_and_then request_in (json_of line) ≡ None
+Says line (Some request) = IsUtf8 line × (option_and_then request_in (json_of line) ≡ Some request)

@@ -30,11 +30,29 @@ pub enum Command {
         cells: CommandCells,
         options: CodecOptions,
     },
+    /// Writes the cells of a chunk, row-major.
+    WriteChunk {
+        path: String,
+        chunk: Vec<u64>,
+        cells: CommandCells,
+        options: CodecOptions,
+    },
     /// Reads the cells of a box, row-major.
     ReadBox {
         path: String,
         region: ArraySubset,
         options: CodecOptions,
+    },
+    /// Reads the cells of a chunk, row-major.
+    ReadChunk {
+        path: String,
+        chunk: Vec<u64>,
+        options: CodecOptions,
+    },
+    /// Erases the chunks whose indices lie in a box.
+    EraseChunks {
+        path: String,
+        chunks: ArraySubset,
     },
 }
 
@@ -42,7 +60,7 @@ pub enum Command {
 #[derive(Debug, Drop)]
 pub enum Reply {
     Done,
-    /// The cells of the box that was read.
+    /// The cells of the box or chunk that was read.
     Cells(ArrayBytes),
     /// The command was refused after this many chunks had been written.
     Refused { cause: Cause, applied: u64 },

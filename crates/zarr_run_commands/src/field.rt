@@ -2,7 +2,8 @@
 ghost use Rattle.std.specs.Prelude.{◌≡◌, ◌+◌, ◌^◌, ◌<◌, IfOk, IfSome, option_map};
 ghost use Rattle.serde_json.specs.View.{view, items_view, members_view};
 ghost use Rattle.zarr_grids_boxes.specs.Subsets.{region_of};
-ghost use Rattle.zarr_run_commands.specs.Lines.{order_named, order_of, flag, options_of, line_options_of, interval_of, interval_in, region_of_pairs, box_of};
+ghost use Rattle.zarr_array_documents.specs.Documents.{sizes_of};
+ghost use Rattle.zarr_run_commands.specs.Lines.{order_named, order_of, flag, options_of, line_options_of, interval_of, interval_in, region_of_pairs, box_of, chunk_of};
 
 use crate::members;
 use serde_json::{Map, Value};
@@ -114,4 +115,30 @@ fn read_pair(pair: &[Value]) -> Option<(u64, u64)>
     let start = start.as_u64()?;
     let end = end.as_u64()?;
     Some((start, end.saturating_sub(start)))
+}
+
+/// The indices of the chunk of a line.
+pub(crate) fn chunk(
+    alloc: Global,
+    line: &Map<String, Value>,
+) -> Result<Option<Vec<u64>>, AllocError>
+    ensures { IfOk result (λ found. option_map (λ v. v.items) found ≡ chunk_of (members_view line.now.entries)) }
+{
+    match members::member(line, "chunk") {
+        Some(Value::Array(indices)) => read_indices(alloc, indices.as_slice()),
+        _ => Ok(None),
+    }
+}
+
+fn read_indices(alloc: Global, indices: &[Value]) -> Result<Option<Vec<u64>>, AllocError>
+    ensures { IfOk result (λ found. option_map (λ v. v.items) found ≡ sizes_of (items_view indices.now)) }
+{
+    let mut chunk = Vec::with_capacity(alloc, indices.len())?;
+    for index in indices {
+        let Some(index) = index.as_u64() else {
+            return Ok(None);
+        };
+        chunk.push(index)?;
+    }
+    Ok(Some(chunk))
 }

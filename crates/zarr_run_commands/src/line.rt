@@ -48,7 +48,10 @@ fn command_of(alloc: Global, line: Map<String, Value>) -> Result<Option<Command>
     match operation {
         Operation::Create => Ok(create(line)),
         Operation::WriteBox => write_box(alloc, line),
+        Operation::WriteChunk => write_chunk(alloc, line),
         Operation::ReadBox => read_box(alloc, line),
+        Operation::ReadChunk => read_chunk(alloc, line),
+        Operation::EraseChunks => erase_chunks(alloc, line),
     }
 }
 
@@ -88,6 +91,29 @@ fn write_box(alloc: Global, mut line: Map<String, Value>) -> Result<Option<Comma
     }))
 }
 
+fn write_chunk(alloc: Global, mut line: Map<String, Value>) -> Result<Option<Command>, AllocError>
+    ensures { IfOk result (λ said. option_map asked said ≡ request_by Operation.WriteChunk (members_view line.entries)) }
+{
+    let Some(options) = field::options(&line) else {
+        return Ok(None);
+    };
+    let Some(chunk) = field::chunk(alloc, &line)? else {
+        return Ok(None);
+    };
+    let Some(path) = members::take_text(&mut line, "path") else {
+        return Ok(None);
+    };
+    let Some(cells) = members::take(&mut line, "cells") else {
+        return Ok(None);
+    };
+    Ok(Some(Command::WriteChunk {
+        path,
+        chunk,
+        cells: CommandCells::Json(cells),
+        options,
+    }))
+}
+
 fn read_box(alloc: Global, mut line: Map<String, Value>) -> Result<Option<Command>, AllocError>
     ensures { IfOk result (λ said. option_map asked said ≡ request_by Operation.ReadBox (members_view line.entries)) }
 {
@@ -105,4 +131,35 @@ fn read_box(alloc: Global, mut line: Map<String, Value>) -> Result<Option<Comman
         region,
         options,
     }))
+}
+
+fn read_chunk(alloc: Global, mut line: Map<String, Value>) -> Result<Option<Command>, AllocError>
+    ensures { IfOk result (λ said. option_map asked said ≡ request_by Operation.ReadChunk (members_view line.entries)) }
+{
+    let Some(options) = field::options(&line) else {
+        return Ok(None);
+    };
+    let Some(chunk) = field::chunk(alloc, &line)? else {
+        return Ok(None);
+    };
+    let Some(path) = members::take_text(&mut line, "path") else {
+        return Ok(None);
+    };
+    Ok(Some(Command::ReadChunk {
+        path,
+        chunk,
+        options,
+    }))
+}
+
+fn erase_chunks(alloc: Global, mut line: Map<String, Value>) -> Result<Option<Command>, AllocError>
+    ensures { IfOk result (λ said. option_map asked said ≡ request_by Operation.EraseChunks (members_view line.entries)) }
+{
+    let Some(chunks) = field::region(alloc, &line)? else {
+        return Ok(None);
+    };
+    let Some(path) = members::take_text(&mut line, "path") else {
+        return Ok(None);
+    };
+    Ok(Some(Command::EraseChunks { path, chunks }))
 }

@@ -12,7 +12,10 @@ use serde_json::{Map, Value};
 pub(crate) enum Operation {
     Create,
     WriteBox,
+    WriteChunk,
     ReadBox,
+    ReadChunk,
+    EraseChunks,
 }
 
 impl Operation {
@@ -31,7 +34,10 @@ impl Operation {
         match name {
             "create" => Some(Operation::Create),
             "write_box" => Some(Operation::WriteBox),
+            "write_chunk" => Some(Operation::WriteChunk),
             "read_box" => Some(Operation::ReadBox),
+            "read_chunk" => Some(Operation::ReadChunk),
+            "erase_chunks" => Some(Operation::EraseChunks),
             _ => None,
         }
     }
@@ -45,7 +51,12 @@ impl Operation {
             Operation::WriteBox => {
                 members::has_only(members, &["op", "path", "box", "cells", "options"])
             }
+            Operation::WriteChunk => {
+                members::has_only(members, &["op", "path", "chunk", "cells", "options"])
+            }
             Operation::ReadBox => members::has_only(members, &["op", "path", "box", "options"]),
+            Operation::ReadChunk => members::has_only(members, &["op", "path", "chunk", "options"]),
+            Operation::EraseChunks => members::has_only(members, &["op", "path", "box"]),
         }
     }
 }

@@ -3,7 +3,7 @@ use Rattle.std.specs.Prelude.{◌≡◌, ◌⊎◌, ℕ, ◌^◌, ◌≤◌, len
 use Rattle.std.specs.Io.KnownBytes.{Appends}
 use Rattle.serde_json.specs.Written.{compact_text}
 use Rattle.zarr_codecs_cells.specs.Cells.{DataType, uint8}
-use Rattle.zarr_run_model.specs.Requests.{Request, create, write_box, read_box, Answer}
+use Rattle.zarr_run_model.specs.Requests.{Request, create, write, read, erase, Answer}
 use Rattle.zarr_run_model.specs.Worlds.{Held, World, held_at}
 use Rattle.zarr_run_model.specs.Steps.{Step}
 use Rattle.zarr_run_commands.specs.Lines.{Says}
@@ -22,8 +22,9 @@ lines_of (x ∷ xs) = if x == 10 then [] ∷ lines_of xs else onto_first x (line
 -- the node path of a request
 abbrev pub path_of : Request → List ℕ
 path_of (create path document order) = path
-path_of (write_box path region cells options) = path
-path_of (read_box path region options) = path
+path_of (write path target cells options) = path
+path_of (read path target options) = path
+path_of (erase path chunks) = path
 
 -- the type of an array's cells, uint8 where there is none
 abbrev pub type_of : Option Held → DataType

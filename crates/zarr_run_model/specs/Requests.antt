@@ -8,11 +8,17 @@ use Rattle.zarr_codecs_cells.specs.declared.options.CodecOptions.{CodecOptions}
 use Rattle.zarr_codecs_chain.specs.declared.order.SubchunkWriteOrder.{SubchunkWriteOrder}
 use Rattle.zarr_run_model.specs.declared.cause.Cause.{Cause}
 
+-- the cells that a command means: those of a box, or those of a chunk
+pub data Target : Type 0 where
+  in_box : (region : Region) → Target
+  in_chunk : (chunk : List ℕ) → Target
+
 -- a command, without the memory that holds it
 pub data Request : Type 0 where
   create : (path : List ℕ) (document : Data) (order : SubchunkWriteOrder) → Request
-  write_box : (path : List ℕ) (region : Region) (cells : GivenCells) (options : CodecOptions) → Request
-  read_box : (path : List ℕ) (region : Region) (options : CodecOptions) → Request
+  write : (path : List ℕ) (target : Target) (cells : GivenCells) (options : CodecOptions) → Request
+  read : (path : List ℕ) (target : Target) (options : CodecOptions) → Request
+  erase : (path : List ℕ) (chunks : Region) → Request
 
 -- a reply, without the memory that holds it
 pub data Answer : Type 0 where

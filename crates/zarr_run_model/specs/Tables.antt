@@ -1,11 +1,12 @@
 -- The table of an array: a finite map from places to the cells that differ from the fill value.
-use Rattle.std.specs.Prelude.{ℕ, List, [], ◌∷◌, bytes_eq, if◌then◌else◌, unwrap_or}
-use Rattle.std.specs.List.{filter, list_any, zip}
+use Rattle.std.specs.Prelude.{ℕ, List, [], ◌∷◌, map, bytes_eq, if◌then◌else◌, unwrap_or}
+use Rattle.std.specs.List.{filter, flat_map, list_any, zip}
+use Rattle.std.specs.Option.{option_map_or}
 use Rattle.std.specs.Ordering.{nat_cmp}
 use Rattle.std.specs.Cmp.Lexicographic.{slice_cmp}
 use Rattle.std.specs.FinMap.{FinMap, get, insert, remove}
 use Rattle.zarr_grids_boxes.specs.Boxes.{Region, places}
-use Rattle.zarr_grids_chunks.specs.Grids.{Grid, lies_in_chunk}
+use Rattle.zarr_grids_chunks.specs.Grids.{Grid, chunk_box, lies_in_chunk}
 use Rattle.zarr_codecs_cells.specs.Cells.{Cell}
 
 abbrev pub Table : Type 0
@@ -31,3 +32,7 @@ changes region cells = zip (places region.start region.shape) cells
 -- those changes that lie in one of these chunks
 abbrev pub changes_in : Grid → List (List ℕ) → List (List ℕ × Cell) → List (List ℕ × Cell)
 changes_in grid chunks all = filter (λ e. list_any (lies_in_chunk grid e.0) chunks) all
+
+-- the fill value at each place of these chunks
+abbrev pub fills : Grid → Cell → List (List ℕ) → List (List ℕ × Cell)
+fills grid fill chunks = flat_map (λ chunk. option_map_or (λ box. map (λ place. (place, fill)) (places box.start box.shape)) (chunk_box grid chunk) []) chunks

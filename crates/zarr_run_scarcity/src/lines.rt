@@ -7,7 +7,7 @@ use zarr_run::{LinesFault, Session, run_lines};
 
 /// The answers with ample memory.
 const ANSWERS: &str =
-    "{\"done\":true}\n{\"done\":true}\n{\"done\":true}\n{\"done\":true}\n{\"cells\":[0,5,6,7,0,8,9,10,0,0,0,0,0,0,0,0]}\n";
+    "{\"done\":true}\n{\"done\":true}\n{\"done\":true}\n{\"done\":true}\n{\"done\":true}\n{\"done\":true}\n{\"cells\":[0,0,6,7,0,0,9,10,0,0,11,12,0,0,13,14]}\n";
 
 /// How the answer to a command that memory was refused for ends.
 const REFUSED: &str = ",\"refused\":\"Memory\"}";

@@ -6,7 +6,7 @@ use zarr_codecs_cells::ArrayBytes;
 use zarr_run::{Cause, Command, Reply};
 use zarr_run_commands::read_command;
 
-/// A line that writes, and its cells.
+/// A line that writes or erases, and the cells that it puts.
 #[derive(Clone, Copy)]
 pub(crate) struct Writing {
     pub line: &'static str,
@@ -18,8 +18,9 @@ pub(crate) const CREATE: &str =
 
 pub(crate) const READ: &str = "{\"op\":\"read_box\",\"path\":\"/a\",\"box\":[[0,4],[0,4]]}";
 
-/// The middle, which meets all chunks; the right of the two rows on top; and zeros below, which take two keys out.
-pub(crate) const WRITINGS: [Writing; 3] = [
+/// The middle, which meets all chunks; the right of the two rows on top; zeros below, which take two keys out; one chunk as a
+/// whole; and the erasure of the two chunks on the left.
+pub(crate) const WRITINGS: [Writing; 5] = [
     Writing {
         line: "{\"op\":\"write_box\",\"path\":\"/a\",\"box\":[[1,3],[1,3]],\"cells\":[1,2,3,4]}",
         cells: &[(0, 5, 1), (1, 6, 2), (2, 9, 3), (3, 10, 4)],
@@ -46,6 +47,23 @@ pub(crate) const WRITINGS: [Writing; 3] = [
             (0, 13, 0),
             (1, 14, 0),
             (1, 15, 0),
+        ],
+    },
+    Writing {
+        line: "{\"op\":\"write_chunk\",\"path\":\"/a\",\"chunk\":[1,1],\"cells\":[11,12,13,14]}",
+        cells: &[(0, 10, 11), (0, 11, 12), (0, 14, 13), (0, 15, 14)],
+    },
+    Writing {
+        line: "{\"op\":\"erase_chunks\",\"path\":\"/a\",\"box\":[[0,2],[0,1]]}",
+        cells: &[
+            (0, 0, 0),
+            (0, 1, 0),
+            (0, 4, 0),
+            (0, 5, 0),
+            (1, 8, 0),
+            (1, 9, 0),
+            (1, 12, 0),
+            (1, 13, 0),
         ],
     },
 ];

@@ -1,5 +1,5 @@
 -- Boxes of a held array.
-use Rattle.std.proofs.Common.{◌≡◌, ◌∙◌, ℕ, ◌*◌, ◌<◌, ◌≤◌, ◌^◌, Bool, true, false, if◌then◌else◌, List, [], ◌∷◌, length, refl, sym, ap, arith, inl, inr, ⊎_elim}
+use Rattle.std.proofs.Common.{◌≡◌, ◌∙◌, ℕ, ◌*◌, ◌<◌, ◌≤◌, ◌^◌, Bool, true, false, if◌then◌else◌, List, [], ◌∷◌, length, refl, sym, ap, subst, arith, inl, inr, ⊎_elim}
 use Rattle.std.specs.Option.{option_map_or}
 use Rattle.std.specs.List.{flat_map}
 use Rattle.std.proofs.lemmas.Bool.{cases_lt}
@@ -9,6 +9,8 @@ use Rattle.zarr_grids_boxes.proofs.InBox.{length-places}
 use Rattle.zarr_grids_chunks.specs.Grids.{IsBelow, IsCovered, is_met, met, chunk_indices}
 use Rattle.zarr_grids_chunks.proofs.Filters.{told, filter-any}
 use Rattle.zarr_grids_chunks.proofs.Sharing.{share_place-of, share_place-has}
+use Rattle.zarr_grids_chunks.specs.Regular.{origin_of}
+use Rattle.zarr_grids_chunks.proofs.ChunksBelow.{IsBelow-covered, IsBelow-met}
 use Rattle.zarr_grids_chunks.proofs.Covers.{last_place, last_place-in_box, empty_box}
 use Rattle.zarr_codecs_cells.specs.Cells.{Cell}
 use Rattle.zarr_array_documents.specs.Documents.{Document}
@@ -101,3 +103,18 @@ fits_small document region a b (inr (chunk, box, below, shares, large)) =
 pub fits_empty : (document : ArrayDocument) (region : Region) → product region.shape ≡ 0 → HasTooLarge (meaning_of document) region → ⊥
 fits_empty document region z (inl h) = not_large (product region.shape) (omega arith) h
 fits_empty document region z (inr (chunk, box, below, shares, large)) = meets_none (meaning_of document) region chunk box z below shares
+
+-- ---- the box of one chunk
+pub chunk_covered : (document : ArrayDocument) (chunk : List ℕ) (box : Region) → IsBelow (meaning_of document).grid chunk box → IsCovered (meaning_of document).grid box
+chunk_covered document chunk box below = IsBelow-covered document.shape.items document.chunk_shape.items chunk box below
+
+pub chunk_met : (document : ArrayDocument) (chunk : List ℕ) (box : Region) → IsBelow (meaning_of document).grid chunk box → met (meaning_of document).grid box ≡ chunk ∷ []
+chunk_met document chunk box below = IsBelow-met document.shape.items document.chunk_shape.items chunk box document.same document.positive below
+
+-- a box that is made of a chunk's origin and the chunk shape
+pub chunk_box_is : (document : ArrayDocument) (chunk : List ℕ) (box made : Region) → IsBelow (meaning_of document).grid chunk box → made.start ≡ origin_of document.chunk_shape.items chunk → made.shape ≡ document.chunk_shape.items
+    → IsBelow (meaning_of document).grid chunk made
+chunk_box_is document chunk box made below at sized =
+    let P : Region → Type 0 = λ b. IsBelow (meaning_of document).grid chunk b in
+    let e : box ≡ made = (regular_box document chunk box below.has_box).is ∙ (λ i. record { start = sym at i; shape = sym sized i }) in
+    subst P e below

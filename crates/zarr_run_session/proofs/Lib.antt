@@ -1,4 +1,5 @@
 pub mod BoxLemmas
 pub mod StepLemmas
+pub mod ErasureLemmas
 pub mod CreateLemmas
 pub mod RunLemmas

@@ -21,13 +21,13 @@ use Rattle.zarr_run_array.proofs.ChunkWrites.{stands_same, with_chunks-values, w
 use Rattle.zarr_run_array.proofs.ChunkReads.{wrong_length}
 use Rattle.zarr_run_model.specs.Changes.{cell_of_box, with_chunks}
 use Rattle.zarr_run_model.specs.Tables.{Table, cell, updated, changes, changes_in}
-use Rattle.zarr_run_model.specs.Requests.{Request, write_box, read_box, Answer, done, cells, refused}
+use Rattle.zarr_run_model.specs.Requests.{Target, in_box, in_chunk, Request, write, read, Answer, done, cells, refused}
 use Rattle.zarr_run_model.specs.Worlds.{Held, World, StoreStands, held_at, with_table}
-use Rattle.zarr_run_model.specs.Steps.{Step, MayRefuse, HasTooLarge, WriteRefuses, ReadRefuses}
+use Rattle.zarr_run_model.specs.Steps.{IsTarget, Step, MayRefuse, HasTooLarge, WriteRefuses, ReadRefuses}
 use Rattle.zarr_run_model.specs.declared.cause.Cause.{Cause}
 use Rattle.zarr_run_model.specs.declared.cause.Cause.TheVariants as cause
 use Rattle.zarr_run_model.proofs.TableLemmas.{cell-chunks, cell-box, cells_of_box, value_at}
-use Rattle.zarr_run_session.specs.Boxes.{WroteBox, WroteFirst, BytesRefused, ReadRefused}
+use Rattle.zarr_run_session.specs.Boxes.{WroteBox, WroteFirst, BytesRefused, ChunkRefused, ReadRefused}
 use Rattle.zarr_run_session.specs.Given.{one_byte_cells}
 use Rattle.zarr_run_session.specs.Sessions.{Keeps, held_with, IsTableOf}
 use Rattle.zarr_run_session.specs.declared.held.HeldArray.{HeldArray}
@@ -65,7 +65,7 @@ found_here array table = (bytes_eq-Decides (string_bytes array.path) (string_byt
 pub held_at-here : (array : HeldArray) (table : Table) → held_at (string_bytes array.path) (held_with array table ∷ []) ≡ Some (held_with array table)
 held_at-here array table = ap (λ b. if b then Some (held_with array table) else None) (found_here array table)
 
-with_table-here : (array : HeldArray) (table next : Table) → with_table (string_bytes array.path) next (held_with array table ∷ []) ≡ held_with array next ∷ []
+pub with_table-here : (array : HeldArray) (table next : Table) → with_table (string_bytes array.path) next (held_with array table ∷ []) ≡ held_with array next ∷ []
 with_table-here array table next = ap (λ b. if b then (let hs : World = held_with array next ∷ [] in hs) else held_with array table ∷ []) (found_here array table)
 
 pub keeps_table : (array : HeldArray) (store : StoreMap) (table : Table) → IsTableOf array store table → Keeps (Some array) store (held_with array table ∷ [])
@@ -118,17 +118,18 @@ pub no_damage : (array : HeldArray) (region : Region) (store : StoreMap) (table 
 no_damage array region store table t d = d.wrong (wrong_length (string_bytes array.path) array.document store (cell (meaning_of array.document).fill table) d.chunk d.value d.box t.stands t.values d.below d.found)
 
 -- ---- a write that is done
-pub write_done : (array : HeldArray) (old new : StoreMap) (region : Region) (g : GivenCells) (bs : List ℕ) (options : CodecOptions) (s : Bool) (table : Table) → (HasTooLarge (meaning_of array.document) region → ⊥) → length region.start ≡ length region.shape → IsCovered (meaning_of array.document).grid region
+pub write_done : (array : HeldArray) (old new : StoreMap) (region : Region) (g : GivenCells) (bs : List ℕ) (options : CodecOptions) (s : Bool) (table : Table) → (HasTooLarge (meaning_of array.document) region → ⊥) → length region.start ≡ length region.shape → (target : Target) → IsTarget (meaning_of array.document).grid target region
     → given_in uint8 g ≡ Some (one_byte_cells bs) → list_all (is_value uint8) (one_byte_cells bs) ≡ true → length bs ≡ product region.shape → WroteBox (string_bytes array.path) (meaning_of array.document) region bs s old new → IsTableOf array old table
-    → (after : World) × Step (held_with array table ∷ []) (write_box (string_bytes array.path) region g options) done after × Keeps (Some array) new after
-write_done array old new region g bs options s table fits l covered is v n wrote t =
+    → (after : World) × Step (held_with array table ∷ []) (write (string_bytes array.path) target g options) done after × Keeps (Some array) new after
+write_done array old new region g bs options s table fits l target means is v n wrote t =
     let next = updated (meaning_of array.document).fill table (changes region (one_byte_cells bs)) in (
       held_with array next ∷ [],
       record {
         node = array.node;
         held = held_with array table;
         found = held_at-here array table;
-        covered = covered;
+        box = region;
+        is = means;
         values = one_byte_cells bs;
         gives = (is, length-cells bs ∙ n);
         fits = fits;
@@ -138,33 +139,34 @@ write_done array old new region g bs options s table fits l covered is v n wrote
     )
 
 -- ---- a write that is refused
-write_cause : (array : HeldArray) (region : Region) (g : GivenCells) (bs : List ℕ) (options : CodecOptions) (table next : Table) (new : StoreMap) (c : Cause) → IsCovered (meaning_of array.document).grid region → given_in uint8 g ≡ Some (one_byte_cells bs)
-    → IsTableOf array new next → BytesRefused (string_bytes array.path) (meaning_of array.document) region bs new c → MayRefuse (held_with array table ∷ []) (write_box (string_bytes array.path) region g options) c
-write_cause array region g bs options table next new cause.Memory covered is t why = tt
-write_cause array region g bs options table next new cause.Damage covered is t why = absurd (no_damage array region new next t why)
-write_cause array region g bs options table next new cause.Data covered is t why =
-    let P : Option Held → Type 0 = λ o. WriteRefuses o region g cause.Data in (
+write_cause : (array : HeldArray) (region : Region) (g : GivenCells) (bs : List ℕ) (options : CodecOptions) (table next : Table) (new : StoreMap) (c : Cause) → (target : Target) → IsTarget (meaning_of array.document).grid target region → given_in uint8 g ≡ Some (one_byte_cells bs)
+    → IsTableOf array new next → BytesRefused (string_bytes array.path) (meaning_of array.document) region bs new c → MayRefuse (held_with array table ∷ []) (write (string_bytes array.path) target g options) c
+write_cause array region g bs options table next new cause.Memory target means is t why = tt
+write_cause array region g bs options table next new cause.Damage target means is t why = absurd (no_damage array region new next t why)
+write_cause array region g bs options table next new cause.Data target means is t why =
+    let P : Option Held → Type 0 = λ o. WriteRefuses o target g cause.Data in (
       array.node,
       subst P (sym (held_at-here array table)) (
-        covered,
+        region,
+        means,
         λ cs gives.
             let same : Some cs ≡ Some (one_byte_cells bs) = sym gives.0 ∙ is in
             let e : cs ≡ one_byte_cells bs = cc in
             why (sym (length-cells bs) ∙ sym (ap length e) ∙ gives.1),
       ),
     )
-write_cause array region g bs options table next new cause.Size covered is t why =
-    let P : Option Held → Type 0 = λ o. WriteRefuses o region g cause.Size in
-    (array.node, subst P (sym (held_at-here array table)) (covered, (one_byte_cells bs, (is, length-cells bs ∙ why.0)), why.1))
-write_cause array region g bs options table next new cause.Path covered is t why = absurd why
-write_cause array region g bs options table next new cause.PathTaken covered is t why = absurd why
-write_cause array region g bs options table next new cause.NoArray covered is t why = absurd why
-write_cause array region g bs options table next new cause.Document covered is t why = absurd why
-write_cause array region g bs options table next new cause.Region covered is t why = absurd why
-write_cause array region g bs options table next new cause.Fit covered is t why = absurd why
-write_cause array region g bs options table next new cause.Codec covered is t why = absurd why
-write_cause array region g bs options table next new cause.Store covered is t why = absurd why
-write_cause array region g bs options table next new cause.DocumentChanged covered is t why = absurd why
+write_cause array region g bs options table next new cause.Size target means is t why =
+    let P : Option Held → Type 0 = λ o. WriteRefuses o target g cause.Size in
+    (array.node, subst P (sym (held_at-here array table)) (region, means, (one_byte_cells bs, (is, length-cells bs ∙ why.0)), why.1))
+write_cause array region g bs options table next new cause.Path target means is t why = absurd why
+write_cause array region g bs options table next new cause.PathTaken target means is t why = absurd why
+write_cause array region g bs options table next new cause.NoArray target means is t why = absurd why
+write_cause array region g bs options table next new cause.Document target means is t why = absurd why
+write_cause array region g bs options table next new cause.Region target means is t why = absurd why
+write_cause array region g bs options table next new cause.Fit target means is t why = absurd why
+write_cause array region g bs options table next new cause.Codec target means is t why = absurd why
+write_cause array region g bs options table next new cause.Store target means is t why = absurd why
+write_cause array region g bs options table next new cause.DocumentChanged target means is t why = absurd why
 
 -- no chunk was written
 table_kept : (array : HeldArray) (region : Region) (bs : List ℕ) (s : Bool) (old new : StoreMap) (table : Table) → length region.start ≡ length region.shape → list_all (is_value uint8) (one_byte_cells bs) ≡ true
@@ -183,24 +185,25 @@ table_kept array region bs s old new table l v first t = ⊎_elim sized (λ e. o
   other : length bs ≢ product region.shape → IsTableOf array new table
   other h = let P : StoreMap → Type 0 = λ m. IsTableOf array m table in subst P (sym (first.kept h)) t
 
-pub write_refused : (array : HeldArray) (old new : StoreMap) (region : Region) (g : GivenCells) (bs : List ℕ) (options : CodecOptions) (s : Bool) (c : Cause) (n : ℕ) (table : Table) → length region.start ≡ length region.shape → IsCovered (meaning_of array.document).grid region
+pub write_refused : (array : HeldArray) (old new : StoreMap) (region : Region) (g : GivenCells) (bs : List ℕ) (options : CodecOptions) (s : Bool) (c : Cause) (n : ℕ) (table : Table) → length region.start ≡ length region.shape → (target : Target) → IsTarget (meaning_of array.document).grid target region
     → given_in uint8 g ≡ Some (one_byte_cells bs) → list_all (is_value uint8) (one_byte_cells bs) ≡ true → WroteFirst (string_bytes array.path) (meaning_of array.document) region bs s n old new
     → BytesRefused (string_bytes array.path) (meaning_of array.document) region bs new c → IsTableOf array old table
-    → (after : World) × Step (held_with array table ∷ []) (write_box (string_bytes array.path) region g options) (refused c n) after × Keeps (Some array) new after
-write_refused array old new region g bs options s c zero table l covered is v first why t =
+    → (after : World) × Step (held_with array table ∷ []) (write (string_bytes array.path) target g options) (refused c n) after × Keeps (Some array) new after
+write_refused array old new region g bs options s c zero table l target means is v first why t =
     let none = table_kept array region bs s old new table l v first t in
-    (held_with array table ∷ [], (write_cause array region g bs options table table new c covered is none why, inl (refl, refl)), keeps_table array new table none)
-write_refused array old new region g bs options s c (suc m) table l covered is v first why t =
+    (held_with array table ∷ [], (write_cause array region g bs options table table new c target means is none why, inl (refl, refl)), keeps_table array new table none)
+write_refused array old new region g bs options s c (suc m) table l target means is v first why t =
     let some : suc m ≢ 0 = λ e. absurd (cc e) in
     let next = updated (meaning_of array.document).fill table (changes_in (meaning_of array.document).grid (take (suc m) (met (meaning_of array.document).grid region)) (changes region (one_byte_cells bs))) in
     let after = table_after_some array region bs s (suc m) old new table l v (first.sized some) first.wrote t in (
       held_with array next ∷ [],
       (
-        write_cause array region g bs options table next new c covered is after why,
+        write_cause array region g bs options table next new c target means is after why,
         inr (record {
           held = held_with array table;
           found = held_at-here array table;
-          covered = covered;
+          box = region;
+          is = means;
           values = one_byte_cells bs;
           gives = (is, length-cells bs ∙ first.sized some);
           fewer = first.fewer some;
@@ -211,17 +214,17 @@ write_refused array old new region g bs options s c (suc m) table l covered is v
     )
 
 -- cells that are no values of the type
-pub given_refused : (array : HeldArray) (store : StoreMap) (region : Region) (g : GivenCells) (options : CodecOptions) (c : Cause) (table : Table) → IsCovered (meaning_of array.document).grid region
+pub given_refused : (array : HeldArray) (store : StoreMap) (region : Region) (g : GivenCells) (options : CodecOptions) (c : Cause) (table : Table) → (target : Target) → IsTarget (meaning_of array.document).grid target region
     → (c ≢ cause.Memory → c ≡ cause.Data) → (c ≢ cause.Memory → given_in uint8 g ≡ None) → IsTableOf array store table
-    → (after : World) × Step (held_with array table ∷ []) (write_box (string_bytes array.path) region g options) (refused c 0) after × Keeps (Some array) store after
-given_refused array store region g options c table covered why none t = (held_with array table ∷ [], (may c why none, inl (refl, refl)), keeps_table array store table t) where
-  data_cause : given_in uint8 g ≡ None → WriteRefuses (Some (held_with array table)) region g cause.Data
-  data_cause n = (covered, λ cs gives. let e : Some cs ≡ None = sym gives.0 ∙ n in absurd (cc))
+    → (after : World) × Step (held_with array table ∷ []) (write (string_bytes array.path) target g options) (refused c 0) after × Keeps (Some array) store after
+given_refused array store region g options c table target means why none t = (held_with array table ∷ [], (may c why none, inl (refl, refl)), keeps_table array store table t) where
+  data_cause : given_in uint8 g ≡ None → WriteRefuses (Some (held_with array table)) target g cause.Data
+  data_cause n = (region, means, λ cs gives. let e : Some cs ≡ None = sym gives.0 ∙ n in absurd (cc))
 
-  may : (c : Cause) → (c ≢ cause.Memory → c ≡ cause.Data) → (c ≢ cause.Memory → given_in uint8 g ≡ None) → MayRefuse (held_with array table ∷ []) (write_box (string_bytes array.path) region g options) c
+  may : (c : Cause) → (c ≢ cause.Memory → c ≡ cause.Data) → (c ≢ cause.Memory → given_in uint8 g ≡ None) → MayRefuse (held_with array table ∷ []) (write (string_bytes array.path) target g options) c
   may cause.Memory why none = tt
   may cause.Data why none =
-      let P : Option Held → Type 0 = λ o. WriteRefuses o region g cause.Data in
+      let P : Option Held → Type 0 = λ o. WriteRefuses o target g cause.Data in
       (array.node, subst P (sym (held_at-here array table)) (data_cause (none (λ e. absurd (cc e)))))
   may cause.Path why none = let e = why (λ e. absurd (cc e)) in absurd (cc)
   may cause.PathTaken why none = let e = why (λ e. absurd (cc e)) in absurd (cc)
@@ -244,10 +247,10 @@ cells_of_laid f (p ∷ ps) v = go (f p) (v p) refl (cells_of_laid f ps v) where
   go (b ∷ []) h e i = ap (λ (c : Cell). one_byte_cells (c ++ flat_map f ps)) e ∙ ap (λ (cs : List Cell). (b ∷ []) ∷ cs) i ∙ ap (λ (c : Cell). let cs : List Cell = c ∷ map f ps in cs) (sym e)
   go (b ∷ d ∷ c) h e i = absurd (false≢true h)
 
-pub read_done : (array : HeldArray) (store : StoreMap) (region : Region) (bs : List ℕ) (options : CodecOptions) (table : Table) → (HasTooLarge (meaning_of array.document) region → ⊥) → IsCovered (meaning_of array.document).grid region
+pub read_done : (array : HeldArray) (store : StoreMap) (region : Region) (bs : List ℕ) (options : CodecOptions) (table : Table) → (HasTooLarge (meaning_of array.document) region → ⊥) → (target : Target) → IsTarget (meaning_of array.document).grid target region
     → ReadsBox (string_bytes array.path) (meaning_of array.document) region store bs → IsTableOf array store table
-    → (after : World) × Step (held_with array table ∷ []) (read_box (string_bytes array.path) region options) (cells (fixed bs)) after × Keeps (Some array) store after
-read_done array store region bs options table fits covered reads t =
+    → (after : World) × Step (held_with array table ∷ []) (read (string_bytes array.path) target options) (cells (fixed bs)) after × Keeps (Some array) store after
+read_done array store region bs options table fits target means reads t =
     let f = cell (meaning_of array.document).fill table in (
       held_with array table ∷ [],
       (
@@ -255,7 +258,8 @@ read_done array store region bs options table fits covered reads t =
           node = array.node;
           held = held_with array table;
           found = held_at-here array table;
-          covered = covered;
+          box = region;
+          is = means;
           fits = fits;
           lists = ap one_byte_cells (reads.lists f t.values (λ chunk box below shares. t.stands chunk box below)) ∙ cells_of_laid f (places region.start region.shape) t.values;
         },
@@ -264,16 +268,13 @@ read_done array store region bs options table fits covered reads t =
       keeps_table array store table t,
     )
 
-pub read_refused : (array : HeldArray) (store : StoreMap) (region : Region) (options : CodecOptions) (c : Cause) (table : Table) → ReadRefused (string_bytes array.path) (meaning_of array.document) region store c → IsTableOf array store table
-    → (after : World) × Step (held_with array table ∷ []) (read_box (string_bytes array.path) region options) (refused c 0) after × Keeps (Some array) store after
-read_refused array store region options c table why t = (held_with array table ∷ [], (may c why, refl, refl), keeps_table array store table t) where
-  at_held : (c : Cause) → ReadRefuses (Some (held_with array table)) region c → ReadRefuses (held_at (string_bytes array.path) (held_with array table ∷ [])) region c
-  at_held c h = let P : Option Held → Type 0 = λ o. ReadRefuses o region c in subst P (sym (held_at-here array table)) h
-
-  may : (c : Cause) → ReadRefused (string_bytes array.path) (meaning_of array.document) region store c → MayRefuse (held_with array table ∷ []) (read_box (string_bytes array.path) region options) c
+pub read_refused : (array : HeldArray) (store : StoreMap) (region : Region) (options : CodecOptions) (c : Cause) (table : Table) → (target : Target) → IsTarget (meaning_of array.document).grid target region → ReadRefused (string_bytes array.path) (meaning_of array.document) region store c → IsTableOf array store table
+    → (after : World) × Step (held_with array table ∷ []) (read (string_bytes array.path) target options) (refused c 0) after × Keeps (Some array) store after
+read_refused array store region options c table target means why t = (held_with array table ∷ [], (may c why, refl, refl), keeps_table array store table t) where
+  may : (c : Cause) → ReadRefused (string_bytes array.path) (meaning_of array.document) region store c → MayRefuse (held_with array table ∷ []) (read (string_bytes array.path) target options) c
   may cause.Memory why = tt
-  may cause.Region why = (array.node, at_held cause.Region why)
-  may cause.Size why = (array.node, at_held cause.Size why)
+  may cause.Size why = let P : Option Held → Type 0 = λ o. ReadRefuses o target cause.Size in (array.node, subst P (sym (held_at-here array table)) (region, means, why))
+  may cause.Region why = absurd why
   may cause.Damage why = absurd (no_damage array region store table t why)
   may cause.Path why = absurd why
   may cause.PathTaken why = absurd why
@@ -296,18 +297,52 @@ none_at (Some a) store (x ∷ []) path k h = ⊎_elim
     (λ t. ap (λ b. if b then Some x else None) t)
     (told (bytes_eq path x.path))
 
-pub no_array_read : (w : World) (path : List ℕ) (region : Region) (options : CodecOptions) → is_node_path path ≡ true → held_at path w ≡ None → Step w (read_box path region options) (refused cause.NoArray 0) w
-no_array_read w path region options node none = let P : Option Held → Type 0 = λ o. ReadRefuses o region cause.NoArray in ((node, subst P (sym none) tt), refl, refl)
+pub no_array_read : (w : World) (path : List ℕ) (target : Target) (options : CodecOptions) → is_node_path path ≡ true → held_at path w ≡ None → Step w (read path target options) (refused cause.NoArray 0) w
+no_array_read w path target options node none = let P : Option Held → Type 0 = λ o. ReadRefuses o target cause.NoArray in ((node, subst P (sym none) tt), refl, refl)
 
-pub no_array_write : (w : World) (path : List ℕ) (region : Region) (g : GivenCells) (options : CodecOptions) → is_node_path path ≡ true → held_at path w ≡ None → Step w (write_box path region g options) (refused cause.NoArray 0) w
-no_array_write w path region g options node none = let P : Option Held → Type 0 = λ o. WriteRefuses o region g cause.NoArray in ((node, subst P (sym none) tt), inl (refl, refl))
+pub no_array_write : (w : World) (path : List ℕ) (target : Target) (g : GivenCells) (options : CodecOptions) → is_node_path path ≡ true → held_at path w ≡ None → Step w (write path target g options) (refused cause.NoArray 0) w
+no_array_write w path target g options node none = let P : Option Held → Type 0 = λ o. WriteRefuses o target g cause.NoArray in ((node, subst P (sym none) tt), inl (refl, refl))
+
+-- a target that has no box
+no_box_write : (array : HeldArray) (store : StoreMap) (target : Target) (g : GivenCells) (options : CodecOptions) (table : Table) → ((box : Region) → IsTarget (meaning_of array.document).grid target box → ⊥) → IsTableOf array store table
+    → (after : World) × Step (held_with array table ∷ []) (write (string_bytes array.path) target g options) (refused cause.Region 0) after × Keeps (Some array) store after
+no_box_write array store target g options table h t =
+    let P : Option Held → Type 0 = λ o. WriteRefuses o target g cause.Region in
+    (held_with array table ∷ [], ((array.node, subst P (sym (held_at-here array table)) h), inl (refl, refl)), keeps_table array store table t)
+
+no_box_read : (array : HeldArray) (store : StoreMap) (target : Target) (options : CodecOptions) (table : Table) → ((box : Region) → IsTarget (meaning_of array.document).grid target box → ⊥) → IsTableOf array store table
+    → (after : World) × Step (held_with array table ∷ []) (read (string_bytes array.path) target options) (refused cause.Region 0) after × Keeps (Some array) store after
+no_box_read array store target options table h t =
+    let P : Option Held → Type 0 = λ o. ReadRefuses o target cause.Region in
+    (held_with array table ∷ [], ((array.node, subst P (sym (held_at-here array table)) h), refl, refl), keeps_table array store table t)
 
 -- a box that isn't covered
 pub uncovered_write : (array : HeldArray) (store : StoreMap) (region : Region) (g : GivenCells) (options : CodecOptions) (table : Table) → (IsCovered (meaning_of array.document).grid region → ⊥) → IsTableOf array store table
-    → (after : World) × Step (held_with array table ∷ []) (write_box (string_bytes array.path) region g options) (refused cause.Region 0) after × Keeps (Some array) store after
-uncovered_write array store region g options table h t =
-    let P : Option Held → Type 0 = λ o. WriteRefuses o region g cause.Region in
-    (held_with array table ∷ [], ((array.node, subst P (sym (held_at-here array table)) h), inl (refl, refl)), keeps_table array store table t)
+    → (after : World) × Step (held_with array table ∷ []) (write (string_bytes array.path) (in_box region) g options) (refused cause.Region 0) after × Keeps (Some array) store after
+uncovered_write array store region g options table h t = no_box_write array store (in_box region) g options table (λ box means. h means.1) t
+
+pub uncovered_read : (array : HeldArray) (store : StoreMap) (region : Region) (options : CodecOptions) (table : Table) → (IsCovered (meaning_of array.document).grid region → ⊥) → IsTableOf array store table
+    → (after : World) × Step (held_with array table ∷ []) (read (string_bytes array.path) (in_box region) options) (refused cause.Region 0) after × Keeps (Some array) store after
+uncovered_read array store region options table h t = no_box_read array store (in_box region) options table (λ box means. h means.1) t
+
+-- a chunk that has no box
+pub chunk_write_refused : (array : HeldArray) (store : StoreMap) (chunk : List ℕ) (g : GivenCells) (options : CodecOptions) (c : Cause) (table : Table) → ChunkRefused (meaning_of array.document) chunk c → IsTableOf array store table
+    → (after : World) × Step (held_with array table ∷ []) (write (string_bytes array.path) (in_chunk chunk) g options) (refused c 0) after × Keeps (Some array) store after
+chunk_write_refused array store chunk g options c table why t =
+    let P : Cause → Type 0 = λ c. (after : World) × Step (held_with array table ∷ []) (write (string_bytes array.path) (in_chunk chunk) g options) (refused c 0) after × Keeps (Some array) store after in
+    ⊎_elim
+    (λ e. subst P (sym e) (held_with array table ∷ [], (tt, inl (refl, refl)), keeps_table array store table t))
+    (λ r. subst P (sym r.0) (no_box_write array store (in_chunk chunk) g options table r.1 t))
+    why
+
+pub chunk_read_refused : (array : HeldArray) (store : StoreMap) (chunk : List ℕ) (options : CodecOptions) (c : Cause) (table : Table) → ChunkRefused (meaning_of array.document) chunk c → IsTableOf array store table
+    → (after : World) × Step (held_with array table ∷ []) (read (string_bytes array.path) (in_chunk chunk) options) (refused c 0) after × Keeps (Some array) store after
+chunk_read_refused array store chunk options c table why t =
+    let P : Cause → Type 0 = λ c. (after : World) × Step (held_with array table ∷ []) (read (string_bytes array.path) (in_chunk chunk) options) (refused c 0) after × Keeps (Some array) store after in
+    ⊎_elim
+    (λ e. subst P (sym e) (held_with array table ∷ [], (tt, refl, refl), keeps_table array store table t))
+    (λ r. subst P (sym r.0) (no_box_read array store (in_chunk chunk) options table r.1 t))
+    why
 
 -- what holds over an array that is held holds in each world that has it
 pub from_held : (a : Option HeldArray) (array : HeldArray) (old new : StoreMap) (w : World) (path : List ℕ) (request : List ℕ → Request) (answer : Answer) → a ≡ Some array → string_bytes array.path ≡ path → Keeps a old w

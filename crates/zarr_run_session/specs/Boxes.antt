@@ -1,9 +1,9 @@
 -- Boxes of a held array: what reading and writing them leaves, and when they are refused.
-use Rattle.std.specs.Prelude.{◌≡◌, ◌≢◌, ℕ, ◌<◌, List, length, take, Bool, true}
+use Rattle.std.specs.Prelude.{◌≡◌, ◌≢◌, ◌⊎◌, ℕ, ◌<◌, List, length, take, Bool, true}
 use Rattle.std.specs.FinMap.{get}
 use Rattle.zarr_grids_boxes.specs.Boxes.{Region, product}
 use Rattle.zarr_grids_boxes.specs.Laid.{laid, overlaid}
-use Rattle.zarr_grids_chunks.specs.Grids.{IsCovered, met}
+use Rattle.zarr_grids_chunks.specs.Grids.{IsBelow, met}
 use Rattle.zarr_grids_keys.specs.Keys.{chunk_key}
 use Rattle.zarr_codecs_cells.specs.Cells.{Cell}
 use Rattle.zarr_array_documents.specs.Documents.{Document}
@@ -36,10 +36,13 @@ BytesRefused path document region bytes store cause.Damage = HasDamage path docu
 BytesRefused path document region bytes store cause.Memory = Unit {0}
 BytesRefused path document region bytes store c = ⊥
 
--- why a box is not read
+-- why a chunk has no box to be written or read: it is not below the grid shape or has none, or memory is short
+abbrev pub ChunkRefused : Document → List ℕ → Cause → Type 0
+ChunkRefused document chunk c = (c ≡ cause.Memory) ⊎ ((c ≡ cause.Region) × ((box : Region) → ¬ IsBelow document.grid chunk box))
+
+-- why a covered box is not read
 abbrev pub ReadRefused : List ℕ → Document → Region → StoreMap → Cause → Type 0
-ReadRefused path document region store cause.Region = ¬ IsCovered document.grid region
-ReadRefused path document region store cause.Size = IsCovered document.grid region × HasTooLarge document region
+ReadRefused path document region store cause.Size = HasTooLarge document region
 ReadRefused path document region store cause.Damage = HasDamage path document region store
 ReadRefused path document region store cause.Memory = Unit {0}
 ReadRefused path document region store c = ⊥

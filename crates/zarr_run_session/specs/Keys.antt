@@ -1,28 +1,43 @@
 -- The keys that a command leaves in the store.
-use Rattle.std.specs.Prelude.{◌≡◌, ◌≢◌, ℕ, List, [], take, true, Option, Some, string_bytes}
+use Rattle.std.specs.Prelude.{◌≡◌, ◌≢◌, ℕ, List, [], ◌∷◌, take, true, Option, Some, None, string_bytes}
 use Rattle.std.specs.FinMap.{get}
-use Rattle.zarr_grids_boxes.specs.Boxes.{Region}
+use Rattle.zarr_grids_boxes.specs.Boxes.{places}
 use Rattle.zarr_grids_chunks.specs.Grids.{met}
 use Rattle.zarr_grids_keys.specs.Keys.{chunk_key}
 use Rattle.zarr_codecs_cells.specs.declared.options.CodecOptions.{CodecOptions}
 use Rattle.zarr_array_documents.specs.Meanings.{meaning_of}
 use Rattle.zarr_array_stores.specs.StoreMaps.{StoreMap}
 use Rattle.zarr_run_array.specs.Contents.{HasKeys, is_listed}
-use Rattle.zarr_run_model.specs.Requests.{Request, write_box, Answer, done, cells, refused}
+use Rattle.zarr_run_model.specs.Requests.{Target, in_box, in_chunk, Request, write, erase, Answer, done, cells, refused}
 use Rattle.zarr_run_session.specs.declared.held.HeldArray.{HeldArray}
 
--- of the chunks that a box meets, those that a write with this answer wrote
-abbrev pub written : HeldArray → Region → Answer → List (List ℕ)
-written array region done = met (meaning_of array.document).grid region
-written array region (refused cause applied) = take applied (met (meaning_of array.document).grid region)
-written array region (cells payload) = []
+-- the chunks that share a place with what a write means
+abbrev pub meant : HeldArray → Target → List (List ℕ)
+meant array (in_box region) = met (meaning_of array.document).grid region
+meant array (in_chunk chunk) = chunk ∷ []
+
+-- of some chunks in order, those that a command with this answer changed
+abbrev pub changed : List (List ℕ) → Answer → List (List ℕ)
+changed chunks done = chunks
+changed chunks (refused cause applied) = take applied chunks
+changed chunks (cells payload) = []
+
+-- no key but those of these chunks changed
+abbrev pub KeepsOthers : HeldArray → List (List ℕ) → StoreMap → StoreMap → Type 0
+KeepsOthers array chunks old new = (key : List ℕ) → ((chunk : List ℕ) → is_listed chunks chunk ≡ true → key ≢ chunk_key (string_bytes array.path) (meaning_of array.document).keys chunk) → get new key ≡ get old key
 
 -- the chunks written have keys as the option for empty chunks says; no other key changed
-pub record WroteKeys (array : HeldArray) (region : Region) (options : CodecOptions) (answer : Answer) (old new : StoreMap) : Type 0 where
-  pub keys : HasKeys (string_bytes array.path) (meaning_of array.document) options.store_empty_chunks (written array region answer) new
-  pub others : (key : List ℕ) → ((chunk : List ℕ) → is_listed (written array region answer) chunk ≡ true → key ≢ chunk_key (string_bytes array.path) (meaning_of array.document).keys chunk) → get new key ≡ get old key
+pub record WroteKeys (array : HeldArray) (chunks : List (List ℕ)) (options : CodecOptions) (answer : Answer) (old new : StoreMap) : Type 0 where
+  pub keys : HasKeys (string_bytes array.path) (meaning_of array.document) options.store_empty_chunks (changed chunks answer) new
+  pub others : KeepsOthers array (changed chunks answer) old new
 
--- a write of an array that is held changes the keys of the chunks that it wrote; any other command leaves the store as it was
+-- the chunks erased have no key; no other key changed
+pub record ErasedKeys (array : HeldArray) (chunks : List (List ℕ)) (answer : Answer) (old new : StoreMap) : Type 0 where
+  pub gone : (chunk : List ℕ) → is_listed (changed chunks answer) chunk ≡ true → get new (chunk_key (string_bytes array.path) (meaning_of array.document).keys chunk) ≡ None
+  pub others : KeepsOthers array (changed chunks answer) old new
+
+-- a write or an erasure of an array that is held changes the keys of the chunks that it wrote or erased; any other command leaves the store as it was
 abbrev pub LeavesKeys : Option HeldArray → Request → Answer → StoreMap → StoreMap → Type 0
-LeavesKeys (Some array) (write_box path region given options) answer old new = WroteKeys array region options answer old new
+LeavesKeys (Some array) (write path target given options) answer old new = WroteKeys array (meant array target) options answer old new
+LeavesKeys (Some array) (erase path chunks) answer old new = ErasedKeys array (places chunks.start chunks.shape) answer old new
 LeavesKeys array request answer old new = new ≡ old

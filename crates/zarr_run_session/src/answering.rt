@@ -1,18 +1,20 @@
-//! Replies over one array that is held.
-ghost use Rattle.std.specs.Prelude.{◌≡◌, ◌≢◌, Some, IfSome, IfNone, string_bytes};
+//! Replies over one array that is held: writes.
+ghost use Rattle.std.specs.Prelude.{◌≡◌, ◌≢◌, [], ◌∷◌, Some, IfSome, IfNone, string_bytes};
 ghost use Rattle.zarr_grids_boxes.specs.Subsets.{region_of};
-ghost use Rattle.zarr_grids_chunks.specs.Grids.{IsCovered};
+ghost use Rattle.zarr_grids_chunks.specs.Grids.{IsCovered, met};
 ghost use Rattle.zarr_codecs_cells.specs.Cells.{uint8, fixed};
 ghost use Rattle.zarr_codecs_cells.specs.Json.{GivenCells, given_in, given_bytes};
 ghost use Rattle.zarr_array_documents.specs.Meanings.{meaning_of};
 ghost use Rattle.zarr_run_model.specs.Requests as ask;
+ghost use Rattle.zarr_run_model.specs.Requests.{Target};
+ghost use Rattle.zarr_run_model.specs.Steps.{IsTarget};
 ghost use Rattle.zarr_run_commands.specs.Commands.{given, payload_of, answered};
 ghost use Rattle.zarr_run_session.specs.Given.{one_byte_cells};
 ghost use Rattle.zarr_run_session.specs.Keys.{WroteKeys};
 ghost use Rattle.zarr_run_session.specs.Sessions.{StepsHeld};
 ghost use Rattle.zarr_run_session.specs.declared.held.HeldArray.{HeldArray};
 
-use crate::boxes::write_cells;
+use crate::boxes::{chunk_region, is_covered, write_cells};
 use crate::cells::json_bytes;
 use crate::held::HeldArray;
 use std::alloc::Global;
@@ -46,8 +48,44 @@ pub(crate) fn held_at<'a>(array: &'a Option<HeldArray>, path: &str) -> Option<&'
     }
 }
 
+/// Writes the cells of a box.
+pub(crate) fn write_to_box(
+    alloc: Global,
+    array: &HeldArray,
+    store: &mut MemoryStore,
+    region: &ArraySubset,
+    cells: &CommandCells,
+    options: CodecOptions,
+) -> Reply
+    ensures steps { StepsHeld array.now (ask.write (string_bytes array.now.path) (ask.in_box (region_of region.now)) (given cells.now) options) store.old result store.new }
+    ensures keys { WroteKeys array.now (met (meaning_of array.now.document).grid (region_of region.now)) options (answered result) store.old store.new }
+{
+    if !is_covered(array, region) {
+        return refused(Cause::Region);
+    }
+    write_covered(alloc, array, store, region, cells, options)
+}
+
+/// Writes the cells of a chunk.
+pub(crate) fn write_to_chunk(
+    alloc: Global,
+    array: &HeldArray,
+    store: &mut MemoryStore,
+    chunk: &[u64],
+    cells: &CommandCells,
+    options: CodecOptions,
+) -> Reply
+    ensures steps { StepsHeld array.now (ask.write (string_bytes array.now.path) (ask.in_chunk chunk.now) (given cells.now) options) store.old result store.new }
+    ensures keys { WroteKeys array.now (chunk.now ∷ []) options (answered result) store.old store.new }
+{
+    match chunk_region(alloc, array, chunk) {
+        Ok(region) => write_covered(alloc, array, store, &region, cells, options),
+        Err(cause) => refused(cause),
+    }
+}
+
 /// Writes the cells of a region that is covered.
-pub(crate) fn write_covered(
+fn write_covered(
     alloc: Global,
     array: &HeldArray,
     store: &mut MemoryStore,
@@ -56,8 +94,9 @@ pub(crate) fn write_covered(
     options: CodecOptions,
 ) -> Reply
     requires { IsCovered (meaning_of array.now.document).grid (region_of region.now) }
-    ensures steps { StepsHeld array.now (ask.write_box (string_bytes array.now.path) (region_of region.now) (given cells.now) options) store.old result store.new }
-    ensures keys { WroteKeys array.now (region_of region.now) options (answered result) store.old store.new }
+    ensures steps { (target : Target) → IsTarget (meaning_of array.now.document).grid target (region_of region.now)
+        → StepsHeld array.now (ask.write (string_bytes array.now.path) target (given cells.now) options) store.old result store.new }
+    ensures keys { WroteKeys array.now (met (meaning_of array.now.document).grid (region_of region.now)) options (answered result) store.old store.new }
 {
     match cells {
         CommandCells::Bytes(bytes) => {
@@ -89,8 +128,9 @@ fn write_fixed(
     options: CodecOptions,
 ) -> Reply
     requires { IsCovered (meaning_of array.now.document).grid (region_of region.now) }
-    ensures steps { StepsHeld array.now (ask.write_box (string_bytes array.now.path) (region_of region.now) (given_bytes (fixed bytes.now)) options) store.old result store.new }
-    ensures keys { WroteKeys array.now (region_of region.now) options (answered result) store.old store.new }
+    ensures steps { (target : Target) → IsTarget (meaning_of array.now.document).grid target (region_of region.now)
+        → StepsHeld array.now (ask.write (string_bytes array.now.path) target (given_bytes (fixed bytes.now)) options) store.old result store.new }
+    ensures keys { WroteKeys array.now (met (meaning_of array.now.document).grid (region_of region.now)) options (answered result) store.old store.new }
 {
     write_given(alloc, array, store, region, bytes, options)
 }
@@ -105,9 +145,10 @@ fn write_given(
     options: CodecOptions,
 ) -> Reply
     requires { IsCovered (meaning_of array.now.document).grid (region_of region.now) }
-    ensures steps { (cells : GivenCells) → given_in uint8 cells ≡ Some (one_byte_cells bytes.now)
-        → StepsHeld array.now (ask.write_box (string_bytes array.now.path) (region_of region.now) cells options) store.old result store.new }
-    ensures keys { WroteKeys array.now (region_of region.now) options (answered result) store.old store.new }
+    ensures steps { (target : Target) (cells : GivenCells) → IsTarget (meaning_of array.now.document).grid target (region_of region.now)
+        → given_in uint8 cells ≡ Some (one_byte_cells bytes.now)
+        → StepsHeld array.now (ask.write (string_bytes array.now.path) target cells options) store.old result store.new }
+    ensures keys { WroteKeys array.now (met (meaning_of array.now.document).grid (region_of region.now)) options (answered result) store.old store.new }
 {
     match write_cells(
         alloc,

@@ -2,11 +2,11 @@
 ghost use Rattle.std.specs.Prelude.{◌≡◌, ◌↔◌, IsTrue, length, IfOk, OnOk, IfErr, string_bytes};
 ghost use Rattle.zarr_grids_boxes.specs.Boxes.{product};
 ghost use Rattle.zarr_grids_boxes.specs.Subsets.{region_of};
-ghost use Rattle.zarr_grids_chunks.specs.Grids.{IsCovered};
+ghost use Rattle.zarr_grids_chunks.specs.Grids.{IsBelow, IsCovered};
 ghost use Rattle.zarr_array_documents.specs.Meanings.{meaning_of};
 ghost use Rattle.zarr_run_array.specs.Contents.{ReadsBox};
 ghost use Rattle.zarr_run_model.specs.Steps.{HasTooLarge};
-ghost use Rattle.zarr_run_session.specs.Boxes.{WroteBox, WroteFirst, BytesRefused, ReadRefused};
+ghost use Rattle.zarr_run_session.specs.Boxes.{WroteBox, WroteFirst, BytesRefused, ChunkRefused, ReadRefused};
 
 use crate::cause::cause_of_chunk;
 use crate::held::HeldArray;
@@ -14,7 +14,8 @@ use std::alloc::Global;
 use zarr_array_stores::MemoryStore;
 use zarr_grids_boxes::ArraySubset;
 use zarr_grids_boxes::walk::count_places;
-use zarr_grids_chunks::regular::covers;
+use zarr_grids_chunks::below::is_below;
+use zarr_grids_chunks::regular::{chunk_subset, covers};
 use zarr_run_array::{read_region, write_region};
 use zarr_run_model::Cause;
 
@@ -36,26 +37,28 @@ pub(crate) fn is_covered(array: &HeldArray, region: &ArraySubset) -> bool
     covers(array_shape, chunk_shape, start, shape)
 }
 
-/// Reads the cells of a region.
-pub(crate) fn read_cells(
+/// The box of a chunk that lies below the grid shape.
+pub(crate) fn chunk_region(
     alloc: Global,
     array: &HeldArray,
-    store: &MemoryStore,
-    region: &ArraySubset,
-) -> Result<Vec<u8>, Cause>
-    ensures fits { OnOk result (¬ HasTooLarge (meaning_of array.now.document) (region_of region.now)) }
-    ensures covered { OnOk result (IsCovered (meaning_of array.now.document).grid (region_of region.now)) }
-    ensures ok { IfOk result (λ bytes. ReadsBox (string_bytes array.now.path) (meaning_of array.now.document) (region_of region.now) store.now bytes.items) }
-    ensures err { IfErr result (λ cause. ReadRefused (string_bytes array.now.path) (meaning_of array.now.document) (region_of region.now) store.now cause) }
+    chunk: &[u64],
+) -> Result<ArraySubset, Cause>
+    ensures ok { IfOk result (λ region. IsBelow (meaning_of array.now.document).grid chunk.now (region_of region)) }
+    ensures err { IfErr result (λ cause. ChunkRefused (meaning_of array.now.document) chunk.now cause) }
 {
-    if !is_covered(array, region) {
+    let array_shape = array.document.shape.as_slice();
+    let chunk_shape = array.document.chunk_shape.as_slice();
+    if !is_below(array_shape, chunk_shape, chunk) {
         return Err(Cause::Region);
     }
-    read_covered(alloc, array, store, region)
+    match chunk_subset(alloc, chunk_shape, chunk) {
+        Ok(region) => Ok(region),
+        Err(_) => Err(Cause::Memory),
+    }
 }
 
 /// Reads the cells of a region that is covered.
-fn read_covered(
+pub(crate) fn read_cells(
     alloc: Global,
     array: &HeldArray,
     store: &MemoryStore,

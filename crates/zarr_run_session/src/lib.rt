@@ -5,7 +5,9 @@ mod answering;
 mod boxes;
 mod cause;
 mod cells;
+mod erasing;
 mod held;
+mod reading;
 mod runs;
 pub mod session;
 

@@ -5,15 +5,16 @@ ghost use Rattle.zarr_run_model.specs.Requests as ask;
 ghost use Rattle.zarr_run_commands.specs.Commands.{given};
 ghost use Rattle.zarr_run_session.specs.Keys.{LeavesKeys};
 
-use crate::answering::{held_at, refused, write_covered};
-use crate::boxes::{is_covered, read_cells};
+use crate::answering::{held_at, refused, write_to_box, write_to_chunk};
 use crate::cause::cause_of_document;
+use crate::erasing::erase_box;
 use crate::held::HeldArray;
+use crate::reading::{read_from_box, read_from_chunk};
 use serde_json::Value;
 use std::alloc::Global;
 use zarr_array_documents::read_document;
 use zarr_array_stores::MemoryStore;
-use zarr_codecs_cells::{ArrayBytes, CodecOptions};
+use zarr_codecs_cells::CodecOptions;
 use zarr_codecs_chain::SubchunkWriteOrder;
 use zarr_grids_boxes::ArraySubset;
 use zarr_grids_keys::is_node_path;
@@ -73,11 +74,23 @@ impl Session {
                 cells,
                 options,
             } => self.write_box(path.as_str(), region, cells, *options),
+            Command::WriteChunk {
+                path,
+                chunk,
+                cells,
+                options,
+            } => self.write_chunk(path.as_str(), chunk.as_slice(), cells, *options),
             Command::ReadBox {
                 path,
                 region,
                 options,
             } => self.read_box(path.as_str(), region, *options),
+            Command::ReadChunk {
+                path,
+                chunk,
+                options,
+            } => self.read_chunk(path.as_str(), chunk.as_slice(), *options),
+            Command::EraseChunks { path, chunks } => self.erase_chunks(path.as_str(), chunks),
         }
     }
 
@@ -116,8 +129,8 @@ impl Session {
         cells: &CommandCells,
         options: CodecOptions,
     ) -> Reply
-        ensures steps { StepsFrom self.old (ask.write_box path.now (region_of region.now) (given cells.now) options) result self.new }
-        ensures keys { LeavesKeys (array_of self.old) (ask.write_box path.now (region_of region.now) (given cells.now) options) (answered result) (stored self.old) (stored self.new) }
+        ensures steps { StepsFrom self.old (ask.write path.now (ask.in_box (region_of region.now)) (given cells.now) options) result self.new }
+        ensures keys { LeavesKeys (array_of self.old) (ask.write path.now (ask.in_box (region_of region.now)) (given cells.now) options) (answered result) (stored self.old) (stored self.new) }
     {
         if !is_node_path(path) {
             return refused(Cause::Path);
@@ -125,15 +138,32 @@ impl Session {
         let Some(array) = held_at(&self.array, path) else {
             return refused(Cause::NoArray);
         };
-        if !is_covered(array, region) {
-            return refused(Cause::Region);
+        write_to_box(self.alloc, array, &mut self.store, region, cells, options)
+    }
+
+    /// Writes the cells of a chunk.
+    fn write_chunk(
+        &mut self,
+        path: &str,
+        chunk: &[u64],
+        cells: &CommandCells,
+        options: CodecOptions,
+    ) -> Reply
+        ensures steps { StepsFrom self.old (ask.write path.now (ask.in_chunk chunk.now) (given cells.now) options) result self.new }
+        ensures keys { LeavesKeys (array_of self.old) (ask.write path.now (ask.in_chunk chunk.now) (given cells.now) options) (answered result) (stored self.old) (stored self.new) }
+    {
+        if !is_node_path(path) {
+            return refused(Cause::Path);
         }
-        write_covered(self.alloc, array, &mut self.store, region, cells, options)
+        let Some(array) = held_at(&self.array, path) else {
+            return refused(Cause::NoArray);
+        };
+        write_to_chunk(self.alloc, array, &mut self.store, chunk, cells, options)
     }
 
     /// Reads the cells of a box.
     fn read_box(&mut self, path: &str, region: &ArraySubset, options: CodecOptions) -> Reply
-        ensures steps { StepsFrom self.old (ask.read_box path.now (region_of region.now) options) result self.new }
+        ensures steps { StepsFrom self.old (ask.read path.now (ask.in_box (region_of region.now)) options) result self.new }
         ensures store { stored self.new ≡ stored self.old }
     {
         if !is_node_path(path) {
@@ -142,9 +172,34 @@ impl Session {
         let Some(array) = held_at(&self.array, path) else {
             return refused(Cause::NoArray);
         };
-        match read_cells(self.alloc, array, &self.store, region) {
-            Ok(bytes) => Reply::Cells(ArrayBytes::Fixed(bytes)),
-            Err(cause) => refused(cause),
+        read_from_box(self.alloc, array, &self.store, region)
+    }
+
+    /// Reads the cells of a chunk.
+    fn read_chunk(&mut self, path: &str, chunk: &[u64], options: CodecOptions) -> Reply
+        ensures steps { StepsFrom self.old (ask.read path.now (ask.in_chunk chunk.now) options) result self.new }
+        ensures store { stored self.new ≡ stored self.old }
+    {
+        if !is_node_path(path) {
+            return refused(Cause::Path);
         }
+        let Some(array) = held_at(&self.array, path) else {
+            return refused(Cause::NoArray);
+        };
+        read_from_chunk(self.alloc, array, &self.store, chunk)
+    }
+
+    /// Erases the chunks of a box of chunk indices.
+    fn erase_chunks(&mut self, path: &str, chunks: &ArraySubset) -> Reply
+        ensures steps { StepsFrom self.old (ask.erase path.now (region_of chunks.now)) result self.new }
+        ensures keys { LeavesKeys (array_of self.old) (ask.erase path.now (region_of chunks.now)) (answered result) (stored self.old) (stored self.new) }
+    {
+        if !is_node_path(path) {
+            return refused(Cause::Path);
+        }
+        let Some(array) = held_at(&self.array, path) else {
+            return refused(Cause::NoArray);
+        };
+        erase_box(self.alloc, array, &mut self.store, chunks)
     }
 }

@@ -60,3 +60,19 @@ fn reads_what_a_store_began_with(rt: HostRuntime) -> Result<(), Fail> {
     assert!(rt; is_cells(&read, &[0, 0, 1, 2, 0, 0, 3, 4]));
     Ok(())
 }
+
+#[test]
+fn takes_a_damaged_chunk_as_a_whole(rt: HostRuntime) -> Result<(), Fail> {
+    let mut bench = begun_with(rt.alloc(), "a/c/0/1", &[1, 2, 3])?;
+    let read = bench.read_chunk(&[0, 1])?;
+    assert!(rt; is_refused(&read, Cause::Damage, 0));
+    let wrote = bench.write_chunk(&[0, 1], "[5,6,7,8]")?;
+    assert!(rt; is_done(&wrote));
+    let again = bench.read_chunk(&[0, 1])?;
+    assert!(rt; is_cells(&again, &[5, 6, 7, 8]));
+    let mut other = begun_with(rt.alloc(), "a/c/0/1", &[1, 2, 3])?;
+    let erased = other.erase_chunks(&[(0, 2), (0, 2)])?;
+    assert!(rt; is_done(&erased));
+    assert!(rt; other.close().is_empty());
+    Ok(())
+}

@@ -131,6 +131,42 @@ pub(crate) fn read_box(
     })
 }
 
+/// A command that writes JSON cells into a chunk.
+pub(crate) fn write_chunk(
+    alloc: Global,
+    path: &str,
+    chunk: &[u64],
+    cells: &str,
+) -> Result<Command, Unmade> {
+    Ok(Command::WriteChunk {
+        path: String::from_str(alloc, path)?,
+        chunk: Vec::from_slice(alloc, chunk)?,
+        cells: CommandCells::Json(Value::from_str(alloc, cells)?),
+        options: CodecOptions::default(),
+    })
+}
+
+/// A command that reads a chunk.
+pub(crate) fn read_chunk(alloc: Global, path: &str, chunk: &[u64]) -> Result<Command, Unmade> {
+    Ok(Command::ReadChunk {
+        path: String::from_str(alloc, path)?,
+        chunk: Vec::from_slice(alloc, chunk)?,
+        options: CodecOptions::default(),
+    })
+}
+
+/// A command that erases the chunks of a box of chunk indices.
+pub(crate) fn erase_chunks(
+    alloc: Global,
+    path: &str,
+    ranges: &[(u64, u64)],
+) -> Result<Command, Unmade> {
+    Ok(Command::EraseChunks {
+        path: String::from_str(alloc, path)?,
+        chunks: region(alloc, ranges)?,
+    })
+}
+
 pub(crate) fn is_done(reply: &Reply) -> bool {
     matches!(reply, Reply::Done)
 }
@@ -206,6 +242,21 @@ impl Bench {
 
     pub(crate) fn read(&mut self, ranges: &[(u64, u64)]) -> Result<Reply, Unmade> {
         let command = read_box(self.alloc, "/a", ranges)?;
+        Ok(self.session.step(&command))
+    }
+
+    pub(crate) fn write_chunk(&mut self, chunk: &[u64], cells: &str) -> Result<Reply, Unmade> {
+        let command = write_chunk(self.alloc, "/a", chunk, cells)?;
+        Ok(self.session.step(&command))
+    }
+
+    pub(crate) fn read_chunk(&mut self, chunk: &[u64]) -> Result<Reply, Unmade> {
+        let command = read_chunk(self.alloc, "/a", chunk)?;
+        Ok(self.session.step(&command))
+    }
+
+    pub(crate) fn erase_chunks(&mut self, ranges: &[(u64, u64)]) -> Result<Reply, Unmade> {
+        let command = erase_chunks(self.alloc, "/a", ranges)?;
         Ok(self.session.step(&command))
     }
 

@@ -10,6 +10,6 @@ pub returns-in-Bytes-clause-steps : goal.returns-in-Bytes-clause-steps
 returns-in-Bytes-clause-steps c = rw (ap given c.in-Bytes.is ∙ ap given_bytes c.fixed_bytes-bytes.ensures) c.write_fixed.ensures.steps
 
 pub returns-in-Err-clause-steps : goal.returns-in-Err-clause-steps
-returns-in-Err-clause-steps c = λ table t.
-    rw c.refused.ensures (given_refused c.args.array.now c.args.store.now (region_of c.args.region.now) (given c.args.cells.now) c.args.options c.in-Err.cause table c.requires c.in-Err.ensures.cause
+returns-in-Err-clause-steps c = λ target means table t.
+    rw c.refused.ensures (given_refused c.args.array.now c.args.store.now (region_of c.args.region.now) (given c.args.cells.now) c.args.options c.in-Err.cause table target means c.in-Err.ensures.cause
     (λ h. ap (given_in uint8) (ap given c.in-Json.is) ∙ c.in-Err.ensures.none h) t)

@@ -10,4 +10,4 @@ returns-clause-steps c =
     let small : (i : ℕ) → get_or c.args.bytes.now i 0 < 256 = λ i. let f = c.type_inv.bytes i in omega arith in
     let bs = c.args.bytes.now in
     let is : given_in uint8 (given_bytes (fixed bs)) ≡ Some (one_byte_cells bs) = ap (λ b. if b then Some (one_byte_cells bs) else None) (bytes_values bs small) in
-    c.write_given.ensures.steps (given_bytes (fixed bs)) is
+    λ target means. c.write_given.ensures.steps target (given_bytes (fixed bs)) means is

@@ -6,4 +6,4 @@ use Rattle.zarr_run_session.proofs.session.Session.write_box.Goals as goal
 
 pub returns-clause-steps : goal.returns-clause-steps
 returns-clause-steps c = λ before k.
-    from_held _ c.in-Some.array.now c.args.self.now.store c.write_covered.new.store before c.args.path.now (λ path. ask.write_box path (region_of c.args.region.now) (given c.args.cells.now) c.args.options) (answered c.write_covered.result) c.in-Some.ensures.some.0 c.in-Some.ensures.some.1 k c.write_covered.ensures.steps
+    from_held _ c.in-Some.array.now c.args.self.now.store c.write_to_box.new.store before c.args.path.now (λ path. ask.write path (ask.in_box (region_of c.args.region.now)) (given c.args.cells.now) c.args.options) (answered c.write_to_box.result) c.in-Some.ensures.some.0 c.in-Some.ensures.some.1 k c.write_to_box.ensures.steps

@@ -2,7 +2,7 @@ use Rattle.std.proofs.Common.{◌∙◌, ◌<◌, sym, arith}
 use Rattle.zarr_grids_boxes.specs.Boxes.{product}
 use Rattle.zarr_grids_boxes.specs.Subsets.{region_of}
 use Rattle.zarr_run_session.proofs.BoxLemmas.{reads_empty, chunk_too_large, fits_small, fits_empty}
-use Rattle.zarr_run_session.proofs.boxes.read_covered.Goals as goal
+use Rattle.zarr_run_session.proofs.boxes.read_cells.Goals as goal
 
 pub returns-then-count-eq0-clause-ok : goal.returns-then-count-eq0-clause-ok
 returns-then-count-eq0-clause-ok c =
@@ -16,7 +16,7 @@ returns-in_default-count_places-clause-err c =
     let is = count.1 in
     let not_zero = c.if-count-eq0.false in
     let some : 0 < product c.args.region.now.shape.items = omega arith in
-    (c.requires, chunk_too_large c.args.array.now.document (region_of c.args.region.now) c.args.region.now.same some c.requires large)
+    chunk_too_large c.args.array.now.document (region_of c.args.region.now) c.args.region.now.same some c.requires large
 
 pub returns-then-count-eq0-clause-fits : goal.returns-then-count-eq0-clause-fits
 returns-then-count-eq0-clause-fits c =

@@ -1,0 +1,14 @@
+use Rattle.std.proofs.Common.{◌∙◌, sym}
+use Rattle.zarr_run_commands.specs.Commands.{answered}
+use Rattle.zarr_run_model.specs.Requests as ask
+use Rattle.zarr_run_session.proofs.StepLemmas.{none_at, from_held, no_array_read}
+use Rattle.zarr_run_session.proofs.session.Session.read_chunk.Goals as goal
+
+pub returns-clause-steps : goal.returns-clause-steps
+returns-clause-steps c = λ before k.
+    from_held _ c.in-Some.array.now c.args.self.now.store c.args.self.now.store before c.args.path.now (λ path. ask.read path (ask.in_chunk c.args.chunk.now) c.args.options) (answered c.read_from_chunk.result) c.in-Some.ensures.some.0 c.in-Some.ensures.some.1 k (c.read_from_chunk.ensures c.args.options)
+
+pub returns-in_default-clause-steps : goal.returns-in_default-clause-steps
+returns-in_default-clause-steps c = λ before k.
+    let node = sym c.is_node_path.ensures ∙ c.if-not-is_node_path.false in
+    (before, rw c.refused-in_default.ensures (no_array_read before c.args.path.now (ask.in_chunk c.args.chunk.now) c.args.options node (none_at _ c.args.self.now.store before c.args.path.now k c.in_default.ensures.none)), k)
