@@ -145,7 +145,7 @@ is_related-from p q hp hq a =
     ]
 
 -- a store key below a path, with its slash
-key_below-stem : (p x : List ℕ) → IsTrue (is_node_path p) → 47 ∷ key_below p x ≡ stem p ++ 47 ∷ x
+pub key_below-stem : (p x : List ℕ) → IsTrue (is_node_path p) → 47 ∷ key_below p x ≡ stem p ++ 47 ∷ x
 key_below-stem p x h =
     elim (bytes_eq p (codes "/")) as (λ b. 47 ∷ cond b x (drop 1 p ++ 47 ∷ x) ≡ cond b [] p ++ 47 ∷ x) [
       | true ↦ refl

@@ -27,13 +27,13 @@ KeysBeginWithC = (keys : KeyEncoding) (chunk : List ℕ) → take 1 (encoded_key
 abbrev pub UnrelatedKeysDiffer : Type 0
 UnrelatedKeysDiffer = (p q x y : List ℕ) → IsTrue (is_node_path p) → IsTrue (is_node_path q) → is_related p q ≡ false → key_below p x ≡ key_below q y → ⊥
 
--- no key of a chunk of an array is the key of one of its documents
+-- no key of a chunk of an array is the key of a document of any node
 abbrev pub ChunksAreNoDocuments : Type 0
-ChunksAreNoDocuments = (path : List ℕ) (keys : KeyEncoding) (chunk : List ℕ) (name : DocumentName) → chunk_key path keys chunk ≡ document_key path name → ⊥
+ChunksAreNoDocuments = (p q : List ℕ) (keys : KeyEncoding) (chunk : List ℕ) (name : DocumentName) → chunk_key p keys chunk ≡ document_key q name → ⊥
 
--- documents of one node whose keys are equal are equal
+-- documents whose keys are equal are the same document of one node
 abbrev pub DocumentKeysDiffer : Type 0
-DocumentKeysDiffer = (path : List ℕ) (name other : DocumentName) → document_key path name ≡ document_key path other → name ≡ other
+DocumentKeysDiffer = (p q : List ℕ) (name other : DocumentName) → IsTrue (is_node_path p) → IsTrue (is_node_path q) → document_key p name ≡ document_key q other → (p ≡ q) × (name ≡ other)
 
 -- whether two paths are related doesn't hang on which comes first
 abbrev pub RelatedIsSymmetric : Type 0

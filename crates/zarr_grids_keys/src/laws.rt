@@ -18,12 +18,12 @@ pub fn unrelated_keys_differ()
     ensures { UnrelatedKeysDiffer }
 {}
 
-/// The keys of an array's chunks are not those of its documents.
+/// The keys of chunks are not those of documents, whatever the nodes are.
 pub fn chunks_are_no_documents()
     ensures { ChunksAreNoDocuments }
 {}
 
-/// The three documents of a node have different keys.
+/// The documents of nodes have different keys.
 pub fn document_keys_differ()
     ensures { DocumentKeysDiffer }
 {}
