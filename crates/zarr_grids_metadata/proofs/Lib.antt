@@ -1,0 +1,4 @@
+pub mod Clones
+pub mod PointLemmas
+pub mod PutLemmas
+pub mod TreeLemmas

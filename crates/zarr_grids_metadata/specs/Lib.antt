@@ -1,0 +1,5 @@
+pub mod ExtensionPoints
+pub mod Laws
+pub mod Members
+pub mod Trees
+pub mod Views
