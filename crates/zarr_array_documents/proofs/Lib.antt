@@ -1,2 +1,7 @@
+pub mod Ascending
 pub mod Lists
+pub mod Points
+pub mod ReadsBack
 pub mod Rows
+pub mod WrittenDocuments
+pub mod WrittenFields

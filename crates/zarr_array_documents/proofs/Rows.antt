@@ -1,45 +1,170 @@
--- Worked documents: what the definition says of them, by computation.
-use Rattle.std.proofs.Common.{◌≡◌, ℕ, [], ◌∷◌, codes, Ok, Err, refl}
-use Rattle.serde_json.specs.Data.{Data, number, unsigned, string, array, object, Items, item, no_items, member, no_members}
+-- Worked documents: what the definitions say of them, by computation.
+use Rattle.std.proofs.Common.{◌≡◌, ℕ, List, [], ◌∷◌, codes, Bool, true, false, Some, None, Result, Ok, Err, refl}
+use Rattle.serde_json.specs.Data.{Data, null, boolean, number, unsigned, string, array, object, Items, item, no_items, Members, member, no_members, put}
 use Rattle.zarr_grids_chunks.specs.Grids.{regular}
 use Rattle.zarr_grids_keys.specs.Keys.{default}
 use Rattle.zarr_codecs_cells.specs.Cells.{uint8}
 use Rattle.zarr_codecs_chain.specs.Chain.{bytes}
-use Rattle.zarr_array_documents.specs.Documents.{read_document}
-use Rattle.zarr_array_documents.specs.declared.error.DocumentError.TheVariants.{Codecs, ChunkGrid, Dimensionality, FillValue}
+use Rattle.zarr_array_documents.specs.Documents.{Document, Metadata, read_metadata, read_document}
+use Rattle.zarr_array_documents.specs.Written.{written_document}
+use Rattle.zarr_array_documents.specs.declared.error.DocumentError.{DocumentError}
+use Rattle.zarr_array_documents.specs.declared.error.DocumentError.TheVariants.{Fields, AdditionalField, Codecs, ChunkGrid, Dimensionality, FillValue, StorageTransformers, ChunkKeyEncoding, DimensionNames}
 
 abbrev pub size : ℕ → Data
 size n = number (unsigned n)
 
-abbrev pub regular_with : Items → Data
-regular_with sizes = object (member (codes "configuration") (object (member (codes "chunk_shape") (array sizes) no_members)) (member (codes "name") (string (codes "regular")) no_members))
+abbrev pub sizes : List ℕ → Items
+sizes [] = no_items
+sizes (n ∷ ns) = item (size n) (sizes ns)
 
--- {"chunk_grid": grid, "chunk_key_encoding": {"name": "default"}, "codecs": [codec], "data_type": "uint8",
--- "fill_value": fill, "node_type": "array", "shape": [4, 4], "zarr_format": 3}
-abbrev pub document_with : Data → Data → ℕ → Data
-document_with grid codec fill = object (
-    member (codes "chunk_grid") grid (
+-- {"configuration": {key: value}, "name": name}
+abbrev pub point_with : List ℕ → List ℕ → Data → Data
+point_with name key value = object (member (codes "configuration") (object (member key value no_members)) (member (codes "name") (string name) no_members))
+
+abbrev pub regular_with : List ℕ → Data
+regular_with edges = point_with (codes "regular") (codes "chunk_shape") (array (sizes edges))
+
+-- {"must_understand": flag}
+abbrev pub flagged : Bool → Data
+flagged flag = object (member (codes "must_understand") (boolean flag) no_members)
+
+-- {"chunk_grid": 2 by 2, "chunk_key_encoding": {"name": "default"}, "codecs": [{"name": "bytes"}], "data_type": "uint8",
+-- "fill_value": 0, "node_type": "array", "shape": [4, 4], "zarr_format": 3}
+abbrev pub plain : Members
+plain =
+    member (codes "chunk_grid") (regular_with (2 ∷ 2 ∷ [])) (
     member (codes "chunk_key_encoding") (object (member (codes "name") (string (codes "default")) no_members)) (
-    member (codes "codecs") (array (item codec no_items)) (
+    member (codes "codecs") (array (item (object (member (codes "name") (string (codes "bytes")) no_members)) no_items)) (
     member (codes "data_type") (string (codes "uint8")) (
-    member (codes "fill_value") (size fill) (
+    member (codes "fill_value") (size 0) (
     member (codes "node_type") (string (codes "array")) (
-    member (codes "shape") (array (item (size 4) (item (size 4) no_items))) (
-    member (codes "zarr_format") (size 3) no_members))))))))
+    member (codes "shape") (array (sizes (4 ∷ 4 ∷ []))) (
+    member (codes "zarr_format") (size 3) no_members)))))))
 
-pub two_by_two : read_document (document_with (regular_with (item (size 2) (item (size 2) no_items))) (string (codes "bytes")) 0)
-    ≡ Ok (record { shape = 4 ∷ 4 ∷ []; type = uint8; fill = 0 ∷ []; grid = regular 4 2 ∷ regular 4 2 ∷ []; keys = default 47; chain = bytes })
-two_by_two = refl
+-- the plain document with one field put in
+abbrev pub document_with : List ℕ → Data → Data
+document_with name value = object (put name value plain)
 
-pub fill_of_256 : read_document (document_with (regular_with (item (size 2) (item (size 2) no_items))) (string (codes "bytes")) 256) ≡ Err FillValue
+-- ---- read
+
+-- what is said of 4 by 4 cells in chunks of 2 by 2
+abbrev pub two_by_two : ℕ → Document
+two_by_two separator = record { shape = 4 ∷ 4 ∷ []; type = uint8; fill = 0 ∷ []; grid = regular 4 2 ∷ regular 4 2 ∷ []; keys = default separator; chain = bytes }
+
+pub plain_reads : read_document (object plain) ≡ Ok (two_by_two 47)
+plain_reads = refl
+
+pub dot_reads : read_document (document_with (codes "chunk_key_encoding") (point_with (codes "default") (codes "separator") (string (codes ".")))) ≡ Ok (two_by_two 46)
+dot_reads = refl
+
+pub other_separator : read_document (document_with (codes "chunk_key_encoding") (point_with (codes "default") (codes "separator") (string (codes "-")))) ≡ Err ChunkKeyEncoding
+other_separator = refl
+
+pub fill_of_256 : read_document (document_with (codes "fill_value") (size 256)) ≡ Err FillValue
 fill_of_256 = refl
 
-pub edge_of_0 : read_document (document_with (regular_with (item (size 2) (item (size 0) no_items))) (string (codes "bytes")) 0) ≡ Err ChunkGrid
+pub edge_of_0 : read_document (document_with (codes "chunk_grid") (regular_with (2 ∷ 0 ∷ []))) ≡ Err ChunkGrid
 edge_of_0 = refl
 
-pub three_edges : read_document (document_with (regular_with (item (size 2) (item (size 2) (item (size 2) no_items)))) (string (codes "bytes")) 0) ≡ Err Dimensionality
+pub three_edges : read_document (document_with (codes "chunk_grid") (regular_with (2 ∷ 2 ∷ 2 ∷ []))) ≡ Err Dimensionality
 three_edges = refl
 
--- the codecs are checked first
-pub codec_first : read_document (document_with (regular_with (item (size 0) no_items)) (string (codes "gzip")) 256) ≡ Err Codecs
+-- the codecs are checked before the chunk grid
+pub codec_first : read_document (object (put (codes "codecs") (array (item (string (codes "gzip")) no_items)) (put (codes "chunk_grid") (regular_with (0 ∷ [])) plain))) ≡ Err Codecs
 codec_first = refl
+
+pub null_attributes : read_document (document_with (codes "attributes") null) ≡ Err Fields
+null_attributes = refl
+
+-- ---- additional fields
+
+pub additional_passes : read_metadata (document_with (codes "more") (flagged false)) ≡ Ok (record { document = two_by_two 47; attributes = no_members; dimension_names = None; additional_fields = member (codes "more") (flagged false) no_members })
+additional_passes = refl
+
+pub additional_refused : read_metadata (document_with (codes "more") (flagged true)) ≡ Err AdditionalField
+additional_refused = refl
+
+pub additional_number_refused : read_metadata (document_with (codes "more") (size 1)) ≡ Err AdditionalField
+additional_number_refused = refl
+
+-- ---- optional fields
+
+pub names_read : read_metadata (document_with (codes "dimension_names") (array (item (string (codes "y")) (item null no_items))))
+    ≡ Ok (record { document = two_by_two 47; attributes = no_members; dimension_names = Some (Some (codes "y") ∷ None ∷ []); additional_fields = no_members })
+names_read = refl
+
+pub null_names_read : read_metadata (document_with (codes "dimension_names") null) ≡ Ok (record { document = two_by_two 47; attributes = no_members; dimension_names = None; additional_fields = no_members })
+null_names_read = refl
+
+pub one_name : read_document (document_with (codes "dimension_names") (array (item (string (codes "y")) no_items))) ≡ Err DimensionNames
+one_name = refl
+
+pub null_transformers : read_document (document_with (codes "storage_transformers") null) ≡ Err StorageTransformers
+null_transformers = refl
+
+-- ---- written
+
+-- {"_zarrs": {"description": .., "repository": .., "version": ..}}, and then these
+abbrev pub marked_with : Members → Data
+marked_with others = object (member (codes "_zarrs") (object (
+    member (codes "description") (string (codes "This array was created with zarrs")) (
+    member (codes "repository") (string (codes "https://github.com/zarrs/zarrs")) (
+    member (codes "version") (string (codes "0.23.13")) no_members)))) others)
+
+-- the plain document as it is written: with these attributes beside the mark, this encoding of keys, this codec, and these fields between `fill_value` and `zarr_format`
+abbrev pub written_with : Members → Data → Data → Members → Data
+written_with others encoding codec fields = object (
+    member (codes "attributes") (marked_with others) (
+    member (codes "chunk_grid") (regular_with (2 ∷ 2 ∷ [])) (
+    member (codes "chunk_key_encoding") encoding (
+    member (codes "codecs") (array (item codec no_items)) (
+    member (codes "data_type") (string (codes "uint8")) (
+    member (codes "fill_value") (size 0) fields))))))
+
+abbrev pub last_fields : Members
+last_fields =
+    member (codes "node_type") (string (codes "array")) (
+    member (codes "shape") (array (sizes (4 ∷ 4 ∷ []))) (
+    member (codes "zarr_format") (size 3) no_members))
+
+-- extension points are written bare
+pub plain_written : written_document (object plain) ≡ written_with no_members (string (codes "default")) (string (codes "bytes")) last_fields
+plain_written = refl
+
+pub attributes_stay : written_document (document_with (codes "attributes") (object (member (codes "a") (size 1) no_members)))
+    ≡ written_with (member (codes "a") (size 1) no_members) (string (codes "default")) (string (codes "bytes")) last_fields
+attributes_stay = refl
+
+pub null_names_left_out : written_document (document_with (codes "dimension_names") null) ≡ written_document (object plain)
+null_names_left_out = refl
+
+pub names_stay : written_document (document_with (codes "dimension_names") (array (item null (item null no_items))))
+    ≡ object (member (codes "attributes") (marked_with no_members) (
+    member (codes "chunk_grid") (regular_with (2 ∷ 2 ∷ [])) (
+    member (codes "chunk_key_encoding") (string (codes "default")) (
+    member (codes "codecs") (array (item (string (codes "bytes")) no_items)) (
+    member (codes "data_type") (string (codes "uint8")) (
+    member (codes "dimension_names") (array (item null (item null no_items))) (
+    member (codes "fill_value") (size 0) last_fields)))))))
+names_stay = refl
+
+pub transformers_left_out : written_document (document_with (codes "storage_transformers") (array no_items)) ≡ written_document (object plain)
+transformers_left_out = refl
+
+pub additional_stays : written_document (document_with (codes "more") (flagged false))
+    ≡ written_with no_members (string (codes "default")) (string (codes "bytes")) (member (codes "more") (flagged false) last_fields)
+additional_stays = refl
+
+-- a configuration without members stays
+pub configuration_stays : written_document (document_with (codes "codecs") (array (item (object (member (codes "configuration") (object no_members) (member (codes "name") (string (codes "bytes")) no_members))) no_items)))
+    ≡ written_with no_members (string (codes "default")) (object (member (codes "configuration") (object no_members) (member (codes "name") (string (codes "bytes")) no_members))) last_fields
+configuration_stays = refl
+
+-- `"must_understand": true` does not
+pub flag_left_out : written_document (document_with (codes "data_type") (object (member (codes "must_understand") (boolean true) (member (codes "name") (string (codes "uint8")) no_members)))) ≡ written_document (object plain)
+flag_left_out = refl
+
+-- another flag does
+pub flag_stays : written_document (document_with (codes "chunk_key_encoding") (object (member (codes "must_understand") (boolean false) (member (codes "name") (string (codes "default")) no_members))))
+    ≡ written_with no_members (object (member (codes "must_understand") (boolean false) (member (codes "name") (string (codes "default")) no_members))) (string (codes "bytes")) last_fields
+flag_stays = refl

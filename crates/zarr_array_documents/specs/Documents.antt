@@ -1,18 +1,21 @@
--- Array documents: what a JSON tree says, by checks in one order.
-use Rattle.std.specs.Prelude.{ℕ, List, [], ◌∷◌, length, Bool, true, false, ◌&&◌, ◌||◌, ◌==◌, nat_lt, codes, bytes_eq, if◌then◌else◌, Option, Some, None, option_map, option_and_then, unwrap_or, is_some, Result, Ok, Err, ⊤}
-use Rattle.std.specs.List.{list_any, list_all}
+-- Array documents: what a JSON tree says, by checks in one order (Zarr core specification, "Array metadata"; the order of the checks is this project's own).
+use Rattle.std.specs.Prelude.{ℕ, List, [], ◌∷◌, ◌++◌, length, Bool, false, not, ◌||◌, ◌==◌, nat_le, codes, bytes_eq, if◌then◌else◌, Option, option_map, option_and_then, unwrap_or, Result, Ok, Err, ⊤}
+use Rattle.std.specs.List.{list_any}
 use Rattle.std.specs.Option.{ok_or}
-use Rattle.serde_json.specs.Data.{Data, null, boolean, number, string, array, object, Items, no_items, item, Members, no_members, member}
-use Rattle.serde_json.specs.Find.{get_member, as_number, as_u64, as_str, as_array, as_object, as_bool}
+use Rattle.serde_json.specs.Data.{Data, Members, no_members, member, depth}
+use Rattle.serde_json.specs.Find.{get_member, as_number, as_u64, as_str, as_object}
+use Rattle.serde_json.specs.Written.{has_float}
 use Rattle.zarr_grids_chunks.specs.Grids.{Grid, regular_grid}
-use Rattle.zarr_grids_keys.specs.Keys.{KeyEncoding, default}
-use Rattle.zarr_codecs_cells.specs.Cells.{DataType, uint8, Cell}
+use Rattle.zarr_grids_keys.specs.Keys.{KeyEncoding}
+use Rattle.zarr_codecs_cells.specs.Cells.{DataType, Cell}
 use Rattle.zarr_codecs_cells.specs.Json.{cell_in}
-use Rattle.zarr_codecs_chain.specs.Chain.{Chain, bytes}
+use Rattle.zarr_codecs_chain.specs.Chain.{Chain}
+use Rattle.zarr_grids_metadata.specs.ExtensionPoints.{must_understand_field}
+use Rattle.zarr_array_documents.specs.Parts.{sizes_in, attributes_in, chain_in, type_in, chunk_shape_in, has_no_transformers, keys_in, dimension_names_in}
 use Rattle.zarr_array_documents.specs.declared.error.DocumentError.{DocumentError}
-use Rattle.zarr_array_documents.specs.declared.error.DocumentError.TheVariants.{Fields, AdditionalField, Codecs, DataTypes, ChunkGrid, Dimensionality, FillValue, ChunkKeyEncoding}
+use Rattle.zarr_array_documents.specs.declared.error.DocumentError.TheVariants.{Depth, Float, Fields, AdditionalField, Codecs, DataTypes, ChunkGrid, Dimensionality, FillValue, StorageTransformers, ChunkKeyEncoding, DimensionNames}
 
--- what a document says
+-- what a document says of the cells and of where they are stored
 pub record Document : Type 0 where
   pub shape : List ℕ
   pub type : DataType
@@ -20,6 +23,13 @@ pub record Document : Type 0 where
   pub grid : Grid
   pub keys : KeyEncoding
   pub chain : Chain
+
+-- all that a document says
+pub record Metadata : Type 0 where
+  pub document : Document
+  pub attributes : Members
+  pub dimension_names : Option (List (Option (List ℕ)))
+  pub additional_fields : Members
 
 infixl 10 ◌>>=◌
 infixl 10 ◌>>◌
@@ -36,108 +46,31 @@ abbrev pub ◌>>◌ : {A E : Type 0} → Result ⊤ E → Result A E → Result 
 abbrev pub check : Bool → DocumentError → Result ⊤ DocumentError
 check passed e = if passed then Ok tt else Err e
 
--- whether each member's name is one of these
-abbrev pub has_only : List (List ℕ) → Members → Bool
-has_only names no_members = true
-has_only names (member name d ms) = list_any (bytes_eq name) names && has_only names ms
+-- ---- fields
 
--- the sizes that a JSON list says, where each of its values is a whole number
-abbrev pub sizes_of : Items → Option (List ℕ)
-sizes_of no_items = Some []
-sizes_of (item d ds) = option_and_then (λ n. option_map (λ ns. n ∷ ns) (sizes_of ds)) (option_and_then as_u64 (as_number d))
+-- the names of the fields that every document has
+abbrev pub required_names : List (List ℕ)
+required_names = codes "zarr_format" ∷ codes "node_type" ∷ codes "shape" ∷ codes "data_type" ∷ codes "chunk_grid" ∷ codes "chunk_key_encoding" ∷ codes "fill_value" ∷ codes "codecs" ∷ []
 
-abbrev pub sizes_in : Data → Option (List ℕ)
-sizes_in d = option_and_then sizes_of (as_array d)
+-- the names of the fields that a document may have
+abbrev pub optional_names : List (List ℕ)
+optional_names = codes "attributes" ∷ codes "storage_transformers" ∷ codes "dimension_names" ∷ []
 
--- ---- extension points
+-- whether a name is that of one of the document's own fields
+abbrev pub is_own_name : List ℕ → Bool
+is_own_name name = list_any (bytes_eq name) (required_names ++ optional_names)
 
--- a name and the members of its configuration (Zarr core, extension points)
-pub record ExtensionPoint : Type 0 where
-  pub name : List ℕ
-  pub configuration : Members
+-- the fields with other names
+abbrev pub additional_in : Members → Members
+additional_in no_members = no_members
+additional_in (member name d ms) = if is_own_name name then additional_in ms else member name d (additional_in ms)
 
--- an absent configuration has no members
-abbrev pub configuration_in : Option Data → Option Members
-configuration_in None = Some no_members
-configuration_in (Some d) = as_object d
+-- whether one of these fields must be understood
+abbrev pub must_understand_any : Members → Bool
+must_understand_any no_members = false
+must_understand_any (member name d ms) = must_understand_field d || must_understand_any ms
 
--- `must_understand` is absent, true or false
-abbrev pub is_flag : Option Data → Bool
-is_flag None = true
-is_flag (Some d) = is_some (as_bool d)
-
-abbrev pub point_of_members : Members → Option ExtensionPoint
-point_of_members ms =
-    if has_only (codes "name" ∷ codes "configuration" ∷ codes "must_understand" ∷ []) ms && is_flag (get_member (codes "must_understand") ms)
-    then option_and_then (λ name. option_map (λ configuration. record { name = name; configuration = configuration })
-    (configuration_in (get_member (codes "configuration") ms))) (option_and_then as_str (get_member (codes "name") ms))
-    else None
-
--- an extension point is a bare name, or an object with a name
-abbrev pub extension_point : Data → Option ExtensionPoint
-extension_point null = None
-extension_point (boolean b) = None
-extension_point (number n) = None
-extension_point (string s) = Some (record { name = s; configuration = no_members })
-extension_point (array ds) = None
-extension_point (object ms) = point_of_members ms
-
--- the configuration of an extension point with this name
-abbrev pub named : List ℕ → ExtensionPoint → Option Members
-named name point = if bytes_eq point.name name then Some point.configuration else None
-
-abbrev pub configuration_of : List ℕ → Data → Option Members
-configuration_of name d = option_and_then (named name) (extension_point d)
-
--- ---- the parts of a document
-
--- one codec `bytes`; for cells of one byte its `endian` says nothing
-abbrev pub is_endian : Option Data → Bool
-is_endian None = true
-is_endian (Some d) = unwrap_or (option_map (λ s. bytes_eq s (codes "little") || bytes_eq s (codes "big")) (as_str d)) false
-
-abbrev pub bytes_codec : Members → Option Chain
-bytes_codec ms = if has_only (codes "endian" ∷ []) ms && is_endian (get_member (codes "endian") ms) then Some bytes else None
-
-abbrev pub chain_of : Items → Option Chain
-chain_of no_items = None
-chain_of (item d no_items) = option_and_then bytes_codec (configuration_of (codes "bytes") d)
-chain_of (item d (item e ds)) = None
-
-abbrev pub chain_in : Data → Option Chain
-chain_in d = option_and_then chain_of (as_array d)
-
--- no configuration member at all
-abbrev pub no_more : {A : Type 0} → A → Members → Option A
-no_more x ms = if has_only [] ms then Some x else None
-
-abbrev pub type_in : Data → Option DataType
-type_in d = option_and_then (no_more uint8) (configuration_of (codes "uint8") d)
-
--- the chunk shape of a regular grid: positive numbers
-abbrev pub positive_sizes : List ℕ → Option (List ℕ)
-positive_sizes sizes = if list_all (λ n. nat_lt 0 n) sizes then Some sizes else None
-
-abbrev pub chunk_shape_of : Members → Option (List ℕ)
-chunk_shape_of ms = if has_only (codes "chunk_shape" ∷ []) ms then option_and_then positive_sizes (option_and_then sizes_in (get_member (codes "chunk_shape") ms)) else None
-
-abbrev pub chunk_shape_in : Data → Option (List ℕ)
-chunk_shape_in d = option_and_then chunk_shape_of (configuration_of (codes "regular") d)
-
--- the separator of the key encoding `default`: a slash, given or absent
-abbrev pub separator_in : Option Data → Option ℕ
-separator_in None = Some 47
-separator_in (Some d) = option_and_then (λ s. if bytes_eq s (codes "/") then Some 47 else None) (as_str d)
-
-abbrev pub keys_of : Members → Option KeyEncoding
-keys_of ms = if has_only (codes "separator" ∷ []) ms then option_map default (separator_in (get_member (codes "separator") ms)) else None
-
-abbrev pub keys_in : Data → Option KeyEncoding
-keys_in d = option_and_then keys_of (configuration_of (codes "default") d)
-
--- ---- the checks, in their order
-
--- the fields that every document has
+-- the fields that every document has, and the attributes
 pub record FieldsFound : Type 0 where
   pub shape : List ℕ
   pub data_type : Data
@@ -145,6 +78,7 @@ pub record FieldsFound : Type 0 where
   pub chunk_key_encoding : Data
   pub fill_value : Data
   pub codecs : Data
+  pub attributes : Members
 
 abbrev pub is_number : ℕ → Option Data → Bool
 is_number n d = unwrap_or (option_map (λ m. m == n) (option_and_then as_u64 (option_and_then as_number d))) false
@@ -168,22 +102,44 @@ fields_in ms = do
   chunk_key_encoding ← field ms (codes "chunk_key_encoding")
   fill_value ← field ms (codes "fill_value")
   codecs ← field ms (codes "codecs")
-  Ok (record { shape = shape; data_type = data_type; chunk_grid = chunk_grid; chunk_key_encoding = chunk_key_encoding; fill_value = fill_value; codecs = codecs })
+  attributes ← ok_or (attributes_in (get_member (codes "attributes") ms)) Fields
+  Ok (record { shape = shape; data_type = data_type; chunk_grid = chunk_grid; chunk_key_encoding = chunk_key_encoding; fill_value = fill_value; codecs = codecs; attributes = attributes })
 
--- the names of those fields
-abbrev pub field_names : List (List ℕ)
-field_names = codes "zarr_format" ∷ codes "node_type" ∷ codes "shape" ∷ codes "data_type" ∷ codes "chunk_grid" ∷ codes "chunk_key_encoding" ∷ codes "fill_value" ∷ codes "codecs" ∷ []
+-- ---- the checks, in their order
 
--- what a document says, or the first check that refuses it
-abbrev pub read_document : Data → Result Document DocumentError
-read_document d = do
-  ms ← ok_or (as_object d) Fields
+-- how deep arrays and objects of a document may nest
+abbrev pub depth_limit : ℕ
+depth_limit = 127
+
+-- all that the members of an object say, or the first check that refuses them
+abbrev pub read_members : Members → Result Metadata DocumentError
+read_members ms = do
   found ← fields_in ms
-  check (has_only field_names ms) AdditionalField
+  check (not (must_understand_any (additional_in ms))) AdditionalField
   chain ← ok_or (chain_in found.codecs) Codecs
   type ← ok_or (type_in found.data_type) DataTypes
   chunk_shape ← ok_or (chunk_shape_in found.chunk_grid) ChunkGrid
   check (length chunk_shape == length found.shape) Dimensionality
   fill ← ok_or (cell_in type found.fill_value) FillValue
+  check (has_no_transformers (get_member (codes "storage_transformers") ms)) StorageTransformers
   keys ← ok_or (keys_in found.chunk_key_encoding) ChunkKeyEncoding
-  Ok (record { shape = found.shape; type = type; fill = fill; grid = regular_grid found.shape chunk_shape; keys = keys; chain = chain })
+  names ← ok_or (dimension_names_in (length found.shape) (get_member (codes "dimension_names") ms)) DimensionNames
+  Ok (record { document = record { shape = found.shape; type = type; fill = fill; grid = regular_grid found.shape chunk_shape; keys = keys; chain = chain }; attributes = found.attributes; dimension_names = names; additional_fields = additional_in ms })
+
+-- all that a document says, or the first check that refuses it
+abbrev pub read_metadata : Data → Result Metadata DocumentError
+read_metadata d = do
+  check (nat_le (depth d) depth_limit) Depth
+  check (not (has_float d)) Float
+  ms ← ok_or (as_object d) Fields
+  read_members ms
+
+-- what the metadata says of the cells and of where they are stored
+abbrev pub document_of : Result Metadata DocumentError → Result Document DocumentError
+document_of result = do
+  metadata ← result
+  Ok metadata.document
+
+-- what a document says of the cells and of where they are stored, or the first check that refuses it
+abbrev pub read_document : Data → Result Document DocumentError
+read_document d = document_of (read_metadata d)

@@ -1,3 +1,6 @@
 pub mod Documents
-pub mod Views
+pub mod Laws
 pub mod Meanings
+pub mod Parts
+pub mod Views
+pub mod Written

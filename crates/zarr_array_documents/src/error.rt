@@ -8,11 +8,15 @@ use thiserror::Error;
 /// The first check that refuses a document.
 #[derive(Clone, Copy, Debug, PartialEq, Eq, Error)]
 pub enum DocumentError {
-    /// A required field is missing or of another kind.
-    #[error("a required field is missing or of another kind")]
+    #[error("arrays and objects nest too deep")]
+    Depth,
+    #[error("a number is not a whole number")]
+    Float,
+    /// A required field is missing or of another kind, or the attributes are not an object.
+    #[error("a field is missing or of another kind")]
     Fields,
-    /// A field is not known.
-    #[error("a field is not known")]
+    /// A field that is not known has to be understood.
+    #[error("a field that is not known has to be understood")]
     AdditionalField,
     #[error("the codecs are not supported")]
     Codecs,
@@ -24,8 +28,13 @@ pub enum DocumentError {
     Dimensionality,
     #[error("the fill value is not a value of the data type")]
     FillValue,
+    #[error("storage transformers are not supported")]
+    StorageTransformers,
     #[error("the chunk key encoding is not supported")]
     ChunkKeyEncoding,
+    /// The dimension names are not texts or nulls, one for each dimension.
+    #[error("the dimension names are not one text or null for each dimension")]
+    DimensionNames,
     #[error("out of memory")]
     Memory,
 }

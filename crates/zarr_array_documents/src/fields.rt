@@ -1,26 +1,15 @@
-//! The fields that every document has.
-ghost use Rattle.std.specs.Prelude.{◌≡◌, ◌≢◌, ◌&&◌, IfOk, IfErr, Ok, Err, codes};
+//! The fields of a document.
+ghost use Rattle.std.specs.Prelude.{◌≡◌, ◌≢◌, ◌&&◌, IfOk, IfErr, Ok, Err, codes, bytes_eq, is_some, option_map};
 ghost use Rattle.serde_json.specs.Find.{get_member};
 ghost use Rattle.serde_json.specs.View.{view, members_view};
-ghost use Rattle.zarr_array_documents.specs.Documents.{field, shape_in, is_number, is_text};
+ghost use Rattle.zarr_array_documents.specs.Documents.{field, shape_in, is_number, is_text, is_own_name, additional_in, must_understand_any};
+ghost use Rattle.zarr_array_documents.specs.Parts.{attributes_in};
 
 use crate::error::DocumentError;
-use crate::members::member;
 use crate::sizes::sizes_in;
 use serde_json::{Map, Value};
 use std::alloc::Global;
-
-/// The names of all fields that are known.
-pub(crate) const FIELD_NAMES: [&str; 8] = [
-    "zarr_format",
-    "node_type",
-    "shape",
-    "data_type",
-    "chunk_grid",
-    "chunk_key_encoding",
-    "fill_value",
-    "codecs",
-];
+use zarr_grids_metadata::{member, must_understand_field};
 
 /// The fields that every document has.
 #[derive(Drop)]
@@ -34,16 +23,20 @@ pub(crate) struct RequiredFields<'v> {
 }
 
 impl<'v> RequiredFields<'v> {
+    ghost use Rattle.std.specs.Prelude.{◌≡◌, ◌≢◌, IfOk, IfErr, Ok, Err};
+    ghost use Rattle.serde_json.specs.View.{members_view};
     ghost use Rattle.zarr_array_documents.specs.Documents.{fields_in};
     ghost use Rattle.zarr_array_documents.specs.Views.{fields_view};
+    ghost use Rattle.zarr_array_documents.specs.Written.{given_attributes};
 
-    /// Reads the fields of an object; `Fields` where one is missing or of another kind.
+    /// Reads the fields of an object; `Fields` where one is missing or of another kind, or where
+    /// the attributes are no object.
     pub(crate) fn read(
         alloc: Global,
         members: &'v Map<String, Value>,
     ) -> Result<RequiredFields<'v>, DocumentError>
-        ensures ok { IfOk result
-            (λ f. fields_in (members_view members.now.entries) ≡ Ok (fields_view f)) }
+        ensures ok { IfOk result (λ f. let ms = members_view members.now.entries in
+            fields_in ms ≡ Ok (fields_view f (given_attributes ms))) }
         ensures err { IfErr result
             (λ e. e ≢ DocumentError.Memory → fields_in (members_view members.now.entries) ≡ Err e) }
     {
@@ -51,14 +44,18 @@ impl<'v> RequiredFields<'v> {
             return Err(DocumentError::Fields);
         }
         let shape = shape_in(alloc, members)?;
-        Ok(RequiredFields {
+        let fields = RequiredFields {
             shape,
             data_type: field(members, "data_type")?,
             chunk_grid: field(members, "chunk_grid")?,
             chunk_key_encoding: field(members, "chunk_key_encoding")?,
             fill_value: field(members, "fill_value")?,
             codecs: field(members, "codecs")?,
-        })
+        };
+        if !are_attributes(member(members, "attributes")) {
+            return Err(DocumentError::Fields);
+        }
+        Ok(fields)
     }
 }
 
@@ -91,4 +88,46 @@ fn field<'v>(members: &'v Map<String, Value>, name: &str) -> Result<&'v Value, D
     ensures err { IfErr result (λ e. field (members_view members.now.entries) name.now ≡ Err e) }
 {
     member(members, name).ok_or(DocumentError::Fields)
+}
+
+/// Whether attributes are an object, or absent.
+fn are_attributes(attributes: Option<&Value>) -> bool
+    ensures { result ≡ is_some (attributes_in (option_map (λ v. view v.now) attributes.entry)) }
+{
+    match attributes {
+        Some(attributes) => attributes.is_object(),
+        None => true,
+    }
+}
+
+/// Whether a field beside the document's own has to be understood.
+pub(crate) fn must_understand_any(members: &Map<String, Value>) -> bool
+    ensures { result ≡ must_understand_any (additional_in (members_view members.now.entries)) }
+{
+    for (name, value) in members.iter() {
+        if !is_own_name(name.as_str()) && must_understand_field(value) {
+            return true;
+        }
+    }
+    false
+}
+
+/// Whether a name is that of one of the document's own fields.
+fn is_own_name(name: &str) -> bool
+    ensures { result ≡ is_own_name name.now }
+{
+    matches!(
+        name,
+        "zarr_format"
+            | "node_type"
+            | "shape"
+            | "data_type"
+            | "chunk_grid"
+            | "chunk_key_encoding"
+            | "fill_value"
+            | "codecs"
+            | "attributes"
+            | "storage_transformers"
+            | "dimension_names"
+    )
 }

@@ -1,18 +1,20 @@
 //! What the fields of a document say.
-ghost use Rattle.std.specs.Prelude.{◌≡◌, ◌<◌, ◌∷◌, [], IfOk, IfSome, Some, None, map, option_map, if◌then◌else◌, codes};
+ghost use Rattle.std.specs.Prelude.{◌≡◌, ◌<◌, ◌∷◌, [], IfOk, IfSome, Some, None, option_map, if◌then◌else◌, is_some};
 ghost use Rattle.serde_json.specs.View.{view, items_view};
 ghost use Rattle.serde_json.specs.Data.{item, no_items};
 ghost use Rattle.zarr_grids_boxes.specs.Boxes.{product};
 ghost use Rattle.zarr_grids_keys.specs.Keys.{default};
+ghost use Rattle.zarr_grids_keys.specs.Separators.{separator_byte};
 ghost use Rattle.zarr_codecs_cells.specs.Cells.{uint8};
 ghost use Rattle.zarr_codecs_cells.specs.Json.{cell_in};
 ghost use Rattle.zarr_codecs_chain.specs.Chain.{bytes};
-ghost use Rattle.zarr_array_documents.specs.Documents.{chain_in, chain_of, bytes_codec, configuration_of, is_endian, type_in, chunk_shape_in, keys_in, separator_in};
+ghost use Rattle.zarr_array_documents.specs.Parts.{chain_in, chain_of, is_endian, type_in, chunk_shape_in, keys_in, separator_in, has_no_transformers, is_empty_list};
 
-use crate::extension_point::Configuration;
 use crate::sizes::{are_positive, sizes_in};
 use serde_json::Value;
 use std::alloc::{AllocError, Global};
+use zarr_grids_keys::ChunkKeySeparator;
+use zarr_grids_metadata::Configuration;
 
 /// Whether the codecs are `bytes` alone.
 pub(crate) fn is_bytes_chain(codecs: &Value) -> bool
@@ -102,28 +104,50 @@ pub(crate) fn fill_value_in(fill_value: &Value) -> Option<u8>
     u8::try_from(value).ok()
 }
 
-/// Whether the chunk key encoding is `default` with slashes.
-pub(crate) fn has_slash_keys(chunk_key_encoding: &Value) -> bool
-    ensures { keys_in (view chunk_key_encoding.now) ≡ (if result then Some (default 47) else None) }
+/// Whether storage transformers are absent or an empty list.
+pub(crate) fn has_no_transformers(transformers: Option<&Value>) -> bool
+    ensures { result ≡ has_no_transformers (option_map (λ v. view v.now) transformers.entry) }
 {
-    match Configuration::of("default", chunk_key_encoding) {
-        Some(configuration) => {
-            configuration.has_only(&["separator"]) && is_slash(configuration.member("separator"))
-        }
+    match transformers {
+        None => true,
+        Some(transformers) => is_empty_list(transformers),
+    }
+}
+
+#[tactic(auto, using(crate::proofs::Lists::empty_list))]
+fn is_empty_list(value: &Value) -> bool
+    ensures { result ≡ is_empty_list (view value.now) }
+{
+    match value.as_array() {
+        Some(items) => items.is_empty(),
         None => false,
     }
 }
 
-/// Whether a separator is a slash. An absent one is.
-fn is_slash(separator: Option<&Value>) -> bool
-    ensures { separator_in (option_map (λ v. view v.now) separator.entry)
-        ≡ (if result then Some 47 else None) }
+/// The separator of the chunk key encoding, where that is `default`.
+pub(crate) fn separator_of(chunk_key_encoding: &Value) -> Option<ChunkKeySeparator>
+    ensures { keys_in (view chunk_key_encoding.now)
+        ≡ option_map (λ separator. default (separator_byte separator)) result }
 {
-    match separator {
-        None => true,
-        Some(separator) => match separator.as_str() {
-            Some(separator) => separator == "/",
-            None => false,
-        },
+    let configuration = Configuration::of("default", chunk_key_encoding)?;
+    if configuration.has_only(&["separator"]) {
+        separator_in(configuration.member("separator"))
+    } else {
+        None
+    }
+}
+
+/// The separator that a member says: a slash where it is absent.
+fn separator_in(separator: Option<&Value>) -> Option<ChunkKeySeparator>
+    ensures { option_map separator_byte result
+        ≡ separator_in (option_map (λ v. view v.now) separator.entry) }
+{
+    let Some(separator) = separator else {
+        return Some(ChunkKeySeparator::Slash);
+    };
+    match separator.as_str()? {
+        "/" => Some(ChunkKeySeparator::Slash),
+        "." => Some(ChunkKeySeparator::Dot),
+        _ => None,
     }
 }

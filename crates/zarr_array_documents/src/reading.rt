@@ -1,16 +1,22 @@
 //! Documents read from JSON trees.
 ghost use Rattle.std.specs.Prelude.{◌≡◌, ◌≢◌, IfOk, IfErr, Ok, Err};
-ghost use Rattle.serde_json.specs.View.{view};
-ghost use Rattle.zarr_array_documents.specs.Documents.{read_document};
+ghost use Rattle.serde_json.specs.View.{view, members_view};
+ghost use Rattle.zarr_array_documents.specs.Documents.{read_document, read_members, document_of};
 ghost use Rattle.zarr_array_documents.specs.Meanings.{meaning_of};
 
 use crate::document::ArrayDocument;
 use crate::error::DocumentError;
-use crate::fields::{FIELD_NAMES, RequiredFields};
-use crate::members::has_only;
-use crate::parts::{chunk_shape_in, fill_value_in, has_slash_keys, is_bytes_chain, is_uint8};
-use serde_json::Value;
+use crate::fields::{RequiredFields, must_understand_any};
+use crate::names::are_dimension_names;
+use crate::parts::{
+    chunk_shape_in, fill_value_in, has_no_transformers, is_bytes_chain, is_uint8, separator_of,
+};
+use serde_json::{Map, Value};
 use std::alloc::Global;
+use zarr_grids_metadata::{has_float, is_deeper, member};
+
+/// How deep arrays and objects of a document may nest.
+const DEPTH_LIMIT: u64 = 127;
 
 /// Reads a document from its JSON tree. The checks are made in the order of the errors' variants:
 /// the first that fails is the error. Beside them comes `Memory`, where an allocation failed.
@@ -18,11 +24,26 @@ pub fn read_document(alloc: Global, value: &Value) -> Result<ArrayDocument, Docu
     ensures ok { IfOk result (λ d. read_document (view value.now) ≡ Ok (meaning_of d)) }
     ensures err { IfErr result (λ e. e ≢ DocumentError.Memory → read_document (view value.now) ≡ Err e) }
 {
-    let Some(members) = value.as_object() else {
-        return Err(DocumentError::Fields);
-    };
+    if is_deeper(value, DEPTH_LIMIT) {
+        return Err(DocumentError::Depth);
+    }
+    if has_float(value) {
+        return Err(DocumentError::Float);
+    }
+    match value.as_object() {
+        Some(members) => read_members(alloc, members),
+        None => Err(DocumentError::Fields),
+    }
+}
+
+fn read_members(alloc: Global, members: &Map<String, Value>) -> Result<ArrayDocument, DocumentError>
+    ensures ok { IfOk result
+        (λ d. document_of (read_members (members_view members.now.entries)) ≡ Ok (meaning_of d)) }
+    ensures err { IfErr result (λ e. e ≢ DocumentError.Memory
+        → document_of (read_members (members_view members.now.entries)) ≡ Err e) }
+{
     let fields = RequiredFields::read(alloc, members)?;
-    if !has_only(members, &FIELD_NAMES) {
+    if must_understand_any(members) {
         return Err(DocumentError::AdditionalField);
     }
     if !is_bytes_chain(fields.codecs) {
@@ -40,12 +61,19 @@ pub fn read_document(alloc: Global, value: &Value) -> Result<ArrayDocument, Docu
     let Some(fill_value) = fill_value_in(fields.fill_value) else {
         return Err(DocumentError::FillValue);
     };
-    if !has_slash_keys(fields.chunk_key_encoding) {
+    if !has_no_transformers(member(members, "storage_transformers")) {
+        return Err(DocumentError::StorageTransformers);
+    }
+    let Some(separator) = separator_of(fields.chunk_key_encoding) else {
         return Err(DocumentError::ChunkKeyEncoding);
+    };
+    if !are_dimension_names(member(members, "dimension_names"), fields.shape.len()) {
+        return Err(DocumentError::DimensionNames);
     }
     Ok(ArrayDocument {
         shape: fields.shape,
         chunk_shape,
         fill_value,
+        separator,
     })
 }

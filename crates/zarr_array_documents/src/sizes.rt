@@ -2,7 +2,7 @@
 ghost use Rattle.std.specs.Prelude.{◌≡◌, IfOk, option_map, nat_lt};
 ghost use Rattle.std.specs.List.{list_all};
 ghost use Rattle.serde_json.specs.View.{view, items_view};
-ghost use Rattle.zarr_array_documents.specs.Documents.{sizes_of, sizes_in};
+ghost use Rattle.zarr_array_documents.specs.Parts.{sizes_of, sizes_in};
 
 use serde_json::Value;
 use std::alloc::{AllocError, Global};

@@ -1,8 +1,9 @@
 //! Documents with values typed in by hand.
-use crate::{ArrayDocument, DocumentError, read_document};
+use crate::{ArrayDocument, DocumentError, read_document, written_document};
 use serde_json::{Value, put};
-use std::alloc::Global;
+use std::alloc::{AllocError, Global};
 use std::test::Fail;
+use zarr_grids_keys::ChunkKeySeparator;
 
 /// 4 by 4 cells in chunks of 2 by 2.
 const PLAIN: &str = r#"{
@@ -16,17 +17,54 @@ const PLAIN: &str = r#"{
     "codecs": ["bytes"]
 }"#;
 
+/// The plain document as it is written.
+const PLAIN_WRITTEN: &str = r#"{
+  "attributes": {
+    "_zarrs": {
+      "description": "This array was created with zarrs",
+      "repository": "https://github.com/zarrs/zarrs",
+      "version": "0.23.13"
+    }
+  },
+  "chunk_grid": {
+    "configuration": {
+      "chunk_shape": [
+        2,
+        2
+      ]
+    },
+    "name": "regular"
+  },
+  "chunk_key_encoding": "default",
+  "codecs": [
+    "bytes"
+  ],
+  "data_type": "uint8",
+  "fill_value": 0,
+  "node_type": "array",
+  "shape": [
+    4,
+    4
+  ],
+  "zarr_format": 3
+}"#;
+
+/// The plain document with one field put in.
+fn plain_with(alloc: Global, name: &str, field: Value) -> Result<Value, Fail> {
+    let mut value = Value::from_str(alloc, PLAIN)?;
+    if let Some(members) = value.as_object_mut() {
+        put(members, alloc, name, field)?;
+    }
+    Ok(value)
+}
+
 /// Reads the plain document with one field put in.
 fn read_with(
     alloc: Global,
     name: &str,
     field: &str,
 ) -> Result<Result<ArrayDocument, DocumentError>, Fail> {
-    let mut value = Value::from_str(alloc, PLAIN)?;
-    let field = Value::from_str(alloc, field)?;
-    if let Some(members) = value.as_object_mut() {
-        put(members, alloc, name, field)?;
-    }
+    let value = plain_with(alloc, name, Value::from_str(alloc, field)?)?;
     Ok(read_document(alloc, &value))
 }
 
@@ -39,6 +77,17 @@ fn read_without(alloc: Global, name: &str) -> Result<Result<ArrayDocument, Docum
     Ok(read_document(alloc, &value))
 }
 
+/// Lists within lists, this many deep.
+fn nested(alloc: Global, levels: u32) -> Result<Value, AllocError> {
+    let mut value = Value::Null;
+    for _ in 0..levels {
+        let mut list = Vec::new(alloc);
+        list.push(value)?;
+        value = Value::Array(list);
+    }
+    Ok(value)
+}
+
 #[test]
 fn reads_the_plain_document(rt: HostRuntime) -> Result<(), Fail> {
     let value = Value::from_str(rt.alloc(), PLAIN)?;
@@ -48,6 +97,7 @@ fn reads_the_plain_document(rt: HostRuntime) -> Result<(), Fail> {
     assert_eq!(rt; document.shape.as_slice(), [4, 4].as_slice());
     assert_eq!(rt; document.chunk_shape.as_slice(), [2, 2].as_slice());
     assert_eq!(rt; document.fill_value, 0);
+    assert_eq!(rt; document.separator, ChunkKeySeparator::Slash);
     Ok(())
 }
 
@@ -65,13 +115,48 @@ fn reads_other_forms(rt: HostRuntime) -> Result<(), Fail> {
             r#"{"name": "uint8", "must_understand": false}"#,
         ),
         ("chunk_key_encoding", r#""default""#),
+        ("attributes", "{}"),
+        ("attributes", r#"{"a": {"b": [null, -1, "1.5"]}}"#),
+        ("storage_transformers", "[]"),
+        ("dimension_names", "null"),
+        ("dimension_names", r#"["y", "x"]"#),
+        ("dimension_names", r#"["y", null]"#),
+        ("more", r#"{"must_understand": false}"#),
         (
-            "chunk_key_encoding",
-            r#"{"name": "default", "configuration": {"separator": "/"}}"#,
+            "more",
+            r#"{"must_understand": false, "name": "x", "other": 3}"#,
         ),
     ];
     for (name, field) in forms {
         assert!(rt; read_with(alloc, name, field)?.is_ok(), "{name}: {field}");
+    }
+    Ok(())
+}
+
+#[test]
+fn reads_separators(rt: HostRuntime) -> Result<(), Fail> {
+    let alloc = rt.alloc();
+    let forms = [
+        (r#""/""#, Some(ChunkKeySeparator::Slash)),
+        (r#"".""#, Some(ChunkKeySeparator::Dot)),
+        (r#""-""#, None),
+        (r#""""#, None),
+        (r#""//""#, None),
+        ("null", None),
+        ("47", None),
+    ];
+    for (separator, wanted) in forms {
+        let encoding = format!(in alloc;
+            "{{\"name\":\"default\",\"configuration\":{{\"separator\":{separator}}}}}"
+        )?;
+        let result = read_with(alloc, "chunk_key_encoding", encoding.as_str())?;
+        match result {
+            Ok(document) => assert_eq!(rt; Some(document.separator), wanted, "{separator}"),
+            Err(error) => {
+                assert_eq!(rt; error, DocumentError::ChunkKeyEncoding, "{separator}");
+                assert_eq!(rt; wanted, None, "{separator}");
+            }
+        }
     }
     Ok(())
 }
@@ -107,17 +192,36 @@ fn refuses_other_values(rt: HostRuntime) -> Result<(), Fail> {
         ("zarr_format", "2", DocumentError::Fields),
         ("zarr_format", r#""3""#, DocumentError::Fields),
         ("node_type", r#""group""#, DocumentError::Fields),
-        ("shape", "[4, 4.5]", DocumentError::Fields),
-        ("shape", "[4, 4.0]", DocumentError::Fields),
+        ("node_type", "3", DocumentError::Fields),
         ("shape", "[-4]", DocumentError::Fields),
+        ("shape", r#"["4", 4]"#, DocumentError::Fields),
         ("shape", "4", DocumentError::Fields),
-        ("attributes", "{}", DocumentError::AdditionalField),
+        ("attributes", "null", DocumentError::Fields),
+        ("attributes", "[]", DocumentError::Fields),
+        ("more", "{}", DocumentError::AdditionalField),
+        ("more", "false", DocumentError::AdditionalField),
+        (
+            "more",
+            r#"{"must_understand": true}"#,
+            DocumentError::AdditionalField,
+        ),
+        (
+            "more",
+            r#"{"must_understand": 0}"#,
+            DocumentError::AdditionalField,
+        ),
         ("codecs", "[]", DocumentError::Codecs),
+        ("codecs", r#""bytes""#, DocumentError::Codecs),
         ("codecs", r#"["gzip"]"#, DocumentError::Codecs),
         ("codecs", r#"["bytes", "bytes"]"#, DocumentError::Codecs),
         (
             "codecs",
             r#"[{"configuration": {}}]"#,
+            DocumentError::Codecs,
+        ),
+        (
+            "codecs",
+            r#"[{"name": "bytes", "configuration": {"endian": "middle"}}]"#,
             DocumentError::Codecs,
         ),
         ("data_type", r#""int8""#, DocumentError::DataTypes),
@@ -129,22 +233,70 @@ fn refuses_other_values(rt: HostRuntime) -> Result<(), Fail> {
         ("chunk_grid", r#""regular""#, DocumentError::ChunkGrid),
         ("fill_value", "256", DocumentError::FillValue),
         ("fill_value", "-1", DocumentError::FillValue),
-        ("fill_value", "1.0", DocumentError::FillValue),
         ("fill_value", "null", DocumentError::FillValue),
+        (
+            "storage_transformers",
+            "null",
+            DocumentError::StorageTransformers,
+        ),
+        (
+            "storage_transformers",
+            r#"["x"]"#,
+            DocumentError::StorageTransformers,
+        ),
         (
             "chunk_key_encoding",
             r#""v2""#,
             DocumentError::ChunkKeyEncoding,
         ),
+        ("dimension_names", r#"["y"]"#, DocumentError::DimensionNames),
         (
-            "chunk_key_encoding",
-            r#"{"name": "default", "configuration": {"separator": "."}}"#,
-            DocumentError::ChunkKeyEncoding,
+            "dimension_names",
+            r#"["y", 1]"#,
+            DocumentError::DimensionNames,
         ),
+        ("dimension_names", r#""yx""#, DocumentError::DimensionNames),
     ];
     for (name, field, error) in refused {
         let result = read_with(alloc, name, field)?;
         assert_eq!(rt; result.err(), Some(error), "{name}: {field}");
+    }
+    Ok(())
+}
+
+#[test]
+fn refuses_floats(rt: HostRuntime) -> Result<(), Fail> {
+    let alloc = rt.alloc();
+    let floats = [
+        ("attributes", r#"{"a": 1.0}"#),
+        ("attributes", r#"{"a": [{"b": -0}]}"#),
+        ("attributes", r#"{"a": 1e30}"#),
+        ("shape", "[4, 4.5]"),
+        ("shape", "[4, 4.0]"),
+        ("fill_value", "1.0"),
+        ("more", r#"{"must_understand": false, "a": 0.5}"#),
+    ];
+    for (name, field) in floats {
+        let result = read_with(alloc, name, field)?;
+        assert_eq!(rt; result.err(), Some(DocumentError::Float), "{name}: {field}");
+    }
+    Ok(())
+}
+
+/// The document and the field are objects, so 125 lists more are 127 levels.
+#[test]
+fn refuses_deep_documents(rt: HostRuntime) -> Result<(), Fail> {
+    let alloc = rt.alloc();
+    for name in ["attributes", "more"] {
+        for (levels, wanted) in [(125, None), (126, Some(DocumentError::Depth))] {
+            let mut field = Value::from_str(alloc, r#"{"must_understand": false}"#)?;
+            if let Some(members) = field.as_object_mut() {
+                put(members, alloc, "deep", nested(alloc, levels)?)?;
+            }
+            let value = plain_with(alloc, name, field)?;
+            let result = read_document(alloc, &value);
+            assert_eq!(rt; result.err(), wanted, "{name}: {levels}");
+        }
     }
     Ok(())
 }
@@ -172,7 +324,17 @@ fn refuses_chunk_shapes(rt: HostRuntime) -> Result<(), Fail> {
 #[test]
 fn refuses_missing_fields(rt: HostRuntime) -> Result<(), Fail> {
     let alloc = rt.alloc();
-    for name in crate::fields::FIELD_NAMES {
+    let names = [
+        "zarr_format",
+        "node_type",
+        "shape",
+        "data_type",
+        "chunk_grid",
+        "chunk_key_encoding",
+        "fill_value",
+        "codecs",
+    ];
+    for name in names {
         let result = read_without(alloc, name)?;
         assert_eq!(rt; result.err(), Some(DocumentError::Fields), "{name}");
     }
@@ -190,23 +352,88 @@ fn refuses_other_kinds_of_values(rt: HostRuntime) -> Result<(), Fail> {
     Ok(())
 }
 
-/// The first check that fails is the error.
+/// The first check that fails is the error: each field that is mended brings the next one.
 #[test]
 fn checks_in_order(rt: HostRuntime) -> Result<(), Fail> {
     let alloc = rt.alloc();
-    let text = r#"{"zarr_format": 3, "node_type": "array", "shape": [4], "data_type": "int8",
-        "chunk_grid": "other", "chunk_key_encoding": "other", "fill_value": 256, "codecs": []}"#;
+    let text = r#"{"zarr_format": 2, "node_type": "array", "shape": [4], "data_type": "int8",
+        "chunk_grid": "other", "chunk_key_encoding": "other", "fill_value": 256, "codecs": [],
+        "attributes": 1.5, "storage_transformers": null, "dimension_names": []}"#;
+    let mended = [
+        ("more", "1", DocumentError::Float),
+        ("attributes", "{}", DocumentError::Fields),
+        ("zarr_format", "3", DocumentError::AdditionalField),
+        (
+            "more",
+            r#"{"must_understand": false}"#,
+            DocumentError::Codecs,
+        ),
+        ("codecs", r#"["bytes"]"#, DocumentError::DataTypes),
+        ("data_type", r#""uint8""#, DocumentError::ChunkGrid),
+        (
+            "chunk_grid",
+            r#"{"name": "regular", "configuration": {"chunk_shape": [2, 2]}}"#,
+            DocumentError::Dimensionality,
+        ),
+        (
+            "chunk_grid",
+            r#"{"name": "regular", "configuration": {"chunk_shape": [2]}}"#,
+            DocumentError::FillValue,
+        ),
+        ("fill_value", "255", DocumentError::StorageTransformers),
+        (
+            "storage_transformers",
+            "[]",
+            DocumentError::ChunkKeyEncoding,
+        ),
+        (
+            "chunk_key_encoding",
+            r#""default""#,
+            DocumentError::DimensionNames,
+        ),
+    ];
     let mut value = Value::from_str(alloc, text)?;
-    assert_eq!(rt;
-        read_document(alloc, &value).err(),
-        Some(DocumentError::Codecs)
-    );
     if let Some(members) = value.as_object_mut() {
-        put(members, alloc, "attributes", Value::Null)?;
+        put(members, alloc, "more", nested(alloc, 127)?)?;
     }
     assert_eq!(rt;
         read_document(alloc, &value).err(),
-        Some(DocumentError::AdditionalField)
+        Some(DocumentError::Depth)
     );
+    for (name, field, error) in mended {
+        let field = Value::from_str(alloc, field)?;
+        if let Some(members) = value.as_object_mut() {
+            put(members, alloc, name, field)?;
+        }
+        assert_eq!(rt; read_document(alloc, &value).err(), Some(error), "{name}");
+    }
+    Ok(())
+}
+
+#[test]
+fn writes_the_plain_document(rt: HostRuntime) -> Result<(), Fail> {
+    let alloc = rt.alloc();
+    let value = Value::from_str(alloc, PLAIN)?;
+    let written = written_document(alloc, &value)?;
+    assert_eq!(rt; written.to_string_pretty(alloc)?.as_str(), PLAIN_WRITTEN);
+    assert!(rt; read_document(alloc, &written).is_ok());
+    Ok(())
+}
+
+#[test]
+fn writes_other_forms(rt: HostRuntime) -> Result<(), Fail> {
+    let alloc = rt.alloc();
+    let text = r#"{"zarr_format": 3, "node_type": "array", "shape": [4], "fill_value": 0,
+        "data_type": {"name": "uint8", "must_understand": true},
+        "chunk_grid": {"name": "regular", "configuration": {"chunk_shape": [2]}},
+        "chunk_key_encoding": {"name": "default", "configuration": {}},
+        "codecs": [{"name": "bytes", "configuration": {"endian": "little"}}],
+        "attributes": {"b": 1, "_zarrs": null, "Z": [2]}, "storage_transformers": [],
+        "dimension_names": ["y"], "more": {"name": "x", "must_understand": false}}"#;
+    let wanted =
+        r#"{"attributes":{"Z":[2],"_zarrs":{"description":"This array was created with zarrs","repository":"https://github.com/zarrs/zarrs","version":"0.23.13"},"b":1},"chunk_grid":{"configuration":{"chunk_shape":[2]},"name":"regular"},"chunk_key_encoding":{"configuration":{},"name":"default"},"codecs":[{"configuration":{"endian":"little"},"name":"bytes"}],"data_type":"uint8","dimension_names":["y"],"fill_value":0,"more":{"must_understand":false,"name":"x"},"node_type":"array","shape":[4],"zarr_format":3}"#;
+    let value = Value::from_str(alloc, text)?;
+    let written = written_document(alloc, &value)?;
+    assert_eq!(rt; written.to_string(alloc)?.as_str(), wanted);
     Ok(())
 }

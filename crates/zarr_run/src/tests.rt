@@ -3,8 +3,10 @@
 mod boxes;
 mod chunks;
 mod damage;
+mod documents;
 mod extremes;
 mod lines;
+mod paths;
 mod reference;
 mod refusals;
 mod support;

@@ -15,8 +15,11 @@ use Rattle.zarr_grids_chunks.specs.Regular.{origin_of}
 use Rattle.zarr_grids_chunks.proofs.Filters.{told}
 use Rattle.zarr_grids_chunks.proofs.Partition.{lies_here, lies_has, met-any}
 use Rattle.zarr_grids_chunks.proofs.RegularChunks.{chunk_box-regular, chunks_apart}
-use Rattle.zarr_grids_keys.specs.Keys.{chunk_key}
+use Rattle.zarr_grids_keys.specs.Keys.{chunk_key, default}
 use Rattle.zarr_grids_keys.specs.Laws.{has_separator}
+use Rattle.zarr_grids_keys.specs.Separators.{separator_byte}
+use Rattle.zarr_grids_keys.specs.declared.separator.ChunkKeySeparator.{ChunkKeySeparator}
+use Rattle.zarr_grids_keys.specs.declared.separator.ChunkKeySeparator.TheVariants.{Slash, Dot}
 use Rattle.zarr_grids_keys.proofs.KeyLemmas.{chunk_key-injective}
 use Rattle.zarr_codecs_cells.specs.Cells.{uint8, Cell, is_value}
 use Rattle.zarr_codecs_chain.specs.Chain.{bytes, ChunkStands}
@@ -67,8 +70,11 @@ regular_box document chunk box h =
     }
 
 -- ---- one chunk written
-separated : (document : ArrayDocument) → IsTrue (has_separator (meaning_of document).keys)
-separated document = refl
+
+-- a document's keys have a slash or a dot
+pub separated : (separator : ChunkKeySeparator) → IsTrue (has_separator (default (separator_byte separator)))
+separated Slash = refl
+separated Dot = refl
 
 pub one_chunk : (path : List ℕ) (document : ArrayDocument) (region : Region) (given cells : List ℕ → Cell) (chunk : List ℕ) (box : Region) (s : Bool) (old : StoreMap) (value : List ℕ)
     → AreValues uint8 given → AreValues uint8 cells → IsBelow (meaning_of document).grid chunk box
@@ -106,7 +112,7 @@ one_chunk path document region given cells chunk box s old value vg vc below is 
   apart ne =
       let rd = regular_box document d other b.has_box in
       let rc = regular_box document chunk box below.has_box in
-      let key : chunk_key path (meaning_of document).keys d ≡ chunk_key path (meaning_of document).keys chunk → ⊥ = λ e. ne (chunk_key-injective path (meaning_of document).keys d chunk (separated document) rd.small rc.small e) in
+      let key : chunk_key path (meaning_of document).keys d ≡ chunk_key path (meaning_of document).keys chunk → ⊥ = λ e. ne (chunk_key-injective path (meaning_of document).keys d chunk (separated document.separator) rd.small rc.small e) in
       let unmet : (p : List ℕ) → is_in_box other.start other.shape p ≡ true → cells p ≡ with_chunks (meaning_of document).grid region (chunk ∷ []) given cells p = λ p t. ⊎_elim
       (λ l. let h = lies_has (meaning_of document).grid chunk p l in
       absurd (ne (chunks_apart document.shape.items document.chunk_shape.items d chunk p other h.0 document.same document.positive b.has_box h.1 t h.2)))

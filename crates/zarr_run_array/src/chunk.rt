@@ -9,6 +9,7 @@ ghost use Rattle.zarr_grids_chunks.specs.Grids.{IsBelow};
 ghost use Rattle.zarr_grids_chunks.specs.Regular.{origin_of};
 ghost use Rattle.zarr_grids_keys.specs.Keys.{chunk_key, default};
 ghost use Rattle.zarr_grids_keys.specs.Paths.{is_node_path};
+ghost use Rattle.zarr_grids_keys.specs.Separators.{separator_byte};
 ghost use Rattle.zarr_codecs_cells.specs.Cells.{Cell};
 ghost use Rattle.zarr_codecs_chain.specs.Chain.{ChunkStands};
 ghost use Rattle.zarr_array_documents.specs.Meanings.{meaning_of};
@@ -19,7 +20,7 @@ use zarr_array_documents::ArrayDocument;
 use zarr_array_stores::MemoryStore;
 use zarr_grids_boxes::ArraySubset;
 use zarr_grids_chunks::regular::write_chunk_origin;
-use zarr_grids_keys::{DefaultChunkKeyEncoding, write_chunk_key};
+use zarr_grids_keys::{ChunkKeySeparator, DefaultChunkKeyEncoding, write_chunk_key};
 use zarr_grids_runs::{is_all, overlay};
 
 /// Why a chunk is not read or written.
@@ -55,7 +56,7 @@ pub(crate) fn read_chunk(
     ensures damage { result ≡ Err ChunkFault.Damage → IsDamaged path.now (meaning_of document.now) chunk.now count store.now }
     ensures seen { OnOk result (HasLength path.now (meaning_of document.now) chunk.now count store.now) }
 {
-    write_key(key, path, chunk)?;
+    write_key(key, path, document.separator, chunk)?;
     match store.get(key) {
         None => Ok(()),
         Some(value) => place_value(document, region, chunk, count, value, origin, target),
@@ -96,12 +97,17 @@ fn place_value(
 }
 
 /// Writes the key of a chunk.
-pub(crate) fn write_key(key: &mut String, path: &str, chunk: &[u64]) -> Result<(), ChunkFault>
+pub(crate) fn write_key(
+    key: &mut String,
+    path: &str,
+    separator: ChunkKeySeparator,
+    chunk: &[u64],
+) -> Result<(), ChunkFault>
     requires { IsTrue (is_node_path path.now) }
-    ensures ok { OnOk result (string_bytes key.new ≡ chunk_key path.now (default 47) chunk.now) }
+    ensures ok { OnOk result (string_bytes key.new ≡ chunk_key path.now (default (separator_byte separator)) chunk.now) }
     ensures err { IfErr result (λ e. e ≡ ChunkFault.Memory) }
 {
-    match write_chunk_key(key, path, &DefaultChunkKeyEncoding::new_slash(), chunk) {
+    match write_chunk_key(key, path, &DefaultChunkKeyEncoding::new(separator), chunk) {
         Ok(()) => Ok(()),
         Err(_) => Err(ChunkFault::Memory),
     }
@@ -134,7 +140,7 @@ pub(crate) fn write_chunk(
     ensures seen { OnOk result (contains_box region.now.start.items region.now.shape.items (origin_of document.now.chunk_shape.items chunk.now) document.now.chunk_shape.items ≡ false
         → HasLength path.now (meaning_of document.now) chunk.now count store.old) }
 {
-    write_key(key, path, chunk)?;
+    write_key(key, path, document.separator, chunk)?;
     let chunk_shape = document.chunk_shape.as_slice();
     write_chunk_origin(chunk, chunk_shape, origin);
     if change_value(

@@ -9,7 +9,7 @@ use zarr_grids_boxes::ArraySubset;
 use zarr_grids_boxes::walk::count_places;
 use zarr_grids_chunks::below::are_below;
 use zarr_grids_chunks::regular::covers;
-use zarr_grids_keys::is_node_path;
+use zarr_grids_keys::{ChunkKeySeparator, is_node_path};
 
 const FILL: u8 = 200;
 
@@ -34,6 +34,7 @@ impl Bench {
             shape: vec![in alloc; 4, 6]?,
             chunk_shape: vec![in alloc; 2, 3]?,
             fill_value: FILL,
+            separator: ChunkKeySeparator::Slash,
         };
         let store = MemoryStore::new(alloc);
         Ok(Bench { document, store })
@@ -193,6 +194,23 @@ fn writes_a_box(rt: HostRuntime) -> Result<(), Fail> {
 }
 
 #[test]
+fn writes_keys_with_dots(rt: HostRuntime) -> Result<(), Fail> {
+    let alloc = rt.alloc();
+    let mut bench = Bench::new(alloc)?;
+    bench.document.separator = ChunkKeySeparator::Dot;
+    let wrote = bench.write(&rt, alloc, (&[2, 1], &[1, 1]), &[7], false)?;
+    assert_eq!(rt; wrote, Ok(()));
+    bench.assert_keys(&rt, &["a/c.1.0"])?;
+    assert_eq!(rt;
+        bench.store.get("a/c.1.0"),
+        Some([200, 7, 200, 200, 200, 200].as_slice())
+    );
+    bench.assert_reads(&rt, alloc, (&[2, 0], &[1, 4]), &[200, 7, 200, 200])?;
+    bench.erase(&rt, alloc, (&[1, 0], &[1, 1]))?;
+    bench.assert_keys(&rt, &[])
+}
+
+#[test]
 fn reads_a_box(rt: HostRuntime) -> Result<(), Fail> {
     let alloc = rt.alloc();
     let mut bench = Bench::new(alloc)?;
@@ -269,6 +287,7 @@ fn erases_the_chunk_of_no_dimension(rt: HostRuntime) -> Result<(), Fail> {
         shape: Vec::new(alloc),
         chunk_shape: Vec::new(alloc),
         fill_value: FILL,
+        separator: ChunkKeySeparator::Slash,
     };
     let store = MemoryStore::new(alloc);
     let mut bench = Bench { document, store };

@@ -6,11 +6,11 @@ use Rattle.zarr_codecs_cells.specs.Cells.{Payload, fixed}
 use Rattle.zarr_codecs_cells.specs.Json.{GivenCells, given_bytes, given_json}
 use Rattle.zarr_codecs_cells.specs.declared.array_bytes.ArrayBytes.{ArrayBytes}
 use Rattle.zarr_codecs_cells.specs.declared.array_bytes.ArrayBytes.TheVariants.{Fixed}
-use Rattle.zarr_run_model.specs.Requests.{in_box, in_chunk, Request, create, write, read, erase, Answer, done, cells, refused}
+use Rattle.zarr_run_model.specs.Requests.{in_box, in_chunk, Request, create, reopen, write, read, erase, Answer, done, cells, refused}
 use Rattle.zarr_run_commands.specs.declared.command.CommandCells.{CommandCells}
 use Rattle.zarr_run_commands.specs.declared.command.CommandCells.TheVariants.{Bytes, Json}
 use Rattle.zarr_run_commands.specs.declared.command.Command.{Command}
-use Rattle.zarr_run_commands.specs.declared.command.Command.TheVariants.{Create, WriteBox, WriteChunk, ReadBox, ReadChunk, EraseChunks}
+use Rattle.zarr_run_commands.specs.declared.command.Command.TheVariants.{Create, Reopen, WriteBox, WriteChunk, ReadBox, ReadChunk, EraseChunks}
 use Rattle.zarr_run_commands.specs.declared.command.Reply.{Reply}
 use Rattle.zarr_run_commands.specs.declared.command.Reply.TheVariants.{Done, Cells, Refused}
 
@@ -26,6 +26,7 @@ given (Json value) = given_json (view value)
 -- what a command asks
 abbrev pub asked : Command → Request
 asked (Create path document order) = create (string_bytes path) (view document) order
+asked (Reopen path order) = reopen (string_bytes path) order
 asked (WriteBox path region values options) = write (string_bytes path) (in_box (region_of region)) (given values) options
 asked (WriteChunk path chunk values options) = write (string_bytes path) (in_chunk chunk.items) (given values) options
 asked (ReadBox path region options) = read (string_bytes path) (in_box (region_of region)) options

@@ -8,10 +8,11 @@ use Rattle.zarr_codecs_cells.specs.Json.{given_json}
 use Rattle.zarr_codecs_cells.specs.declared.options.CodecOptions.{CodecOptions}
 use Rattle.zarr_codecs_chain.specs.declared.order.SubchunkWriteOrder.{SubchunkWriteOrder}
 use Rattle.zarr_codecs_chain.specs.declared.order.SubchunkWriteOrder.TheVariants.{Random, C, Unordered}
-use Rattle.zarr_array_documents.specs.Documents.{has_only, sizes_in}
-use Rattle.zarr_run_model.specs.Requests.{Target, in_box, in_chunk, Request, create, write, read, erase}
+use Rattle.zarr_grids_metadata.specs.Members.{has_only}
+use Rattle.zarr_array_documents.specs.Parts.{sizes_in}
+use Rattle.zarr_run_model.specs.Requests.{Target, in_box, in_chunk, Request, create, reopen, write, read, erase}
 use Rattle.zarr_run_commands.specs.declared.operation.Operation.{Operation}
-use Rattle.zarr_run_commands.specs.declared.operation.Operation.TheVariants.{Create, WriteBox, WriteChunk, ReadBox, ReadChunk, EraseChunks}
+use Rattle.zarr_run_commands.specs.declared.operation.Operation.TheVariants.{Create, Reopen, WriteBox, WriteChunk, ReadBox, ReadChunk, EraseChunks}
 
 -- ---- fields of an object
 
@@ -102,15 +103,17 @@ region_in d = option_and_then region_of_pairs (as_array d)
 abbrev pub operation_named : List ℕ → Option Operation
 operation_named name =
     if bytes_eq name (codes "create") then Some Create else
+    (if bytes_eq name (codes "reopen") then Some Reopen else
     (if bytes_eq name (codes "write_box") then Some WriteBox else
     (if bytes_eq name (codes "write_chunk") then Some WriteChunk else
     (if bytes_eq name (codes "read_box") then Some ReadBox else
     (if bytes_eq name (codes "read_chunk") then Some ReadChunk else
-    (if bytes_eq name (codes "erase_chunks") then Some EraseChunks else None)))))
+    (if bytes_eq name (codes "erase_chunks") then Some EraseChunks else None))))))
 
 -- the fields that a line with this operation may have
 abbrev pub field_names : Operation → List (List ℕ)
 field_names Create = codes "op" ∷ codes "path" ∷ codes "document" ∷ codes "order" ∷ []
+field_names Reopen = codes "op" ∷ codes "path" ∷ codes "order" ∷ []
 field_names WriteBox = codes "op" ∷ codes "path" ∷ codes "box" ∷ codes "cells" ∷ codes "options" ∷ []
 field_names WriteChunk = codes "op" ∷ codes "path" ∷ codes "chunk" ∷ codes "cells" ∷ codes "options" ∷ []
 field_names ReadBox = codes "op" ∷ codes "path" ∷ codes "box" ∷ codes "options" ∷ []
@@ -158,6 +161,7 @@ abbrev pub request_by : Operation → Members → Option Request
 request_by Create ms =
     option_and_then (λ path. option_and_then (λ document. option_map (λ order. create path document order)
     (order_of ms)) (get_member (codes "document") ms)) (path_of ms)
+request_by Reopen ms = option_and_then (λ path. option_map (λ order. reopen path order) (order_of ms)) (path_of ms)
 request_by WriteBox ms = write_of (option_map in_box (box_of ms)) ms
 request_by WriteChunk ms = write_of (option_map in_chunk (chunk_of ms)) ms
 request_by ReadBox ms = read_of (option_map in_box (box_of ms)) ms

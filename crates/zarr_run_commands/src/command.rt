@@ -23,6 +23,12 @@ pub enum Command {
         document: Value,
         order: SubchunkWriteOrder,
     },
+    /// Reopens an array with another write order: one that is held, where what is stored for it is the document that was
+    /// written, or else one that is stored.
+    Reopen {
+        path: String,
+        order: SubchunkWriteOrder,
+    },
     /// Writes the cells of a box, row-major.
     WriteBox {
         path: String,

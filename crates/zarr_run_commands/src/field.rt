@@ -2,21 +2,21 @@
 ghost use Rattle.std.specs.Prelude.{◌≡◌, ◌+◌, ◌^◌, ◌<◌, IfOk, IfSome, option_map};
 ghost use Rattle.serde_json.specs.View.{view, items_view, members_view};
 ghost use Rattle.zarr_grids_boxes.specs.Subsets.{region_of};
-ghost use Rattle.zarr_array_documents.specs.Documents.{sizes_of};
+ghost use Rattle.zarr_array_documents.specs.Parts.{sizes_of};
 ghost use Rattle.zarr_run_commands.specs.Lines.{order_named, order_of, flag, options_of, line_options_of, interval_of, interval_in, region_of_pairs, box_of, chunk_of};
 
-use crate::members;
 use serde_json::{Map, Value};
 use std::alloc::{AllocError, Global};
 use zarr_codecs_cells::CodecOptions;
 use zarr_codecs_chain::SubchunkWriteOrder;
 use zarr_grids_boxes::ArraySubset;
+use zarr_grids_metadata::{has_only, member};
 
 /// The write order of a line, `Unordered` where it has none.
 pub(crate) fn order(line: &Map<String, Value>) -> Option<SubchunkWriteOrder>
     ensures { result ≡ order_of (members_view line.now.entries) }
 {
-    match members::member(line, "order") {
+    match member(line, "order") {
         Some(order) => order_from_name(order.as_str()?),
         None => Some(SubchunkWriteOrder::Unordered),
     }
@@ -37,7 +37,7 @@ fn order_from_name(name: &str) -> Option<SubchunkWriteOrder>
 pub(crate) fn options(line: &Map<String, Value>) -> Option<CodecOptions>
     ensures { result ≡ line_options_of (members_view line.now.entries) }
 {
-    match members::member(line, "options") {
+    match member(line, "options") {
         Some(options) => read_options(options.as_object()?),
         None => Some(CodecOptions {
             store_empty_chunks: false,
@@ -50,7 +50,7 @@ pub(crate) fn options(line: &Map<String, Value>) -> Option<CodecOptions>
 fn read_options(options: &Map<String, Value>) -> Option<CodecOptions>
     ensures { result ≡ options_of (members_view options.now.entries) }
 {
-    if !members::has_only(options, &["partial", "empty", "workers"]) {
+    if !has_only(options, &["partial", "empty", "workers"]) {
         return None;
     }
     Some(CodecOptions {
@@ -63,7 +63,7 @@ fn read_options(options: &Map<String, Value>) -> Option<CodecOptions>
 fn read_flag(options: &Map<String, Value>, name: &str) -> Option<bool>
     ensures { result ≡ flag name.now (members_view options.now.entries) }
 {
-    match members::member(options, name) {
+    match member(options, name) {
         Some(value) => value.as_bool(),
         None => Some(false),
     }
@@ -76,7 +76,7 @@ pub(crate) fn region(
 ) -> Result<Option<ArraySubset>, AllocError>
     ensures { IfOk result (λ found. option_map region_of found ≡ box_of (members_view line.now.entries)) }
 {
-    match members::member(line, "box") {
+    match member(line, "box") {
         Some(Value::Array(pairs)) => read_region(alloc, pairs.as_slice()),
         _ => Ok(None),
     }
@@ -124,7 +124,7 @@ pub(crate) fn chunk(
 ) -> Result<Option<Vec<u64>>, AllocError>
     ensures { IfOk result (λ found. option_map (λ v. v.items) found ≡ chunk_of (members_view line.now.entries)) }
 {
-    match members::member(line, "chunk") {
+    match member(line, "chunk") {
         Some(Value::Array(indices)) => read_indices(alloc, indices.as_slice()),
         _ => Ok(None),
     }

@@ -47,6 +47,7 @@ fn command_of(alloc: Global, line: Map<String, Value>) -> Result<Option<Command>
     }
     match operation {
         Operation::Create => Ok(create(line)),
+        Operation::Reopen => Ok(reopen(line)),
         Operation::WriteBox => write_box(alloc, line),
         Operation::WriteChunk => write_chunk(alloc, line),
         Operation::ReadBox => read_box(alloc, line),
@@ -66,6 +67,14 @@ fn create(mut line: Map<String, Value>) -> Option<Command>
         document,
         order,
     })
+}
+
+fn reopen(mut line: Map<String, Value>) -> Option<Command>
+    ensures { option_map asked result ≡ request_by Operation.Reopen (members_view line.entries) }
+{
+    let order = field::order(&line)?;
+    let path = members::take_text(&mut line, "path")?;
+    Some(Command::Reopen { path, order })
 }
 
 fn write_box(alloc: Global, mut line: Map<String, Value>) -> Result<Option<Command>, AllocError>

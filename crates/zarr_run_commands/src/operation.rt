@@ -1,16 +1,17 @@
 //! What a line asks for.
 ghost use Rattle.std.specs.Prelude.{◌≡◌};
 ghost use Rattle.serde_json.specs.View.{members_view};
-ghost use Rattle.zarr_array_documents.specs.Documents.{has_only};
+ghost use Rattle.zarr_grids_metadata.specs.Members.{has_only};
 ghost use Rattle.zarr_run_commands.specs.Lines.{operation_named, operation_of, field_names};
 
-use crate::members;
 use serde_json::{Map, Value};
+use zarr_grids_metadata::{has_only, member};
 
 /// The operations that a line may name.
 #[derive(Clone, Copy)]
 pub(crate) enum Operation {
     Create,
+    Reopen,
     WriteBox,
     WriteChunk,
     ReadBox,
@@ -23,7 +24,7 @@ impl Operation {
     pub(crate) fn of_members(members: &Map<String, Value>) -> Option<Operation>
         ensures { result ≡ operation_of (members_view members.now.entries) }
     {
-        let name = members::member(members, "op")?.as_str()?;
+        let name = member(members, "op")?.as_str()?;
         Operation::from_name(name)
     }
 
@@ -33,6 +34,7 @@ impl Operation {
     {
         match name {
             "create" => Some(Operation::Create),
+            "reopen" => Some(Operation::Reopen),
             "write_box" => Some(Operation::WriteBox),
             "write_chunk" => Some(Operation::WriteChunk),
             "read_box" => Some(Operation::ReadBox),
@@ -47,16 +49,16 @@ impl Operation {
         ensures { result ≡ has_only (field_names self) (members_view members.now.entries) }
     {
         match self {
-            Operation::Create => members::has_only(members, &["op", "path", "document", "order"]),
-            Operation::WriteBox => {
-                members::has_only(members, &["op", "path", "box", "cells", "options"])
-            }
-            Operation::WriteChunk => {
-                members::has_only(members, &["op", "path", "chunk", "cells", "options"])
-            }
-            Operation::ReadBox => members::has_only(members, &["op", "path", "box", "options"]),
-            Operation::ReadChunk => members::has_only(members, &["op", "path", "chunk", "options"]),
-            Operation::EraseChunks => members::has_only(members, &["op", "path", "box"]),
+            Operation::Create => has_only(members, &["op", "path", "document", "order"]),
+            Operation::Reopen => has_only(members, &["op", "path", "order"]),
+            Operation::WriteBox => has_only(members, &["op", "path", "box", "cells", "options"]),
+            Operation::WriteChunk => has_only(
+                members,
+                &["op", "path", "chunk", "cells", "options"],
+            ),
+            Operation::ReadBox => has_only(members, &["op", "path", "box", "options"]),
+            Operation::ReadChunk => has_only(members, &["op", "path", "chunk", "options"]),
+            Operation::EraseChunks => has_only(members, &["op", "path", "box"]),
         }
     }
 }

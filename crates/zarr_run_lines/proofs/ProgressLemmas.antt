@@ -1,12 +1,14 @@
 -- How far a run has come, line by line.
-use Rattle.std.proofs.Common.{◌≡◌, ◌≢◌, ℕ, ◌+◌, ◌≤◌, ◌^◌, List, [], ◌∷◌, ◌++◌, length, Option, Some, None, IfSome, refl, sym, ap, ◌∙◌, subst, inl, inr, arith, append_assoc, append-nil, length-append, Result, Ok, Err, OnOk, OnErr, codes, is_ok, if◌then◌else◌}
+use Rattle.std.proofs.Common.{◌≡◌, ℕ, ◌+◌, ◌≤◌, ◌^◌, List, [], ◌∷◌, ◌++◌, length, Option, Some, None, IfSome, refl, sym, ap, ◌∙◌, subst, inl, inr, arith, append_assoc, append-nil, length-append, Result, Ok, Err, OnOk, OnErr, IfErr, codes, is_ok, if◌then◌else◌}
 use Rattle.std.specs.Io.BufRead.{drop_through}
 use Rattle.std.specs.Io.KnownBytes.{Appends, Keeps, append_known}
 use Rattle.zarr_run_model.specs.Worlds.{World}
 use Rattle.zarr_run_commands.specs.Lines.{Says}
 use Rattle.zarr_run_session.specs.declared.session.Session.{Session}
 use Rattle.zarr_run_session.specs.Sessions.{IsIn}
-use Rattle.zarr_run_lines.specs.Lines.{lines_of, LineStep, Leaves, RunsLines, StandsAfterSome, RunsSome, RunsAll, IsWithinLimits}
+use Rattle.zarr_run_lines.specs.declared.lines.LinesFault.{LinesFault}
+use Rattle.zarr_run_lines.specs.declared.lines.LinesFault.TheVariants.{Read}
+use Rattle.zarr_run_lines.specs.Lines.{lines_of, LineStep, Leaves, StandsAfterSome, RunsSome, RunsAll, IsWithinLimits}
 use Rattle.zarr_run_lines.specs.Reading.{IsLeft, TakesLine, Progress}
 use Rattle.zarr_run_lines.proofs.LinesLemmas.{lines_of-first, runs-more}
 
@@ -129,3 +131,25 @@ pub on-no-command : {T E : Type 0} (r : Result T E) (session : Session) (line pe
     → pending' ≡ (if is_ok r then pending ++ (codes "{\"fault\":\"line\"}" ++ 10 ∷ []) else pending) → OnOk r ((new : World) × IsIn session new × (text : List ℕ) × LineStep old line text new × (pending' ≡ pending ++ (text ++ 10 ∷ [])))
 on-no-command (Ok x) session line pending pending' old is says grew = (old, is, codes "{\"fault\":\"line\"}", (None, says, (refl, refl)), grew)
 on-no-command (Err e) session line pending pending' old is says grew = tt
+
+-- a session after a fault in reading
+pub on-read : {T : Type 0} (r : Result T LinesFault) (session : Session) (input before after : Option (List ℕ)) (old new : World) → IsIn session new → RunsSome input before after old new
+    → IfErr r (λ fault. fault ≡ Read → (w : World) × IsIn session w × RunsSome input before after old w)
+on-read (Ok x) session input before after old new is some = tt
+on-read (Err e) session input before after old new is some = λ read. (new, is, some)
+
+-- ---- after the answers that were pending were written
+flushed : (before after after' : Option (List ℕ)) (pending pending' out : List ℕ) → Appends before (append_known after pending) out → Keeps (append_known after pending) (append_known after' pending') → pending' ≡ [] → Appends before after' out
+flushed None after after' pending pending' out grew kept none = tt
+flushed (Some xs) None after' pending pending' out grew kept none = absurd grew
+flushed (Some xs) (Some ys) None pending pending' out grew kept none = absurd kept
+flushed (Some xs) (Some ys) (Some zs) pending pending' out grew kept none = sym (append-nil zs) ∙ sym (ap (λ p. zs ++ p) none) ∙ kept ∙ grew
+
+pub on-all : {T E : Type 0} (r : Result T E) (session : Session) (input before after after' : Option (List ℕ)) (pending pending' : List ℕ) (old new : World) → IsIn session new → RunsAll input before (append_known after pending) old new
+    → OnOk r (Keeps (append_known after pending) (append_known after' pending')) → OnOk r (pending' ≡ []) → OnOk r ((w : World) × IsIn session w × RunsAll input before after' old w)
+on-all (Ok x) session input before after after' pending pending' old new is ran kept none = (new, is, (ran.0, ran.1, ran.2, flushed before after after' pending pending' ran.1 ran.3 kept none, ran.4))
+on-all (Err e) session input before after after' pending pending' old new is ran kept none = tt
+
+pub stands-all : (input before after : Option (List ℕ)) (old new : World) → RunsAll input before after old new → StandsAfterSome input old new
+stands-all None before after old new ran = (ran.0, ran.1, ran.2, tt)
+stands-all (Some text) before after old new ran = (ran.0, ran.1, ran.2, ([], ran.4 ∙ sym (append-nil ran.0)))

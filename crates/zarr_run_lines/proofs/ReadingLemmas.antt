@@ -1,6 +1,6 @@
 -- A reader that has a part of the bytes that are left.
 use Rattle.std.proofs.Common.{◌≡◌, ◌≢◌, ℕ, zero, suc, ◌+◌, ◌-◌, ◌==◌, ◌<◌, ◌≤◌, List, [], ◌∷◌, length, take, Bool, true, false, cond, Option, Some, IfSome, refl, sym, ap, ◌∙◌, subst, arith}
-use Rattle.std.specs.Io.BufRead.{take_through, drop_through, strip_last, first_piece, DropsThrough}
+use Rattle.std.specs.Io.BufRead.{take_through, drop_through, strip_last, DropsThrough}
 use Rattle.zarr_run_lines.specs.Reading.{IsLeft, TakesLine}
 
 length-at : (b : Bool) (x : ℕ) (xs : List ℕ) → length xs ≡ length (take_through 10 xs) + length (drop_through 10 xs)

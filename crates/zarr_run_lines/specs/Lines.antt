@@ -3,7 +3,7 @@ use Rattle.std.specs.Prelude.{◌≡◌, ◌⊎◌, ℕ, ◌^◌, ◌≤◌, len
 use Rattle.std.specs.Io.KnownBytes.{Appends}
 use Rattle.serde_json.specs.Written.{compact_text}
 use Rattle.zarr_codecs_cells.specs.Cells.{DataType, uint8}
-use Rattle.zarr_run_model.specs.Requests.{Request, create, write, read, erase, Answer}
+use Rattle.zarr_run_model.specs.Requests.{Request, Answer, path_of}
 use Rattle.zarr_run_model.specs.Worlds.{Held, World, held_at}
 use Rattle.zarr_run_model.specs.Steps.{Step}
 use Rattle.zarr_run_commands.specs.Lines.{Says}
@@ -18,13 +18,6 @@ onto_first x (line ∷ lines) = (x ∷ line) ∷ lines
 abbrev pub lines_of : List ℕ → List (List ℕ)
 lines_of [] = []
 lines_of (x ∷ xs) = if x == 10 then [] ∷ lines_of xs else onto_first x (lines_of xs)
-
--- the node path of a request
-abbrev pub path_of : Request → List ℕ
-path_of (create path document order) = path
-path_of (write path target cells options) = path
-path_of (read path target options) = path
-path_of (erase path chunks) = path
 
 -- the type of an array's cells, uint8 where there is none
 abbrev pub type_of : Option Held → DataType

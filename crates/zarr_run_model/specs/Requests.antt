@@ -16,6 +16,7 @@ pub data Target : Type 0 where
 -- a command, without the memory that holds it
 pub data Request : Type 0 where
   create : (path : List ℕ) (document : Data) (order : SubchunkWriteOrder) → Request
+  reopen : (path : List ℕ) (order : SubchunkWriteOrder) → Request
   write : (path : List ℕ) (target : Target) (cells : GivenCells) (options : CodecOptions) → Request
   read : (path : List ℕ) (target : Target) (options : CodecOptions) → Request
   erase : (path : List ℕ) (chunks : Region) → Request
@@ -25,3 +26,11 @@ pub data Answer : Type 0 where
   done : Answer
   cells : Payload → Answer
   refused : (cause : Cause) (applied : ℕ) → Answer
+
+-- the path that a command names
+abbrev pub path_of : Request → List ℕ
+path_of (create path document order) = path
+path_of (reopen path order) = path
+path_of (write path target values options) = path
+path_of (read path target options) = path
+path_of (erase path chunks) = path

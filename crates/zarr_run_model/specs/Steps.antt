@@ -1,5 +1,5 @@
 -- What a session may answer to a command, and what each command changes.
-use Rattle.std.specs.Prelude.{◌≡◌, ◌≢◌, ◌⊎◌, ℕ, ◌*◌, ◌^◌, ◌<◌, ◌≤◌, List, [], ◌∷◌, ◌++◌, map, take, length, true, false, Option, Some, None, Ok, IsErr}
+use Rattle.std.specs.Prelude.{◌≡◌, ◌⊎◌, ℕ, ◌*◌, ◌^◌, ◌<◌, ◌≤◌, List, [], ◌∷◌, ◌++◌, map, take, length, true, false, Option, Some, None, Ok, IsErr}
 use Rattle.serde_json.specs.Data.{Data}
 use Rattle.zarr_grids_boxes.specs.Boxes.{Region, product, places, is_in_box}
 use Rattle.zarr_grids_chunks.specs.Grids.{Grid, IsBelow, AreBelow, IsCovered, met, is_met}
@@ -11,8 +11,8 @@ use Rattle.zarr_array_documents.specs.Documents.{Document, read_document}
 use Rattle.zarr_run_model.specs.declared.cause.Cause.{Cause}
 use Rattle.zarr_run_model.specs.declared.cause.Cause.TheVariants as cause
 use Rattle.zarr_run_model.specs.Tables.{cell, updated, changes, changes_in, fills}
-use Rattle.zarr_run_model.specs.Requests.{Target, in_box, in_chunk, Request, create, write, read, erase, Answer, done, cells, refused}
-use Rattle.zarr_run_model.specs.Worlds.{Held, World, held_at, begun, with_table}
+use Rattle.zarr_run_model.specs.Requests.{Target, in_box, in_chunk, Request, create, reopen, write, read, erase, Answer, done, cells, refused}
+use Rattle.zarr_run_model.specs.Worlds.{Held, World, held_at, is_taken, begun, with_table, with_order}
 
 -- ---- what commands mean
 
@@ -44,10 +44,16 @@ Gives document region given cs = (given_in document.type given ≡ Some cs) × (
 -- the causes of a create, each where none before it holds
 abbrev pub CreateRefuses : World → List ℕ → Data → Cause → Type 0
 CreateRefuses world path document cause.Path = is_node_path path ≡ false
-CreateRefuses world path document cause.PathTaken = (is_node_path path ≡ true) × (world ≢ [])
-CreateRefuses world path document cause.Document = (is_node_path path ≡ true) × (world ≡ []) × IsErr (read_document document)
+CreateRefuses world path document cause.PathTaken = (is_node_path path ≡ true) × (is_taken path world ≡ true)
+CreateRefuses world path document cause.Document = (is_node_path path ≡ true) × (is_taken path world ≡ false) × IsErr (read_document document)
 CreateRefuses world path document cause.Memory = Unit {0}
 CreateRefuses world path document c = ⊥
+
+-- the causes of a reopening: a document that is stored for an array that is held is never another one, and none is stored where no array is held
+abbrev pub ReopenRefuses : Option Held → Cause → Type 0
+ReopenRefuses None cause.NoArray = Unit {0}
+ReopenRefuses None c = ⊥
+ReopenRefuses (Some h) c = ⊥
 
 -- the causes of a write
 abbrev pub WriteRefuses : Option Held → Target → GivenCells → Cause → Type 0
@@ -83,6 +89,7 @@ AtPath path refuses c = (is_node_path path ≡ true) × refuses c
 -- when a command may be refused with a cause
 abbrev pub MayRefuse : World → Request → Cause → Type 0
 MayRefuse world (create path document order) c = CreateRefuses world path document c
+MayRefuse world (reopen path order) c = AtPath path (ReopenRefuses (held_at path world)) c
 MayRefuse world (write path target given options) c = AtPath path (WriteRefuses (held_at path world) target given) c
 MayRefuse world (read path target options) c = AtPath path (ReadRefuses (held_at path world) target) c
 MayRefuse world (erase path chunks) c = AtPath path (EraseRefuses (held_at path world) chunks) c
@@ -92,10 +99,17 @@ MayRefuse world (erase path chunks) c = AtPath path (EraseRefuses (held_at path 
 -- a new array is held
 pub record Creates (path : List ℕ) (document : Data) (order : SubchunkWriteOrder) (old new : World) : Type 0 where
   pub node : is_node_path path ≡ true
-  pub free : old ≡ []
+  pub free : is_taken path old ≡ false
   pub meaning : Document
   pub opens : read_document document ≡ Ok meaning
   pub holds : new ≡ old ++ begun path meaning order ∷ []
+
+-- an array that is held gets a write order
+pub record Reopens (path : List ℕ) (order : SubchunkWriteOrder) (old new : World) : Type 0 where
+  pub node : is_node_path path ≡ true
+  pub held : Held
+  pub found : held_at path old ≡ Some held
+  pub updates : new ≡ with_order path order old
 
 -- the cells of a box, as given, stand in the table
 pub record Writes (path : List ℕ) (target : Target) (given : GivenCells) (old new : World) : Type 0 where
@@ -152,6 +166,9 @@ abbrev pub Step : World → Request → Answer → World → Type 0
 Step old (create path document order) done new = Creates path document order old new
 Step old (create path document order) (cells payload) new = ⊥
 Step old (create path document order) (refused c n) new = CreateRefuses old path document c × (n ≡ 0) × (new ≡ old)
+Step old (reopen path order) done new = Reopens path order old new
+Step old (reopen path order) (cells payload) new = ⊥
+Step old (reopen path order) (refused c n) new = MayRefuse old (reopen path order) c × (n ≡ 0) × (new ≡ old)
 Step old (write path target given options) done new = Writes path target given old new
 Step old (write path target given options) (cells payload) new = ⊥
 Step old (write path target given options) (refused c n) new = MayRefuse old (write path target given options) c

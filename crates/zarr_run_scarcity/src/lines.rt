@@ -1,13 +1,28 @@
 //! The script as lines.
 
-use crate::script::{CREATE, READ, WRITINGS};
+use crate::script::LINES;
 use std::alloc::{AllocError, Global};
 use zarr_array_stores::MemoryStore;
 use zarr_run::{LinesFault, Session, run_lines};
 
 /// The answers with ample memory.
-const ANSWERS: &str =
-    "{\"done\":true}\n{\"done\":true}\n{\"done\":true}\n{\"done\":true}\n{\"done\":true}\n{\"done\":true}\n{\"cells\":[0,0,6,7,0,0,9,10,0,0,11,12,0,0,13,14]}\n";
+const ANSWERS: &str = r#"{"done":true}
+{"done":true}
+{"done":true}
+{"done":true}
+{"done":true}
+{"done":true}
+{"done":true}
+{"done":true}
+{"done":true}
+{"done":true}
+{"done":true}
+{"done":true}
+{"cells":[11,12,13,14]}
+{"cells":[23,24]}
+{"cells":[0,0,6,7,0,0,9,10,0,0,11,12,0,0,13,14]}
+{"cells":[0,0,23,24]}
+"#;
 
 /// How the answer to a command that memory was refused for ends.
 const REFUSED: &str = ",\"refused\":\"Memory\"}";
@@ -20,11 +35,9 @@ fn push_line(text: &mut Vec<u8>, line: &str) -> Result<(), AllocError> {
 
 fn lines(alloc: Global) -> Result<Vec<u8>, AllocError> {
     let mut text = Vec::new(alloc);
-    push_line(&mut text, CREATE)?;
-    for writing in WRITINGS {
-        push_line(&mut text, writing.line)?;
+    for line in LINES {
+        push_line(&mut text, line.text)?;
     }
-    push_line(&mut text, READ)?;
     Ok(text)
 }
 

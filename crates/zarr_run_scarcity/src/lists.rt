@@ -1,55 +1,40 @@
 //! The script as one list of commands.
 
-use crate::script::{CREATE, READ, WRITINGS, applied_in, command, is_cells, is_untouched};
-use crate::table::{Table, put};
+use crate::script::{LINES, command};
+use crate::tables::Tables;
 use std::alloc::Global;
 use zarr_array_stores::MemoryStore;
 use zarr_run::{Command, Reply, run};
 
-/// The create, the writes and the read, where there is memory for them.
+/// The commands of the lines, where there is memory for them.
 fn commands(alloc: Global) -> Option<Vec<Command>> {
     let mut commands = Vec::new(alloc);
-    commands.push(command(alloc, CREATE)?).ok()?;
-    for writing in WRITINGS {
-        commands.push(command(alloc, writing.line)?).ok()?;
+    for line in LINES {
+        commands.push(command(alloc, line.text)?).ok()?;
     }
-    commands.push(command(alloc, READ)?).ok()?;
     Some(commands)
 }
 
-/// The table after the writes, as their replies say.
-fn table_after(replies: &[Reply]) -> Option<Table> {
-    let mut table: Table = [0; 16];
-    for (writing, reply) in WRITINGS.iter().zip(replies) {
-        put(&mut table, writing.cells, applied_in(reply)?);
+/// Whether the lines are answered as the tables say, which are then as the lines have changed them.
+fn answer(tables: &mut Tables, replies: &[Reply]) -> bool {
+    for (line, reply) in LINES.iter().zip(replies) {
+        if !tables.answer(*line, reply) {
+            return false;
+        }
     }
-    Some(table)
+    replies.len() == LINES.len()
 }
 
-/// Whether the replies to the writes and to the read agree.
-fn agree(replies: &[Reply]) -> bool {
-    let Some((read, writes)) = replies.split_last() else {
-        return false;
-    };
-    match table_after(writes) {
-        Some(table) => writes.len() == WRITINGS.len()
-            && (is_cells(read, &table) || is_untouched(read)),
-        None => false,
-    }
-}
-
-/// Whether the list answers as stated. Where the array was not made for want of memory, nothing more is asked; and where room
-/// for the replies is refused, the store comes back empty.
+/// Whether the list answers as stated. Where room for the replies is refused, the store comes back empty.
 pub(crate) fn run_as_stated(alloc: Global) -> bool {
     let Some(commands) = commands(alloc) else {
         return true;
     };
+    let mut tables = Tables::new();
     match run(alloc, MemoryStore::new(alloc), commands.as_slice()) {
-        Ok((replies, _)) => match replies.split_first() {
-            Some((Reply::Done, others)) => agree(others),
-            Some((created, _)) => is_untouched(created),
-            None => false,
-        },
+        Ok((replies, store)) => {
+            answer(&mut tables, replies.as_slice()) && tables.agree_with(&store)
+        }
         Err(refusal) => refusal.storage.is_empty(),
     }
 }

@@ -9,7 +9,7 @@ mod lines;
 mod lists;
 mod script;
 mod steps;
-mod table;
+mod tables;
 
 use std::alloc::Global;
 use std::io::{Read, Write};

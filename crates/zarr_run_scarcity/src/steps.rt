@@ -1,63 +1,89 @@
 //! The script, step by step.
 
-use crate::script::{
-    CREATE, READ, WRITINGS, Writing, applied_in, command, is_cells, is_done, is_untouched,
-};
-use crate::table::{Table, put};
+use crate::script::{LINES, Line, READ_ROW, READ_SQUARE, command, is_short};
+use crate::tables::Tables;
 use std::alloc::Global;
 use zarr_array_stores::MemoryStore;
 use zarr_run::{Command, Reply, Session};
 
-/// Runs a command, and once more where memory was refused and nothing was applied.
-pub(crate) fn step_twice(session: &mut Session, command: &Command) -> Reply {
+/// The commands that read all cells of both arrays.
+#[derive(Drop)]
+struct Reads {
+    square: Command,
+    row: Command,
+}
+
+/// Runs a command, and once more where memory was refused.
+fn step_twice(session: &mut Session, command: &Command) -> Reply {
     let reply = session.step(command);
-    if is_untouched(&reply) {
+    if is_short(&reply) {
         session.step(command)
     } else {
         reply
     }
 }
 
-/// Whether a write changes the table just as it says, and then again where it was refused.
-fn writes_as_stated(
+/// Whether a line that reads is answered as the tables say, where it may ask twice.
+fn reads_as_stated(
     session: &mut Session,
-    table: &mut Table,
-    write: &Command,
-    read: &Command,
-    writing: Writing,
+    tables: &mut Tables,
+    line: Line,
+    command: &Command,
 ) -> bool {
-    let wrote = session.step(write);
-    let Some(applied) = applied_in(&wrote) else {
-        return false;
-    };
-    put(table, writing.cells, applied);
-    if !is_cells(&step_twice(session, read), table) {
-        return false;
-    }
-    let again = step_twice(session, write);
-    put(table, writing.cells, u64::MAX);
-    is_done(&again) || is_done(&wrote)
+    let reply = step_twice(session, command);
+    !is_short(&reply) && tables.answer(line, &reply)
 }
 
-/// Whether a session that holds the array writes as it says.
-fn all_write(alloc: Global, session: &mut Session, read: &Command) -> bool {
-    let mut table: Table = [0; 16];
-    for writing in WRITINGS {
-        let Some(write) = command(alloc, writing.line) else {
-            return true;
-        };
-        if !writes_as_stated(session, &mut table, &write, read, writing) {
-            return false;
-        }
+/// Whether a line is answered as the tables say, and both arrays are then read as they say.
+fn answers_as_stated(
+    session: &mut Session,
+    tables: &mut Tables,
+    reads: &Reads,
+    line: Line,
+    reply: &Reply,
+) -> bool {
+    tables.answer(line, reply)
+        && reads_as_stated(session, tables, READ_SQUARE, &reads.square)
+        && reads_as_stated(session, tables, READ_ROW, &reads.row)
+}
+
+/// Whether a line changes the arrays just as it says, and then again where memory was refused.
+fn steps_as_stated(
+    session: &mut Session,
+    tables: &mut Tables,
+    reads: &Reads,
+    line: Line,
+    command: &Command,
+) -> bool {
+    let reply = session.step(command);
+    if !answers_as_stated(session, tables, reads, line, &reply) {
+        return false;
     }
-    is_cells(&step_twice(session, read), &table)
+    if !is_short(&reply) {
+        return true;
+    }
+    let again = session.step(command);
+    !is_short(&again) && answers_as_stated(session, tables, reads, line, &again)
 }
 
 /// Whether each step answers as stated.
 pub(crate) fn run_as_stated(alloc: Global) -> bool {
-    let (Some(create), Some(read)) = (command(alloc, CREATE), command(alloc, READ)) else {
+    let (Some(square), Some(row)) = (
+        command(alloc, READ_SQUARE.text),
+        command(alloc, READ_ROW.text),
+    ) else {
         return true;
     };
+    let reads = Reads { square, row };
     let mut session = Session::new(alloc, MemoryStore::new(alloc));
-    is_done(&step_twice(&mut session, &create)) && all_write(alloc, &mut session, &read)
+    let mut tables = Tables::new();
+    for line in LINES {
+        let Some(command) = command(alloc, line.text) else {
+            return true;
+        };
+        if !steps_as_stated(&mut session, &mut tables, &reads, line, &command) {
+            return false;
+        }
+    }
+    tables.agree_with(&session.close())
 }

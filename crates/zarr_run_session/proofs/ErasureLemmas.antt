@@ -20,10 +20,10 @@ use Rattle.zarr_run_model.specs.Worlds.{Held, World, held_at}
 use Rattle.zarr_run_model.specs.Steps.{Step, EraseRefuses, HasTooLargeChunk}
 use Rattle.zarr_run_model.specs.declared.cause.Cause.TheVariants as cause
 use Rattle.zarr_run_model.proofs.TableLemmas.{last_at, cell-updated, last_at-changes}
-use Rattle.zarr_run_session.specs.Sessions.{Keeps, held_with, IsTableOf}
+use Rattle.zarr_run_session.specs.Sessions.{held_with, IsTableOf}
 use Rattle.zarr_run_session.specs.declared.held.HeldArray.{HeldArray}
 use Rattle.zarr_run_session.proofs.BoxLemmas.{large, too_large}
-use Rattle.zarr_run_session.proofs.StepLemmas.{held_at-here, with_table-here, keeps_table}
+use Rattle.zarr_run_session.proofs.StepLemmas.{held_at-here, with_table-here}
 
 -- ---- the fill value at the places of one chunk
 fill_zip : (fill : Cell) (ps : List (List ℕ)) → map (λ p. (p, fill)) ps ≡ zip ps (replicate (length ps) fill)
@@ -95,10 +95,10 @@ table_after_erasure array chunks old new table small erased t =
 
 pub erase_done : (array : HeldArray) (old new : StoreMap) (chunks : Region) (table : Table) → array.document.fill_value < 256 → AreBelow (meaning_of array.document).grid chunks → (HasTooLargeChunk (meaning_of array.document) chunks → ⊥)
     → ErasedChunks (string_bytes array.path) (meaning_of array.document) (places chunks.start chunks.shape) old new → IsTableOf array old table
-    → (after : World) × Step (held_with array table ∷ []) (erase (string_bytes array.path) chunks) done after × Keeps (Some array) new after
+    → (after : Table) × Step (held_with array table ∷ []) (erase (string_bytes array.path) chunks) done (held_with array after ∷ []) × IsTableOf array new after
 erase_done array old new chunks table small below fits erased t =
     let next = updated (meaning_of array.document).fill table (fills (meaning_of array.document).grid (meaning_of array.document).fill (places chunks.start chunks.shape)) in (
-      held_with array next ∷ [],
+      next,
       record {
         node = array.node;
         held = held_with array table;
@@ -107,17 +107,17 @@ erase_done array old new chunks table small below fits erased t =
         fits = fits;
         updates = sym (with_table-here array table next);
       },
-      keeps_table array new next (table_after_erasure array (places chunks.start chunks.shape) old new table small erased t),
+      table_after_erasure array (places chunks.start chunks.shape) old new table small erased t,
     )
 
 -- an erasure that stopped for want of memory
 pub erase_stopped : (array : HeldArray) (old new : StoreMap) (chunks : Region) (n : ℕ) (table : Table) → array.document.fill_value < 256 → AreBelow (meaning_of array.document).grid chunks → n < product chunks.shape
     → ErasedChunks (string_bytes array.path) (meaning_of array.document) (take n (places chunks.start chunks.shape)) old new → IsTableOf array old table
-    → (after : World) × Step (held_with array table ∷ []) (erase (string_bytes array.path) chunks) (refused cause.Memory n) after × Keeps (Some array) new after
+    → (after : Table) × Step (held_with array table ∷ []) (erase (string_bytes array.path) chunks) (refused cause.Memory n) (held_with array after ∷ []) × IsTableOf array new after
 erase_stopped array old new chunks n table small below fewer erased t =
     let first = take n (places chunks.start chunks.shape) in
     let next = updated (meaning_of array.document).fill table (fills (meaning_of array.document).grid (meaning_of array.document).fill first) in (
-      held_with array next ∷ [],
+      next,
       (
         tt,
         inr (record {
@@ -128,21 +128,21 @@ erase_stopped array old new chunks n table small below fewer erased t =
           updates = sym (with_table-here array table next);
         }),
       ),
-      keeps_table array new next (table_after_erasure array first old new table small erased t),
+      table_after_erasure array first old new table small erased t,
     )
 
 -- ---- an erasure that is refused
 pub erase_not_below : (array : HeldArray) (store : StoreMap) (chunks : Region) (table : Table) → (AreBelow (meaning_of array.document).grid chunks → ⊥) → IsTableOf array store table
-    → (after : World) × Step (held_with array table ∷ []) (erase (string_bytes array.path) chunks) (refused cause.Region 0) after × Keeps (Some array) store after
+    → (after : Table) × Step (held_with array table ∷ []) (erase (string_bytes array.path) chunks) (refused cause.Region 0) (held_with array after ∷ []) × IsTableOf array store after
 erase_not_below array store chunks table h t =
     let P : Option Held → Type 0 = λ o. EraseRefuses o chunks cause.Region in
-    (held_with array table ∷ [], ((array.node, subst P (sym (held_at-here array table)) h), inl (refl, refl)), keeps_table array store table t)
+    (table, ((array.node, subst P (sym (held_at-here array table)) h), inl (refl, refl)), t)
 
 pub erase_too_large : (array : HeldArray) (store : StoreMap) (chunks : Region) (table : Table) → AreBelow (meaning_of array.document).grid chunks → HasTooLargeChunk (meaning_of array.document) chunks → IsTableOf array store table
-    → (after : World) × Step (held_with array table ∷ []) (erase (string_bytes array.path) chunks) (refused cause.Size 0) after × Keeps (Some array) store after
+    → (after : Table) × Step (held_with array table ∷ []) (erase (string_bytes array.path) chunks) (refused cause.Size 0) (held_with array after ∷ []) × IsTableOf array store after
 erase_too_large array store chunks table below h t =
     let P : Option Held → Type 0 = λ o. EraseRefuses o chunks cause.Size in
-    (held_with array table ∷ [], ((array.node, subst P (sym (held_at-here array table)) (below, h)), inl (refl, refl)), keeps_table array store table t)
+    (table, ((array.node, subst P (sym (held_at-here array table)) (below, h)), inl (refl, refl)), t)
 
 pub no_array_erase : (w : World) (path : List ℕ) (chunks : Region) → is_node_path path ≡ true → held_at path w ≡ None → Step w (erase path chunks) (refused cause.NoArray 0) w
 no_array_erase w path chunks node none = let P : Option Held → Type 0 = λ o. EraseRefuses o chunks cause.NoArray in ((node, subst P (sym none) tt), inl (refl, refl))

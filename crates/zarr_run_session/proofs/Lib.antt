@@ -1,5 +1,15 @@
+pub mod ArrayLemmas
 pub mod BoxLemmas
-pub mod StepLemmas
+pub mod CreationLemmas
 pub mod ErasureLemmas
-pub mod CreateLemmas
+pub mod FrameLemmas
+pub mod HeldLemmas
+pub mod HoldsLemmas
+pub mod KeyLemmas
+pub mod LiftLemmas
+pub mod ReopeningLemmas
 pub mod RunLemmas
+pub mod SessionLemmas
+pub mod StepLemmas
+pub mod TakenLemmas
+pub mod WorldLemmas

@@ -1,7 +1,6 @@
 -- A run goes on by one step.
-use Rattle.std.proofs.Common.{ℕ, List, [], ◌∷◌, ◌++◌, ◌+◌, ◌<◌, map, take, length, get_or, subst, refl, Option, Some, None}
+use Rattle.std.proofs.Common.{ℕ, List, [], ◌∷◌, ◌++◌, ◌+◌, ◌<◌, map, take, length, get_or, subst, refl}
 use Rattle.std.proofs.lemmas.List.{take_more, map-append}
-use Rattle.zarr_array_stores.specs.StoreMaps.{StoreMap}
 use Rattle.zarr_run_model.specs.Requests.{Request, Answer}
 use Rattle.zarr_run_model.specs.Worlds.{World}
 use Rattle.zarr_run_model.specs.Steps.{Step}
@@ -9,8 +8,6 @@ use Rattle.zarr_run_model.specs.Runs.{Run}
 use Rattle.zarr_run_commands.specs.Commands.{asked, answered}
 use Rattle.zarr_run_commands.specs.declared.command.Command.{Command}
 use Rattle.zarr_run_commands.specs.declared.command.Reply.{Reply}
-use Rattle.zarr_run_session.specs.Sessions.{Keeps, AllStand}
-use Rattle.zarr_run_session.specs.declared.held.HeldArray.{HeldArray}
 
 pub run-more : (old mid new : World) (rs : List Request) (answers : List Answer) (r : Request) (a : Answer) → Run old rs answers mid → Step mid r a new → Run old (rs ++ r ∷ []) (answers ++ a ∷ []) new
 run-more old mid new [] [] r a e s = (new, let P : World → Type 0 = λ w. Step w r a new in subst P e s, refl)
@@ -23,10 +20,3 @@ pub run-take : (old mid new : World) (cs : List Command) (i : ℕ) (d : Command)
     → Run old (map asked (take (i + 1) cs)) (map answered (rs ++ r ∷ [])) new
 run-take old mid new cs i d rs r h ran s =
     rw (take_more cs i d h, map-append asked (take i cs) (get_or cs i d ∷ []), map-append answered rs (r ∷ [])) (run-more old mid new (map asked (take i cs)) (map answered rs) (asked (get_or cs i d)) (answered r) ran s)
-
-pub all_stand : (a : Option HeldArray) (store : StoreMap) (w : World) → Keeps a store w → AllStand w store
-all_stand None store [] k = tt
-all_stand None store (h ∷ w) k = absurd k
-all_stand (Some a) store [] k = tt
-all_stand (Some a) store (h ∷ []) k = (k.stands, tt)
-all_stand (Some a) store (h ∷ g ∷ w) k = absurd k

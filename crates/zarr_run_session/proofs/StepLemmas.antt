@@ -12,7 +12,6 @@ use Rattle.zarr_codecs_cells.specs.Cells.{Cell, uint8, is_value, fixed}
 use Rattle.zarr_codecs_cells.specs.Json.{GivenCells, given_in}
 use Rattle.zarr_codecs_cells.specs.declared.options.CodecOptions.{CodecOptions}
 use Rattle.zarr_codecs_chain.specs.Chain.{bytes, encoded}
-use Rattle.zarr_array_documents.specs.Documents.{Document}
 use Rattle.zarr_array_documents.specs.Meanings.{meaning_of}
 use Rattle.zarr_array_stores.specs.StoreMaps.{StoreMap}
 use Rattle.zarr_run_array.specs.Contents.{AreValues, ReadsBox, HasDamage, WroteChunks}
@@ -21,15 +20,15 @@ use Rattle.zarr_run_array.proofs.ChunkWrites.{stands_same, with_chunks-values, w
 use Rattle.zarr_run_array.proofs.ChunkReads.{wrong_length}
 use Rattle.zarr_run_model.specs.Changes.{cell_of_box, with_chunks}
 use Rattle.zarr_run_model.specs.Tables.{Table, cell, updated, changes, changes_in}
-use Rattle.zarr_run_model.specs.Requests.{Target, in_box, in_chunk, Request, write, read, Answer, done, cells, refused}
-use Rattle.zarr_run_model.specs.Worlds.{Held, World, StoreStands, held_at, with_table}
+use Rattle.zarr_run_model.specs.Requests.{Target, in_box, in_chunk, write, read, done, cells, refused}
+use Rattle.zarr_run_model.specs.Worlds.{Held, World, held_at, with_table}
 use Rattle.zarr_run_model.specs.Steps.{IsTarget, Step, MayRefuse, HasTooLarge, WriteRefuses, ReadRefuses}
 use Rattle.zarr_run_model.specs.declared.cause.Cause.{Cause}
 use Rattle.zarr_run_model.specs.declared.cause.Cause.TheVariants as cause
 use Rattle.zarr_run_model.proofs.TableLemmas.{cell-chunks, cell-box, cells_of_box, value_at}
 use Rattle.zarr_run_session.specs.Boxes.{WroteBox, WroteFirst, BytesRefused, ChunkRefused, ReadRefused}
 use Rattle.zarr_run_session.specs.Given.{one_byte_cells}
-use Rattle.zarr_run_session.specs.Sessions.{Keeps, held_with, IsTableOf}
+use Rattle.zarr_run_session.specs.Sessions.{held_with, IsTableOf}
 use Rattle.zarr_run_session.specs.declared.held.HeldArray.{HeldArray}
 
 -- ---- cells of one byte
@@ -68,22 +67,6 @@ held_at-here array table = ap (λ b. if b then Some (held_with array table) else
 pub with_table-here : (array : HeldArray) (table next : Table) → with_table (string_bytes array.path) next (held_with array table ∷ []) ≡ held_with array next ∷ []
 with_table-here array table next = ap (λ b. if b then (let hs : World = held_with array next ∷ [] in hs) else held_with array table ∷ []) (found_here array table)
 
-pub keeps_table : (array : HeldArray) (store : StoreMap) (table : Table) → IsTableOf array store table → Keeps (Some array) store (held_with array table ∷ [])
-keeps_table array store table t = record { path = refl; document = refl; order = refl; values = t.values; stands = t.stands }
-
--- a world that a session with an array is in
-pub in_world : (Q : World → Type 0) (a : Option HeldArray) (array : HeldArray) (store : StoreMap) (w : World) → a ≡ Some array → Keeps a store w → ((table : Table) → IsTableOf array store table → Q (held_with array table ∷ [])) → Q w
-in_world Q a array store w e k f = let P : Option HeldArray → Type 0 = λ o. Keeps o store w in go w (subst P e k) where
-  go : (w : World) → Keeps (Some array) store w → Q w
-  go [] k = absurd k
-  go (h ∷ g ∷ hs) k = absurd k
-  go (h ∷ []) k =
-      let same : h ≡ held_with array h.table = λ i. record { path = k.path i; document = k.document i; order = k.order i; table = h.table } in
-      let T : Document → Type 0 = λ d. (p : List ℕ) → is_value d.type (cell d.fill h.table p) ≡ true in
-      let S : Held → Type 0 = λ x. StoreStands x.path x.document store (cell x.document.fill h.table) in
-      let R : Held → Type 0 = λ x. Q (x ∷ []) in
-      subst R (sym same) (f h.table (record { values = subst T k.document k.values; stands = subst S same k.stands }))
-
 -- ---- the table after a write
 pub table_after : (array : HeldArray) (region : Region) (bs : List ℕ) (s : Bool) (old new : StoreMap) (table : Table) → length region.start ≡ length region.shape → list_all (is_value uint8) (one_byte_cells bs) ≡ true → length bs ≡ product region.shape
     → WroteBox (string_bytes array.path) (meaning_of array.document) region bs s old new → IsTableOf array old table
@@ -120,10 +103,10 @@ no_damage array region store table t d = d.wrong (wrong_length (string_bytes arr
 -- ---- a write that is done
 pub write_done : (array : HeldArray) (old new : StoreMap) (region : Region) (g : GivenCells) (bs : List ℕ) (options : CodecOptions) (s : Bool) (table : Table) → (HasTooLarge (meaning_of array.document) region → ⊥) → length region.start ≡ length region.shape → (target : Target) → IsTarget (meaning_of array.document).grid target region
     → given_in uint8 g ≡ Some (one_byte_cells bs) → list_all (is_value uint8) (one_byte_cells bs) ≡ true → length bs ≡ product region.shape → WroteBox (string_bytes array.path) (meaning_of array.document) region bs s old new → IsTableOf array old table
-    → (after : World) × Step (held_with array table ∷ []) (write (string_bytes array.path) target g options) done after × Keeps (Some array) new after
+    → (after : Table) × Step (held_with array table ∷ []) (write (string_bytes array.path) target g options) done (held_with array after ∷ []) × IsTableOf array new after
 write_done array old new region g bs options s table fits l target means is v n wrote t =
     let next = updated (meaning_of array.document).fill table (changes region (one_byte_cells bs)) in (
-      held_with array next ∷ [],
+      next,
       record {
         node = array.node;
         held = held_with array table;
@@ -135,7 +118,7 @@ write_done array old new region g bs options s table fits l target means is v n 
         fits = fits;
         updates = sym (with_table-here array table next);
       },
-      keeps_table array new next (table_after array region bs s old new table l v n wrote t),
+      table_after array region bs s old new table l v n wrote t,
     )
 
 -- ---- a write that is refused
@@ -188,15 +171,15 @@ table_kept array region bs s old new table l v first t = ⊎_elim sized (λ e. o
 pub write_refused : (array : HeldArray) (old new : StoreMap) (region : Region) (g : GivenCells) (bs : List ℕ) (options : CodecOptions) (s : Bool) (c : Cause) (n : ℕ) (table : Table) → length region.start ≡ length region.shape → (target : Target) → IsTarget (meaning_of array.document).grid target region
     → given_in uint8 g ≡ Some (one_byte_cells bs) → list_all (is_value uint8) (one_byte_cells bs) ≡ true → WroteFirst (string_bytes array.path) (meaning_of array.document) region bs s n old new
     → BytesRefused (string_bytes array.path) (meaning_of array.document) region bs new c → IsTableOf array old table
-    → (after : World) × Step (held_with array table ∷ []) (write (string_bytes array.path) target g options) (refused c n) after × Keeps (Some array) new after
+    → (after : Table) × Step (held_with array table ∷ []) (write (string_bytes array.path) target g options) (refused c n) (held_with array after ∷ []) × IsTableOf array new after
 write_refused array old new region g bs options s c zero table l target means is v first why t =
     let none = table_kept array region bs s old new table l v first t in
-    (held_with array table ∷ [], (write_cause array region g bs options table table new c target means is none why, inl (refl, refl)), keeps_table array new table none)
+    (table, (write_cause array region g bs options table table new c target means is none why, inl (refl, refl)), none)
 write_refused array old new region g bs options s c (suc m) table l target means is v first why t =
     let some : suc m ≢ 0 = λ e. absurd (cc e) in
     let next = updated (meaning_of array.document).fill table (changes_in (meaning_of array.document).grid (take (suc m) (met (meaning_of array.document).grid region)) (changes region (one_byte_cells bs))) in
     let after = table_after_some array region bs s (suc m) old new table l v (first.sized some) first.wrote t in (
-      held_with array next ∷ [],
+      next,
       (
         write_cause array region g bs options table next new c target means is after why,
         inr (record {
@@ -210,14 +193,14 @@ write_refused array old new region g bs options s c (suc m) table l target means
           updates = sym (with_table-here array table next);
         }),
       ),
-      keeps_table array new next after,
+      after,
     )
 
 -- cells that are no values of the type
 pub given_refused : (array : HeldArray) (store : StoreMap) (region : Region) (g : GivenCells) (options : CodecOptions) (c : Cause) (table : Table) → (target : Target) → IsTarget (meaning_of array.document).grid target region
     → (c ≢ cause.Memory → c ≡ cause.Data) → (c ≢ cause.Memory → given_in uint8 g ≡ None) → IsTableOf array store table
-    → (after : World) × Step (held_with array table ∷ []) (write (string_bytes array.path) target g options) (refused c 0) after × Keeps (Some array) store after
-given_refused array store region g options c table target means why none t = (held_with array table ∷ [], (may c why none, inl (refl, refl)), keeps_table array store table t) where
+    → (after : Table) × Step (held_with array table ∷ []) (write (string_bytes array.path) target g options) (refused c 0) (held_with array after ∷ []) × IsTableOf array store after
+given_refused array store region g options c table target means why none t = (table, (may c why none, inl (refl, refl)), t) where
   data_cause : given_in uint8 g ≡ None → WriteRefuses (Some (held_with array table)) target g cause.Data
   data_cause n = (region, means, λ cs gives. let e : Some cs ≡ None = sym gives.0 ∙ n in absurd (cc))
 
@@ -249,10 +232,10 @@ cells_of_laid f (p ∷ ps) v = go (f p) (v p) refl (cells_of_laid f ps v) where
 
 pub read_done : (array : HeldArray) (store : StoreMap) (region : Region) (bs : List ℕ) (options : CodecOptions) (table : Table) → (HasTooLarge (meaning_of array.document) region → ⊥) → (target : Target) → IsTarget (meaning_of array.document).grid target region
     → ReadsBox (string_bytes array.path) (meaning_of array.document) region store bs → IsTableOf array store table
-    → (after : World) × Step (held_with array table ∷ []) (read (string_bytes array.path) target options) (cells (fixed bs)) after × Keeps (Some array) store after
+    → (after : Table) × Step (held_with array table ∷ []) (read (string_bytes array.path) target options) (cells (fixed bs)) (held_with array after ∷ []) × IsTableOf array store after
 read_done array store region bs options table fits target means reads t =
     let f = cell (meaning_of array.document).fill table in (
-      held_with array table ∷ [],
+      table,
       (
         record {
           node = array.node;
@@ -265,12 +248,12 @@ read_done array store region bs options table fits target means reads t =
         },
         refl,
       ),
-      keeps_table array store table t,
+      t,
     )
 
 pub read_refused : (array : HeldArray) (store : StoreMap) (region : Region) (options : CodecOptions) (c : Cause) (table : Table) → (target : Target) → IsTarget (meaning_of array.document).grid target region → ReadRefused (string_bytes array.path) (meaning_of array.document) region store c → IsTableOf array store table
-    → (after : World) × Step (held_with array table ∷ []) (read (string_bytes array.path) target options) (refused c 0) after × Keeps (Some array) store after
-read_refused array store region options c table target means why t = (held_with array table ∷ [], (may c why, refl, refl), keeps_table array store table t) where
+    → (after : Table) × Step (held_with array table ∷ []) (read (string_bytes array.path) target options) (refused c 0) (held_with array after ∷ []) × IsTableOf array store after
+read_refused array store region options c table target means why t = (table, (may c why, refl, refl), t) where
   may : (c : Cause) → ReadRefused (string_bytes array.path) (meaning_of array.document) region store c → MayRefuse (held_with array table ∷ []) (read (string_bytes array.path) target options) c
   may cause.Memory why = tt
   may cause.Size why = let P : Option Held → Type 0 = λ o. ReadRefuses o target cause.Size in (array.node, subst P (sym (held_at-here array table)) (region, means, why))
@@ -287,16 +270,6 @@ read_refused array store region options c table target means why t = (held_with 
   may cause.DocumentChanged why = absurd why
 
 -- ---- no array at a path
-pub none_at : (a : Option HeldArray) (store : StoreMap) (w : World) (path : List ℕ) → Keeps a store w → ((other : HeldArray) → a ≡ Some other → string_bytes other.path ≢ path) → held_at path w ≡ None
-none_at None store [] path k h = refl
-none_at None store (x ∷ w) path k h = absurd k
-none_at (Some a) store [] path k h = absurd k
-none_at (Some a) store (x ∷ y ∷ w) path k h = absurd k
-none_at (Some a) store (x ∷ []) path k h = ⊎_elim
-    (λ t. absurd (h a refl (sym k.path ∙ sym ((bytes_eq-Decides path x.path).0 t))))
-    (λ t. ap (λ b. if b then Some x else None) t)
-    (told (bytes_eq path x.path))
-
 pub no_array_read : (w : World) (path : List ℕ) (target : Target) (options : CodecOptions) → is_node_path path ≡ true → held_at path w ≡ None → Step w (read path target options) (refused cause.NoArray 0) w
 no_array_read w path target options node none = let P : Option Held → Type 0 = λ o. ReadRefuses o target cause.NoArray in ((node, subst P (sym none) tt), refl, refl)
 
@@ -305,52 +278,41 @@ no_array_write w path target g options node none = let P : Option Held → Type 
 
 -- a target that has no box
 no_box_write : (array : HeldArray) (store : StoreMap) (target : Target) (g : GivenCells) (options : CodecOptions) (table : Table) → ((box : Region) → IsTarget (meaning_of array.document).grid target box → ⊥) → IsTableOf array store table
-    → (after : World) × Step (held_with array table ∷ []) (write (string_bytes array.path) target g options) (refused cause.Region 0) after × Keeps (Some array) store after
+    → (after : Table) × Step (held_with array table ∷ []) (write (string_bytes array.path) target g options) (refused cause.Region 0) (held_with array after ∷ []) × IsTableOf array store after
 no_box_write array store target g options table h t =
     let P : Option Held → Type 0 = λ o. WriteRefuses o target g cause.Region in
-    (held_with array table ∷ [], ((array.node, subst P (sym (held_at-here array table)) h), inl (refl, refl)), keeps_table array store table t)
+    (table, ((array.node, subst P (sym (held_at-here array table)) h), inl (refl, refl)), t)
 
 no_box_read : (array : HeldArray) (store : StoreMap) (target : Target) (options : CodecOptions) (table : Table) → ((box : Region) → IsTarget (meaning_of array.document).grid target box → ⊥) → IsTableOf array store table
-    → (after : World) × Step (held_with array table ∷ []) (read (string_bytes array.path) target options) (refused cause.Region 0) after × Keeps (Some array) store after
+    → (after : Table) × Step (held_with array table ∷ []) (read (string_bytes array.path) target options) (refused cause.Region 0) (held_with array after ∷ []) × IsTableOf array store after
 no_box_read array store target options table h t =
     let P : Option Held → Type 0 = λ o. ReadRefuses o target cause.Region in
-    (held_with array table ∷ [], ((array.node, subst P (sym (held_at-here array table)) h), refl, refl), keeps_table array store table t)
+    (table, ((array.node, subst P (sym (held_at-here array table)) h), refl, refl), t)
 
 -- a box that isn't covered
 pub uncovered_write : (array : HeldArray) (store : StoreMap) (region : Region) (g : GivenCells) (options : CodecOptions) (table : Table) → (IsCovered (meaning_of array.document).grid region → ⊥) → IsTableOf array store table
-    → (after : World) × Step (held_with array table ∷ []) (write (string_bytes array.path) (in_box region) g options) (refused cause.Region 0) after × Keeps (Some array) store after
+    → (after : Table) × Step (held_with array table ∷ []) (write (string_bytes array.path) (in_box region) g options) (refused cause.Region 0) (held_with array after ∷ []) × IsTableOf array store after
 uncovered_write array store region g options table h t = no_box_write array store (in_box region) g options table (λ box means. h means.1) t
 
 pub uncovered_read : (array : HeldArray) (store : StoreMap) (region : Region) (options : CodecOptions) (table : Table) → (IsCovered (meaning_of array.document).grid region → ⊥) → IsTableOf array store table
-    → (after : World) × Step (held_with array table ∷ []) (read (string_bytes array.path) (in_box region) options) (refused cause.Region 0) after × Keeps (Some array) store after
+    → (after : Table) × Step (held_with array table ∷ []) (read (string_bytes array.path) (in_box region) options) (refused cause.Region 0) (held_with array after ∷ []) × IsTableOf array store after
 uncovered_read array store region options table h t = no_box_read array store (in_box region) options table (λ box means. h means.1) t
 
 -- a chunk that has no box
 pub chunk_write_refused : (array : HeldArray) (store : StoreMap) (chunk : List ℕ) (g : GivenCells) (options : CodecOptions) (c : Cause) (table : Table) → ChunkRefused (meaning_of array.document) chunk c → IsTableOf array store table
-    → (after : World) × Step (held_with array table ∷ []) (write (string_bytes array.path) (in_chunk chunk) g options) (refused c 0) after × Keeps (Some array) store after
+    → (after : Table) × Step (held_with array table ∷ []) (write (string_bytes array.path) (in_chunk chunk) g options) (refused c 0) (held_with array after ∷ []) × IsTableOf array store after
 chunk_write_refused array store chunk g options c table why t =
-    let P : Cause → Type 0 = λ c. (after : World) × Step (held_with array table ∷ []) (write (string_bytes array.path) (in_chunk chunk) g options) (refused c 0) after × Keeps (Some array) store after in
+    let P : Cause → Type 0 = λ c. (after : Table) × Step (held_with array table ∷ []) (write (string_bytes array.path) (in_chunk chunk) g options) (refused c 0) (held_with array after ∷ []) × IsTableOf array store after in
     ⊎_elim
-    (λ e. subst P (sym e) (held_with array table ∷ [], (tt, inl (refl, refl)), keeps_table array store table t))
+    (λ e. subst P (sym e) (table, (tt, inl (refl, refl)), t))
     (λ r. subst P (sym r.0) (no_box_write array store (in_chunk chunk) g options table r.1 t))
     why
 
 pub chunk_read_refused : (array : HeldArray) (store : StoreMap) (chunk : List ℕ) (options : CodecOptions) (c : Cause) (table : Table) → ChunkRefused (meaning_of array.document) chunk c → IsTableOf array store table
-    → (after : World) × Step (held_with array table ∷ []) (read (string_bytes array.path) (in_chunk chunk) options) (refused c 0) after × Keeps (Some array) store after
+    → (after : Table) × Step (held_with array table ∷ []) (read (string_bytes array.path) (in_chunk chunk) options) (refused c 0) (held_with array after ∷ []) × IsTableOf array store after
 chunk_read_refused array store chunk options c table why t =
-    let P : Cause → Type 0 = λ c. (after : World) × Step (held_with array table ∷ []) (read (string_bytes array.path) (in_chunk chunk) options) (refused c 0) after × Keeps (Some array) store after in
+    let P : Cause → Type 0 = λ c. (after : Table) × Step (held_with array table ∷ []) (read (string_bytes array.path) (in_chunk chunk) options) (refused c 0) (held_with array after ∷ []) × IsTableOf array store after in
     ⊎_elim
-    (λ e. subst P (sym e) (held_with array table ∷ [], (tt, refl, refl), keeps_table array store table t))
+    (λ e. subst P (sym e) (table, (tt, refl, refl), t))
     (λ r. subst P (sym r.0) (no_box_read array store (in_chunk chunk) options table r.1 t))
     why
-
--- what holds over an array that is held holds in each world that has it
-pub from_held : (a : Option HeldArray) (array : HeldArray) (old new : StoreMap) (w : World) (path : List ℕ) (request : List ℕ → Request) (answer : Answer) → a ≡ Some array → string_bytes array.path ≡ path → Keeps a old w
-    → ((table : Table) → IsTableOf array old table → (after : World) × Step (held_with array table ∷ []) (request (string_bytes array.path)) answer after × Keeps (Some array) new after)
-    → (after : World) × Step w (request path) answer after × Keeps a new after
-from_held a array old new w path request answer e p k h =
-    in_world (λ w. (after : World) × Step w (request path) answer after × Keeps a new after) a array old w e k (λ table t.
-    let r = h table t in
-    let S : List ℕ → Type 0 = λ q. Step (held_with array table ∷ []) (request q) answer r.0 in
-    let K : Option HeldArray → Type 0 = λ o. Keeps o new r.0 in
-    (r.0, subst S p r.1, subst K (sym e) r.2))

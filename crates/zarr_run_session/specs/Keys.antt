@@ -1,14 +1,21 @@
 -- The keys that a command leaves in the store.
-use Rattle.std.specs.Prelude.{◌≡◌, ◌≢◌, ℕ, List, [], ◌∷◌, take, true, Option, Some, None, string_bytes}
-use Rattle.std.specs.FinMap.{get}
+use Rattle.std.specs.Prelude.{◌≡◌, ◌≢◌, ℕ, List, [], ◌∷◌, take, true, false, IsTrue, Option, Some, None, string_bytes}
+use Rattle.std.specs.FinMap.{get, insert}
+use Rattle.serde_json.specs.Data.{Data}
+use Rattle.serde_json.specs.Read.{read}
 use Rattle.zarr_grids_boxes.specs.Boxes.{places}
 use Rattle.zarr_grids_chunks.specs.Grids.{met}
-use Rattle.zarr_grids_keys.specs.Keys.{chunk_key}
+use Rattle.zarr_grids_keys.specs.Documents.{document_key}
+use Rattle.zarr_grids_keys.specs.Keys.{chunk_key, key_below}
+use Rattle.zarr_grids_keys.specs.Paths.{is_node_path}
+use Rattle.zarr_grids_keys.specs.Related.{is_related}
+use Rattle.zarr_grids_keys.specs.declared.document_name.DocumentName.TheVariants.{ZarrJson}
 use Rattle.zarr_codecs_cells.specs.declared.options.CodecOptions.{CodecOptions}
 use Rattle.zarr_array_documents.specs.Meanings.{meaning_of}
+use Rattle.zarr_array_documents.specs.Written.{written_document}
 use Rattle.zarr_array_stores.specs.StoreMaps.{StoreMap}
 use Rattle.zarr_run_array.specs.Contents.{HasKeys, is_listed}
-use Rattle.zarr_run_model.specs.Requests.{Target, in_box, in_chunk, Request, write, erase, Answer, done, cells, refused}
+use Rattle.zarr_run_model.specs.Requests.{Target, in_box, in_chunk, Request, create, write, erase, Answer, done, cells, refused}
 use Rattle.zarr_run_session.specs.declared.held.HeldArray.{HeldArray}
 
 -- the chunks that share a place with what a write means
@@ -36,8 +43,19 @@ pub record ErasedKeys (array : HeldArray) (chunks : List (List ℕ)) (answer : A
   pub gone : (chunk : List ℕ) → is_listed (changed chunks answer) chunk ≡ true → get new (chunk_key (string_bytes array.path) (meaning_of array.document).keys chunk) ≡ None
   pub others : KeepsOthers array (changed chunks answer) old new
 
--- a write or an erasure of an array that is held changes the keys of the chunks that it wrote or erased; any other command leaves the store as it was
+-- the document that is written for a tree stands under its key; no other key changed
+pub record WroteDocument (path : List ℕ) (document : Data) (old new : StoreMap) : Type 0 where
+  pub text : List ℕ
+  pub reads : read text ≡ Some (written_document document)
+  pub is : new ≡ insert old (document_key path ZarrJson) text
+
+-- a create that is done writes the document; a write or an erasure of an array that is held changes the keys of the chunks that it wrote or erased; any other command leaves the store as it was
 abbrev pub LeavesKeys : Option HeldArray → Request → Answer → StoreMap → StoreMap → Type 0
+LeavesKeys found (create path document order) done old new = WroteDocument path document old new
 LeavesKeys (Some array) (write path target given options) answer old new = WroteKeys array (meant array target) options answer old new
 LeavesKeys (Some array) (erase path chunks) answer old new = ErasedKeys array (places chunks.start chunks.shape) answer old new
-LeavesKeys array request answer old new = new ≡ old
+LeavesKeys found request answer old new = new ≡ old
+
+-- no key below a path that is unrelated to this one changed
+abbrev pub LeavesUnrelated : List ℕ → StoreMap → StoreMap → Type 0
+LeavesUnrelated path old new = (other name : List ℕ) → IsTrue (is_node_path path) → IsTrue (is_node_path other) → is_related path other ≡ false → get new (key_below other name) ≡ get old (key_below other name)

@@ -1,5 +1,11 @@
 pub mod Boxes
 pub mod Causes
+pub mod Creations
 pub mod Given
 pub mod Keys
+pub mod Openings
+pub mod Placed
+pub mod Related
+pub mod Reopenings
+pub mod Replies
 pub mod Sessions

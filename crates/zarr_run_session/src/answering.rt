@@ -1,5 +1,5 @@
 //! Replies over one array that is held: writes.
-ghost use Rattle.std.specs.Prelude.{◌≡◌, ◌≢◌, [], ◌∷◌, Some, IfSome, IfNone, string_bytes};
+ghost use Rattle.std.specs.Prelude.{◌≡◌, [], ◌∷◌, Some, string_bytes};
 ghost use Rattle.zarr_grids_boxes.specs.Subsets.{region_of};
 ghost use Rattle.zarr_grids_chunks.specs.Grids.{IsCovered, met};
 ghost use Rattle.zarr_codecs_cells.specs.Cells.{uint8, fixed};
@@ -12,7 +12,6 @@ ghost use Rattle.zarr_run_commands.specs.Commands.{given, payload_of, answered};
 ghost use Rattle.zarr_run_session.specs.Given.{one_byte_cells};
 ghost use Rattle.zarr_run_session.specs.Keys.{WroteKeys};
 ghost use Rattle.zarr_run_session.specs.Sessions.{StepsHeld};
-ghost use Rattle.zarr_run_session.specs.declared.held.HeldArray.{HeldArray};
 
 use crate::boxes::{chunk_region, is_covered, write_cells};
 use crate::cells::json_bytes;
@@ -29,23 +28,6 @@ pub(crate) fn refused(cause: Cause) -> Reply
     ensures { answered result ≡ ask.refused cause 0 }
 {
     Reply::Refused { cause, applied: 0 }
-}
-
-/// The array that is held at a path.
-pub(crate) fn held_at<'a>(array: &'a Option<HeldArray>, path: &str) -> Option<&'a HeldArray>
-    ensures some { IfSome result (λ found. (array.now ≡ Some found.now) × (string_bytes found.now.path ≡ path.now)) }
-    ensures none { IfNone result ((other : HeldArray) → array.now ≡ Some other → string_bytes other.path ≢ path.now) }
-{
-    match array {
-        Some(held) => {
-            if held.path.as_str() == path {
-                Some(held)
-            } else {
-                None
-            }
-        }
-        None => None,
-    }
 }
 
 /// Writes the cells of a box.

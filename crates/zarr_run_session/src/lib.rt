@@ -2,12 +2,17 @@
 #![tactic(auto)]
 
 mod answering;
+mod arrays;
+mod at_path;
 mod boxes;
 mod cause;
 mod cells;
+mod creating;
 mod erasing;
 mod held;
 mod reading;
+mod reopening;
+mod replies;
 mod runs;
 pub mod session;
 

@@ -1,8 +1,8 @@
 //! Boxes that are written and read, and what is stored then.
 
 use crate::tests::support::{
-    Bench, STORING_EMPTY, array_of_zeros, create, is_cells, is_done, is_refused, read_box,
-    write_box, write_bytes,
+    Bench, STORING_EMPTY, array_of_zeros, create, has_keys, is_cells, is_done, is_refused,
+    read_box, write_box, write_bytes,
 };
 use crate::{Cause, Session, run};
 use std::test::Fail;
@@ -10,6 +10,9 @@ use zarr_array_stores::MemoryStore;
 use zarr_codecs_cells::CodecOptions;
 
 const MIDDLE: [(u64, u64); 2] = [(1, 3), (1, 3)];
+
+/// The keys of an array of 4 by 4 at `/a` with all its chunks.
+const ALL_KEYS: [&str; 5] = ["a/c/0/0", "a/c/0/1", "a/c/1/0", "a/c/1/1", "a/zarr.json"];
 
 #[test]
 fn writes_then_reads(rt: HostRuntime) -> Result<(), Fail> {
@@ -22,7 +25,7 @@ fn writes_then_reads(rt: HostRuntime) -> Result<(), Fail> {
     let outside = bench.write(&[(3, 5), (0, 1)], "[1,2]")?;
     assert!(rt; is_refused(&outside, Cause::Region, 0));
     let store = bench.close();
-    assert_eq!(rt; store.len(), 4);
+    assert!(rt; has_keys(&store, &ALL_KEYS)?);
     assert!(rt; store.get("a/c/0/0") == Some([0u8, 0, 0, 1].as_slice()));
     assert!(rt; store.get("a/c/0/1") == Some([0u8, 0, 2, 0].as_slice()));
     assert!(rt; store.get("a/c/1/0") == Some([0u8, 3, 0, 0].as_slice()));
@@ -39,7 +42,7 @@ fn erases_chunks_of_fill_values(rt: HostRuntime) -> Result<(), Fail> {
     let cleared = bench.write(&MIDDLE, "[0,0,0,0]")?;
     assert!(rt; is_done(&cleared));
     let store = bench.close();
-    assert!(rt; store.is_empty());
+    assert!(rt; has_keys(&store, &["a/zarr.json"])?);
     Ok(())
 }
 
@@ -52,7 +55,7 @@ fn stores_chunks_of_fill_values(rt: HostRuntime) -> Result<(), Fail> {
     let cleared = bench.write_bytes(&MIDDLE, &[0, 0, 0, 0], STORING_EMPTY)?;
     assert!(rt; is_done(&cleared));
     let store = bench.close();
-    assert_eq!(rt; store.len(), 4);
+    assert!(rt; has_keys(&store, &ALL_KEYS)?);
     for key in ["a/c/0/0", "a/c/0/1", "a/c/1/0", "a/c/1/1"] {
         assert!(rt;
             store.get(key) == Some([0u8, 0, 0, 0].as_slice()),
@@ -72,7 +75,7 @@ fn touches_nothing_in_empty_boxes(rt: HostRuntime) -> Result<(), Fail> {
     assert!(rt; is_cells(&read, &[]));
     let stored = bench.write_bytes(&[(2, 2), (0, 4)], &[], STORING_EMPTY)?;
     assert!(rt; is_done(&stored));
-    assert!(rt; bench.close().is_empty());
+    assert!(rt; has_keys(&bench.close(), &["a/zarr.json"])?);
     Ok(())
 }
 
@@ -94,7 +97,7 @@ fn holds_one_cell_in_no_dimension(rt: HostRuntime) -> Result<(), Fail> {
     let read = bench.read(&[])?;
     assert!(rt; is_cells(&read, &[7]));
     let store = bench.close();
-    assert_eq!(rt; store.len(), 1);
+    assert!(rt; has_keys(&store, &["a/c", "a/zarr.json"])?);
     assert!(rt; store.get("a/c") == Some([7u8].as_slice()));
     Ok(())
 }
@@ -112,7 +115,7 @@ fn fills_absent_cells(rt: HostRuntime) -> Result<(), Fail> {
     let whole = bench.write(&[(2, 4), (2, 4)], "[9,9,9,9]")?;
     assert!(rt; is_done(&whole));
     let store = bench.close();
-    assert_eq!(rt; store.len(), 1);
+    assert!(rt; has_keys(&store, &["a/c/0/0", "a/zarr.json"])?);
     assert!(rt; store.get("a/c/0/0") == Some([9u8, 9, 1, 9].as_slice()));
     Ok(())
 }
@@ -128,7 +131,7 @@ fn keys_chunks_at_the_root(rt: HostRuntime) -> Result<(), Fail> {
     let read = session.step(&read_box(alloc, "/", &MIDDLE)?);
     assert!(rt; is_cells(&read, &[1, 2, 3, 4]));
     let store = session.close();
-    assert_eq!(rt; store.len(), 4);
+    assert!(rt; has_keys(&store, &["c/0/0", "c/0/1", "c/1/0", "c/1/1", "zarr.json"])?);
     assert!(rt; store.get("c/0/0") == Some([0u8, 0, 0, 1].as_slice()));
     assert!(rt; store.get("c/0/1") == Some([0u8, 0, 2, 0].as_slice()));
     assert!(rt; store.get("c/1/0") == Some([0u8, 3, 0, 0].as_slice()));
@@ -167,6 +170,6 @@ fn runs_commands_in_order(rt: HostRuntime) -> Result<(), Fail> {
     assert!(rt; is_done(&replies[1]));
     assert!(rt; is_cells(&replies[2], &[0, 0, 1, 2, 3, 4, 0, 0]));
     assert!(rt; is_refused(&replies[3], Cause::Region, 0));
-    assert_eq!(rt; store.len(), 4);
+    assert!(rt; has_keys(&store, &ALL_KEYS)?);
     Ok(())
 }

@@ -1,7 +1,7 @@
 //! Arrays and chunks of the greatest sizes.
 
 use crate::Cause;
-use crate::tests::support::{Bench, is_cells, is_done, is_refused};
+use crate::tests::support::{Bench, has_keys, is_cells, is_done, is_refused};
 use std::test::Fail;
 
 const LONGEST: &str = "[18446744073709551615]";
@@ -29,7 +29,7 @@ fn refuses_chunks_of_too_many_cells(rt: HostRuntime) -> Result<(), Fail> {
     assert!(rt; is_done(&empty));
     let none = bench.read(&[(0, 0)])?;
     assert!(rt; is_cells(&none, &[]));
-    assert!(rt; bench.close().is_empty());
+    assert!(rt; has_keys(&bench.close(), &["a/zarr.json"])?);
     Ok(())
 }
 

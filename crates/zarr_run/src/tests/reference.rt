@@ -1,9 +1,12 @@
-//! Sessions beside a plain table of cells.
+//! A session beside plain tables of cells.
 
-use crate::Cause;
-use crate::tests::support::{Bench, Unmade, is_cells, is_done, is_refused};
+use crate::tests::support::{
+    Fields, Unmade, ZEROS, create, is_cells, is_done, is_refused, read_box, reopen, write_bytes,
+};
+use crate::{Cause, Session};
 use std::alloc::Global;
 use std::test::Fail;
+use zarr_array_stores::MemoryStore;
 use zarr_codecs_cells::CodecOptions;
 
 /// Numbers that look random, and are the same at each run.
@@ -105,26 +108,31 @@ fn places(ranges: &[(u64, u64)]) -> u64 {
     count
 }
 
-/// A session and a table that are given the same writes.
+/// An array of a session and a table that are given the same writes.
 #[derive(Drop)]
 struct Pair<'a> {
     alloc: Global,
-    bench: Bench,
+    path: String,
     table: Table<'a>,
 }
 
 impl Pair<'_> {
     /// Writes a box to both. Tells whether the answer is right.
-    fn write(&mut self, numbers: &mut Numbers) -> Result<bool, Unmade> {
+    fn write(&mut self, session: &mut Session, numbers: &mut Numbers) -> Result<bool, Unmade> {
         let ranges = numbers.box_in(self.alloc, self.table.shape)?;
         let cells = numbers.cells(self.alloc, places(ranges.as_slice()))?;
         let options = CodecOptions {
             store_empty_chunks: numbers.below(4) == 0,
             ..CodecOptions::default()
         };
-        let reply = self
-            .bench
-            .write_bytes(ranges.as_slice(), cells.as_slice(), options)?;
+        let path = self.path.as_str();
+        let reply = session.step(&write_bytes(
+            self.alloc,
+            path,
+            ranges.as_slice(),
+            cells.as_slice(),
+            options,
+        )?);
         if !self.table.covers(ranges.as_slice()) {
             return Ok(is_refused(&reply, Cause::Region, 0));
         }
@@ -133,8 +141,8 @@ impl Pair<'_> {
     }
 
     /// Reads a box from both. Tells whether the answer is right.
-    fn read(&mut self, ranges: &[(u64, u64)]) -> Result<bool, Unmade> {
-        let reply = self.bench.read(ranges)?;
+    fn read(&self, session: &mut Session, ranges: &[(u64, u64)]) -> Result<bool, Unmade> {
+        let reply = session.step(&read_box(self.alloc, self.path.as_str(), ranges)?);
         if !self.table.covers(ranges) {
             return Ok(is_refused(&reply, Cause::Region, 0));
         }
@@ -143,23 +151,32 @@ impl Pair<'_> {
     }
 
     /// Reads the whole table from both. Tells whether the answer is right.
-    fn read_whole(&mut self) -> Result<bool, Unmade> {
+    fn read_whole(&self, session: &mut Session) -> Result<bool, Unmade> {
         let mut ranges = Vec::new(self.alloc);
         for edge in self.table.shape {
             ranges.push((0, *edge))?;
         }
-        self.read(ranges.as_slice())
+        self.read(session, ranges.as_slice())
+    }
+
+    /// Reopens the array in few cases. Tells whether the answer is right.
+    fn reopen(&self, session: &mut Session, numbers: &mut Numbers) -> Result<bool, Unmade> {
+        if numbers.below(10) != 0 {
+            return Ok(true);
+        }
+        let reply = session.step(&reopen(self.alloc, self.path.as_str())?);
+        Ok(is_done(&reply))
     }
 
     /// Writes and reads boxes. Tells whether each answer is right.
-    fn agrees(&mut self, numbers: &mut Numbers) -> Result<bool, Unmade> {
-        for _ in 0..40u32 {
-            let ranges = numbers.box_in(self.alloc, self.table.shape)?;
-            if !self.write(numbers)? || !self.read(ranges.as_slice())? || !self.read_whole()? {
-                return Ok(false);
-            }
-        }
-        Ok(true)
+    fn agrees(&mut self, session: &mut Session, numbers: &mut Numbers) -> Result<bool, Unmade> {
+        let ranges = numbers.box_in(self.alloc, self.table.shape)?;
+        Ok(
+            self.write(session, numbers)?
+                && self.reopen(session, numbers)?
+                && self.read(session, ranges.as_slice())?
+                && self.read_whole(session)?,
+        )
     }
 }
 
@@ -179,28 +196,51 @@ const GRIDS: [(&str, &str, &[u64]); 12] = [
     ("[3,2,2,2]", "[2,2,1,3]", &[4, 2, 2, 3]),
 ];
 
+/// Creates an array, and the table of its cells.
+fn begin<'a>(
+    alloc: Global,
+    session: &mut Session,
+    fields: Fields<'_>,
+    whole: &'a [u64],
+    fill_value: u8,
+) -> Result<Pair<'a>, Unmade> {
+    let path = format!(in alloc; "/{}/{fill_value}", fields.shape)?;
+    let created = session.step(&create(alloc, path.as_str(), fields.document(alloc)?)?);
+    if !is_done(&created) {
+        return Err(Unmade::Array);
+    }
+    let mut count = 1usize;
+    for edge in whole {
+        count = count.saturating_mul(*edge as usize);
+    }
+    let table = Table {
+        shape: whole,
+        cells: vec![in alloc; fill_value; count]?,
+    };
+    Ok(Pair { alloc, path, table })
+}
+
 #[test]
-fn agrees_with_a_table(rt: HostRuntime) -> Result<(), Fail> {
+fn agrees_with_tables(rt: HostRuntime) -> Result<(), Fail> {
     let alloc = rt.alloc();
     let mut numbers = Numbers { state: 1 };
+    let mut session = Session::new(alloc, MemoryStore::new(alloc));
+    let mut pairs = Vec::new(alloc);
     for (shape, chunk_shape, whole) in GRIDS {
         for (text, fill_value) in [("0", 0u8), ("2", 2)] {
-            let mut count = 1usize;
-            for edge in whole {
-                count = count.saturating_mul(*edge as usize);
-            }
-            let mut pair = Pair {
-                alloc,
-                bench: Bench::with_array(alloc, shape, chunk_shape, text)?,
-                table: Table {
-                    shape: whole,
-                    cells: vec![in alloc; fill_value; count]?,
-                },
+            let fields = Fields {
+                shape,
+                chunk_shape,
+                fill_value: text,
+                ..ZEROS
             };
-            assert!(rt;
-                pair.agrees(&mut numbers)?,
-                "shape {shape}, chunks {chunk_shape}, fill value {text}"
-            );
+            pairs.push(begin(alloc, &mut session, fields, whole, fill_value)?)?;
+        }
+    }
+    for round in 0..40u32 {
+        for pair in pairs.iter_mut() {
+            let agrees = pair.agrees(&mut session, &mut numbers)?;
+            assert!(rt; agrees, "round {round}, {}", pair.path.as_str());
         }
     }
     Ok(())

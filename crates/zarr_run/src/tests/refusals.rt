@@ -1,8 +1,8 @@
 //! Commands that are refused, and which cause comes first.
 
 use crate::tests::support::{
-    Bench, STORING_EMPTY, array_of_zeros, create, is_cells, is_done, is_refused, read_box,
-    write_box,
+    Bench, Fields, STORING_EMPTY, ZEROS, array_of_zeros, create, has_keys, is_cells, is_done,
+    is_refused, read_box, reopen, store_with, write_box,
 };
 use crate::{Cause, Session};
 use serde_json::Value;
@@ -12,30 +12,51 @@ use zarr_array_stores::MemoryStore;
 #[test]
 fn refuses_other_paths(rt: HostRuntime) -> Result<(), Fail> {
     let alloc = rt.alloc();
-    let mut session = Session::new(alloc, MemoryStore::new(alloc));
-    for path in ["a", "/a/"] {
+    let store = store_with(alloc, &[("a/zarr.json", ZEROS.text(alloc)?.as_bytes())])?;
+    let mut session = Session::new(alloc, store);
+    for path in ["", "a", "/a/", "//", "/a//b"] {
         let created = session.step(&create(alloc, path, array_of_zeros(alloc)?)?);
         assert!(rt; is_refused(&created, Cause::Path, 0), "create {path}");
+        let reopened = session.step(&reopen(alloc, path)?);
+        assert!(rt; is_refused(&reopened, Cause::Path, 0), "reopen {path}");
         let wrote = session.step(&write_box(alloc, path, &[(0, 1), (0, 1)], "[1]")?);
         assert!(rt; is_refused(&wrote, Cause::Path, 0), "write {path}");
         let read = session.step(&read_box(alloc, path, &[(0, 1), (0, 1)])?);
         assert!(rt; is_refused(&read, Cause::Path, 0), "read {path}");
     }
+    assert!(rt; has_keys(&session.close(), &["a/zarr.json"])?);
     Ok(())
 }
 
 #[test]
-fn refuses_a_second_array(rt: HostRuntime) -> Result<(), Fail> {
+fn answers_the_first_cause_of_a_create(rt: HostRuntime) -> Result<(), Fail> {
     let alloc = rt.alloc();
     let mut bench = Bench::with_array(alloc, "[4,4]", "[2,2]", "0")?;
-    for path in ["/a", "/b"] {
-        let taken = bench.step(&create(alloc, path, array_of_zeros(alloc)?)?);
+    for path in ["/a", "/a/b", "/"] {
+        let taken = bench.step(&create(alloc, path, Value::Null)?);
         assert!(rt; is_refused(&taken, Cause::PathTaken, 0), "at {path}");
     }
-    let taken = bench.step(&create(alloc, "/b", Value::Null)?);
+    let free = bench.step(&create(alloc, "/b", Value::Null)?);
+    assert!(rt; is_refused(&free, Cause::Document, 0));
+    for path in ["a", "/a/", "b"] {
+        let refused = bench.step(&create(alloc, path, Value::Null)?);
+        assert!(rt; is_refused(&refused, Cause::Path, 0), "at {path}");
+    }
+    assert!(rt; has_keys(&bench.close(), &["a/zarr.json"])?);
+    Ok(())
+}
+
+#[test]
+fn refuses_a_document_before_a_stored_one(rt: HostRuntime) -> Result<(), Fail> {
+    let alloc = rt.alloc();
+    let mut session = Session::new(alloc, store_with(alloc, &[("a/zarr.json", b"{}")])?);
+    let refused = session.step(&create(alloc, "/a", Value::Null)?);
+    assert!(rt; is_refused(&refused, Cause::Document, 0));
+    let taken = session.step(&create(alloc, "/a", array_of_zeros(alloc)?)?);
     assert!(rt; is_refused(&taken, Cause::PathTaken, 0));
-    let refused = bench.step(&create(alloc, "b", array_of_zeros(alloc)?)?);
-    assert!(rt; is_refused(&refused, Cause::Path, 0));
+    let store = session.close();
+    assert!(rt; has_keys(&store, &["a/zarr.json"])?);
+    assert!(rt; store.get("a/zarr.json") == Some(b"{}".as_slice()));
     Ok(())
 }
 
@@ -57,12 +78,16 @@ fn refuses_where_no_array_is_held(rt: HostRuntime) -> Result<(), Fail> {
 fn refuses_an_unknown_codec(rt: HostRuntime) -> Result<(), Fail> {
     let alloc = rt.alloc();
     let mut session = Session::new(alloc, MemoryStore::new(alloc));
-    let text =
-        "{\"zarr_format\":3,\"node_type\":\"array\",\"shape\":[4,4],\"data_type\":\"uint8\",\"chunk_grid\":{\"name\":\"regular\",\"configuration\":{\"chunk_shape\":[2,2]}},\"chunk_key_encoding\":{\"name\":\"default\"},\"fill_value\":0,\"codecs\":[\"bytes\",\"unknown\"]}";
-    let created = session.step(&create(alloc, "/a", Value::from_str(alloc, text)?)?);
+    let fields = Fields {
+        codecs: r#"["bytes","unknown"]"#,
+        ..ZEROS
+    };
+    let created = session.step(&create(alloc, "/a", fields.document(alloc)?)?);
     assert!(rt; is_refused(&created, Cause::Document, 0));
     let read = session.step(&read_box(alloc, "/a", &[(0, 1), (0, 1)])?);
     assert!(rt; is_refused(&read, Cause::NoArray, 0));
+    let reopened = session.step(&reopen(alloc, "/a")?);
+    assert!(rt; is_refused(&reopened, Cause::NoArray, 0));
     let again = session.step(&create(alloc, "/a", array_of_zeros(alloc)?)?);
     assert!(rt; is_done(&again));
     Ok(())
@@ -93,7 +118,7 @@ fn refuses_other_cells(rt: HostRuntime) -> Result<(), Fail> {
     assert!(rt; is_refused(&bytes, Cause::Data, 0));
     let read = bench.read(&[(1, 3), (1, 2)])?;
     assert!(rt; is_cells(&read, &[0, 0]));
-    assert!(rt; bench.close().is_empty());
+    assert!(rt; has_keys(&bench.close(), &["a/zarr.json"])?);
     Ok(())
 }
 

@@ -59,22 +59,73 @@ pub(crate) fn region(alloc: Global, ranges: &[(u64, u64)]) -> Result<ArraySubset
     Ok(ArraySubset::new_with_start_shape(start, shape)?)
 }
 
-/// The document of a uint8 array with a regular grid.
-pub(crate) fn document(
-    alloc: Global,
-    shape: &str,
-    chunk_shape: &str,
-    fill_value: &str,
-) -> Result<Value, Unmade> {
-    let text = format!(in alloc;
-        "{{\"zarr_format\":3,\"node_type\":\"array\",\"shape\":{shape},\"data_type\":\"uint8\",\"chunk_grid\":{{\"name\":\"regular\",\"configuration\":{{\"chunk_shape\":{chunk_shape}}}}},\"chunk_key_encoding\":{{\"name\":\"default\"}},\"fill_value\":{fill_value},\"codecs\":[\"bytes\"]}}"
-    )?;
-    Ok(Value::from_str(alloc, text.as_str())?)
+/// Fields of the document of a uint8 array with a regular grid, each as JSON.
+#[derive(Clone, Copy)]
+pub(crate) struct Fields<'a> {
+    pub shape: &'a str,
+    pub chunk_shape: &'a str,
+    pub key_encoding: &'a str,
+    pub fill_value: &'a str,
+    pub codecs: &'a str,
+    /// Further members, each after a comma.
+    pub more: &'a str,
+}
+
+/// An array of 4 by 4 zeros in chunks of 2 by 2.
+pub(crate) const ZEROS: Fields<'static> = Fields {
+    shape: "[4,4]",
+    chunk_shape: "[2,2]",
+    key_encoding: r#"{"name":"default"}"#,
+    fill_value: "0",
+    codecs: r#"["bytes"]"#,
+    more: "",
+};
+
+impl Fields<'_> {
+    /// The document as a text.
+    pub(crate) fn text(self, alloc: Global) -> Result<String, Unmade> {
+        let Fields {
+            shape,
+            chunk_shape,
+            key_encoding,
+            fill_value,
+            codecs,
+            more,
+        } = self;
+        Ok(format!(in alloc;
+            "{{\"zarr_format\":3,\"node_type\":\"array\",\"shape\":{shape},\"data_type\":\"uint8\",\"chunk_grid\":{{\"name\":\"regular\",\"configuration\":{{\"chunk_shape\":{chunk_shape}}}}},\"chunk_key_encoding\":{key_encoding},\"fill_value\":{fill_value},\"codecs\":{codecs}{more}}}"
+        )?)
+    }
+
+    /// The document as JSON.
+    pub(crate) fn document(self, alloc: Global) -> Result<Value, Unmade> {
+        let text = self.text(alloc)?;
+        Ok(Value::from_str(alloc, text.as_str())?)
+    }
 }
 
 /// The document of an array of 4 by 4 zeros in chunks of 2 by 2.
 pub(crate) fn array_of_zeros(alloc: Global) -> Result<Value, Unmade> {
-    document(alloc, "[4,4]", "[2,2]", "0")
+    ZEROS.document(alloc)
+}
+
+/// A store with values at keys.
+pub(crate) fn store_with(alloc: Global, values: &[(&str, &[u8])]) -> Result<MemoryStore, Unmade> {
+    let mut store = MemoryStore::new(alloc);
+    for (key, value) in values {
+        store.set(key, Vec::from_slice(alloc, value)?)?;
+    }
+    Ok(store)
+}
+
+/// Whether a store's keys are just these, in the order of their bytes.
+pub(crate) fn has_keys(store: &MemoryStore, want: &[&str]) -> Result<bool, Unmade> {
+    let keys = store.list()?;
+    let mut are_same = keys.len() == want.len();
+    for (key, other) in keys.iter().zip(want) {
+        are_same = are_same && key.as_str() == *other;
+    }
+    Ok(are_same)
 }
 
 /// A command that creates an array.
@@ -83,6 +134,14 @@ pub(crate) fn create(alloc: Global, path: &str, document: Value) -> Result<Comma
         path: String::from_str(alloc, path)?,
         document,
         order: SubchunkWriteOrder::Unordered,
+    })
+}
+
+/// A command that reopens an array.
+pub(crate) fn reopen(alloc: Global, path: &str) -> Result<Command, Unmade> {
+    Ok(Command::Reopen {
+        path: String::from_str(alloc, path)?,
+        order: SubchunkWriteOrder::C,
     })
 }
 
@@ -194,28 +253,42 @@ pub(crate) struct Bench {
 
 impl Bench {
     /// A session over an empty store that holds one array.
-    pub(crate) fn with_array(
+    pub(crate) fn with_array<'a>(
         alloc: Global,
-        shape: &str,
-        chunk_shape: &str,
-        fill_value: &str,
+        shape: &'a str,
+        chunk_shape: &'a str,
+        fill_value: &'a str,
     ) -> Result<Self, Unmade> {
-        let store = MemoryStore::new(alloc);
-        Self::over(alloc, store, shape, chunk_shape, fill_value)
+        let fields = Fields {
+            shape,
+            chunk_shape,
+            fill_value,
+            ..ZEROS
+        };
+        Self::over(alloc, MemoryStore::new(alloc), fields)
     }
 
     /// A session over a store that holds one array.
     pub(crate) fn over(
         alloc: Global,
         store: MemoryStore,
-        shape: &str,
-        chunk_shape: &str,
-        fill_value: &str,
+        fields: Fields<'_>,
     ) -> Result<Self, Unmade> {
         let mut session = Session::new(alloc, store);
-        let document = document(alloc, shape, chunk_shape, fill_value)?;
-        let reply = session.step(&create(alloc, "/a", document)?);
-        if !is_done(&reply) {
+        let reply = session.step(&create(alloc, "/a", fields.document(alloc)?)?);
+        Self::holding(alloc, session, &reply)
+    }
+
+    /// A session over a store of which it has opened one array.
+    pub(crate) fn reopened(alloc: Global, store: MemoryStore) -> Result<Self, Unmade> {
+        let mut session = Session::new(alloc, store);
+        let reply = session.step(&reopen(alloc, "/a")?);
+        Self::holding(alloc, session, &reply)
+    }
+
+    /// A session that holds an array, as the reply says.
+    fn holding(alloc: Global, session: Session, reply: &Reply) -> Result<Self, Unmade> {
+        if !is_done(reply) {
             return Err(Unmade::Array);
         }
         Ok(Bench { alloc, session })
@@ -223,6 +296,11 @@ impl Bench {
 
     pub(crate) fn step(&mut self, command: &Command) -> Reply {
         self.session.step(command)
+    }
+
+    pub(crate) fn reopen(&mut self) -> Result<Reply, Unmade> {
+        let command = reopen(self.alloc, "/a")?;
+        Ok(self.session.step(&command))
     }
 
     pub(crate) fn write(&mut self, ranges: &[(u64, u64)], cells: &str) -> Result<Reply, Unmade> {

@@ -1,4 +1,4 @@
-//! Lines that create arrays.
+//! Lines that create arrays, and lines that reopen them.
 
 use crate::Command;
 use crate::tests::support::{command, refuses};
@@ -70,6 +70,48 @@ fn refuses_creates(rt: HostRuntime) -> Result<(), Fail> {
         r#"{"op":"create","path":"/a","document":{},"box":[]}"#,
         r#"{"op":"create","path":"/a","document":{},"options":{}}"#,
         r#"{"op":"create","path":"/a","document":{},"name":"a"}"#,
+    ];
+    refuses(&rt, rt.alloc(), &lines)
+}
+
+#[test]
+fn reads_reopens(rt: HostRuntime) -> Result<(), Fail> {
+    let lines: [(&str, SubchunkWriteOrder); 3] = [
+        (
+            r#"{"op":"reopen","path":"/a"}"#,
+            SubchunkWriteOrder::Unordered,
+        ),
+        (
+            r#"{"op":"reopen","path":"/a","order":"C"}"#,
+            SubchunkWriteOrder::C,
+        ),
+        (
+            r#"{"order":"Random","path":"/a","op":"reopen"}"#,
+            SubchunkWriteOrder::Random,
+        ),
+    ];
+    for (line, want) in lines {
+        let Command::Reopen { path, order } = command(&rt, rt.alloc(), line)? else {
+            panic!(rt; "another command: {line}");
+        };
+        assert!(rt; path.as_str() == "/a", "{line}");
+        assert_eq!(rt; order, want, "{line}");
+    }
+    Ok(())
+}
+
+#[test]
+fn refuses_reopens(rt: HostRuntime) -> Result<(), Fail> {
+    let lines = [
+        r#"{"op":"reopen"}"#,
+        r#"{"op":"reopen","order":"C"}"#,
+        r#"{"op":"reopen","path":null}"#,
+        r#"{"op":"reopen","path":["/a"]}"#,
+        r#"{"op":"reopen","path":"/a","order":null}"#,
+        r#"{"op":"reopen","path":"/a","order":"F"}"#,
+        r#"{"op":"reopen","path":"/a","document":{}}"#,
+        r#"{"op":"reopen","path":"/a","options":{}}"#,
+        r#"{"op":"reopen","path":"/a","box":[]}"#,
     ];
     refuses(&rt, rt.alloc(), &lines)
 }

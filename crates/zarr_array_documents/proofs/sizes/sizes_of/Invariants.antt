@@ -1,6 +1,6 @@
 use Rattle.std.proofs.Common.{◌≡◌, ◌++◌, drop, option_map}
 use Rattle.serde_json.specs.View.{items_view}
-use Rattle.zarr_array_documents.specs.Documents.{sizes_of}
+use Rattle.zarr_array_documents.specs.Parts.{sizes_of}
 use Rattle.zarr_array_documents.proofs.sizes.sizes_of.Given as goal
 
 -- what is left goes on from the sizes so far

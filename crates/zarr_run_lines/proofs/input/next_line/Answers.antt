@@ -1,4 +1,4 @@
-use Rattle.std.proofs.Common.{rules, ◌≡◌, ◌≢◌, ◌≤◌, length, arith}
+use Rattle.std.proofs.Common.{rules, arith}
 use Rattle.zarr_run_lines.proofs.ReadingLemmas.{takes-line}
 use Rattle.zarr_run_lines.proofs.input.next_line.Goals as goal
 

@@ -1,6 +1,6 @@
 use Rattle.std.proofs.Common.{rules, ◌≡◌, IsTrue, false, inr}
 use Rattle.zarr_run_lines.specs.Lines.{LineStep, Leaves}
-use Rattle.zarr_run_lines.proofs.ProgressLemmas.{progress-start, progress-line, progress-leaves, progress-end, progress-limits, on-fault}
+use Rattle.zarr_run_lines.proofs.ProgressLemmas.{progress-start, progress-line, progress-leaves, progress-end, progress-limits, progress-stands, progress-some, on-fault, on-read}
 use Rattle.zarr_run_lines.proofs.lines.answer_lines.Goals as goal
 
 pub loop-line-init : goal.loop-line-init
@@ -13,6 +13,16 @@ returns-in_err-answer_line-clause-err g c old is =
     let left = c.in_err-answer_line.ensures.err now.0 now.1 in
     let leaves : Leaves now.0 c.next_line.new.line.items left.0 = rw (← c.as_slice.ensures.value) left.2 in
     on-fault _ _ _ _ _ left.1 (progress-leaves _ _ _ _ _ _ _ _ _ _ _ _ _ now.2 (c.in_ok-next_line.ensures.line more) leaves)
+
+pub returns-in_err-next_line-clause-err : goal.returns-in_err-next_line-clause-err
+returns-in_err-next_line-clause-err g c old is =
+    let now = c.loop-line.invariant old is in
+    on-fault _ _ _ _ _ now.1 (progress-stands _ _ _ _ _ _ _ _ _ now.2)
+
+pub returns-in_err-next_line-clause-read : goal.returns-in_err-next_line-clause-read
+returns-in_err-next_line-clause-read g c old is =
+    let now = c.before.before.before.loop-line.invariant old is in
+    on-read _ _ _ _ _ _ _ now.1 (progress-some _ _ _ _ _ _ _ _ _ now.2)
 
 pub loop-line-preserved : goal.loop-line-preserved
 loop-line-preserved g c old is =

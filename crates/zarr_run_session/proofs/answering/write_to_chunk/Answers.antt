@@ -1,6 +1,7 @@
 use Rattle.std.proofs.Common.{ℕ, List, subst}
 use Rattle.zarr_grids_boxes.specs.Subsets.{region_of}
 use Rattle.zarr_run_commands.specs.Commands.{given, answered}
+use Rattle.zarr_run_model.specs.Requests.{in_chunk}
 use Rattle.zarr_run_session.specs.Keys.{WroteKeys}
 use Rattle.zarr_run_session.proofs.BoxLemmas.{chunk_covered, chunk_met}
 use Rattle.zarr_run_session.proofs.StepLemmas.{chunk_write_refused}
@@ -17,3 +18,6 @@ returns-in-Ok-clause-keys c =
 pub returns-in-Err-clause-steps : goal.returns-in-Err-clause-steps
 returns-in-Err-clause-steps c = λ table t.
     rw c.refused.ensures (chunk_write_refused c.args.array.now c.args.store.now c.args.chunk.now (given c.args.cells.now) c.args.options c.in-Err.cause table c.in-Err.ensures.err t)
+
+pub returns-in-Ok-clause-steps : goal.returns-in-Ok-clause-steps
+returns-in-Ok-clause-steps c = c.write_covered.ensures.steps (in_chunk c.args.chunk.now) c.in-Ok.ensures.ok

@@ -1,0 +1,25 @@
+-- Arrays that are held at paths related to a path.
+use Rattle.std.specs.Prelude.{◌≡◌, ℕ, List, false, IsTrue, Some}
+use Rattle.zarr_grids_keys.specs.Paths.{is_node_path}
+use Rattle.zarr_grids_keys.specs.Related.{is_under, is_related}
+use Rattle.zarr_run_session.specs.Sessions.{Arrays, array_at}
+use Rattle.zarr_run_session.specs.declared.held.HeldArray.{HeldArray}
+
+-- an array is held at a path that is related to this one
+pub record IsTakenIn (arrays : Arrays) (path : List ℕ) : Type 0 where
+  pub other : List ℕ
+  pub array : HeldArray
+  pub found : array_at arrays other ≡ Some array
+  pub related : IsTrue (is_related path other)
+
+-- no array is held at a node path that is related to this one
+abbrev pub IsFreeIn : Arrays → List ℕ → Type 0
+IsFreeIn arrays path = (other : List ℕ) (array : HeldArray) → IsTrue (is_node_path other) → array_at arrays other ≡ Some array → is_related path other ≡ false
+
+-- no array is held at a node path above this one
+abbrev pub IsFreeAbove : Arrays → List ℕ → Type 0
+IsFreeAbove arrays path = (other : List ℕ) (array : HeldArray) → IsTrue (is_node_path other) → array_at arrays other ≡ Some array → is_under other path ≡ false
+
+-- no array is held at a path below this one
+abbrev pub IsFreeBelow : Arrays → List ℕ → Type 0
+IsFreeBelow arrays path = (other : List ℕ) (array : HeldArray) → array_at arrays other ≡ Some array → is_under path other ≡ false

@@ -1,0 +1,121 @@
+//! The arrays that are held, by their paths.
+ghost use Rattle.std.specs.Prelude.{◌≡◌, ◌++◌, false, IsTrue, Some, None, IfOk, OnOk, OnErr, codes, option_copied, string_bytes};
+ghost use Rattle.zarr_grids_keys.specs.Paths.{is_node_path};
+ghost use Rattle.zarr_run_session.specs.Openings.{KeepsArrays, KeepsOtherArrays};
+ghost use Rattle.zarr_run_session.specs.Related.{IsTakenIn, IsFreeIn, IsFreeAbove, IsFreeBelow};
+ghost use Rattle.zarr_run_session.specs.Sessions.{array_at};
+ghost use Rattle.zarr_run_session.specs.declared.held.HeldArray.{HeldArray};
+
+use crate::held::HeldArray;
+use std::alloc::{AllocError, Global};
+use std::collections::BTreeMap;
+use zarr_codecs_chain::SubchunkWriteOrder;
+use zarr_grids_keys::parent_path;
+
+/// The array that is held at a path.
+pub(crate) fn find<'a>(arrays: &'a BTreeMap<String, HeldArray>, path: &str) -> Option<&'a HeldArray>
+    ensures { option_copied result ≡ array_at arrays.now path.now }
+{
+    arrays.get(path)
+}
+
+/// Whether an array is held at a path, above it or below it. The paths above are looked up one by one, and those below
+/// are one range of the map.
+pub(crate) fn is_path_taken(
+    alloc: Global,
+    arrays: &BTreeMap<String, HeldArray>,
+    path: &str,
+) -> Result<bool, AllocError>
+    requires { IsTrue (is_node_path path.now) }
+    ensures taken { IfOk result (λ taken. IsTrue taken → IsTakenIn arrays.now path.now) }
+    ensures free { IfOk result (λ taken. taken ≡ false → IsFreeIn arrays.now path.now) }
+{
+    if arrays.contains_key(path) {
+        return Ok(true);
+    }
+    if is_taken_above(arrays, path) {
+        return Ok(true);
+    }
+    is_taken_below(alloc, arrays, path)
+}
+
+/// Whether an array is held above a path.
+fn is_taken_above(arrays: &BTreeMap<String, HeldArray>, path: &str) -> bool
+    requires { IsTrue (is_node_path path.now) }
+    ensures taken { IsTrue result → IsTakenIn arrays.now path.now }
+    ensures free { result ≡ false → IsFreeAbove arrays.now path.now }
+{
+    let mut lower = path;
+    while let Some(parent) = parent_path(lower) {
+        if arrays.contains_key(parent) {
+            return true;
+        }
+        lower = parent;
+    }
+    false
+}
+
+/// Whether an array is held below a path. Below `/` each array counts, also one that is held there.
+fn is_taken_below(
+    alloc: Global,
+    arrays: &BTreeMap<String, HeldArray>,
+    path: &str,
+) -> Result<bool, AllocError>
+    ensures taken { IfOk result (λ taken. IsTrue taken → IsTakenIn arrays.now path.now) }
+    ensures free { IfOk result (λ taken. taken ≡ false → IsFreeBelow arrays.now path.now) }
+{
+    if path == "/" {
+        return Ok(!arrays.is_empty());
+    }
+    let first = with_end(alloc, path, "/")?;
+    let end = with_end(alloc, path, "0")?;
+    Ok(arrays.range(first..end).next().is_some())
+}
+
+/// A path with something after it.
+fn with_end(alloc: Global, path: &str, end: &str) -> Result<String, AllocError>
+    ensures { IfOk result (λ text. string_bytes text ≡ path.now ++ end.now) }
+{
+    let mut text = String::with_capacity(alloc, path.len().saturating_add(end.len()))?;
+    text.push_str(path)?;
+    text.push_str(end)?;
+    Ok(text)
+}
+
+/// Holds an array at a path, in place of the one that was held there.
+pub(crate) fn hold(
+    arrays: &mut BTreeMap<String, HeldArray>,
+    path: String,
+    array: HeldArray,
+) -> Result<(), AllocError>
+    ensures held { OnOk result (array_at arrays.new (string_bytes path) ≡ Some array) }
+    ensures others { OnOk result (KeepsOtherArrays (string_bytes path) arrays.old arrays.new) }
+    ensures err { OnErr result (KeepsArrays arrays.old arrays.new) }
+{
+    match arrays.insert(path, array) {
+        Ok(_) => Ok(()),
+        Err(_) => Err(AllocError),
+    }
+}
+
+/// Holds no array at a path any more. It needs no memory.
+pub(crate) fn release(arrays: &mut BTreeMap<String, HeldArray>, path: &str)
+    ensures gone { array_at arrays.new path.now ≡ None }
+    ensures others { KeepsOtherArrays path.now arrays.old arrays.new }
+{
+    let _ = arrays.remove(path);
+}
+
+/// Gives the array at a path, if there is one, another write order.
+pub(crate) fn set_order(
+    arrays: &mut BTreeMap<String, HeldArray>,
+    path: &str,
+    order: SubchunkWriteOrder,
+)
+    ensures ordered { (array : HeldArray) → array_at arrays.old path.now ≡ Some array → array_at arrays.new path.now ≡ Some (record array { order = order }) }
+    ensures others { KeepsOtherArrays path.now arrays.old arrays.new }
+{
+    if let Some(array) = arrays.get_mut(path) {
+        array.order = order;
+    }
+}
