@@ -1,0 +1,17 @@
+pub mod Lists
+pub mod Values
+pub mod Steps
+pub mod Sizes
+pub mod Digits
+pub mod Elements
+pub mod Positions
+pub mod Covers
+pub mod Shards
+pub mod Parts
+pub mod Words
+pub mod Zeros
+pub mod Texts
+pub mod Options
+pub mod Meaning
+pub mod Tight
+pub mod Reading

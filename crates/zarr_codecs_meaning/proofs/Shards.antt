@@ -1,0 +1,219 @@
+-- Shards: what is written stands, and what stands is read.
+use Rattle.std.proofs.Common.{◌≡◌, ℕ, ◌+◌, ◌-◌, ◌*◌, ◌<◌, ◌≤◌, ◌^◌, List, [], ◌∷◌, ◌++◌, length, map, get_or, take, drop, replicate, ap, ◌∙◌, sym, refl, arith, ◌⊎◌, inl, inr, subst, Option, Some, None, Bool, true, false, ◌==◌, option_and_then, option_map, if◌then◌else◌, append_assoc, length-append, mod-eq_of_lt}
+use Rattle.std.specs.Prelude.{nat_lt, bytes_eq}
+use Rattle.std.proofs.lemmas.Bool.{cases_Bool, le-leb, lt-ltb, ltb-true}
+use Rattle.std.proofs.lemmas.Map.Views.{exact_unsigned_eq}
+use Rattle.std.proofs.Math.Seq.{take-append_seam, drop-append_seam}
+use Rattle.zarr_grids_boxes.specs.Boxes.{product}
+use Rattle.zarr_codecs_meaning.specs.Numbers.{number, word}
+use Rattle.zarr_codecs_meaning.specs.Types.{Cell, of_bytes, absent, present, same_cell, is_fill}
+use Rattle.zarr_codecs_meaning.specs.Chains.{Location}
+use Rattle.zarr_codecs_meaning.specs.Chains.Location.{at_start, at_end}
+use Rattle.zarr_codecs_meaning.specs.Places.{gather, position_of, Part}
+use Rattle.zarr_codecs_meaning.specs.Encoding.{Pair, Piece, piece_of, pieces_of, stored_of, stored_pieces, text_of, joined_texts, pairs_from, pair_cells, base_of, joined}
+use Rattle.zarr_codecs_meaning.specs.Keeping.{arranged}
+use Rattle.zarr_codecs_meaning.specs.Decoding.{is_absent, slice_at, pairs_of_cells, index_text, pieces_decoded}
+use Rattle.zarr_codecs_meaning.specs.Standing.{HasSlice, PieceStands, PiecesStand}
+use Rattle.zarr_codecs_meaning.proofs.Lists.{both_true, some_same, bind_some, map_some, Each}
+use Rattle.zarr_codecs_meaning.proofs.Digits.{number_digits}
+use Rattle.zarr_codecs_meaning.proofs.Positions.{IsAmong, position_found, gathered_read}
+
+-- ---- cells that are the fill value
+
+pub same_is : (a b : Cell) → same_cell a b ≡ true → a ≡ b
+same_is (of_bytes xs) (of_bytes ys) h = ap of_bytes (same_bytes xs ys h) where
+  same_bytes : (xs ys : List ℕ) → bytes_eq xs ys ≡ true → xs ≡ ys
+  same_bytes [] [] h = refl
+  same_bytes [] (y ∷ ys) h = cc
+  same_bytes (x ∷ xs) [] h = cc
+  same_bytes (x ∷ xs) (y ∷ ys) h = let k = both_true (x == y) (bytes_eq xs ys) h in ap (λ n. n ∷ xs) (exact_unsigned_eq x y k.0) ∙ ap (λ zs. y ∷ zs) (same_bytes xs ys k.1)
+same_is (of_bytes xs) absent h = cc
+same_is (of_bytes xs) (present b) h = cc
+same_is absent (of_bytes ys) h = cc
+same_is absent absent h = refl
+same_is absent (present b) h = cc
+same_is (present a) (of_bytes ys) h = cc
+same_is (present a) absent h = cc
+same_is (present a) (present b) h = ap present (same_is a b h)
+
+pub fill_is_replicate : (fill : Cell) (cells : List Cell) → is_fill fill cells ≡ true → cells ≡ replicate (length cells) fill
+fill_is_replicate fill [] h = refl
+fill_is_replicate fill (c ∷ cs) h =
+    let k = both_true (same_cell c fill) (is_fill fill cs) h in
+    ap (λ x. x ∷ cs) (same_is c fill k.0) ∙ ap (λ xs. fill ∷ xs) (fill_is_replicate fill cs k.1)
+
+-- ---- writing
+
+-- the text is what a subchunk is to be stored as, or there is none for one that is all fill
+abbrev pub TextStands : (List ℕ → List ℕ → List Cell → Type 0) → Cell → Piece → Option (List ℕ) → Type 0
+TextStands inner fill piece None = is_fill fill piece.1 ≡ true
+TextStands inner fill piece (Some text) = (is_fill fill piece.1 ≡ false) × inner piece.0 text piece.1
+
+abbrev pub TextsStand : (List ℕ → List ℕ → List Cell → Type 0) → Cell → List Piece → List (Option (List ℕ)) → Type 0
+TextsStand inner fill [] [] = Unit {0}
+TextsStand inner fill [] (o ∷ os) = ⊥
+TextsStand inner fill (x ∷ xs) [] = ⊥
+TextsStand inner fill (x ∷ xs) (o ∷ os) = TextStands inner fill x o × TextsStand inner fill xs os
+
+stored_cases : (t : Bool) (o : Option (List ℕ)) (first : Option (List ℕ)) → (if t then Some None else option_map Some o) ≡ Some first → ((t ≡ true) × (first ≡ None)) ⊎ ((t ≡ false) × ((v : List ℕ) × (o ≡ Some v) × (first ≡ Some v)))
+stored_cases true o first h = inl (refl, cc)
+stored_cases false None first h = cc
+stored_cases false (Some v) first h = inr (refl, (v, refl, cc))
+
+pub stored_stand : (encode : List ℕ → List Cell → Option (List ℕ)) (inner : List ℕ → List ℕ → List Cell → Type 0) (fill : Cell) (xs : List Piece) (os : List (Option (List ℕ)))
+    → Each (λ x. (v : List ℕ) → encode x.0 x.1 ≡ Some v → inner x.0 v x.1) xs → stored_pieces encode fill xs ≡ Some os → TextsStand inner fill xs os
+stored_stand encode inner fill [] os law e = subst (λ (l : List (Option (List ℕ))). TextsStand inner fill [] l) (some_same e) tt
+stored_stand encode inner fill (x ∷ xs) os law e =
+    let now = bind_some (λ (first : Option (List ℕ)). option_map (λ (others : List (Option (List ℕ))). first ∷ others) (stored_pieces encode fill xs)) (stored_of fill x.1 (encode x.0 x.1)) os e in
+    let rest = map_some (λ (others : List (Option (List ℕ))). now.0 ∷ others) (stored_pieces encode fill xs) os now.2 in
+    let others = stored_stand encode inner fill xs rest.0 law.1 rest.1 in
+    let first : TextStands inner fill x now.0 = elim (stored_cases (is_fill fill x.1) (encode x.0 x.1) now.0 now.1) [
+      | inl k ↦ subst (λ (o : Option (List ℕ)). TextStands inner fill x o) (sym k.1) k.0
+      | inr k ↦ subst (λ (o : Option (List ℕ)). TextStands inner fill x o) (sym k.1.2) (k.0, law.0 k.1.0 k.1.1)
+    ] in
+    subst (λ (l : List (Option (List ℕ))). TextsStand inner fill (x ∷ xs) l) rest.2 (first, others)
+
+pub put : (inner : List ℕ → List ℕ → List Cell → Type 0) (fill : Cell) (base : ℕ) (text : List ℕ) (xs : List Piece) (os : List (Option (List ℕ))) (before : List ℕ) (offset : ℕ) → TextsStand inner fill xs os → text ≡ before ++ joined_texts os → offset ≡ base + length before → offset + length (joined_texts os) < 2 ^ 64 - 1
+    → PiecesStand inner fill base text xs (pairs_from offset os)
+put inner fill base text [] [] before offset h is begins low = tt
+put inner fill base text [] (o ∷ os) before offset h is begins low = elim h [ ]
+put inner fill base text (x ∷ xs) [] before offset h is begins low = elim h [ ]
+put inner fill base text (x ∷ xs) (None ∷ os) before offset h is begins low =
+    (inl (h.0, refl), put inner fill base text xs os before (offset + 0) h.1 is (omega arith) (omega arith))
+put inner fill base text (x ∷ xs) (Some v ∷ os) before offset h is begins low =
+    let count = length-append v (joined_texts os) in
+    let short : offset + length v < 2 ^ 64 - 1 = omega arith in
+    let others = put inner fill base text xs os (before ++ v) (offset + length v) h.1 (is ∙ sym (append_assoc before v (joined_texts os))) (omega (arith, length-append before v)) (omega arith) in
+    (inr (h.0.0, (v, record { before = before; after = joined_texts os; is = is; begins = begins; long = refl; low = short }, h.0.1)), others)
+
+pub length-pairs_from : (os : List (Option (List ℕ))) (offset : ℕ) → length (pairs_from offset os) ≡ length os
+length-pairs_from [] offset = refl
+length-pairs_from (o ∷ os) offset = let h = length-pairs_from os (offset + length (text_of o)) in omega (arith, h)
+
+pub length-stored : (encode : List ℕ → List Cell → Option (List ℕ)) (fill : Cell) (xs : List Piece) (os : List (Option (List ℕ))) → stored_pieces encode fill xs ≡ Some os → length os ≡ length xs
+length-stored encode fill [] os e = sym (ap length (some_same e))
+length-stored encode fill (x ∷ xs) os e =
+    let now = bind_some (λ (first : Option (List ℕ)). option_map (λ (others : List (Option (List ℕ))). first ∷ others) (stored_pieces encode fill xs)) (stored_of fill x.1 (encode x.0 x.1)) os e in
+    let rest = map_some (λ (others : List (Option (List ℕ))). now.0 ∷ others) (stored_pieces encode fill xs) os now.2 in
+    let h = length-stored encode fill xs rest.0 rest.1 in
+    sym (ap length rest.2) ∙ omega (arith, h)
+
+-- ---- pairs as cells
+
+pub length-pair_cells : (ps : List Pair) → length (pair_cells ps) ≡ 2 * length ps
+length-pair_cells [] = refl
+length-pair_cells (p ∷ ps) = let h = length-pair_cells ps in omega (arith, h)
+
+-- both numbers of each pair fit eight bytes
+abbrev pub AreWords : List Pair → Type 0
+AreWords [] = Unit {0}
+AreWords (p ∷ ps) = (p.0 < 2 ^ 64) × (p.1 < 2 ^ 64) × AreWords ps
+
+pub number_word : (n : ℕ) → n < 2 ^ 64 → number 256 (word n) ≡ n
+number_word n h = number_digits 256 8 n (omega arith) ∙ mod-eq_of_lt h
+
+pub pairs_back : (ps : List Pair) → AreWords ps → pairs_of_cells (pair_cells ps) ≡ ps
+pairs_back [] h = refl
+pairs_back (p ∷ ps) h =
+    ap (λ (n : ℕ). (n, number 256 (word p.1)) ∷ pairs_of_cells (pair_cells ps)) (number_word p.0 h.0)
+    ∙ (ap (λ (n : ℕ). (p.0, n) ∷ pairs_of_cells (pair_cells ps)) (number_word p.1 h.1) ∙ ap (λ (qs : List Pair). p ∷ qs) (pairs_back ps h.2))
+
+pub words_of : (inner : List ℕ → List ℕ → List Cell → Type 0) (fill : Cell) (base : ℕ) (text : List ℕ) (xs : List Piece) (ps : List Pair) → PiecesStand inner fill base text xs ps → AreWords ps
+words_of inner fill base text [] [] h = tt
+words_of inner fill base text [] (p ∷ ps) h = elim h [ ]
+words_of inner fill base text (x ∷ xs) [] h = elim h [ ]
+words_of inner fill base text (x ∷ xs) (p ∷ ps) h =
+    let mark : 2 ^ 64 - 1 < 2 ^ 64 = omega arith in
+    let here : (p.0 < 2 ^ 64) × (p.1 < 2 ^ 64) = elim h.0 [
+      | inl k ↦ subst (λ (q : Pair). (q.0 < 2 ^ 64) × (q.1 < 2 ^ 64)) (sym k.1) (mark, mark)
+      | inr k ↦ let low = k.1.1.low in (omega arith, omega arith)
+    ] in
+    (here.0, here.1, words_of inner fill base text xs ps h.1)
+
+-- ---- reading
+
+not_absent : (m n : ℕ) → m < 2 ^ 64 - 1 → is_absent (m, n) ≡ false
+not_absent m n low = elim (cases_Bool (is_absent (m, n))) [
+  | inl t ↦ let e = exact_unsigned_eq m (2 ^ 64 - 1) (both_true (m == 2 ^ 64 - 1) (n == 2 ^ 64 - 1) t).0 in absurd (omega (arith, e))
+  | inr f ↦ f
+]
+
+pub is_present : (base : ℕ) (text : List ℕ) (p : Pair) (slice : List ℕ) → HasSlice base text p slice → is_absent p ≡ false
+is_present base text p slice h = let low = h.low in not_absent p.0 p.1 (omega arith)
+
+-- where the index and a slice are read in the value
+pub index_read : (location : Location) (size : ℕ) (index text value : List ℕ) → length index ≡ size → value ≡ joined location index text → (size ≤ length value) × (index_text location size value ≡ index)
+index_read at_start size index text value long is =
+    let count = ap length is ∙ length-append index text in
+    (omega (arith, count, long), ap (take size) is ∙ (ap (λ n. take n (index ++ text)) (sym long) ∙ take-append_seam index text))
+index_read at_end size index text value long is =
+    let count = ap length is ∙ length-append text index in
+    let skip : length value - size ≡ length text = omega (arith, count, long) in
+    (omega (arith, count, long), ap (λ n. drop n value) skip ∙ (ap (drop (length text)) is ∙ drop-append_seam text index))
+
+slice_written : (base : ℕ) (before v after value : List ℕ) → base ≡ length before → value ≡ before ++ (v ++ after) → slice_at value (base, length v) ≡ Some v
+slice_written base before v after value begins is =
+    let count = ap length is ∙ (length-append before (v ++ after) ∙ ap (λ n. length before + n) (length-append v after)) in
+    let fits : base + length v ≤ length value = omega (arith, count, begins) in
+    let test = le-leb (base + length v) (length value) fits in
+    let read = ap (λ (xs : List ℕ). take (length v) (drop base xs)) is ∙ (ap (λ n. take (length v) (drop n (before ++ (v ++ after)))) begins ∙ (ap (take (length v)) (drop-append_seam before (v ++ after)) ∙ take-append_seam v after)) in
+    ap (λ (t : Bool). if t then Some (take (length v) (drop base value)) else None) test ∙ ap Some read
+
+pub slice_found : (location : Location) (base : ℕ) (index text value : List ℕ) (p : Pair) (slice : List ℕ) → value ≡ joined location index text → base ≡ base_of location (length index) → HasSlice base text p slice → slice_at value p ≡ Some slice
+slice_found at_start base index text value p slice is begins h =
+    let from = h.begins in
+    let same : p ≡ (p.0, length slice) = ap (λ n. (p.0, n)) h.long in
+    ap (slice_at value) same ∙ slice_written p.0 (index ++ h.before) slice h.after value (omega (arith, from, begins, length-append index h.before)) (is ∙ (ap (λ (xs : List ℕ). index ++ xs) h.is ∙ sym (append_assoc index h.before (slice ++ h.after))))
+slice_found at_end base index text value p slice is begins h =
+    let from = h.begins in
+    let same : p ≡ (p.0, length slice) = ap (λ n. (p.0, n)) h.long in
+    ap (slice_at value) same ∙ slice_written p.0 h.before slice (h.after ++ index) value (omega (arith, from, begins)) (is ∙ (ap (λ (xs : List ℕ). xs ++ index) h.is ∙ (append_assoc h.before (slice ++ h.after) index ∙ ap (λ (xs : List ℕ). h.before ++ xs) (append_assoc slice h.after index))))
+
+abbrev pub part_cells : Cell → List Cell → Part → List Cell
+part_cells fill cells part = gather fill cells part.places
+
+-- a subchunk that stands is decoded
+piece_decoded : (decode : List ℕ → List ℕ → Option (List Cell)) (inner : List ℕ → List ℕ → List Cell → Type 0) (fill : Cell) (base : ℕ) (was value : List ℕ) (x : Piece) (p : Pair)
+    → ((q : Pair) (slice : List ℕ) → HasSlice base was q slice → slice_at value q ≡ Some slice) → ((v : List ℕ) → inner x.0 v x.1 → decode x.0 v ≡ Some x.1) → length x.1 ≡ product x.0 → PieceStands inner fill base was x p
+    → (if is_absent p then Some (replicate (product x.0) fill) else option_and_then (decode x.0) (slice_at value p)) ≡ Some x.1
+piece_decoded decode inner fill base was value x p reads law count (inl h) =
+    ap (λ (q : Pair). if is_absent q then Some (replicate (product x.0) fill) else option_and_then (decode x.0) (slice_at value q)) h.1
+    ∙ ap Some (sym (fill_is_replicate fill x.1 h.0 ∙ ap (λ n. replicate n fill) count))
+piece_decoded decode inner fill base was value x p reads law count (inr h) =
+    ap (λ (t : Bool). if t then Some (replicate (product x.0) fill) else option_and_then (decode x.0) (slice_at value p)) (is_present base was p h.1.0 h.1.1)
+    ∙ (ap (option_and_then (decode x.0)) (reads p h.1.0 h.1.1) ∙ law h.1.0 h.1.2)
+
+-- what is asked of each part of a shard
+abbrev pub PartLaw : (List ℕ → List ℕ → Option (List Cell)) → (List ℕ → List ℕ → List Cell → Type 0) → Cell → List Cell → Part → Type 0
+PartLaw decode inner fill cells part = (length (part_cells fill cells part) ≡ product part.shape) × ((v : List ℕ) → inner part.shape v (part_cells fill cells part) → decode part.shape v ≡ Some (part_cells fill cells part))
+
+pub parts_decoded : (decode : List ℕ → List ℕ → Option (List Cell)) (inner : List ℕ → List ℕ → List Cell → Type 0) (fill : Cell) (cells : List Cell) (base : ℕ) (was value : List ℕ)
+    → ((q : Pair) (slice : List ℕ) → HasSlice base was q slice → slice_at value q ≡ Some slice) → (parts : List Part) (ps : List Pair) → Each (PartLaw decode inner fill cells) parts → PiecesStand inner fill base was (pieces_of fill cells parts) ps
+    → pieces_decoded decode fill value parts ps ≡ Some (map (part_cells fill cells) parts)
+parts_decoded decode inner fill cells base was value reads [] [] law h = refl
+parts_decoded decode inner fill cells base was value reads [] (p ∷ ps) law h = elim h [ ]
+parts_decoded decode inner fill cells base was value reads (part ∷ parts) [] law h = elim h [ ]
+parts_decoded decode inner fill cells base was value reads (part ∷ parts) (p ∷ ps) law h =
+    let here = piece_decoded decode inner fill base was value (piece_of fill cells part) p reads law.0.1 law.0.0 h.0 in
+    let rest = parts_decoded decode inner fill cells base was value reads parts ps law.1 h.1 in
+    ap (option_and_then (λ (found : List Cell). option_map (λ (others : List (List Cell)). found ∷ others) (pieces_decoded decode fill value parts ps))) here
+    ∙ ap (option_map (λ (others : List (List Cell)). part_cells fill cells part ∷ others)) rest
+
+-- ---- arranging
+
+-- some part holds the place
+abbrev pub IsCovered : ℕ → List Part → Type 0
+IsCovered n [] = ⊥
+IsCovered n (part ∷ parts) = IsAmong n part.places ⊎ IsCovered n parts
+
+arranged_step : (b : Bool) (fill : Cell) (cells : List Cell) (n : ℕ) (part : Part) (rest : Cell) → nat_lt (position_of n part.places) (length part.places) ≡ b → (IsAmong n part.places ⊎ (rest ≡ get_or cells n fill))
+    → (if b then get_or (part_cells fill cells part) (position_of n part.places) fill else rest) ≡ get_or cells n fill
+arranged_step true fill cells n part rest e h = gathered_read fill cells part.places n (ltb-true (position_of n part.places) (length part.places) e)
+arranged_step false fill cells n part rest e (inl is) = let yes : true ≡ false = sym (lt-ltb (position_of n part.places) (length part.places) (position_found n part.places is)) ∙ e in cc
+arranged_step false fill cells n part rest e (inr is) = is
+
+pub arranged_back : (fill : Cell) (cells : List Cell) (n : ℕ) (parts : List Part) → IsCovered n parts → arranged fill parts (map (part_cells fill cells) parts) n ≡ get_or cells n fill
+arranged_back fill cells n [] h = elim h [ ]
+arranged_back fill cells n (part ∷ parts) h =
+    arranged_step (nat_lt (position_of n part.places) (length part.places)) fill cells n part (arranged fill parts (map (part_cells fill cells) parts) n) refl
+    (elim h [ inl is ↦ inl is | inr is ↦ inr (arranged_back fill cells n parts is) ])

@@ -1,0 +1,140 @@
+-- Which arrays a chain can encode, and how long what it writes is.
+use Rattle.std.specs.Prelude.{ℕ, ◌+◌, ◌-◌, ◌*◌, ◌/◌, ◌%◌, ◌^◌, List, [], ◌∷◌, length, Option, Some, None, unwrap_or, is_some, Bool, true, false, not, ◌&&◌, ◌||◌, ◌==◌, nat_lt, nat_le}
+use Rattle.std.specs.List.{list_all, list_any, range_with_len}
+use Rattle.zarr_grids_boxes.specs.Boxes.{product}
+use Rattle.zarr_codecs_meaning.specs.Types.{DataType, bool, integer, unsigned, uint8, uint64, Component, components, bytes_in, is_fixed, is_variable, inner_type}
+use Rattle.zarr_codecs_meaning.specs.Chains.{Chain, Endianness, Padding, Step, ShapeEntry}
+use Rattle.zarr_codecs_meaning.specs.Chains.Chain.{bytes, packbits, vlen, optional, after_step, then_bytes, sharded}
+use Rattle.zarr_codecs_meaning.specs.Chains.Padding.{no_padding_byte, first_byte, last_byte}
+use Rattle.zarr_codecs_meaning.specs.Chains.Step.{transpose, reshape, squeeze}
+use Rattle.zarr_codecs_meaning.specs.Chains.ShapeEntry.{size_entry, product_entry, left_over}
+use Rattle.zarr_codecs_meaning.specs.Places.{step_shape, known_product, Part, parts_of, index_shape}
+
+-- ---- Array codecs
+
+-- the numbers of the list are those below its length, each of which stands in it
+abbrev pub is_permutation : List ℕ → Bool
+is_permutation order = list_all (λ d. nat_lt d (length order)) order && list_all (λ d. list_any (λ m. m == d) order) (range_with_len 0 (length order))
+
+-- the dimensions that an entry names are there, and a size that is left over comes from a division
+abbrev pub entry_fits : ℕ → ℕ → ShapeEntry → Bool
+entry_fits known dimensions (size_entry size) = true
+entry_fits known dimensions (product_entry named) = list_all (λ d. nat_lt d dimensions) named
+entry_fits known dimensions left_over = nat_lt 0 known
+
+-- `transpose`: as many dimensions as its order names; `reshape`: as many elements as before; `squeeze`: always
+abbrev pub step_fits : Step → List ℕ → Bool
+step_fits (transpose order) shape = (length order == length shape) && is_permutation order
+step_fits (reshape entries) shape = list_all (entry_fits (known_product entries shape) (length shape)) entries && (product (step_shape (reshape entries) shape) == product shape)
+step_fits squeeze shape = true
+
+-- ---- `packbits`
+
+-- the last bit that is kept of a component: where none is given, its highest
+abbrev pub last_kept : Option ℕ → Component → ℕ
+last_kept last c = unwrap_or last (c.width - 1)
+
+-- how many bits are kept of a component, and of all components of an element
+abbrev pub kept_bits : ℕ → Option ℕ → Component → ℕ
+kept_bits first last c = last_kept last c + 1 - first
+
+-- how many bits are kept of an element
+abbrev pub bits_in : ℕ → Option ℕ → List Component → ℕ
+bits_in first last [] = 0
+bits_in first last (c ∷ cs) = kept_bits first last c + bits_in first last cs
+
+-- how many bytes tell the padding
+abbrev pub padding_size : Padding → ℕ
+padding_size no_padding_byte = 0
+padding_size first_byte = 1
+padding_size last_byte = 1
+
+-- how many bytes `packbits` makes of so many elements
+abbrev pub packed_size : Padding → ℕ → Option ℕ → List Component → ℕ → ℕ
+packed_size padding first last parts count = padding_size padding + (bits_in first last parts * count + 7) / 8
+
+-- ---- Sizes
+
+-- how many bytes a chain writes, where the type and the shape decide it
+abbrev pub size_of : Chain → DataType → List ℕ → Option ℕ
+size_of (bytes order) type shape = Some (bytes_in (components type) * product shape)
+size_of (packbits padding first last) type shape = Some (packed_size padding first last (components type) (product shape))
+size_of (vlen index texts width location) type shape = None
+size_of (optional mask values) type shape = None
+size_of (after_step step chain) type shape = size_of chain type (step_shape step shape)
+size_of (then_bytes chain codec) type shape = codec.size (size_of chain type shape)
+size_of (sharded subchunk inner index location) type shape = None
+
+-- there is a number, and it is below a bound
+abbrev pub is_some_below : ℕ → Option ℕ → Bool
+is_some_below bound None = false
+is_some_below bound (Some n) = nat_lt n bound
+
+-- ---- Fits
+
+-- a chain that holds neither array codecs nor shards does the same for each shape: the data chains of `vlen` and `optional` are given as many elements as there are
+abbrev pub takes_each_shape : Chain → Bool
+takes_each_shape (bytes order) = true
+takes_each_shape (packbits padding first last) = true
+takes_each_shape (vlen index texts width location) = takes_each_shape index && takes_each_shape texts
+takes_each_shape (optional mask values) = takes_each_shape mask && takes_each_shape values
+takes_each_shape (after_step step chain) = false
+takes_each_shape (then_bytes chain codec) = takes_each_shape chain
+takes_each_shape (sharded subchunk inner index location) = false
+
+-- a shape can be cut into subchunks: one positive edge for each dimension
+abbrev pub can_cut : List ℕ → List ℕ → Bool
+can_cut [] [] = true
+can_cut [] (edge ∷ edges) = false
+can_cut (size ∷ sizes) [] = false
+can_cut (size ∷ sizes) (edge ∷ edges) = nat_lt 0 edge && can_cut sizes edges
+
+-- each edge divides its size
+abbrev pub divides : List ℕ → List ℕ → Bool
+divides [] edges = true
+divides (size ∷ sizes) [] = true
+divides (size ∷ sizes) (edge ∷ edges) = (size % edge == 0) && divides sizes edges
+
+-- components of several bytes need an order
+abbrev pub order_fits : Option Endianness → List Component → Bool
+order_fits order parts = is_some order || list_all (λ (c : Component). nat_le c.byte_count 1) parts
+
+-- the first bit isn't after the last one, and both are the component's own
+abbrev pub bits_fit : ℕ → Option ℕ → Component → Bool
+bits_fit first last c = nat_le first (last_kept last c) && nat_lt (last_kept last c) c.width
+
+-- whether a chain can encode an array of this type and shape (this project's profile)
+abbrev pub fits : Chain → DataType → List ℕ → Bool
+fits (bytes order) type shape = is_fixed type && order_fits order (components type)
+fits (packbits padding first last) type shape = is_fixed type && list_all (bits_fit first last) (components type)
+fits (vlen index texts width location) type shape =
+    is_variable type && (fits index (integer unsigned width) ((product shape + 1) ∷ []) && (takes_each_shape texts && fits texts uint8 (0 ∷ [])))
+fits (optional mask values) type shape =
+    elim (inner_type type) [ None ↦ false | Some inner ↦ fits mask bool shape && (takes_each_shape values && fits values inner (0 ∷ [])) ]
+fits (after_step step chain) type shape = step_fits step shape && fits chain type (step_shape step shape)
+fits (then_bytes chain codec) type shape = fits chain type shape
+fits (sharded subchunk inner index location) type shape =
+    divides shape subchunk && (not (is_some (inner_type type)) && (can_cut shape subchunk && (list_all (λ (part : Part). fits inner type part.shape) (parts_of shape subchunk)
+    && (fits index uint64 (index_shape shape subchunk) && is_some_below (2 ^ 63) (size_of index uint64 (index_shape shape subchunk))))))
+
+-- ---- What is kept
+
+-- whether each `packbits` of a chain keeps all bits of its components
+abbrev pub is_lossless : Chain → DataType → Bool
+is_lossless (bytes order) type = true
+is_lossless (packbits padding first last) type = list_all (λ (c : Component). (first == 0) && (last_kept last c + 1 == c.width)) (components type)
+is_lossless (vlen index texts width location) type = is_lossless index (integer unsigned width) && is_lossless texts uint8
+is_lossless (optional mask values) type = is_lossless mask bool && elim (inner_type type) [ None ↦ true | Some inner ↦ is_lossless values inner ]
+is_lossless (after_step step chain) type = is_lossless chain type
+is_lossless (then_bytes chain codec) type = is_lossless chain type
+is_lossless (sharded subchunk inner index location) type = is_lossless inner type && is_lossless index uint64
+
+-- whether a chain makes no shard (inside `vlen` and `optional` none is taken)
+abbrev pub is_plain : Chain → Bool
+is_plain (bytes order) = true
+is_plain (packbits padding first last) = true
+is_plain (vlen index texts width location) = true
+is_plain (optional mask values) = true
+is_plain (after_step step chain) = is_plain chain
+is_plain (then_bytes chain codec) = is_plain chain
+is_plain (sharded subchunk inner index location) = false

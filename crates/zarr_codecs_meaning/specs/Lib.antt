@@ -1,0 +1,13 @@
+pub mod Numbers
+pub mod Types
+pub mod Chains
+pub mod Places
+pub mod Fits
+pub mod Encoding
+pub mod Keeping
+pub mod Decoding
+pub mod Standing
+pub mod Laws
+pub mod WorkedValues
+pub mod WorkedPlain
+pub mod WorkedShards
