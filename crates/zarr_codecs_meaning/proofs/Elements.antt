@@ -2,13 +2,13 @@
 use Rattle.std.proofs.Common.{◌≡◌, ℕ, zero, suc, ◌+◌, ◌-◌, ◌*◌, ◌/◌, ◌%◌, ◌^◌, ◌<◌, ◌≤◌, List, [], ◌∷◌, ◌++◌, length, map, get_or, take, drop, replicate, ap, ◌∙◌, sym, refl, arith, Option, Some, None, option_and_then, option_map, Bool, true, false, ◌&&◌, ◌==◌, if◌then◌else◌, length-append, length-take, length-drop, take-append-drop, div-one}
 use Rattle.std.specs.List.{flat_map, range_with_len}
 use Rattle.std.proofs.lemmas.Bool.{eq-eqb}
-use Rattle.std.proofs.lemmas.List.{reverse-reverse, take-append-le, drop-append-le}
+use Rattle.std.proofs.lemmas.List.{length-map, get_or-map, reverse-reverse, take-append-le, drop-append-le}
 use Rattle.std.proofs.lemmas.List.FromFn.{fill_by_all}
 use Rattle.std.proofs.lemmas.Map.Views.{exact_unsigned_eq}
 use Rattle.std.proofs.Math.Seq.{take-append_seam, drop-append_seam, drop-drop}
 use Rattle.zarr_grids_boxes.specs.Boxes.{product}
 use Rattle.zarr_codecs_meaning.specs.Numbers.{digits, number}
-use Rattle.zarr_codecs_meaning.specs.Types.{Sign, Component, components, bytes_in, is_fixed, is_value, is_component, are_components, extended, Cell, of_bytes, cell_bytes, Elements}
+use Rattle.zarr_codecs_meaning.specs.Types.{DataType, Sign, Component, components, bytes_in, is_fixed, is_value, is_component, are_components, extended, Cell, of_bytes, cell_bytes, Elements}
 use Rattle.zarr_codecs_meaning.specs.Chains.{Endianness, Padding}
 use Rattle.zarr_codecs_meaning.specs.Chains.Chain.{bytes, packbits}
 use Rattle.zarr_codecs_meaning.specs.Chains.Endianness.{little, big}
@@ -180,32 +180,51 @@ without_with last_byte bits =
     let count : length (text ++ padding_bits bits ∷ []) - 1 ≡ length text = omega (arith, length-append text (padding_bits bits ∷ [])) in
     ap (λ n. take n (text ++ padding_bits bits ∷ [])) count ∙ take-append_seam text (padding_bits bits ∷ [])
 
-pub packbits_back : (padding : Padding) (first : ℕ) (last : Option ℕ) (elements : Elements) (shape : List ℕ) (cells : List Cell) → is_fixed elements.type ≡ true → is_lossless (packbits padding first last) elements.type ≡ true → AreCells elements shape cells
-    → decoded (packbits padding first last) elements shape (with_padding padding (flat_map (λ cell. element_bits first last (components elements.type) (cell_bytes cell)) cells)) ≡ Some cells
-packbits_back padding first last elements shape cells fixed lossless are =
+-- what is kept of an element's cell
+abbrev pub kept_cell : ℕ → Option ℕ → DataType → Cell → Cell
+kept_cell first last type cell = of_bytes (element_of_bits first last (components type) (element_bits first last (components type) (cell_bytes cell)))
+
+-- where all bits are kept, all cells are
+pub packbits_lossless : (first : ℕ) (last : Option ℕ) (type : DataType) (cells : List Cell) → is_fixed type ≡ true → Each (KeepsAll first last) (components type) → Each (λ c. is_value type c ≡ true) cells → map (kept_cell first last type) cells ≡ cells
+packbits_lossless first last type [] fixed keeps values = refl
+packbits_lossless first last type (c ∷ cs) fixed keeps values =
+    let v = fixed_value type c fixed values.0 in
+    let parts = components type in
+    let here : kept_cell first last type c ≡ c =
+    ap (λ (x : Cell). of_bytes (element_of_bits first last parts (element_bits first last parts (cell_bytes x)))) v.is ∙ (ap of_bytes (element_back first last parts v.text keeps v.long (bytes_below v.text v.bytes) v.fine) ∙ sym v.is) in
+    ap (λ (x : Cell). x ∷ map (kept_cell first last type) cs) here ∙ ap (λ (xs : List Cell). c ∷ xs) (packbits_lossless first last type cs fixed keeps values.1)
+
+-- what is packed is unpacked to the kept cells
+pub packbits_kept : (padding : Padding) (first : ℕ) (last : Option ℕ) (elements : Elements) (shape : List ℕ) (cells : List Cell) → length cells ≡ product shape
+    → decoded (packbits padding first last) elements shape (with_padding padding (flat_map (λ cell. element_bits first last (components elements.type) (cell_bytes cell)) cells)) ≡ Some (map (kept_cell first last elements.type) cells)
+packbits_kept padding first last elements shape cells many =
     let type = elements.type in
     let parts = components type in
     let width = bits_in first last parts in
     let cell_bits = λ (cell : Cell). element_bits first last parts (cell_bytes cell) in
+    let kept_one = kept_cell first last type in
     let bits = flat_map cell_bits cells in
     let value = with_padding padding bits in
-    let count : length bits ≡ width * product shape = bits_length first last elements cells ∙ (ap (λ n. n * width) are.whole ∙ grind arith) in
+    let total : length bits ≡ length cells * width = bits_length first last elements cells in
+    let count : length bits ≡ width * product shape = total ∙ (ap (λ n. n * width) many ∙ grind arith) in
     let long : length value ≡ packed_size padding first last parts (product shape) = length-with_padding padding bits ∙ ap (λ n. padding_size padding + (n + 7) / 8) count in
-    let keeps : Each (KeepsAll first last) parts = each_weaker (λ (c : Component). ((first == 0) && (last_kept last c + 1 == c.width)) ≡ true) (KeepsAll first last) parts (keeps_all first last) (each_passes (λ (c : Component). (first == 0) && (last_kept last c + 1 == c.width)) parts lossless) in
     let back = unpacked_packed bits (each-flat_map (λ b. b < 2) cell_bits cells (λ cell. are_bits first last parts (cell_bytes cell))) in
     let found : flat_map (digits 2 8) (without_padding padding value) ≡ bits ++ replicate back.0 0 = ap (flat_map (digits 2 8)) (without_with padding bits) ∙ back.1 in
     let wide : Each (λ cell. length (cell_bits cell) ≡ width) cells = every (λ cell. length (cell_bits cell) ≡ width) cells (λ cell. length-element_bits first last parts (cell_bytes cell)) in
-    let fine : Each (λ cell. is_value type cell ≡ true) cells = each_passes (is_value type) cells are.values in
-    let total : length bits ≡ length cells * width = bits_length first last elements cells in
-    let read : (i : ℕ) → i < length cells → get_or cells i elements.fill ≡ unpacked first last type (flat_map (digits 2 8) (without_padding padding value)) i = λ i below.
-    let cell = get_or cells i elements.fill in
-    let v = fixed_value type cell fixed (each_get (λ c. is_value type c ≡ true) cells i elements.fill fine are.fill) in
+    let read : (i : ℕ) → i < product shape → get_or (map kept_one cells) i elements.fill ≡ unpacked first last type (flat_map (digits 2 8) (without_padding padding value)) i = λ i h.
+    let below : i < length cells = omega (arith, h, many) in
     let within : i * width + width ≤ length bits = let e : suc i * width ≡ i * width + width = grind arith in let l : suc i * width ≤ length cells * width = grind arith in omega (arith, total, e, l) in
     let early : drop (i * width) (bits ++ replicate back.0 0) ≡ drop (i * width) bits ++ replicate back.0 0 = drop-append-le (i * width) bits (replicate back.0 0) (omega arith) in
     let enough : width ≤ length (drop (i * width) bits) = omega (arith, length-drop (i * width) bits) in
-    let slice : take width (drop (i * width) (bits ++ replicate back.0 0)) ≡ cell_bits cell = ap (take width) early ∙ (take-append-le width (drop (i * width) bits) (replicate back.0 0) enough ∙ slice_flat cell_bits width cells i elements.fill wide below) in
-    let text : cell_bytes cell ≡ v.text = ap cell_bytes v.is in
-    let whole : element_of_bits first last parts (cell_bits cell) ≡ v.text = ap (λ ns. element_of_bits first last parts (element_bits first last parts ns)) text ∙ element_back first last parts v.text keeps v.long (bytes_below v.text v.bytes) v.fine in
-    sym (ap (λ ns. of_bytes (element_of_bits first last parts (take width (drop (i * width) ns)))) found ∙ (ap (λ ns. of_bytes (element_of_bits first last parts ns)) slice ∙ (ap of_bytes whole ∙ sym v.is))) in
+    let slice : take width (drop (i * width) (bits ++ replicate back.0 0)) ≡ cell_bits (get_or cells i elements.fill) = ap (take width) early ∙ (take-append-le width (drop (i * width) bits) (replicate back.0 0) enough ∙ slice_flat cell_bits width cells i elements.fill wide below) in
+    get_or-map kept_one cells i elements.fill elements.fill below
+    ∙ sym (ap (λ ns. of_bytes (element_of_bits first last parts (take width (drop (i * width) ns)))) found ∙ ap (λ ns. of_bytes (element_of_bits first last parts ns)) slice) in
     on_true (length value == packed_size padding first last parts (product shape)) (Some (map (unpacked first last type (flat_map (digits 2 8) (without_padding padding value))) (place_numbers shape))) None (eq-eqb (length value) (packed_size padding first last parts (product shape)) long)
-    ∙ ap Some (sym (fill_by_all (unpacked first last type (flat_map (digits 2 8) (without_padding padding value))) cells (product shape) elements.fill are.whole (λ k below. read k (omega (arith, are.whole)))))
+    ∙ ap Some (sym (fill_by_all (unpacked first last type (flat_map (digits 2 8) (without_padding padding value))) (map kept_one cells) (product shape) elements.fill (length-map cells kept_one ∙ many) read))
+
+pub packbits_back : (padding : Padding) (first : ℕ) (last : Option ℕ) (elements : Elements) (shape : List ℕ) (cells : List Cell) → is_fixed elements.type ≡ true → is_lossless (packbits padding first last) elements.type ≡ true → AreCells elements shape cells
+    → decoded (packbits padding first last) elements shape (with_padding padding (flat_map (λ cell. element_bits first last (components elements.type) (cell_bytes cell)) cells)) ≡ Some cells
+packbits_back padding first last elements shape cells fixed lossless are =
+    let parts = components elements.type in
+    let keeps : Each (KeepsAll first last) parts = each_weaker (λ (c : Component). ((first == 0) && (last_kept last c + 1 == c.width)) ≡ true) (KeepsAll first last) parts (keeps_all first last) (each_passes (λ (c : Component). (first == 0) && (last_kept last c + 1 == c.width)) parts lossless) in
+    packbits_kept padding first last elements shape cells are.whole ∙ ap Some (packbits_lossless first last elements.type cells fixed keeps (each_passes (is_value elements.type) cells are.values))

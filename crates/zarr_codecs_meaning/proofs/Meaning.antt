@@ -1,5 +1,5 @@
 -- What is encoded stands, and what stands is decoded: by recursion over chains, both at once.
-use Rattle.std.proofs.Common.{◌≡◌, ℕ, ◌+◌, ◌-◌, ◌*◌, ◌/◌, ◌^◌, ◌<◌, List, [], ◌∷◌, ◌++◌, length, subst, ◌==◌, map, ap, ◌∙◌, sym, refl, arith, Option, Some, None, option_and_then, option_map, unwrap_or, is_some, Bool, true, false, not, ◌&&◌, ◌⊎◌, inl, inr, if◌then◌else◌}
+use Rattle.std.proofs.Common.{◌≡◌, ℕ, ◌+◌, ◌/◌, ◌^◌, ◌<◌, List, [], ◌∷◌, ◌++◌, length, subst, ◌==◌, map, ap, ◌∙◌, sym, refl, arith, Option, Some, None, option_and_then, option_map, unwrap_or, Bool, true, false, ◌&&◌, ◌⊎◌, inl, inr, if◌then◌else◌}
 use Rattle.std.specs.Prelude.{MatchBool, nat_lt}
 use Rattle.std.specs.List.{list_all, flat_map, filter_map}
 use Rattle.std.proofs.lemmas.Bool.{ltb-true, le-leb}
@@ -9,25 +9,25 @@ use Rattle.zarr_grids_boxes.specs.Boxes.{product}
 use Rattle.zarr_codecs_meaning.specs.Types.{DataType, bool, integer, unsigned, uint8, uint64, is_fixed, is_variable, components, Elements, Cell, of_bytes, cell_bytes, is_value, inner_type, zero_filled}
 use Rattle.zarr_codecs_meaning.specs.Chains.{Chain, Location}
 use Rattle.zarr_codecs_meaning.specs.Chains.Chain.{bytes, packbits, vlen, optional, after_step, then_bytes, sharded}
-use Rattle.zarr_codecs_meaning.specs.Places.{gather, place_numbers, step_shape, step_places, undone_places, Part, parts_of, index_shape}
-use Rattle.zarr_codecs_meaning.specs.Fits.{fits, takes_each_shape, size_of, is_lossless, is_plain, is_some_below, step_fits, order_fits, bits_fit, can_cut, divides}
-use Rattle.zarr_codecs_meaning.specs.Encoding.{encoded, ends_from, last_number, number_cells, byte_cells, sections, with_index, with_mask, is_short, unless_none, mask_cell, present_cell, Pair, Piece, piece_of, pieces_of, stored_pieces, joined_texts, pairs_from, pair_cells, index_size, base_of, joined, shard_of}
+use Rattle.zarr_codecs_meaning.specs.Places.{gather, place_numbers, step_shape, step_places, undone_places, parts_of, index_shape}
+use Rattle.zarr_codecs_meaning.specs.Fits.{fits, takes_each_shape, is_lossless, is_plain, step_fits, order_fits, bits_fit}
+use Rattle.zarr_codecs_meaning.specs.Encoding.{encoded, ends_from, last_number, number_cells, byte_cells, sections, with_index, with_mask, is_short, unless_none, mask_cell, present_cell, Pair, pieces_of, joined_texts, pairs_from, pair_cells, index_size, base_of}
 use Rattle.zarr_codecs_meaning.specs.Keeping.{arranged, spread}
 use Rattle.zarr_codecs_meaning.specs.Decoding.{decoded, sections_of, texts_between, texts_of, masked_of, count_present, read_unless_none, pairs_in, pairs_of_cells, index_text, pieces_decoded}
 use Rattle.zarr_codecs_meaning.specs.Standing.{Stands, ShardStands}
 use Rattle.zarr_codecs_meaning.specs.Laws.{IsLawfulChain, AreCells}
-use Rattle.zarr_codecs_meaning.proofs.Lists.{both_true, bind_some, map_some, if_some, some_same, Each, each_passes, each_weaker, each_append}
-use Rattle.zarr_codecs_meaning.proofs.Steps.{length-gather, values_gathered}
-use Rattle.zarr_codecs_meaning.proofs.Sizes.{cells_moved, encoded_size}
+use Rattle.zarr_codecs_meaning.proofs.Lists.{both_true, bind_some, if_some, some_same, Each, each_passes, each_weaker, each_append}
+use Rattle.zarr_codecs_meaning.proofs.Sizes.{cells_moved}
 use Rattle.zarr_codecs_meaning.proofs.Elements.{bytes_back, packbits_back}
 use Rattle.zarr_codecs_meaning.proofs.Positions.{gathered_back}
 use Rattle.zarr_codecs_meaning.proofs.Covers.{step_covers}
-use Rattle.zarr_codecs_meaning.proofs.Shards.{stored_stand, put, length-pairs_from, length-stored, length-pair_cells, AreWords, words_of, pairs_back, index_read, slice_found, part_cells, PartLaw, parts_decoded, arranged_back}
-use Rattle.zarr_codecs_meaning.proofs.Parts.{part_counts, index_product, parts_cover}
-use Rattle.zarr_codecs_meaning.proofs.Words.{pair_cells_are_values}
+use Rattle.zarr_codecs_meaning.proofs.Shards.{put, words_of, pairs_back, index_read, slice_found, part_cells, PartLaw, parts_decoded, arranged_back}
+use Rattle.zarr_codecs_meaning.proofs.Parts.{parts_cover}
 use Rattle.zarr_codecs_meaning.proofs.Digits.{bytes_below}
 use Rattle.zarr_codecs_meaning.proofs.Zeros.{zero_is_value, fits_each}
 use Rattle.zarr_codecs_meaning.proofs.Texts.{IsText, text_value, texts_again, ends_below, last_end, length-ends, between_back, numbers_again, numbers_are_values, bytes_are_values, bytes_again, sections_back}
+use Rattle.zarr_codecs_meaning.proofs.Fitting.{fitted_option, fitted, each_part, texts_stand, shard_made}
+use Rattle.zarr_codecs_meaning.proofs.Representations.{index_long}
 use Rattle.zarr_codecs_meaning.proofs.Options.{IsOption, option_value, masks_are_values, found_are_values, spread_back, count_found, masked_back}
 use Rattle.zarr_codecs_meaning.specs.Numbers.{digits, number, word}
 
@@ -35,60 +35,6 @@ use Rattle.zarr_codecs_meaning.specs.Numbers.{digits, number, word}
 pub record Laws (chain : Chain) : Type 0 where
   pub stands : (elements : Elements) (shape value : List ℕ) (cells : List Cell) → fits chain elements.type shape ≡ true → is_lossless chain elements.type ≡ true → AreCells elements shape cells → encoded chain elements shape cells ≡ Some value → Stands chain elements shape value cells
   pub decodes : (elements : Elements) (shape value : List ℕ) (cells : List Cell) → fits chain elements.type shape ≡ true → is_lossless chain elements.type ≡ true → AreCells elements shape cells → Stands chain elements shape value cells → decoded chain elements shape value ≡ Some cells
-
--- what a shard's fitting says
-pub record Fitted (subchunk : List ℕ) (inner index : Chain) (elements : Elements) (shape : List ℕ) : Type 0 where
-  pub cuts : can_cut shape subchunk ≡ true
-  pub each : list_all (λ (part : Part). fits inner elements.type part.shape) (parts_of shape subchunk) ≡ true
-  pub index_fits : fits index uint64 (index_shape shape subchunk) ≡ true
-  pub sized : (n : ℕ) × (size_of index uint64 (index_shape shape subchunk) ≡ Some n)
-
-some_below : (bound : ℕ) (o : Option ℕ) → is_some_below bound o ≡ true → (n : ℕ) × (o ≡ Some n)
-some_below bound None h = cc
-some_below bound (Some n) h = (n, refl)
-
-pub fitted : (subchunk : List ℕ) (inner index : Chain) (location : Location) (elements : Elements) (shape : List ℕ) → fits (sharded subchunk inner index location) elements.type shape ≡ true → Fitted subchunk inner index elements shape
-fitted subchunk inner index location elements shape fit =
-    let pairs_shape = index_shape shape subchunk in
-    let e = is_some_below (2 ^ 63) (size_of index uint64 pairs_shape) in
-    let d = fits index uint64 pairs_shape in
-    let c = list_all (λ (part : Part). fits inner elements.type part.shape) (parts_of shape subchunk) in
-    let b = can_cut shape subchunk in
-    let a = not (is_some (inner_type elements.type)) in
-    let one = both_true (divides shape subchunk) (a && (b && (c && (d && e)))) fit in
-    let two = both_true a (b && (c && (d && e))) one.1 in
-    let three = both_true b (c && (d && e)) two.1 in
-    let four = both_true c (d && e) three.1 in
-    let five = both_true d e four.1 in
-    record { cuts = three.0; each = four.0; index_fits = five.0; sized = some_below (2 ^ 63) (size_of index uint64 pairs_shape) five.1 }
-
--- the pairs of a shard as the cells of its index
-pairs_are_cells : (shape subchunk : List ℕ) (pairs : List Pair) → AreWords pairs → length pairs ≡ length (parts_of shape subchunk) → AreCells (zero_filled uint64) (index_shape shape subchunk) (pair_cells pairs)
-pairs_are_cells shape subchunk pairs are count = record {
-  fill = refl;
-  values = pair_cells_are_values pairs are;
-  whole = length-pair_cells pairs ∙ (ap (λ n. 2 * n) count ∙ sym (index_product shape subchunk));
-}
-
--- the cells of each part
-pub each_part : (subchunk : List ℕ) (inner index : Chain) (elements : Elements) (shape : List ℕ) (cells : List Cell) (Q : Part → Type 0) → Fitted subchunk inner index elements shape → AreCells elements shape cells
-    → ((part : Part) → fits inner elements.type part.shape ≡ true → AreCells elements part.shape (part_cells elements.fill cells part) → Q part) → Each Q (parts_of shape subchunk)
-each_part subchunk inner index elements shape cells Q f are law =
-    go (parts_of shape subchunk) (part_counts shape subchunk f.cuts) (each_passes (λ (part : Part). fits inner elements.type part.shape) (parts_of shape subchunk) f.each) where
-      go : (parts : List Part) → Each (λ (part : Part). length part.places ≡ product part.shape) parts → Each (λ (part : Part). fits inner elements.type part.shape ≡ true) parts → Each Q parts
-      go [] counts fit = tt
-      go (part ∷ parts) counts fit = (
-        law part fit.0 (record {
-          fill = are.fill;
-          values = values_gathered (is_value elements.type) elements.fill cells part.places are.fill are.values;
-          whole = length-gather elements.fill cells part.places ∙ counts.0;
-        }),
-        go parts counts.1 fit.1,
-      )
-
-pub each_piece : (P : Piece → Type 0) (fill : Cell) (cells : List Cell) (parts : List Part) → Each (λ (part : Part). P (piece_of fill cells part)) parts → Each P (pieces_of fill cells parts)
-each_piece P fill cells [] h = tt
-each_piece P fill cells (part ∷ parts) h = (h.0, each_piece P fill cells parts h.1)
 
 -- what is shown of a relation of slices: what encoding writes keeps it
 pub shard_stands : (subchunk : List ℕ) (inner index : Chain) (location : Location) (elements : Elements) (shape value : List ℕ) (cells : List Cell) (slice : List ℕ → List ℕ → List Cell → Type 0) → IsLawfulChain index → Laws index
@@ -99,26 +45,17 @@ pub shard_stands : (subchunk : List ℕ) (inner index : Chain) (location : Locat
 shard_stands subchunk inner index location elements shape value cells slice lawful laws fit lossless are law h =
     let pairs_shape = index_shape shape subchunk in
     let words = zero_filled uint64 in
-    let size = index_size index pairs_shape in
-    let base = base_of location size in
-    let parts = parts_of shape subchunk in
-    let pieces = pieces_of elements.fill cells parts in
+    let base = base_of location (index_size index pairs_shape) in
+    let pieces = pieces_of elements.fill cells (parts_of shape subchunk) in
     let f = fitted subchunk inner index location elements shape fit in
-    let found = bind_some (shard_of (encoded index words pairs_shape) location size) (stored_pieces (encoded inner elements) elements.fill pieces) value h in
-    let os = found.0 in
-    let guarded = if_some (nat_lt (base + length (joined_texts os)) (2 ^ 64 - 1)) (option_map (λ (text : List ℕ). joined location text (joined_texts os)) (encoded index words pairs_shape (pair_cells (pairs_from base os)))) value found.2 in
-    let short = ltb-true (base + length (joined_texts os)) (2 ^ 64 - 1) guarded.0 in
-    let made = map_some (λ (text : List ℕ). joined location text (joined_texts os)) (encoded index words pairs_shape (pair_cells (pairs_from base os))) value guarded.1 in
-    let count : length (pairs_from base os) ≡ length parts = length-pairs_from os base ∙ (length-stored (encoded inner elements) elements.fill pieces os found.1 ∙ length-map parts (piece_of elements.fill cells)) in
-    let each = each_piece (λ x. (v : List ℕ) → encoded inner elements x.0 x.1 ≡ Some v → slice x.0 v x.1) elements.fill cells parts
-    (each_part subchunk inner index elements shape cells (λ (part : Part). (v : List ℕ) → encoded inner elements part.shape (part_cells elements.fill cells part) ≡ Some v → slice part.shape v (part_cells elements.fill cells part)) f are
-    (λ part one two v e. law part.shape v (part_cells elements.fill cells part) one two e)) in
-    let texts = stored_stand (encoded inner elements) slice elements.fill pieces os each found.1 in
-    let stand = put slice elements.fill base (joined_texts os) pieces os [] base texts refl (omega arith) short in
-    let pair_values = pairs_are_cells shape subchunk (pairs_from base os) (words_of slice elements.fill base (joined_texts os) pieces (pairs_from base os) stand) count in
-    let long : length made.0 ≡ size = encoded_size index words pairs_shape made.0 (pair_cells (pairs_from base os)) f.sized.0 lawful f.index_fits pair_values made.1 f.sized.1 ∙ sym (ap (λ (o : Option ℕ). unwrap_or o 0) f.sized.1) in
-    let read = laws.decodes words pairs_shape made.0 (pair_cells (pairs_from base os)) f.index_fits lossless pair_values (laws.stands words pairs_shape made.0 (pair_cells (pairs_from base os)) f.index_fits lossless pair_values made.1) in
-    (pairs_from base os, joined_texts os, record { text = made.0; long = long; read = read; is = sym made.2 }, stand)
+    let shard = shard_made subchunk inner index location elements shape value cells h in
+    let os = shard.stored in
+    let texts = texts_stand subchunk inner index elements shape cells os slice f are law shard.are_stored in
+    let stand = put slice elements.fill base (joined_texts os) pieces os [] base texts refl (omega arith) shard.short in
+    let long = index_long subchunk inner index location elements shape value cells lawful fit shard in
+    let written = pair_cells (pairs_from base os) in
+    let read = laws.decodes words pairs_shape shard.text written f.index_fits lossless shard.pairs_are (laws.stands words pairs_shape shard.text written f.index_fits lossless shard.pairs_are shard.is_text) in
+    (pairs_from base os, joined_texts os, record { text = shard.text; long = long; read = read; is = sym shard.is }, stand)
 
 -- the pairs that are read of what stands
 pub pairs_read : (subchunk : List ℕ) (inner index : Chain) (location : Location) (elements : Elements) (shape value : List ℕ) (cells : List Cell) (h : Stands (sharded subchunk inner index location) elements shape value cells)
@@ -218,31 +155,14 @@ vlen_back index texts width location elements shape value cells index_laws texts
     texts_below [] h = tt
     texts_below (cell ∷ cells) h = each_append (λ b. b < 256) (cell_bytes cell) (flat_map cell_bytes cells) (bytes_below (cell_bytes cell) h.0.bytes) (texts_below cells h.1)
 
--- what an optional type's fitting says
-record FittedOption (mask values : Chain) (type : DataType) (shape : List ℕ) : Type 0 where
-  pub inner : DataType
-  pub is : inner_type type ≡ Some inner
-  pub mask_fits : fits mask bool shape ≡ true
-  pub takes : takes_each_shape values ≡ true
-  pub values_fit : fits values inner (0 ∷ []) ≡ true
-  pub mask_lossless : is_lossless mask bool ≡ true
-  pub values_lossless : is_lossless values inner ≡ true
-
-fitted_option : (mask values : Chain) (type : DataType) (shape : List ℕ) (o : Option DataType) → inner_type type ≡ o → (elim o [ None ↦ false | Some inner ↦ fits mask bool shape && (takes_each_shape values && fits values inner (0 ∷ [])) ]) ≡ true
-    → (is_lossless mask bool && (elim o [ None ↦ true | Some inner ↦ is_lossless values inner ])) ≡ true → FittedOption mask values type shape
-fitted_option mask values type shape None e fit lossless = cc
-fitted_option mask values type shape (Some inner) e fit lossless =
-    let a = both_true (fits mask bool shape) (takes_each_shape values && fits values inner (0 ∷ [])) fit in
-    let b = both_true (takes_each_shape values) (fits values inner (0 ∷ [])) a.1 in
-    let l = both_true (is_lossless mask bool) (is_lossless values inner) lossless in
-    record { inner = inner; is = e; mask_fits = a.0; takes = b.0; values_fit = b.1; mask_lossless = l.0; values_lossless = l.1 }
-
 pub optional_back : (mask values : Chain) (elements : Elements) (shape value : List ℕ) (cells : List Cell) → Laws mask → Laws values
     → fits (optional mask values) elements.type shape ≡ true → is_lossless (optional mask values) elements.type ≡ true → AreCells elements shape cells
     → encoded (optional mask values) elements shape cells ≡ Some value → decoded (optional mask values) elements shape value ≡ Some cells
 optional_back mask values elements shape value cells mask_laws values_laws fit lossless are h =
     let type = elements.type in
-    let f = fitted_option mask values type shape (inner_type type) refl fit lossless in
+    let f = fitted_option mask values type shape fit in
+    let l = both_true (is_lossless mask bool) (elim (inner_type type) [ None ↦ true | Some inner ↦ is_lossless values inner ]) lossless in
+    let values_lossless : is_lossless values f.inner ≡ true = sym (ap (λ (o : Option DataType). elim o [ None ↦ true | Some inner ↦ is_lossless values inner ]) f.is) ∙ l.1 in
     let bools = zero_filled bool in
     let inner = unwrap_or (inner_type type) type in
     let same : inner ≡ f.inner = ap (λ (o : Option DataType). unwrap_or o type) f.is in
@@ -256,11 +176,11 @@ optional_back mask values elements shape value cells mask_laws values_laws fit l
     let shorts = both_true (is_short made.0) (is_short text.0) told.0 in
     let options : Each (IsOption f.inner) cells = each_weaker (λ cell. is_value type cell ≡ true) (IsOption f.inner) cells (λ cell v. option_value type f.inner cell f.is v) (each_passes (is_value type) cells are.values) in
     let are_masks : AreCells bools shape masks = record { fill = refl; values = masks_are_values cells; whole = length-map cells mask_cell ∙ are.whole } in
-    let mask_read = mask_laws.decodes bools shape made.0 masks f.mask_fits f.mask_lossless are_masks (mask_laws.stands bools shape made.0 masks f.mask_fits f.mask_lossless are_masks made.1) in
+    let mask_read = mask_laws.decodes bools shape made.0 masks f.mask_fits l.0 are_masks (mask_laws.stands bools shape made.0 masks f.mask_fits l.0 are_masks made.1) in
     let count = count_present masks in
     let data_read = data_back values (zero_filled inner) values_laws found count text.0 (count_found cells)
     (subst (λ t. fits values t (count ∷ []) ≡ true) (sym same) (fits_each values f.inner (0 ∷ []) (count ∷ []) f.takes f.values_fit))
-    (subst (λ t. is_lossless values t ≡ true) (sym same) f.values_lossless) (zero_is_value inner)
+    (subst (λ t. is_lossless values t ≡ true) (sym same) values_lossless) (zero_is_value inner)
     (subst (λ t. list_all (is_value t) found ≡ true) (sym same) (found_are_values f.inner cells options)) text.1 in
     let result = λ (sections_ : List ℕ × List ℕ). λ (ms : List Cell). option_map (spread ms) (read_unless_none (count_present ms) sections_.1 (decoded values (zero_filled inner) (count_present ms ∷ []))) in
     let whole = λ (sections_ : List ℕ × List ℕ). option_and_then (result sections_) (decoded mask bools shape sections_.0) in

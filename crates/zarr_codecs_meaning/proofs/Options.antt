@@ -1,5 +1,5 @@
 -- Elements that may be absent, written and read back.
-use Rattle.std.proofs.Common.{◌≡◌, ℕ, suc, ◌+◌, ◌<◌, ◌^◌, List, [], ◌∷◌, ◌++◌, length, map, take, drop, ap, ◌∙◌, sym, refl, arith, Some, None, Bool, true, false, ◌&&◌, ◌==◌, if◌then◌else◌, length-append}
+use Rattle.std.proofs.Common.{◌≡◌, ℕ, suc, ◌+◌, ◌<◌, ◌≤◌, ◌^◌, List, [], ◌∷◌, ◌++◌, length, map, take, drop, ap, ◌∙◌, sym, refl, arith, Some, None, Bool, true, false, ◌&&◌, ◌==◌, if◌then◌else◌, length-append}
 use Rattle.std.specs.Prelude.{nat_le}
 use Rattle.std.specs.List.{filter_map, list_all}
 use Rattle.std.proofs.lemmas.Bool.{le-leb, eq-eqb}
@@ -55,6 +55,12 @@ count_found [] = refl
 count_found (of_bytes text ∷ cells) = count_found cells
 count_found (absent ∷ cells) = count_found cells
 count_found (present cell ∷ cells) = ap suc (count_found cells)
+
+pub length-found : (cells : List Cell) → length (filter_map present_cell cells) ≤ length cells
+length-found [] = omega arith
+length-found (of_bytes text ∷ cells) = omega (arith, length-found cells)
+length-found (absent ∷ cells) = omega (arith, length-found cells)
+length-found (present cell ∷ cells) = omega (arith, length-found cells)
 
 pub masked_back : (mask text : List ℕ) → length mask < 2 ^ 64 → length text < 2 ^ 64 → masked_of (word (length mask) ++ (word (length text) ++ (mask ++ text))) ≡ Some (mask, text)
 masked_back mask text one two =

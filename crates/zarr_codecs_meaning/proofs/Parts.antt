@@ -23,7 +23,7 @@ same_length [] (p ∷ ps) h = cc
 same_length (n ∷ ns) [] h = cc
 same_length (n ∷ ns) (p ∷ ps) h = ap suc (same_length ns ps (both_true (nat_lt 0 p) (can_cut ns ps) h).1)
 
-box_lengths : (shape subchunk index : List ℕ) → length shape ≡ length subchunk → length (box_of shape subchunk index).start ≡ length (box_of shape subchunk index).shape
+pub box_lengths : (shape subchunk index : List ℕ) → length shape ≡ length subchunk → length (box_of shape subchunk index).start ≡ length (box_of shape subchunk index).shape
 box_lengths [] [] [] l = refl
 box_lengths [] [] (i ∷ is) l = refl
 box_lengths [] (p ∷ ps) index l = absurd (omega arith)
@@ -91,7 +91,7 @@ lies_in (n ∷ ns) (p ∷ ps) (x ∷ xs) cuts h =
     }
 
 -- what a map of the places of a box has at a place's number
-box_places_at : (f : List ℕ → ℕ) (start shape index : List ℕ) → length start ≡ length shape → IsIndex index shape
+pub box_places_at : (f : List ℕ → ℕ) (start shape index : List ℕ) → length start ≡ length shape → IsIndex index shape
     → (ravel index shape < length (map f (places start shape))) × (get_or (map f (places start shape)) (ravel index shape) 0 ≡ f (each2 (λ s i. s + i) start index))
 box_places_at f start shape index l h =
     let below = ravel_below index shape h in

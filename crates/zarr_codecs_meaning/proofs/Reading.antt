@@ -20,7 +20,8 @@ use Rattle.zarr_codecs_meaning.proofs.Positions.{position_found, gathered_read}
 use Rattle.zarr_codecs_meaning.proofs.Covers.{step_covers}
 use Rattle.zarr_codecs_meaning.proofs.Shards.{part_cells, same_is, is_present, slice_found, IsCovered}
 use Rattle.zarr_codecs_meaning.proofs.Parts.{parts_cover}
-use Rattle.zarr_codecs_meaning.proofs.Meaning.{laws_of, one_of, fitted, each_part, pairs_read}
+use Rattle.zarr_codecs_meaning.proofs.Fitting.{fitted, each_part}
+use Rattle.zarr_codecs_meaning.proofs.Meaning.{laws_of, one_of, pairs_read}
 
 -- what is shown of a value: its places can be read, and each gives its cell
 pub record Reads (chain : Chain) (elements : Elements) (shape value : List ℕ) (cells : List Cell) : Type 0 where

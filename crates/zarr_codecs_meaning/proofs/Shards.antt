@@ -130,6 +130,14 @@ words_of inner fill base text (x ∷ xs) (p ∷ ps) h =
     ] in
     (here.0, here.1, words_of inner fill base text xs ps h.1)
 
+-- the pairs of texts that end below the mark of an absent one
+pub words_from : (os : List (Option (List ℕ))) (offset : ℕ) → offset + length (joined_texts os) < 2 ^ 64 - 1 → AreWords (pairs_from offset os)
+words_from [] offset low = tt
+words_from (None ∷ os) offset low = (omega arith, omega arith, words_from os (offset + 0) (omega (arith, low)))
+words_from (Some v ∷ os) offset low =
+    let count = length-append v (joined_texts os) in
+    (omega (arith, low), omega (arith, low, count), words_from os (offset + length v) (omega (arith, low, count)))
+
 -- ---- reading
 
 not_absent : (m n : ℕ) → m < 2 ^ 64 - 1 → is_absent (m, n) ≡ false

@@ -1,18 +1,16 @@
 -- How long what is encoded is.
-use Rattle.std.proofs.Common.{◌≡◌, ℕ, ◌+◌, ◌*◌, ◌/◌, List, [], ◌∷◌, length, take, drop, ap, ◌∙◌, sym, refl, arith, Option, Some, None, true, length-append}
+use Rattle.std.proofs.Common.{◌≡◌, ℕ, ◌+◌, ◌*◌, ◌/◌, List, [], ◌∷◌, length, take, drop, ap, ◌∙◌, arith, Option, true, length-append}
 use Rattle.std.specs.List.{flat_map, list_all}
 use Rattle.std.proofs.lemmas.List.FromFn.{length-map-range_with_len}
-use Rattle.zarr_grids_boxes.specs.Boxes.{product}
 use Rattle.zarr_codecs_meaning.specs.Numbers.{number}
 use Rattle.zarr_codecs_meaning.specs.Types.{Cell, cell_bytes, components, bytes_in, is_fixed, is_value, Elements}
-use Rattle.zarr_codecs_meaning.specs.Chains.{ByteCodec, Chain, Padding, Step}
-use Rattle.zarr_codecs_meaning.specs.Chains.Chain.{bytes, packbits, vlen, optional, after_step, then_bytes, sharded}
+use Rattle.zarr_codecs_meaning.specs.Chains.{Padding, Step}
 use Rattle.zarr_codecs_meaning.specs.Chains.Padding.{no_padding_byte, first_byte, last_byte}
 use Rattle.zarr_codecs_meaning.specs.Places.{gather, step_shape, step_places}
-use Rattle.zarr_codecs_meaning.specs.Fits.{fits, size_of, step_fits, bits_in, packed_size, padding_size, order_fits}
-use Rattle.zarr_codecs_meaning.specs.Encoding.{encoded, ordered, element_bits, packed, with_padding, padding_bits}
-use Rattle.zarr_codecs_meaning.specs.Laws.{IsLawful, IsLawfulChain, AreCells}
-use Rattle.zarr_codecs_meaning.proofs.Lists.{both_true, bind_some, some_same, Each, each_passes, each_weaker, length-flat_map}
+use Rattle.zarr_codecs_meaning.specs.Fits.{step_fits, bits_in, padding_size}
+use Rattle.zarr_codecs_meaning.specs.Encoding.{ordered, element_bits, packed, with_padding, padding_bits}
+use Rattle.zarr_codecs_meaning.specs.Laws.{AreCells}
+use Rattle.zarr_codecs_meaning.proofs.Lists.{Each, each_passes, each_weaker, length-flat_map}
 use Rattle.zarr_codecs_meaning.proofs.Values.{fixed_value, length-ordered, length-element_bits}
 use Rattle.zarr_codecs_meaning.proofs.Steps.{length-gather, values_gathered, step_count}
 
@@ -49,35 +47,3 @@ pub bits_length : (first : ℕ) (last : Option ℕ) (elements : Elements) (cells
 bits_length first last elements cells =
     let parts = components elements.type in
     length-flat_map (λ cell. element_bits first last parts (cell_bytes cell)) (bits_in first last parts) cells (every (λ cell. length (element_bits first last parts (cell_bytes cell)) ≡ bits_in first last parts) cells (λ cell. length-element_bits first last parts (cell_bytes cell)))
-
-sized_by : (o : Option ℕ) (codec : ByteCodec) → IsLawful codec → (size : ℕ) → codec.size o ≡ Some size → (text made : List ℕ) → codec.encode text ≡ Some made → ((n : ℕ) → o ≡ Some n → length text ≡ n) → length made ≡ size
-sized_by None codec lawful size h text made e law = let no : None ≡ Some size = sym lawful.unsized ∙ h in cc
-sized_by (Some n) codec lawful size h text made e law = lawful.sized text made size e (ap (λ m. codec.size (Some m)) (law n refl) ∙ h)
-
-pub encoded_size : (chain : Chain) (elements : Elements) (shape value : List ℕ) (cells : List Cell) (size : ℕ) → IsLawfulChain chain → fits chain elements.type shape ≡ true → AreCells elements shape cells
-    → encoded chain elements shape cells ≡ Some value → size_of chain elements.type shape ≡ Some size → length value ≡ size
-encoded_size (bytes order) elements shape value cells size lawful fit are h is =
-    let parts = components elements.type in
-    let fixed = (both_true (is_fixed elements.type) (order_fits order parts) fit).0 in
-    let long = bytes_length order elements cells fixed are.values in
-    let count : bytes_in parts * product shape ≡ size = some_same is in
-    let whole : length cells * bytes_in parts ≡ product shape * bytes_in parts = ap (λ n. n * bytes_in parts) are.whole in
-    let turned : product shape * bytes_in parts ≡ bytes_in parts * product shape = grind arith in
-    sym (ap length (some_same h)) ∙ (long ∙ (whole ∙ (turned ∙ count)))
-encoded_size (packbits padding first last) elements shape value cells size lawful fit are h is =
-    let parts = components elements.type in
-    let bits = flat_map (λ cell. element_bits first last parts (cell_bytes cell)) cells in
-    let long = length-with_padding padding bits in
-    let count : packed_size padding first last parts (product shape) ≡ size = some_same is in
-    let whole : length bits ≡ product shape * bits_in first last parts = bits_length first last elements cells ∙ ap (λ n. n * bits_in first last parts) are.whole in
-    let turned : product shape * bits_in first last parts ≡ bits_in first last parts * product shape = grind arith in
-    sym (ap length (some_same h)) ∙ (long ∙ (ap (λ n. padding_size padding + (n + 7) / 8) (whole ∙ turned) ∙ count))
-encoded_size (vlen index texts width location) elements shape value cells size lawful fit are h is = cc
-encoded_size (optional mask values) elements shape value cells size lawful fit are h is = cc
-encoded_size (after_step step chain) elements shape value cells size lawful fit are h is =
-    let both = both_true (step_fits step shape) (fits chain elements.type (step_shape step shape)) fit in
-    encoded_size chain elements (step_shape step shape) value (gather elements.fill cells (step_places step shape)) size lawful both.1 (cells_moved step elements shape cells both.0 are) h is
-encoded_size (then_bytes chain codec) elements shape value cells size lawful fit are h is =
-    let found = bind_some codec.encode (encoded chain elements shape cells) value h in
-    sized_by (size_of chain elements.type shape) codec lawful.1 size is found.0 value found.2 (λ n e. encoded_size chain elements shape found.0 cells n lawful.0 fit are found.1 e)
-encoded_size (sharded subchunk inner index location) elements shape value cells size lawful fit are h is = cc

@@ -12,7 +12,8 @@ use Rattle.zarr_codecs_meaning.specs.Laws.{IsLawfulChain, AreCells}
 use Rattle.zarr_codecs_meaning.proofs.Lists.{both_true, bind_some, Each}
 use Rattle.zarr_codecs_meaning.proofs.Sizes.{cells_moved}
 use Rattle.zarr_codecs_meaning.proofs.Shards.{part_cells}
-use Rattle.zarr_codecs_meaning.proofs.Meaning.{laws_of, either, fitted, each_part, each_piece, shard_stands}
+use Rattle.zarr_codecs_meaning.proofs.Fitting.{fitted, each_part, each_piece}
+use Rattle.zarr_codecs_meaning.proofs.Meaning.{laws_of, either, shard_stands}
 
 -- what stands by one relation of slices, stands by a weaker one
 relaxed : (one two : List ℕ → List ℕ → List Cell → Type 0) (fill : Cell) (base : ℕ) (text : List ℕ) (pieces : List Piece) (pairs : List Pair) → Each (λ piece. (v : List ℕ) → one piece.0 v piece.1 → two piece.0 v piece.1) pieces → PiecesStand one fill base text pieces pairs → PiecesStand two fill base text pieces pairs

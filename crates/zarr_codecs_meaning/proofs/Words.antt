@@ -13,7 +13,7 @@ use Rattle.zarr_codecs_meaning.proofs.Values.{length-digits}
 use Rattle.zarr_codecs_meaning.proofs.Digits.{number_digits, digits_below}
 use Rattle.zarr_codecs_meaning.proofs.Shards.{AreWords}
 
-bytes_power : (k : ℕ) → 256 ^ k ≡ 2 ^ (8 * k)
+pub bytes_power : (k : ℕ) → 256 ^ k ≡ 2 ^ (8 * k)
 bytes_power zero = pow-zero 256 ∙ sym (ap (λ n. 2 ^ n) {x = 8 * 0} {y = 0} (omega arith))
 bytes_power (suc k) =
     let rest = bytes_power k in

@@ -1,12 +1,18 @@
 -- Codec chains, as data: what a chain does is said of it by recursion.
 use Rattle.std.specs.Prelude.{ℕ, List, Option}
 
+-- what is known of the size of bytes before they are made: the size, the most that it can be, or nothing
+pub data BytesRepresentation : Type 0 where
+  fixed_size : ℕ → BytesRepresentation
+  bounded_size : ℕ → BytesRepresentation
+  unbounded_size : BytesRepresentation
+
 -- a codec on bytes that a caller brings: what it makes of a text, unless it refuses; what it undoes a text to, unless that is damaged;
--- and the size of what it makes, where the size of what it is given decides it
+-- and what is known of the size of what it makes, by what is known of the size of what it is given
 pub record ByteCodec : Type 0 where
   pub encode : List ℕ → Option (List ℕ)
   pub decode : List ℕ → Option (List ℕ)
-  pub size : Option ℕ → Option ℕ
+  pub representation : BytesRepresentation → BytesRepresentation
 
 -- one entry of a new shape: a size, the product of the sizes of some dimensions of the old shape, or what is left over
 pub data ShapeEntry : Type 0 where

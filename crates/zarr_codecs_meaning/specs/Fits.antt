@@ -1,9 +1,10 @@
--- Which arrays a chain can encode, and how long what it writes is.
-use Rattle.std.specs.Prelude.{ℕ, ◌+◌, ◌-◌, ◌*◌, ◌/◌, ◌%◌, ◌^◌, List, [], ◌∷◌, length, Option, Some, None, unwrap_or, is_some, Bool, true, false, not, ◌&&◌, ◌||◌, ◌==◌, nat_lt, nat_le}
+-- Which arrays a chain can encode, and what is known of the size of what it writes.
+use Rattle.std.specs.Prelude.{ℕ, ◌+◌, ◌-◌, ◌*◌, ◌/◌, ◌%◌, ◌^◌, List, [], ◌∷◌, length, map, Option, Some, None, option_and_then, option_map, unwrap_or, is_some, Bool, true, false, not, ◌&&◌, ◌||◌, ◌==◌, nat_lt, nat_le}
 use Rattle.std.specs.List.{list_all, list_any, range_with_len}
 use Rattle.zarr_grids_boxes.specs.Boxes.{product}
 use Rattle.zarr_codecs_meaning.specs.Types.{DataType, bool, integer, unsigned, uint8, uint64, Component, components, bytes_in, is_fixed, is_variable, inner_type}
-use Rattle.zarr_codecs_meaning.specs.Chains.{Chain, Endianness, Padding, Step, ShapeEntry}
+use Rattle.zarr_codecs_meaning.specs.Chains.{Chain, BytesRepresentation, Endianness, Padding, Step, ShapeEntry}
+use Rattle.zarr_codecs_meaning.specs.Chains.BytesRepresentation.{fixed_size, bounded_size, unbounded_size}
 use Rattle.zarr_codecs_meaning.specs.Chains.Chain.{bytes, packbits, vlen, optional, after_step, then_bytes, sharded}
 use Rattle.zarr_codecs_meaning.specs.Chains.Padding.{no_padding_byte, first_byte, last_byte}
 use Rattle.zarr_codecs_meaning.specs.Chains.Step.{transpose, reshape, squeeze}
@@ -55,15 +56,57 @@ packed_size padding first last parts count = padding_size padding + (bits_in fir
 
 -- ---- Sizes
 
+-- the size, where it is fixed
+abbrev pub fixed_of : BytesRepresentation → Option ℕ
+fixed_of (fixed_size n) = Some n
+fixed_of (bounded_size n) = None
+fixed_of unbounded_size = None
+
+-- the most that the size can be, where there is a bound
+abbrev pub bound_of : BytesRepresentation → Option ℕ
+bound_of (fixed_size n) = Some n
+bound_of (bounded_size n) = Some n
+bound_of unbounded_size = None
+
+-- no more than a bound, where there is one
+abbrev pub at_most : Option ℕ → BytesRepresentation
+at_most None = unbounded_size
+at_most (Some n) = bounded_size n
+
+-- the sum of some bounds, where each is there
+abbrev pub sum_of_bounds : List (Option ℕ) → Option ℕ
+sum_of_bounds [] = Some 0
+sum_of_bounds (bound ∷ bounds) = option_and_then (λ n. option_map (λ m. n + m) (sum_of_bounds bounds)) bound
+
+-- what the type and the shape tell of the size of what a chain writes: of texts nothing; of optional elements at most two lengths, the mask and the data
+-- of all elements; of a shard at most the index and each subchunk
+abbrev pub representation_of : Chain → DataType → List ℕ → BytesRepresentation
+representation_of (bytes order) type shape = fixed_size (bytes_in (components type) * product shape)
+representation_of (packbits padding first last) type shape = fixed_size (packed_size padding first last (components type) (product shape))
+representation_of (vlen index texts width location) type shape = unbounded_size
+representation_of (optional mask values) type shape =
+    let inner = unwrap_or (inner_type type) type in
+    at_most (sum_of_bounds (Some 16 ∷ bound_of (representation_of mask bool shape) ∷ bound_of (representation_of values inner (product shape ∷ [])) ∷ []))
+representation_of (after_step step chain) type shape = representation_of chain type (step_shape step shape)
+representation_of (then_bytes chain codec) type shape = codec.representation (representation_of chain type shape)
+representation_of (sharded subchunk inner index location) type shape =
+    at_most (sum_of_bounds (bound_of (representation_of index uint64 (index_shape shape subchunk)) ∷ map (λ (part : Part). bound_of (representation_of inner type part.shape)) (parts_of shape subchunk)))
+
 -- how many bytes a chain writes, where the type and the shape decide it
 abbrev pub size_of : Chain → DataType → List ℕ → Option ℕ
-size_of (bytes order) type shape = Some (bytes_in (components type) * product shape)
-size_of (packbits padding first last) type shape = Some (packed_size padding first last (components type) (product shape))
-size_of (vlen index texts width location) type shape = None
-size_of (optional mask values) type shape = None
-size_of (after_step step chain) type shape = size_of chain type (step_shape step shape)
-size_of (then_bytes chain codec) type shape = codec.size (size_of chain type shape)
-size_of (sharded subchunk inner index location) type shape = None
+size_of chain type shape = fixed_of (representation_of chain type shape)
+
+-- whether a size is as it is told
+abbrev pub is_size_as : BytesRepresentation → ℕ → Bool
+is_size_as (fixed_size n) size = size == n
+is_size_as (bounded_size n) size = nat_le size n
+is_size_as unbounded_size size = true
+
+-- whether a bound lies within another one: no bound lies within a number, and each within no bound
+abbrev pub is_bound_within : Option ℕ → Option ℕ → Bool
+is_bound_within bound None = true
+is_bound_within None (Some n) = false
+is_bound_within (Some m) (Some n) = nat_le m n
 
 -- there is a number, and it is below a bound
 abbrev pub is_some_below : ℕ → Option ℕ → Bool
@@ -128,6 +171,16 @@ is_lossless (optional mask values) type = is_lossless mask bool && elim (inner_t
 is_lossless (after_step step chain) type = is_lossless chain type
 is_lossless (then_bytes chain codec) type = is_lossless chain type
 is_lossless (sharded subchunk inner index location) type = is_lossless inner type && is_lossless index uint64
+
+-- whether no bit of an index or a mask inside of a chain is dropped
+abbrev pub keeps_indices : Chain → Bool
+keeps_indices (bytes order) = true
+keeps_indices (packbits padding first last) = true
+keeps_indices (vlen index texts width location) = is_lossless index (integer unsigned width) && keeps_indices texts
+keeps_indices (optional mask values) = keeps_indices mask && keeps_indices values
+keeps_indices (after_step step chain) = keeps_indices chain
+keeps_indices (then_bytes chain codec) = keeps_indices chain
+keeps_indices (sharded subchunk inner index location) = keeps_indices inner && is_lossless index uint64
 
 -- whether a chain makes no shard (inside `vlen` and `optional` none is taken)
 abbrev pub is_plain : Chain → Bool

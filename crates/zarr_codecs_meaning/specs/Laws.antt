@@ -1,21 +1,21 @@
 -- Laws of codec chains.
-use Rattle.std.specs.Prelude.{◌≡◌, ℕ, List, length, Some, None, true, nat_lt}
+use Rattle.std.specs.Prelude.{◌≡◌, ℕ, ◌+◌, List, length, Option, Some, true, nat_lt}
 use Rattle.std.specs.List.{list_all}
 use Rattle.zarr_grids_boxes.specs.Boxes.{product}
 use Rattle.zarr_codecs_meaning.specs.Types.{Cell, is_value, Elements}
-use Rattle.zarr_codecs_meaning.specs.Chains.{ByteCodec, Chain}
+use Rattle.zarr_codecs_meaning.specs.Chains.{BytesRepresentation, ByteCodec, Chain, Location}
 use Rattle.zarr_codecs_meaning.specs.Chains.Chain.{bytes, packbits, vlen, optional, after_step, then_bytes, sharded}
-use Rattle.zarr_codecs_meaning.specs.Places.{gather}
-use Rattle.zarr_codecs_meaning.specs.Fits.{fits, size_of, is_lossless}
-use Rattle.zarr_codecs_meaning.specs.Encoding.{encoded}
+use Rattle.zarr_codecs_meaning.specs.Places.{gather, parts_of, index_shape}
+use Rattle.zarr_codecs_meaning.specs.Fits.{fits, bound_of, representation_of, is_size_as, is_bound_within, is_lossless}
+use Rattle.zarr_codecs_meaning.specs.Encoding.{pieces_of, stored_pieces, joined_texts, index_size, encoded}
 use Rattle.zarr_codecs_meaning.specs.Decoding.{decoded, part_decoded}
 use Rattle.zarr_codecs_meaning.specs.Standing.{Stands, Tight}
 
--- a caller's codec undoes what it makes, and is honest about its size
+-- a caller's codec undoes what it makes, what it tells of sizes is true, and of less bytes it tells no larger bound
 pub record IsLawful (codec : ByteCodec) : Type 0 where
   pub undoes : (text made : List ℕ) → codec.encode text ≡ Some made → codec.decode made ≡ Some text
-  pub unsized : codec.size None ≡ None
-  pub sized : (text made : List ℕ) (size : ℕ) → codec.encode text ≡ Some made → codec.size (Some (length text)) ≡ Some size → length made ≡ size
+  pub honest : (known : BytesRepresentation) (text made : List ℕ) → codec.encode text ≡ Some made → is_size_as known (length text) ≡ true → is_size_as (codec.representation known) (length made) ≡ true
+  pub monotone : (known wider : BytesRepresentation) → is_bound_within (bound_of known) (bound_of wider) ≡ true → is_bound_within (bound_of (codec.representation known)) (bound_of (codec.representation wider)) ≡ true
 
 -- each of a caller's codecs in a chain is lawful
 abbrev pub IsLawfulChain : Chain → Type 0
@@ -33,10 +33,17 @@ pub record AreCells (elements : Elements) (shape : List ℕ) (cells : List Cell)
   pub values : list_all (is_value elements.type) cells ≡ true
   pub whole : length cells ≡ product shape
 
--- what is encoded is as long as the type and the shape say, where they decide it
+-- what is encoded has the size, or at most the size, that the type and the shape tell
 abbrev pub EncodedSize : Type 0
-EncodedSize = (chain : Chain) (elements : Elements) (shape value : List ℕ) (cells : List Cell) (size : ℕ) → IsLawfulChain chain → fits chain elements.type shape ≡ true → AreCells elements shape cells
-    → encoded chain elements shape cells ≡ Some value → size_of chain elements.type shape ≡ Some size → length value ≡ size
+EncodedSize = (chain : Chain) (elements : Elements) (shape value : List ℕ) (cells : List Cell) → IsLawfulChain chain → fits chain elements.type shape ≡ true → AreCells elements shape cells
+    → encoded chain elements shape cells ≡ Some value → is_size_as (representation_of chain elements.type shape) (length value) ≡ true
+
+-- a shard is as long as its index and the texts of the subchunks that are present
+abbrev pub ShardSize : Type 0
+ShardSize = (subchunk : List ℕ) (inner index : Chain) (location : Location) (elements : Elements) (shape value : List ℕ) (cells : List Cell) (stored : List (Option (List ℕ))) → let chain = sharded subchunk inner index location in
+    IsLawfulChain chain → fits chain elements.type shape ≡ true → AreCells elements shape cells
+    → stored_pieces (encoded inner elements) elements.fill (pieces_of elements.fill cells (parts_of shape subchunk)) ≡ Some stored → encoded chain elements shape cells ≡ Some value
+    → length value ≡ index_size index (index_shape shape subchunk) + length (joined_texts stored)
 
 -- what a lossless chain encodes stands for the cells
 abbrev pub EncodedStands : Type 0
@@ -47,6 +54,11 @@ EncodedStands = (chain : Chain) (elements : Elements) (shape value : List ℕ) (
 abbrev pub StandsDecoded : Type 0
 StandsDecoded = (chain : Chain) (elements : Elements) (shape value : List ℕ) (cells : List Cell) → IsLawfulChain chain → fits chain elements.type shape ≡ true → is_lossless chain elements.type ≡ true → AreCells elements shape cells
     → Stands chain elements shape value cells → decoded chain elements shape value ≡ Some cells
+
+-- values that stand for the same cells are decoded alike
+abbrev pub StandingAlike : Type 0
+StandingAlike = (chain : Chain) (elements : Elements) (shape value other : List ℕ) (cells : List Cell) → IsLawfulChain chain → fits chain elements.type shape ≡ true → is_lossless chain elements.type ≡ true → AreCells elements shape cells
+    → Stands chain elements shape value cells → Stands chain elements shape other cells → decoded chain elements shape value ≡ decoded chain elements shape other
 
 -- the same of its slices, each of which is what encoding writes
 abbrev pub EncodedTight : Type 0

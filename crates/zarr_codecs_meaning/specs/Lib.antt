@@ -8,6 +8,7 @@ pub mod Keeping
 pub mod Decoding
 pub mod Standing
 pub mod Laws
+pub mod KeptLaws
 pub mod WorkedValues
 pub mod WorkedPlain
 pub mod WorkedShards

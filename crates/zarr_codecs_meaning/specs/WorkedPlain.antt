@@ -40,8 +40,8 @@ pub record PlainRows : Type 0 where
   -- the order of the elements stays
   pub reshaped : encoded (after_step (reshape (left_over ∷ [])) (bytes None)) (zero_filled uint8) (2 ∷ 2 ∷ []) (byte_cells (1 ∷ 2 ∷ 3 ∷ 4 ∷ [])) ≡ Some (1 ∷ 2 ∷ 3 ∷ 4 ∷ [])
   pub reshaped_back : decoded (after_step (reshape (left_over ∷ [])) (bytes None)) (zero_filled uint8) (2 ∷ 2 ∷ []) (1 ∷ 2 ∷ 3 ∷ 4 ∷ []) ≡ Some (byte_cells (1 ∷ 2 ∷ 3 ∷ 4 ∷ []))
-  pub reversed : encoded (then_bytes (bytes None) (record { encode = λ text. Some (reverse text); decode = λ text. Some (reverse text); size = λ size. size })) (zero_filled uint8) (3 ∷ []) (byte_cells (1 ∷ 2 ∷ 3 ∷ [])) ≡ Some (3 ∷ 2 ∷ 1 ∷ [])
-  pub reversed_back : decoded (then_bytes (bytes None) (record { encode = λ text. Some (reverse text); decode = λ text. Some (reverse text); size = λ size. size })) (zero_filled uint8) (3 ∷ []) (3 ∷ 2 ∷ 1 ∷ []) ≡ Some (byte_cells (1 ∷ 2 ∷ 3 ∷ []))
+  pub reversed : encoded (then_bytes (bytes None) (record { encode = λ text. Some (reverse text); decode = λ text. Some (reverse text); representation = λ known. known })) (zero_filled uint8) (3 ∷ []) (byte_cells (1 ∷ 2 ∷ 3 ∷ [])) ≡ Some (3 ∷ 2 ∷ 1 ∷ [])
+  pub reversed_back : decoded (then_bytes (bytes None) (record { encode = λ text. Some (reverse text); decode = λ text. Some (reverse text); representation = λ known. known })) (zero_filled uint8) (3 ∷ []) (3 ∷ 2 ∷ 1 ∷ []) ≡ Some (byte_cells (1 ∷ 2 ∷ 3 ∷ []))
   -- -8 and 7: the first element stands in the lowest bits
   pub four_bits : encoded (packbits no_padding_byte 0 None) (zero_filled (integer signed 4)) (2 ∷ []) (of_bytes (248 ∷ []) ∷ of_bytes (7 ∷ []) ∷ []) ≡ Some (120 ∷ [])
   pub four_bits_back : decoded (packbits no_padding_byte 0 None) (zero_filled (integer signed 4)) (2 ∷ []) (120 ∷ []) ≡ Some (of_bytes (248 ∷ []) ∷ of_bytes (7 ∷ []) ∷ [])
@@ -86,6 +86,13 @@ pub record PlainRows : Type 0 where
   pub no_options_back : decoded (optional (packbits no_padding_byte 0 None) (bytes None)) (zero_filled (optional_of uint8)) (0 ∷ []) (0 ∷ 0 ∷ 0 ∷ 0 ∷ 0 ∷ 0 ∷ 0 ∷ 0 ∷ 0 ∷ 0 ∷ 0 ∷ 0 ∷ 0 ∷ 0 ∷ 0 ∷ 0 ∷ []) ≡ Some ([])
   pub option_of_option : encoded (optional (packbits no_padding_byte 0 None) (optional (packbits no_padding_byte 0 None) (bytes None))) (zero_filled (optional_of (optional_of uint8))) (2 ∷ []) (present absent ∷ present (present (of_bytes (9 ∷ []))) ∷ []) ≡ Some (1 ∷ 0 ∷ 0 ∷ 0 ∷ 0 ∷ 0 ∷ 0 ∷ 0 ∷ 18 ∷ 0 ∷ 0 ∷ 0 ∷ 0 ∷ 0 ∷ 0 ∷ 0 ∷ 3 ∷ 1 ∷ 0 ∷ 0 ∷ 0 ∷ 0 ∷ 0 ∷ 0 ∷ 0 ∷ 1 ∷ 0 ∷ 0 ∷ 0 ∷ 0 ∷ 0 ∷ 0 ∷ 0 ∷ 2 ∷ 9 ∷ [])
   pub option_of_option_back : decoded (optional (packbits no_padding_byte 0 None) (optional (packbits no_padding_byte 0 None) (bytes None))) (zero_filled (optional_of (optional_of uint8))) (2 ∷ []) (1 ∷ 0 ∷ 0 ∷ 0 ∷ 0 ∷ 0 ∷ 0 ∷ 0 ∷ 18 ∷ 0 ∷ 0 ∷ 0 ∷ 0 ∷ 0 ∷ 0 ∷ 0 ∷ 3 ∷ 1 ∷ 0 ∷ 0 ∷ 0 ∷ 0 ∷ 0 ∷ 0 ∷ 0 ∷ 1 ∷ 0 ∷ 0 ∷ 0 ∷ 0 ∷ 0 ∷ 0 ∷ 0 ∷ 2 ∷ 9 ∷ []) ≡ Some (present absent ∷ present (present (of_bytes (9 ∷ []))) ∷ [])
+  -- seven bits of each byte, and the lengths as they were
+  pub texts_dropped : encoded (vlen (bytes (Some little)) (packbits no_padding_byte 1 None) 32 at_start) (zero_filled string) (2 ∷ []) (of_bytes (97 ∷ 98 ∷ []) ∷ of_bytes (99 ∷ []) ∷ []) ≡ Some (12 ∷ 0 ∷ 0 ∷ 0 ∷ 0 ∷ 0 ∷ 0 ∷ 0 ∷ 0 ∷ 0 ∷ 0 ∷ 0 ∷ 2 ∷ 0 ∷ 0 ∷ 0 ∷ 3 ∷ 0 ∷ 0 ∷ 0 ∷ 176 ∷ 88 ∷ 12 ∷ [])
+  pub texts_dropped_back : decoded (vlen (bytes (Some little)) (packbits no_padding_byte 1 None) 32 at_start) (zero_filled string) (2 ∷ []) (12 ∷ 0 ∷ 0 ∷ 0 ∷ 0 ∷ 0 ∷ 0 ∷ 0 ∷ 0 ∷ 0 ∷ 0 ∷ 0 ∷ 2 ∷ 0 ∷ 0 ∷ 0 ∷ 3 ∷ 0 ∷ 0 ∷ 0 ∷ 176 ∷ 88 ∷ 12 ∷ []) ≡ Some (of_bytes (96 ∷ 98 ∷ []) ∷ of_bytes (98 ∷ []) ∷ [])
+  pub texts_dropped_kept : kept (vlen (bytes (Some little)) (packbits no_padding_byte 1 None) 32 at_start) (zero_filled string) (2 ∷ []) (of_bytes (97 ∷ 98 ∷ []) ∷ of_bytes (99 ∷ []) ∷ []) ≡ of_bytes (96 ∷ 98 ∷ []) ∷ of_bytes (98 ∷ []) ∷ []
+  -- an element stays present though none of its ones is kept
+  pub options_dropped_back : decoded (optional (packbits no_padding_byte 0 None) (packbits no_padding_byte 4 None)) (zero_filled (optional_of uint8)) (3 ∷ []) (1 ∷ 0 ∷ 0 ∷ 0 ∷ 0 ∷ 0 ∷ 0 ∷ 0 ∷ 1 ∷ 0 ∷ 0 ∷ 0 ∷ 0 ∷ 0 ∷ 0 ∷ 0 ∷ 5 ∷ 5 ∷ []) ≡ Some (present (of_bytes (80 ∷ [])) ∷ absent ∷ present (of_bytes (0 ∷ [])) ∷ [])
+  pub options_dropped_kept : kept (optional (packbits no_padding_byte 0 None) (packbits no_padding_byte 4 None)) (zero_filled (optional_of uint8)) (3 ∷ []) (present (of_bytes (87 ∷ [])) ∷ absent ∷ present (of_bytes (15 ∷ [])) ∷ []) ≡ present (of_bytes (80 ∷ [])) ∷ absent ∷ present (of_bytes (0 ∷ [])) ∷ []
   pub nothing : encoded (bytes None) (zero_filled uint8) (0 ∷ []) ([]) ≡ Some ([])
   pub nothing_back : decoded (bytes None) (zero_filled uint8) (0 ∷ []) ([]) ≡ Some ([])
   pub box_of_whole : part_decoded (bytes None) (zero_filled uint8) (4 ∷ 4 ∷ []) (0 ∷ 1 ∷ 2 ∷ 3 ∷ 4 ∷ 5 ∷ 6 ∷ 7 ∷ 8 ∷ 9 ∷ 10 ∷ 11 ∷ 12 ∷ 13 ∷ 14 ∷ 15 ∷ []) (4 ∷ 8 ∷ []) ≡ Some (byte_cells (4 ∷ 8 ∷ []))

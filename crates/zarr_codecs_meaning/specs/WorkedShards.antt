@@ -7,6 +7,7 @@ use Rattle.zarr_codecs_meaning.specs.Chains.Padding.{no_padding_byte, first_byte
 use Rattle.zarr_codecs_meaning.specs.Chains.Location.{at_start, at_end}
 use Rattle.zarr_codecs_meaning.specs.Chains.Step.{transpose}
 use Rattle.zarr_codecs_meaning.specs.Encoding.{encoded, stored_chunk, byte_cells, number_cells}
+use Rattle.zarr_codecs_meaning.specs.Keeping.{kept}
 use Rattle.zarr_codecs_meaning.specs.Decoding.{decoded, part_decoded}
 use Rattle.zarr_codecs_meaning.specs.Standing.{Stands, Tight, ChunkStands}
 
@@ -53,6 +54,11 @@ pub record ShardRows : Type 0 where
   pub transposed_subchunk_back : decoded (sharded (2 ∷ 2 ∷ []) (after_step (transpose (1 ∷ 0 ∷ [])) (bytes None)) (bytes (Some little)) at_end) (zero_filled uint8) (2 ∷ 2 ∷ []) ((1 ∷ 3 ∷ 2 ∷ 4 ∷ []) ++ (0 ∷ 0 ∷ 0 ∷ 0 ∷ 0 ∷ 0 ∷ 0 ∷ 0 ∷ 4 ∷ 0 ∷ 0 ∷ 0 ∷ 0 ∷ 0 ∷ 0 ∷ 0 ∷ [])) ≡ Some (byte_cells (1 ∷ 2 ∷ 3 ∷ 4 ∷ []))
   pub texts_in_a_shard : encoded (sharded (1 ∷ []) (vlen (bytes (Some little)) (bytes None) 32 at_start) (bytes (Some little)) at_end) (zero_filled string) (2 ∷ []) (of_bytes ([]) ∷ of_bytes (97 ∷ []) ∷ []) ≡ Some ((8 ∷ 0 ∷ 0 ∷ 0 ∷ 0 ∷ 0 ∷ 0 ∷ 0 ∷ 0 ∷ 0 ∷ 0 ∷ 0 ∷ 1 ∷ 0 ∷ 0 ∷ 0 ∷ 97 ∷ []) ++ (replicate 16 255) ++ (0 ∷ 0 ∷ 0 ∷ 0 ∷ 0 ∷ 0 ∷ 0 ∷ 0 ∷ 17 ∷ 0 ∷ 0 ∷ 0 ∷ 0 ∷ 0 ∷ 0 ∷ 0 ∷ []))
   pub texts_in_a_shard_back : decoded (sharded (1 ∷ []) (vlen (bytes (Some little)) (bytes None) 32 at_start) (bytes (Some little)) at_end) (zero_filled string) (2 ∷ []) ((8 ∷ 0 ∷ 0 ∷ 0 ∷ 0 ∷ 0 ∷ 0 ∷ 0 ∷ 0 ∷ 0 ∷ 0 ∷ 0 ∷ 1 ∷ 0 ∷ 0 ∷ 0 ∷ 97 ∷ []) ++ (replicate 16 255) ++ (0 ∷ 0 ∷ 0 ∷ 0 ∷ 0 ∷ 0 ∷ 0 ∷ 0 ∷ 17 ∷ 0 ∷ 0 ∷ 0 ∷ 0 ∷ 0 ∷ 0 ∷ 0 ∷ [])) ≡ Some (of_bytes ([]) ∷ of_bytes (97 ∷ []) ∷ [])
+  -- a subchunk that is all fill isn't encoded, and loses no bit
+  pub dropped_in_a_shard : kept (sharded (2 ∷ []) (packbits no_padding_byte 4 None) (bytes (Some little)) at_end) (record { type = uint8; fill = of_bytes (7 ∷ []) }) (4 ∷ []) (byte_cells (7 ∷ 7 ∷ 7 ∷ 87 ∷ [])) ≡ byte_cells (7 ∷ 7 ∷ 0 ∷ 80 ∷ [])
+  -- cells that become fill are stored, and left out the second time
+  pub becomes_fill : encoded (sharded (2 ∷ []) (packbits no_padding_byte 4 None) (bytes (Some little)) at_end) (zero_filled uint8) (2 ∷ []) (byte_cells (15 ∷ 3 ∷ [])) ≡ Some ((0 ∷ []) ++ (0 ∷ 0 ∷ 0 ∷ 0 ∷ 0 ∷ 0 ∷ 0 ∷ 0 ∷ 1 ∷ 0 ∷ 0 ∷ 0 ∷ 0 ∷ 0 ∷ 0 ∷ 0 ∷ []))
+  pub becomes_fill_again : encoded (sharded (2 ∷ []) (packbits no_padding_byte 4 None) (bytes (Some little)) at_end) (zero_filled uint8) (2 ∷ []) (kept (sharded (2 ∷ []) (packbits no_padding_byte 4 None) (bytes (Some little)) at_end) (zero_filled uint8) (2 ∷ []) (byte_cells (15 ∷ 3 ∷ []))) ≡ Some (replicate 16 255)
   pub box_of_shard : part_decoded (sharded (2 ∷ 2 ∷ []) (bytes None) (bytes (Some little)) at_end) (zero_filled uint8) (4 ∷ 4 ∷ []) ((0 ∷ 1 ∷ 4 ∷ 5 ∷ 2 ∷ 3 ∷ 6 ∷ 7 ∷ 8 ∷ 9 ∷ 12 ∷ 13 ∷ 10 ∷ 11 ∷ 14 ∷ 15 ∷ []) ++ (0 ∷ 0 ∷ 0 ∷ 0 ∷ 0 ∷ 0 ∷ 0 ∷ 0 ∷ 4 ∷ 0 ∷ 0 ∷ 0 ∷ 0 ∷ 0 ∷ 0 ∷ 0 ∷ []) ++ (4 ∷ 0 ∷ 0 ∷ 0 ∷ 0 ∷ 0 ∷ 0 ∷ 0 ∷ 4 ∷ 0 ∷ 0 ∷ 0 ∷ 0 ∷ 0 ∷ 0 ∷ 0 ∷ []) ++ (8 ∷ 0 ∷ 0 ∷ 0 ∷ 0 ∷ 0 ∷ 0 ∷ 0 ∷ 4 ∷ 0 ∷ 0 ∷ 0 ∷ 0 ∷ 0 ∷ 0 ∷ 0 ∷ []) ++ (12 ∷ 0 ∷ 0 ∷ 0 ∷ 0 ∷ 0 ∷ 0 ∷ 0 ∷ 4 ∷ 0 ∷ 0 ∷ 0 ∷ 0 ∷ 0 ∷ 0 ∷ 0 ∷ [])) (4 ∷ 8 ∷ []) ≡ Some (byte_cells (4 ∷ 8 ∷ []))
   -- slices in any order and with gaps
   pub gap_and_other_order_decoded : decoded (sharded (1 ∷ []) (bytes None) (bytes (Some little)) at_end) (zero_filled uint8) (2 ∷ []) ((9 ∷ 2 ∷ 1 ∷ []) ++ (2 ∷ 0 ∷ 0 ∷ 0 ∷ 0 ∷ 0 ∷ 0 ∷ 0 ∷ 1 ∷ 0 ∷ 0 ∷ 0 ∷ 0 ∷ 0 ∷ 0 ∷ 0 ∷ []) ++ (1 ∷ 0 ∷ 0 ∷ 0 ∷ 0 ∷ 0 ∷ 0 ∷ 0 ∷ 1 ∷ 0 ∷ 0 ∷ 0 ∷ 0 ∷ 0 ∷ 0 ∷ 0 ∷ [])) ≡ Some (byte_cells (1 ∷ 2 ∷ []))
@@ -107,5 +113,5 @@ pub record DamageRows : Type 0 where
   pub damage_beside_in_a_shard : part_decoded (sharded (2 ∷ []) (bytes None) (bytes (Some little)) at_end) (zero_filled bool) (2 ∷ []) ((2 ∷ 1 ∷ []) ++ (0 ∷ 0 ∷ 0 ∷ 0 ∷ 0 ∷ 0 ∷ 0 ∷ 0 ∷ 2 ∷ 0 ∷ 0 ∷ 0 ∷ 0 ∷ 0 ∷ 0 ∷ 0 ∷ [])) (1 ∷ []) ≡ Some (byte_cells (1 ∷ []))
   pub fill_bits_ignored : decoded (packbits no_padding_byte 0 None) (zero_filled bool) (3 ∷ []) (253 ∷ []) ≡ Some (byte_cells (1 ∷ 0 ∷ 1 ∷ []))
   pub padding_count_ignored : decoded (packbits first_byte 0 None) (zero_filled bool) (3 ∷ []) (255 ∷ 5 ∷ []) ≡ Some (byte_cells (1 ∷ 0 ∷ 1 ∷ []))
-  pub refused_bytes : decoded (then_bytes (bytes None) (record { encode = λ text. Some text; decode = λ text. None; size = λ size. size })) (zero_filled uint8) (1 ∷ []) (1 ∷ []) ≡ None
+  pub refused_bytes : decoded (then_bytes (bytes None) (record { encode = λ text. Some text; decode = λ text. None; representation = λ known. known })) (zero_filled uint8) (1 ∷ []) (1 ∷ []) ≡ None
   pub no_bytes_for_one : decoded (bytes None) (zero_filled uint8) [] [] ≡ None

@@ -1,13 +1,14 @@
 -- The definitions computed on small examples: the expected values were worked out by hand.
-use Rattle.std.specs.Prelude.{◌≡◌, List, [], ◌∷◌, Some, None, true, false}
+use Rattle.std.specs.Prelude.{◌≡◌, List, [], ◌∷◌, reverse, Some, None, true, false}
 use Rattle.zarr_codecs_meaning.specs.Types.{bool, integer, custom, string, variable_bytes, optional_of, uint8, signed, unsigned, Component, of_bytes, absent, present, is_value, byte_width, is_fill}
+use Rattle.zarr_codecs_meaning.specs.Chains.BytesRepresentation.{bounded_size, unbounded_size}
 use Rattle.zarr_codecs_meaning.specs.Chains.Chain.{bytes, packbits, vlen, optional, after_step, then_bytes, sharded}
 use Rattle.zarr_codecs_meaning.specs.Chains.Endianness.{little}
 use Rattle.zarr_codecs_meaning.specs.Chains.Padding.{no_padding_byte, last_byte}
 use Rattle.zarr_codecs_meaning.specs.Chains.Location.{at_start, at_end}
 use Rattle.zarr_codecs_meaning.specs.Chains.Step.{transpose, reshape, squeeze}
 use Rattle.zarr_codecs_meaning.specs.Chains.ShapeEntry.{size_entry, product_entry, left_over}
-use Rattle.zarr_codecs_meaning.specs.Fits.{fits, size_of, is_lossless}
+use Rattle.zarr_codecs_meaning.specs.Fits.{fits, representation_of, size_of, is_lossless}
 
 -- a number of 16 bits, and one of four bits with a sign, in three bytes
 abbrev pub two_numbers : List Component
@@ -84,12 +85,21 @@ pub record FitRows : Type 0 where
   pub shard_inner : fits (sharded (2 ∷ []) (bytes (Some little)) (bytes (Some little)) at_end) string (4 ∷ []) ≡ false
   pub shard_index_without_order : fits (sharded (2 ∷ []) (bytes None) (bytes None) at_end) uint8 (4 ∷ []) ≡ false
   pub shard_nested : fits (sharded (2 ∷ 2 ∷ []) (sharded (1 ∷ 2 ∷ []) (bytes None) (bytes (Some little)) at_end) (bytes (Some little)) at_end) uint8 (4 ∷ 4 ∷ []) ≡ true
-  pub shard_index_without_size : fits (sharded (2 ∷ []) (bytes None) (then_bytes (bytes (Some little)) (record { encode = λ text. Some text; decode = λ text. Some text; size = λ size. None })) at_end) uint8 (4 ∷ []) ≡ false
+  pub shard_index_without_size : fits (sharded (2 ∷ []) (bytes None) (then_bytes (bytes (Some little)) (record { encode = λ text. Some text; decode = λ text. Some text; representation = λ known. unbounded_size })) at_end) uint8 (4 ∷ []) ≡ false
   pub shard_of_reshaped : fits (sharded (2 ∷ []) (after_step (reshape (size_entry 2 ∷ [])) (bytes None)) (bytes (Some little)) at_end) uint8 (4 ∷ []) ≡ true
   pub size_of_bytes : size_of (bytes (Some little)) (integer unsigned 16) (2 ∷ 3 ∷ []) ≡ Some 12
   pub size_of_packbits : size_of (packbits last_byte 0 None) bool (9 ∷ []) ≡ Some 3
   pub size_of_shard : size_of (sharded (2 ∷ 2 ∷ []) (bytes None) (bytes (Some little)) at_end) uint8 (4 ∷ 4 ∷ []) ≡ None
   pub size_of_texts : size_of (vlen (bytes (Some little)) (bytes None) 32 at_start) string (3 ∷ []) ≡ None
+  -- what a codec on bytes tells of the size of what it is given
+  pub size_of_reversed : size_of (then_bytes (bytes (Some little)) (record { encode = λ text. Some (reverse text); decode = λ text. Some (reverse text); representation = λ known. known })) (integer unsigned 16) (3 ∷ []) ≡ Some 6
+  pub shard_index_reversed : fits (sharded (2 ∷ []) (bytes None) (then_bytes (bytes (Some little)) (record { encode = λ text. Some (reverse text); decode = λ text. Some (reverse text); representation = λ known. known })) at_end) uint8 (4 ∷ []) ≡ true
+  -- two lengths, one byte of mask bits and three elements
+  pub bound_of_options : representation_of (optional (packbits no_padding_byte 0 None) (bytes None)) (optional_of uint8) (3 ∷ []) ≡ bounded_size 20
+  -- an index of 64 bytes and 16 elements
+  pub bound_of_shard : representation_of (sharded (2 ∷ 2 ∷ []) (bytes None) (bytes (Some little)) at_end) uint8 (4 ∷ 4 ∷ []) ≡ bounded_size 80
+  -- subchunks of 4, 2, 2 and 1 elements
+  pub bound_of_clipped : representation_of (sharded (2 ∷ 2 ∷ []) (bytes None) (bytes (Some little)) at_end) uint8 (3 ∷ 3 ∷ []) ≡ bounded_size 73
   pub lossless_whole : is_lossless (packbits no_padding_byte 0 None) uint8 ≡ true
   pub lossless_last : is_lossless (packbits no_padding_byte 0 (Some 7)) uint8 ≡ true
   pub lossless_not_first : is_lossless (packbits no_padding_byte 1 None) uint8 ≡ false

@@ -1,5 +1,6 @@
 //! Worked examples and laws of codec chains. Each function does nothing: its contract is the law.
-ghost use Rattle.zarr_codecs_meaning.specs.Laws.{EncodedSize, EncodedStands, StandsDecoded, EncodedTight, TightStands, PartSelects};
+ghost use Rattle.zarr_codecs_meaning.specs.Laws.{EncodedSize, ShardSize, EncodedStands, StandsDecoded, StandingAlike, EncodedTight, TightStands, PartSelects};
+ghost use Rattle.zarr_codecs_meaning.specs.KeptLaws.{KeptDecoded, KeptCells, KeptTwice, KeptEncoded, KeptLossless};
 ghost use Rattle.zarr_codecs_meaning.specs.WorkedValues.{ValueRows, FitRows};
 ghost use Rattle.zarr_codecs_meaning.specs.WorkedPlain.{PlainRows};
 ghost use Rattle.zarr_codecs_meaning.specs.WorkedShards.{ShardRows, StandingRows, DamageRows};
@@ -34,9 +35,14 @@ pub fn damage_rows()
     ensures { DamageRows }
 {}
 
-/// What a chain encodes is as long as `size_of` says, where the type and the shape decide it.
+/// What a chain encodes has the size that `representation_of` tells, or at most that size.
 pub fn encoded_size()
     ensures { EncodedSize }
+{}
+
+/// A shard is as long as its index and the texts of the subchunks that are present.
+pub fn shard_size()
+    ensures { ShardSize }
 {}
 
 /// What a lossless chain encodes stands for the cells.
@@ -47,6 +53,11 @@ pub fn encoded_stands()
 /// What stands for cells is decoded to them, however it was written.
 pub fn stands_decoded()
     ensures { StandsDecoded }
+{}
+
+/// Values that stand for the same cells are decoded alike.
+pub fn standing_alike()
+    ensures { StandingAlike }
 {}
 
 /// What a lossless chain encodes is tight.
@@ -62,4 +73,29 @@ pub fn tight_stands()
 /// A part of what stands for cells is read as those cells at its places.
 pub fn part_selects()
     ensures { PartSelects }
+{}
+
+/// What a chain encodes is decoded to what it keeps of the cells.
+pub fn kept_decoded()
+    ensures { KeptDecoded }
+{}
+
+/// What a chain keeps of cells are cells of the array again.
+pub fn kept_cells()
+    ensures { KeptCells }
+{}
+
+/// Of what a chain keeps it keeps all.
+pub fn kept_twice()
+    ensures { KeptTwice }
+{}
+
+/// A chain without shards makes of what it keeps what it makes of the cells.
+pub fn kept_encoded()
+    ensures { KeptEncoded }
+{}
+
+/// A lossless chain keeps all.
+pub fn kept_lossless()
+    ensures { KeptLossless }
 {}

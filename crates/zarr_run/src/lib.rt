@@ -1,9 +1,6 @@
 //! Zarr arrays by commands: a session over a store, and its commands read and answered by lines.
 #![tactic(auto)]
 
-#[cfg(test)]
-mod tests;
-
 pub use zarr_run_commands::{Command, CommandCells, Reply};
 pub use zarr_run_lines::{LinesFault, run_lines};
 pub use zarr_run_model::Cause;

@@ -12,7 +12,7 @@ use Rattle.zarr_grids_boxes.specs.Boxes.{places}
 use Rattle.zarr_grids_keys.specs.Documents.{document_key}
 use Rattle.zarr_grids_keys.specs.Keys.{chunk_key}
 use Rattle.zarr_grids_keys.specs.Paths.{is_node_path}
-use Rattle.zarr_grids_keys.specs.declared.document_name.DocumentName.TheVariants.{ZarrJson}
+use Rattle.zarr_grids_keys.specs.declared.document_name.DocumentName.TheVariants.{ZarrJson, ZArray}
 use Rattle.zarr_grids_keys.proofs.KeyLemmas.{chunk_key-no_document, document_key-injective}
 use Rattle.zarr_grids_keys.proofs.RelatedLemmas.{is_related-refl}
 use Rattle.zarr_codecs_cells.specs.Cells.{Cell, uint8, is_value}
@@ -128,8 +128,11 @@ create_refused path d order old store cause.Path why w k = (why, refl, refl)
 create_refused path d order old store cause.PathTaken why w k = ⊎_elim
     (λ t. ((why.0, taken_in_world old store w path k t), refl, refl))
     (λ f.
-    let value = some_of (get store (document_key path f.1.0)) f.1.1 in
-    absurd (no_document old store w path k why.0 (agreed_none store (array_at old path) (held_at path w) (k.agree path) (none_at old path why.0 f.0)) f.1.0 value.0 value.1))
+    let free = agreed_none store (array_at old path) (held_at path w) (k.agree path) (none_at old path why.0 f.0) in
+    ⊎_elim
+    (λ here. let value = some_of (get store (document_key path ZarrJson)) here in absurd (no_document old store w path k why.0 free ZarrJson value.0 value.1))
+    (λ here. let value = some_of (get store (document_key path ZArray)) here in absurd (no_document old store w path k why.0 free ZArray value.0 value.1))
+    f.1)
     why.1
 create_refused path d order old store cause.Document why w k = ((why.0, free_in_world old store w path k why.1, why.2), refl, refl)
 create_refused path d order old store cause.Memory why w k = (tt, refl, refl)

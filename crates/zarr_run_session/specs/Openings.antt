@@ -6,7 +6,6 @@ use Rattle.serde_json.specs.Read.{read}
 use Rattle.serde_json.specs.View.{view}
 use Rattle.zarr_grids_keys.specs.Documents.{document_key}
 use Rattle.zarr_grids_keys.specs.Paths.{is_node_path}
-use Rattle.zarr_grids_keys.specs.declared.document_name.DocumentName.{DocumentName}
 use Rattle.zarr_grids_keys.specs.declared.document_name.DocumentName.TheVariants.{ZarrJson, ZArray}
 use Rattle.zarr_grids_metadata.specs.Trees.{SameTree}
 use Rattle.zarr_codecs_chain.specs.declared.order.SubchunkWriteOrder.{SubchunkWriteOrder}
@@ -26,9 +25,9 @@ pub record IsFreshIn (store : StoreMap) (path : List ℕ) : Type 0 where
   pub zarr_json : get store (document_key path ZarrJson) ≡ None
   pub zarray : get store (document_key path ZArray) ≡ None
 
--- a document is stored at a path
+-- a document of an array, of Zarr version 3 or 2, is stored at a path
 abbrev pub HasSomeDocument : StoreMap → List ℕ → Type 0
-HasSomeDocument store path = (name : DocumentName) × IsSome (get store (document_key path name))
+HasSomeDocument store path = IsSome (get store (document_key path ZarrJson)) ⊎ IsSome (get store (document_key path ZArray))
 
 -- an array was opened from a tree: it says what the tree says
 pub record IsOpened (tree : Data) (order : SubchunkWriteOrder) (array : HeldArray) : Type 0 where

@@ -1,4 +1,4 @@
-use Rattle.zarr_codecs_meaning.proofs.Sizes.{encoded_size}
+use Rattle.zarr_codecs_meaning.proofs.Representations.{encoded_size}
 use Rattle.zarr_codecs_meaning.proofs.laws.encoded_size.Goals as goal
 
 pub returns : goal.returns

@@ -38,6 +38,9 @@ returns c = record {
   transposed_subchunk_back = refl;
   texts_in_a_shard = refl;
   texts_in_a_shard_back = refl;
+  dropped_in_a_shard = refl;
+  becomes_fill = refl;
+  becomes_fill_again = refl;
   box_of_shard = refl;
   gap_and_other_order_decoded = refl;
 }

@@ -1,0 +1,5 @@
+pub mod Subchunks
+pub mod Steps
+pub mod Overlays
+pub mod Slices
+pub mod Compacting

@@ -1,0 +1,45 @@
+-- What a write of some subchunks makes of a shard's pairs and its data part: texts are appended, and pairs replaced.
+use Rattle.std.specs.Prelude.{◌≡◌, ℕ, ◌+◌, ◌<◌, List, [], ◌∷◌, ◌++◌, length, get_or, slice_set, Option, Some, None, true, false}
+use Rattle.zarr_codecs_meaning.specs.Types.{Cell, is_fill, Elements}
+use Rattle.zarr_codecs_meaning.specs.Chains.{Chain}
+use Rattle.zarr_codecs_meaning.specs.Encoding.{Pair, Piece, text_of, pair_at}
+use Rattle.zarr_codecs_meaning.specs.Standing.{Slices, IsEncoding, StandsBy}
+use Rattle.zarr_codecs_meaning.specs.Standing.Slices.{standing_slices, encoded_slices}
+
+-- the number of a subchunk, and the text that it is encoded as, or None where it became all fill
+abbrev pub Change : Type 0
+Change = ℕ × Option (List ℕ)
+
+-- the bytes that changes append to the data part
+abbrev pub appended : List Change → List ℕ
+appended [] = []
+appended (change ∷ changes) = text_of change.1 ++ appended changes
+
+-- the pairs after changes whose texts are appended from an offset on
+abbrev pub pairs_after : ℕ → List Change → List Pair → List Pair
+pairs_after offset [] pairs = pairs
+pairs_after offset (change ∷ changes) pairs = pairs_after (offset + length (text_of change.1)) changes (slice_set pairs change.0 (pair_at offset change.1))
+
+-- no subchunk
+abbrev pub no_piece : Piece
+no_piece = ([], [])
+
+-- the pieces, those that are changed as they are wanted
+abbrev pub pieces_after : List Piece → List Change → List Piece → List Piece
+pieces_after wanted [] pieces = pieces
+pieces_after wanted (change ∷ changes) pieces = pieces_after wanted changes (slice_set pieces change.0 (get_or wanted change.0 no_piece))
+
+-- a slice of a shard is to stand for its subchunk's cells, or it is to be what encoding writes
+abbrev pub SliceStands : Slices → Chain → Elements → List ℕ → List ℕ → List Cell → Type 0
+SliceStands slices inner elements = elim slices [ standing_slices ↦ StandsBy standing_slices inner elements | encoded_slices ↦ IsEncoding inner elements ]
+
+-- there is no text for a subchunk that is all fill; any other text stands for the subchunk's cells
+abbrev pub TextStands : (List ℕ → List ℕ → List Cell → Type 0) → Cell → Piece → Option (List ℕ) → Type 0
+TextStands inner fill piece None = is_fill fill piece.1 ≡ true
+TextStands inner fill piece (Some text) = (is_fill fill piece.1 ≡ false) × inner piece.0 text piece.1
+
+-- each change is of a subchunk that is there, and its text stands for what is wanted
+abbrev pub ChangesStand : (List ℕ → List ℕ → List Cell → Type 0) → Cell → List Piece → List Change → Type 0
+ChangesStand inner fill wanted [] = Unit {0}
+ChangesStand inner fill wanted (change ∷ changes) =
+    (change.0 < length wanted) × TextStands inner fill (get_or wanted change.0 no_piece) change.1 × ChangesStand inner fill wanted changes

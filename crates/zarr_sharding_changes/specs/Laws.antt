@@ -1,0 +1,50 @@
+-- Laws of shards under change. Each is said of slices that stand for their subchunks' cells, and of slices that are what encoding writes.
+use Rattle.std.specs.Prelude.{◌≡◌, ℕ, ◌+◌, ◌-◌, ◌^◌, ◌<◌, List, ◌++◌, length, Some, true, false}
+use Rattle.zarr_grids_boxes.specs.Boxes.{Region, product, share_place, IsIndex}
+use Rattle.zarr_codecs_meaning.specs.Types.{Cell, Elements}
+use Rattle.zarr_codecs_meaning.specs.Chains.{Chain, Location}
+use Rattle.zarr_codecs_meaning.specs.Chains.Chain.{sharded}
+use Rattle.zarr_codecs_meaning.specs.Places.{gather, grid_of, box_of, part_of}
+use Rattle.zarr_codecs_meaning.specs.Fits.{fits, can_cut, is_lossless}
+use Rattle.zarr_codecs_meaning.specs.Encoding.{Pair, Piece, encoded}
+use Rattle.zarr_codecs_meaning.specs.Standing.{Slices, PiecesStand, StandsBy, Tight}
+use Rattle.zarr_codecs_meaning.specs.Laws.{IsLawfulChain, AreCells}
+use Rattle.zarr_sharding_changes.specs.Changes.{Change, appended, pairs_after, pieces_after, SliceStands, ChangesStand}
+use Rattle.zarr_sharding_changes.specs.Regions.{IsInside, whole, overlaid}
+use Rattle.zarr_sharding_changes.specs.Compaction.{compacted}
+
+-- where texts are appended and pairs replaced, the pairs and the longer data part stand for the changed pieces, in whatever order and however often subchunks are changed
+abbrev pub ChangesWritten : Type 0
+ChangesWritten = (slices : Slices) (inner : Chain) (elements : Elements) (base : ℕ) («data» : List ℕ) (pieces wanted : List Piece) (pairs : List Pair) (changes : List Change)
+    → base + length («data» ++ appended changes) < 2 ^ 64 - 1
+    → PiecesStand (SliceStands slices inner elements) elements.fill base «data» pieces pairs → ChangesStand (SliceStands slices inner elements) elements.fill wanted changes
+    → PiecesStand (SliceStands slices inner elements) elements.fill base («data» ++ appended changes) (pieces_after wanted changes pieces) (pairs_after (base + length «data») changes pairs)
+
+-- after a box of cells was put over an array that it lies in, the array has those cells at its places
+abbrev pub RegionWritten : Type 0
+RegionWritten = (fill : Cell) (shape : List ℕ) (region : Region) (new cells : List Cell) → IsInside region shape → length new ≡ product region.shape
+    → gather fill (overlaid fill (whole shape) region new cells) (part_of shape region).places ≡ new
+
+-- a box of cells put over an array is that box put over each subchunk
+abbrev pub PartOverlaid : Type 0
+PartOverlaid = (fill : Cell) (shape subchunk index : List ℕ) (region : Region) (new cells : List Cell) → can_cut shape subchunk ≡ true → IsIndex index (grid_of shape subchunk)
+    → let box = box_of shape subchunk index in
+    gather fill (overlaid fill (whole shape) region new cells) (part_of shape box).places ≡ overlaid fill box region new (gather fill cells (part_of shape box).places)
+
+-- a subchunk that shares no place with the box keeps its cells
+abbrev pub PartKept : Type 0
+PartKept = (fill : Cell) (shape subchunk index : List ℕ) (region : Region) (new cells : List Cell) → can_cut shape subchunk ≡ true → IsIndex index (grid_of shape subchunk)
+    → let box = box_of shape subchunk index in
+    share_place box.start box.shape region.start region.shape ≡ false
+    → gather fill (overlaid fill (whole shape) region new cells) (part_of shape box).places ≡ gather fill cells (part_of shape box).places
+
+-- the slices of a value that stands, copied row-major without gaps, stand for the same cells
+abbrev pub CompactedStands : Type 0
+CompactedStands = (slices : Slices) (subchunk : List ℕ) (inner index : Chain) (location : Location) (elements : Elements) (shape value made : List ℕ) (cells : List Cell) → let chain = sharded subchunk inner index location in
+    IsLawfulChain chain → fits chain elements.type shape ≡ true → is_lossless chain elements.type ≡ true → AreCells elements shape cells
+    → StandsBy slices chain elements shape value cells → compacted subchunk index location shape value ≡ Some made → StandsBy slices chain elements shape made cells
+
+-- of slices that are what encoding writes this makes the encoding of the cells
+abbrev pub CompactedEncoded : Type 0
+CompactedEncoded = (subchunk : List ℕ) (inner index : Chain) (location : Location) (elements : Elements) (shape value : List ℕ) (cells : List Cell) → let chain = sharded subchunk inner index location in
+    Tight chain elements shape value cells → compacted subchunk index location shape value ≡ encoded chain elements shape cells

@@ -1,0 +1,6 @@
+pub mod Changes
+pub mod Regions
+pub mod Compaction
+pub mod Laws
+pub mod WorkedChanges
+pub mod WorkedCompaction
