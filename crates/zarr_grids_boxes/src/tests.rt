@@ -1,4 +1,8 @@
 //! Boxes, counts and places with values worked out by hand.
+mod cutting;
+mod making;
+mod numbers;
+
 use crate::walk::{count_places, has_no_place, write_place};
 use crate::{ArraySubset, ArraySubsetError};
 use std::alloc::Global;

@@ -1,7 +1,7 @@
 -- Chunk grids: in each dimension a function from chunk number to an interval.
-use Rattle.std.specs.Prelude.{◌≡◌, ℕ, ◌+◌, ◌-◌, ◌*◌, ◌/◌, ◌^◌, List, [], ◌∷◌, map, replicate, length, Bool, true, false, nat_lt, if◌then◌else◌, Option, Some, None, option_map, option_and_then}
+use Rattle.std.specs.Prelude.{◌≡◌, ℕ, ◌+◌, ◌-◌, ◌*◌, ◌/◌, ◌^◌, List, [], ◌∷◌, map, replicate, length, take, min, slice_index, Bool, true, false, nat_lt, if◌then◌else◌, Option, Some, None, option_map, option_and_then}
 use Rattle.std.specs.Option.{option_map_or}
-use Rattle.std.specs.List.{filter}
+use Rattle.std.specs.List.{filter, sum}
 use Rattle.zarr_grids_boxes.specs.Boxes.{Region, places, is_in_box, share_place}
 
 -- where a chunk lies along one dimension: its first number, and how many it has
@@ -9,20 +9,30 @@ pub record Interval : Type 0 where
   pub first : ℕ
   pub count : ℕ
 
--- one dimension of a grid
+-- one dimension of a grid: the array's size, and how its chunks lie
 pub data Dimension : Type 0 where
+  -- chunks of one edge, the last of them whole also where it passes the array
   regular : (size edge : ℕ) → Dimension
+  -- chunks of one edge, the last of them clipped to the array
+  clipped : (size edge : ℕ) → Dimension
+  -- one chunk after another, each with an edge of its own
+  varying : (size : ℕ) → (edges : List ℕ) → Dimension
 
 abbrev pub Grid : Type 0
 Grid = List Dimension
 
--- the interval of a chunk number (Zarr core, regular grids: chunk k covers [k * edge, (k + 1) * edge))
+-- the interval of a chunk number: chunk k covers [k * edge, (k + 1) * edge) (Zarr core, regular grids), or that interval clipped to the array,
+-- or what lies from the sum of the first k edges to the sum of the first k + 1 (this project's profile)
 abbrev pub interval : Dimension → ℕ → Option Interval
 interval (regular size edge) k = Some (record { first = k * edge; count = edge })
+interval (clipped size edge) k = if nat_lt (k * edge) size then Some (record { first = k * edge; count = min edge (size - k * edge) }) else None
+interval (varying size edges) k = if nat_lt k (length edges) then Some (record { first = sum (take k edges); count = slice_index edges k }) else None
 
--- how many chunks the grid shape counts: the size divided by the edge, rounded up
+-- how many chunks the grid shape counts: the size divided by the edge, rounded up; or as many as there are edges
 abbrev pub chunk_count : Dimension → ℕ
 chunk_count (regular size edge) = (size + (edge - 1)) / edge
+chunk_count (clipped size edge) = (size + (edge - 1)) / edge
+chunk_count (varying size edges) = length edges
 
 abbrev pub grid_shape : Grid → List ℕ
 grid_shape grid = map chunk_count grid

@@ -112,4 +112,4 @@ region_read fill shape region new cells within count =
     let same : length region.start ≡ length region.shape = let one = within.starts in let two = within.ends in omega arith in
     gathered_overlaid fill shape region region new cells within
     ∙ sym (fill_by_all (λ n. cell_after fill region new (place_at region.start region.shape n) (get_or cells (number_in shape region n) fill)) new (product region.shape) fill count
-      (λ n below. sym (test_true _ _ _ (in_box-place_at region.start region.shape n same below) ∙ ap (λ m. get_or new m fill) (ravel-place_at region.start region.shape n same below))))
+    (λ n below. sym (test_true _ _ _ (in_box-place_at region.start region.shape n same below) ∙ ap (λ m. get_or new m fill) (ravel-place_at region.start region.shape n same below))))

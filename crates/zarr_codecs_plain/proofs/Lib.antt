@@ -1,0 +1,9 @@
+pub mod Loops
+pub mod DigitLists
+pub mod SizeSums
+pub mod BitLists
+pub mod StoredBits
+pub mod Packing
+pub mod SmallDigits
+pub mod PutBack
+pub mod ValueBits

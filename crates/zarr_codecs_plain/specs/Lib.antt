@@ -1,0 +1,4 @@
+pub mod Sizes
+pub mod Views
+pub mod Subchunks
+pub mod Bits

@@ -1,0 +1,203 @@
+//! Shapes, and what array codecs and shards make of them.
+ghost use Rattle.std.specs.Prelude.{◌≡◌, ◌+◌, ◌-◌, ◌*◌, ◌/◌, ◌++◌, map, slice_index, not, ◌==◌, IfOk, OnOk};
+ghost use Rattle.std.specs.List.{filter};
+ghost use Rattle.zarr_grids_boxes.specs.Boxes.{product};
+ghost use Rattle.zarr_codecs_meaning.specs.Places.{known_product, entry_size, squeezed, step_shape, grid_of, index_shape};
+ghost use Rattle.zarr_codecs_plain.specs.Views.{entry_of, step_of};
+
+use crate::chain::{ShapeEntry, Step};
+use std::alloc::{AllocError, Global};
+
+/// The product of two numbers.
+pub fn multiply(left: usize, right: usize) -> Result<usize, AllocError>
+    ensures { IfOk result (λ n. n ≡ left * right) }
+{
+    match left.checked_mul(right) {
+        Some(n) => Ok(n),
+        None => Err(AllocError),
+    }
+}
+
+/// The sum of two numbers.
+pub fn add(left: usize, right: usize) -> Result<usize, AllocError>
+    ensures { IfOk result (λ n. n ≡ left + right) }
+{
+    match left.checked_add(right) {
+        Some(n) => Ok(n),
+        None => Err(AllocError),
+    }
+}
+
+/// How many places an array of this shape has.
+pub fn product(shape: &[usize]) -> Result<usize, AllocError>
+    ensures { IfOk result (λ n. n ≡ product shape.now) }
+{
+    match shape.split_first() {
+        None => Ok(1),
+        Some((first, _)) if *first == 0 => Ok(0),
+        Some((first, rest)) => multiply(*first, product(rest)?),
+    }
+}
+
+/// The size in a dimension, or 0 where there is no such dimension.
+pub fn size_at(shape: &[usize], dimension: usize) -> usize
+    ensures { result ≡ slice_index shape.now dimension }
+{
+    match shape.get(dimension) {
+        Some(size) => *size,
+        None => 0,
+    }
+}
+
+/// The sizes in these dimensions.
+fn sizes_at(alloc: Global, shape: &[usize], dimensions: &[usize]) -> Result<Vec<usize>, AllocError>
+    ensures { IfOk result (λ v. v.items ≡ map (slice_index shape.now) dimensions.now) }
+{
+    dimensions.iter().map(|d| size_at(shape, *d)).collect(alloc)
+}
+
+/// The product of the sizes in these dimensions.
+fn product_of(shape: &[usize], dimensions: &[usize]) -> Result<usize, AllocError>
+    ensures { IfOk result (λ n. n ≡ product (map (slice_index shape.now) dimensions.now)) }
+{
+    match dimensions.split_first() {
+        None => Ok(1),
+        Some((first, rest)) => {
+            let size = size_at(shape, *first);
+            if size == 0 {
+                return Ok(0);
+            }
+            multiply(size, product_of(shape, rest)?)
+        }
+    }
+}
+
+/// The product of the sizes of a new shape, without that of an entry that is left over.
+fn known_product(entries: &[ShapeEntry], shape: &[usize]) -> Result<usize, AllocError>
+    ensures { IfOk result (λ n. n ≡ known_product (map entry_of entries.now) shape.now) }
+{
+    match entries.split_first() {
+        None => Ok(1),
+        Some((ShapeEntry::Size(size), rest)) => multiply(*size, known_product(rest, shape)?),
+        Some((ShapeEntry::Product(dimensions), rest)) => multiply(
+            product_of(shape, dimensions)?,
+            known_product(rest, shape)?,
+        ),
+        Some((ShapeEntry::LeftOver, rest)) => known_product(rest, shape),
+    }
+}
+
+/// The size that an entry of a new shape stands for.
+fn entry_size(
+    entries: &[ShapeEntry],
+    shape: &[usize],
+    entry: &ShapeEntry,
+) -> Result<usize, AllocError>
+    ensures { IfOk result (λ n. n ≡ entry_size (known_product (map entry_of entries.now) shape.now) shape.now (entry_of entry.now)) }
+{
+    match entry {
+        ShapeEntry::Size(size) => Ok(*size),
+        ShapeEntry::Product(dimensions) => product_of(shape, dimensions),
+        ShapeEntry::LeftOver => {
+            let known = known_product(entries, shape)?;
+            if known == 0 {
+                return Ok(0);
+            }
+            Ok(product(shape)? / known)
+        }
+    }
+}
+
+/// The sizes that the entries of a new shape stand for.
+fn reshaped(
+    alloc: Global,
+    entries: &[ShapeEntry],
+    shape: &[usize],
+) -> Result<Vec<usize>, AllocError>
+    ensures { IfOk result (λ v. v.items ≡ map (entry_size (known_product (map entry_of entries.now) shape.now) shape.now) (map entry_of entries.now)) }
+{
+    let mut sizes = Vec::new(alloc);
+    for entry in entries {
+        sizes.push(entry_size(entries, shape, entry)?)?;
+    }
+    Ok(sizes)
+}
+
+/// The sizes that are not one.
+fn larger_sizes(alloc: Global, shape: &[usize]) -> Result<Vec<usize>, AllocError>
+    ensures { IfOk result (λ v. v.items ≡ filter (λ size. not (size == 1)) shape.now) }
+{
+    shape
+        .iter()
+        .filter(|size| **size != 1)
+        .copied()
+        .collect(alloc)
+}
+
+/// A shape without its dimensions of size one, or [1] where it has no others.
+fn squeezed(alloc: Global, shape: &[usize]) -> Result<Vec<usize>, AllocError>
+    ensures { IfOk result (λ v. v.items ≡ squeezed shape.now) }
+{
+    let mut sizes = larger_sizes(alloc, shape)?;
+    if sizes.as_slice().is_empty() {
+        sizes.push(1)?;
+        return Ok(sizes);
+    }
+    Ok(sizes)
+}
+
+/// The shape of what an array codec makes of an array.
+pub fn step_shape(alloc: Global, step: &Step, shape: &[usize]) -> Result<Vec<usize>, AllocError>
+    ensures { IfOk result (λ v. v.items ≡ step_shape (step_of step.now) shape.now) }
+{
+    match step {
+        Step::Transpose(order) => sizes_at(alloc, shape, order),
+        Step::Reshape(entries) => reshaped(alloc, entries, shape),
+        Step::Squeeze => squeezed(alloc, shape),
+    }
+}
+
+/// How many edges it takes to cover a size; none where the edge is 0.
+pub fn count_edges(size: usize, edge: usize) -> usize
+    ensures { result ≡ (size + (edge - 1)) / edge }
+{
+    if edge == 0 || size == 0 {
+        return 0;
+    }
+    (size - 1) / edge + 1
+}
+
+/// How many subchunks there are in each dimension, behind other numbers.
+fn push_grid(grid: &mut Vec<usize>, shape: &[usize], subchunk: &[usize]) -> Result<(), AllocError>
+    ensures { OnOk result (grid.new.items ≡ grid.old.items ++ grid_of shape.now subchunk.now) }
+{
+    match (shape.split_first(), subchunk.split_first()) {
+        (Some((size, sizes)), Some((edge, edges))) => {
+            grid.push(count_edges(*size, *edge))?;
+            push_grid(grid, sizes, edges)
+        }
+        _ => Ok(()),
+    }
+}
+
+/// How many subchunks there are in each dimension.
+pub fn grid_of(alloc: Global, shape: &[usize], subchunk: &[usize]) -> Result<Vec<usize>, AllocError>
+    ensures { IfOk result (λ v. v.items ≡ grid_of shape.now subchunk.now) }
+{
+    let mut grid = Vec::new(alloc);
+    push_grid(&mut grid, shape, subchunk)?;
+    Ok(grid)
+}
+
+/// The shape of a shard's index: a pair of numbers for each subchunk.
+pub fn index_shape(
+    alloc: Global,
+    shape: &[usize],
+    subchunk: &[usize],
+) -> Result<Vec<usize>, AllocError>
+    ensures { IfOk result (λ v. v.items ≡ index_shape shape.now subchunk.now) }
+{
+    let mut sizes = grid_of(alloc, shape, subchunk)?;
+    sizes.push(2)?;
+    Ok(sizes)
+}

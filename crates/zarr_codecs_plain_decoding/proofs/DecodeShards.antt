@@ -1,0 +1,42 @@
+-- A shard decoded, by the pairs that its index gives.
+use Rattle.std.proofs.Common.{◌≡◌, ℕ, ◌∙◌, ap, sym, List, map, Option, option_map, option_and_then}
+use Rattle.zarr_codecs_meaning.specs.Types.{Cell, Elements, uint64, zero_filled}
+use Rattle.zarr_codecs_meaning.specs.Chains.{Chain, Location}
+use Rattle.zarr_codecs_meaning.specs.Chains.Chain.{sharded}
+use Rattle.zarr_codecs_meaning.specs.Places.{Part, place_numbers, parts_of, index_shape}
+use Rattle.zarr_codecs_meaning.specs.Encoding.{Pair, index_size}
+use Rattle.zarr_codecs_meaning.specs.Decoding.{decoded, pairs_in, pieces_decoded, cell_at, cell_of_part}
+use Rattle.zarr_codecs_meaning.specs.Keeping.{arranged}
+
+-- the cells of a shard with these subchunks and pairs
+abbrev pub shard_from : Chain → Elements → List ℕ → List ℕ → List Part → Option (List Pair) → Option (List Cell)
+shard_from inner elements shape value parts pairs =
+    option_and_then (λ ps. option_map (λ pieces. map (arranged elements.fill parts pieces) (place_numbers shape)) (pieces_decoded (decoded inner elements) elements.fill value parts ps)) pairs
+
+-- the pairs of an index of this shape
+abbrev pub pairs_of_index : Chain → Location → List ℕ → List ℕ → Option (List Pair)
+pairs_of_index index location value shape = pairs_in (decoded index (zero_filled uint64) shape) location (index_size index shape) value
+
+pub shard_is : (elements : Elements) (shape value subchunk : List ℕ) (location : Location) (inner read_inner index read_index whole : Chain) (pairs_shape : List ℕ) (parts : List Part) (pairs : Option (List Pair))
+    → read_inner ≡ inner → read_index ≡ index → pairs_shape ≡ index_shape shape subchunk → parts ≡ parts_of shape subchunk → pairs ≡ pairs_of_index read_index location value pairs_shape → whole ≡ sharded subchunk inner index location
+    → shard_from read_inner elements shape value parts pairs ≡ decoded whole elements shape value
+shard_is elements shape value subchunk location inner read_inner index read_index whole pairs_shape parts pairs e1 e2 e3 e4 e5 e6 =
+    let found : pairs ≡ pairs_of_index index location value (index_shape shape subchunk) = e5 ∙ (ap (λ i. pairs_of_index i location value pairs_shape) e2 ∙ ap (pairs_of_index index location value) e3) in
+    ap (λ i. shard_from i elements shape value parts pairs) e1
+    ∙ (ap (λ ps. shard_from inner elements shape value ps pairs) e4
+    ∙ (ap (shard_from inner elements shape value (parts_of shape subchunk)) found
+    ∙ ap (λ chain. decoded chain elements shape value) (sym e6)))
+
+-- the cell at a place of a shard with these subchunks and pairs
+abbrev pub shard_cell_from : Chain → Elements → List ℕ → ℕ → List Part → Option (List Pair) → Option Cell
+shard_cell_from inner elements value place parts pairs = option_and_then (cell_of_part (cell_at inner elements) elements.fill value place parts) pairs
+
+pub shard_cell_is : (elements : Elements) (shape value subchunk : List ℕ) (place : ℕ) (location : Location) (inner read_inner index read_index whole : Chain) (pairs_shape : List ℕ) (parts : List Part) (pairs : Option (List Pair))
+    → read_inner ≡ inner → read_index ≡ index → pairs_shape ≡ index_shape shape subchunk → parts ≡ parts_of shape subchunk → pairs ≡ pairs_of_index read_index location value pairs_shape → whole ≡ sharded subchunk inner index location
+    → shard_cell_from read_inner elements value place parts pairs ≡ cell_at whole elements shape value place
+shard_cell_is elements shape value subchunk place location inner read_inner index read_index whole pairs_shape parts pairs e1 e2 e3 e4 e5 e6 =
+    let found : pairs ≡ pairs_of_index index location value (index_shape shape subchunk) = e5 ∙ (ap (λ i. pairs_of_index i location value pairs_shape) e2 ∙ ap (pairs_of_index index location value) e3) in
+    ap (λ i. shard_cell_from i elements value place parts pairs) e1
+    ∙ (ap (λ ps. shard_cell_from inner elements value place ps pairs) e4
+    ∙ (ap (shard_cell_from inner elements value place (parts_of shape subchunk)) found
+    ∙ ap (λ chain. cell_at chain elements shape value place) (sym e6)))

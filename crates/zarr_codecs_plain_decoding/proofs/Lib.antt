@@ -1,0 +1,3 @@
+pub mod DecodeShards
+pub mod DecodeSections
+pub mod DecodeLists

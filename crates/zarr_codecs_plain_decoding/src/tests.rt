@@ -1,0 +1,2 @@
+//! Worked values of the definitions, by their literal bytes.
+mod decode;

@@ -1,0 +1,13 @@
+pub mod Bytes
+pub mod Extended
+pub mod FillBack
+pub mod FillLemmas
+pub mod FillValues
+pub mod IntegerValues
+pub mod IntegerWords
+pub mod Integers
+pub mod Levels
+pub mod ReadsBack
+pub mod SameParts
+pub mod Skipped
+pub mod ValueLemmas

@@ -1,0 +1,21 @@
+//! Data types, cells and fill values.
+#![tactic(auto)]
+
+pub mod cell;
+pub mod data_type;
+mod equality;
+pub mod error;
+mod fill_reading;
+pub mod fill_value;
+mod fill_writing;
+pub mod laws;
+mod metadata;
+#[cfg(test)]
+mod tests;
+pub mod values;
+
+pub use cell::Cell;
+pub use data_type::{Component, DataType, Sign};
+pub use error::{DataTypeError, FillValueError};
+pub use fill_value::FillValue;
+pub use values::is_value;

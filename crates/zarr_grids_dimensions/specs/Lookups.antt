@@ -1,0 +1,36 @@
+-- What the lookups find: chunks and places by intervals.
+use Rattle.std.specs.Prelude.{ℕ, ◌+◌, List, [], ◌∷◌, sum, Bool, true, false, ◌&&◌, nat_le, nat_lt}
+use Rattle.std.specs.Option.{option_map_or}
+use Rattle.zarr_grids_chunks.specs.Grids.{Interval, Dimension, regular, clipped, varying, interval, Grid}
+
+abbrev pub all_positive : List ℕ → Bool
+all_positive [] = true
+all_positive (n ∷ ns) = nat_lt 0 n && all_positive ns
+
+-- each edge is positive, and the chunks cover the size
+abbrev pub is_dimension : Dimension → Bool
+is_dimension (regular size edge) = nat_lt 0 edge
+is_dimension (clipped size edge) = nat_lt 0 edge
+is_dimension (varying size edges) = all_positive edges && nat_le size (sum edges)
+
+abbrev pub size_of : Dimension → ℕ
+size_of (regular size edge) = size
+size_of (clipped size edge) = size
+size_of (varying size edges) = size
+
+-- whether a place is one of an interval
+abbrev pub has_place : ℕ → Interval → Bool
+has_place p i = nat_le i.first p && nat_lt p (i.first + i.count)
+
+-- whether a chunk has an interval in which the place lies
+abbrev pub in_interval : Dimension → ℕ → ℕ → Bool
+in_interval d k p = option_map_or (has_place p) (interval d k) false
+
+-- whether a place lies in a chunk: in each dimension in its interval
+abbrev pub lies_in : Grid → List ℕ → List ℕ → Bool
+lies_in (d ∷ ds) (k ∷ ks) (p ∷ ps) = in_interval d k p && lies_in ds ks ps
+lies_in [] [] [] = true
+lies_in [] [] (p ∷ ps) = false
+lies_in [] (k ∷ ks) ps = false
+lies_in (d ∷ ds) [] ps = false
+lies_in (d ∷ ds) (k ∷ ks) [] = false

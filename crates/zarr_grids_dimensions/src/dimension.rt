@@ -1,0 +1,111 @@
+//! One dimension of a chunk grid.
+ghost use Rattle.std.specs.Prelude.{◌≡◌, ℕ, ◌↔◌, IsTrue, IfOk, IsErr, option_map, option_and_then};
+ghost use Rattle.zarr_grids_chunks.specs.Grids.{regular, clipped, interval, chunk_count, bounded};
+ghost use Rattle.zarr_grids_dimensions.specs.Lookups.{size_of, in_interval};
+ghost use Rattle.zarr_grids_dimensions.specs.Chunks.{first_of, count_of};
+ghost use Rattle.zarr_grids_dimensions.specs.Dimensions.{dimension_of};
+ghost use Rattle.zarr_grids_dimensions.specs.Intervals.{interval_of, bounded_of};
+
+use crate::fixed::{FixedEdge, ZeroEdgeError};
+use crate::interval::{BoundedInterval, ChunkInterval};
+use crate::varying::VaryingEdges;
+
+/// One dimension of a chunk grid: the array's size, and how its chunks lie.
+#[derive(Debug, Drop)]
+pub enum Dimension {
+    /// Chunks of one edge, the last of them whole also where it passes the array.
+    Regular(FixedEdge),
+    /// Chunks of one edge, the last of them clipped to the array.
+    Clipped(FixedEdge),
+    /// One chunk after another, each with an edge of its own.
+    Varying(VaryingEdges),
+}
+
+impl Dimension {
+    /// Chunks of one edge, the last of them whole.
+    pub fn regular(size: u64, edge: u64) -> Result<Dimension, ZeroEdgeError>
+        ensures made { IfOk result (λ dimension. dimension_of dimension ≡ regular size edge) }
+        ensures zero { IsErr result ↔ (edge ≡ 0) }
+    {
+        let fixed = FixedEdge::new(size, edge)?;
+        Ok(Dimension::Regular(fixed))
+    }
+
+    /// Chunks of one edge, the last of them clipped to the array.
+    pub fn clipped(size: u64, edge: u64) -> Result<Dimension, ZeroEdgeError>
+        ensures made { IfOk result (λ dimension. dimension_of dimension ≡ clipped size edge) }
+        ensures zero { IsErr result ↔ (edge ≡ 0) }
+    {
+        let fixed = FixedEdge::new(size, edge)?;
+        Ok(Dimension::Clipped(fixed))
+    }
+
+    /// The array's size in this dimension.
+    pub fn size(&self) -> u64
+        ensures { result ≡ size_of (dimension_of self.now) }
+    {
+        match self {
+            Dimension::Regular(fixed) | Dimension::Clipped(fixed) => fixed.size,
+            Dimension::Varying(edges) => edges.size(),
+        }
+    }
+
+    /// How many chunks the grid shape counts.
+    pub fn chunk_count(&self) -> u64
+        ensures { result ≡ chunk_count (dimension_of self.now) }
+    {
+        match self {
+            Dimension::Regular(fixed) => fixed.chunk_count(),
+            Dimension::Clipped(fixed) => fixed.chunk_count(),
+            Dimension::Varying(edges) => edges.chunk_count(),
+        }
+    }
+
+    /// The chunk that a place lies in, whether or not the chunk's end passes 2^64 - 1.
+    pub fn chunk_of(&self, place: u64) -> Option<u64>
+        ensures { (chunk : ℕ) → (result ≡ Some chunk) ↔ IsTrue (in_interval (dimension_of self.now) chunk place) }
+    {
+        match self {
+            Dimension::Regular(fixed) => fixed.chunk_of(place),
+            Dimension::Clipped(fixed) => fixed.clipped_chunk_of(place),
+            Dimension::Varying(edges) => edges.chunk_of(place),
+        }
+    }
+
+    /// Where a chunk lies.
+    pub fn interval(&self, chunk: u64) -> Option<ChunkInterval>
+        ensures { option_map interval_of result ≡ interval (dimension_of self.now) chunk }
+    {
+        match self {
+            Dimension::Regular(fixed) => Some(fixed.interval(chunk)),
+            Dimension::Clipped(fixed) => fixed.clipped_interval(chunk),
+            Dimension::Varying(edges) => edges.interval(chunk),
+        }
+    }
+
+    /// Where a chunk lies, if its end is at most 2^64 - 1.
+    pub fn bounded(&self, chunk: u64) -> Option<BoundedInterval>
+        ensures { option_map bounded_of result ≡ option_and_then bounded (interval (dimension_of self.now) chunk) }
+    {
+        self.interval(chunk)?.bounded()
+    }
+
+    /// A chunk's first place, if there is such a chunk and it is at most 2^64 - 1.
+    pub fn first_of(&self, chunk: u64) -> Option<u64>
+        ensures { result ≡ first_of (dimension_of self.now) chunk }
+    {
+        let interval = self.interval(chunk)?;
+        if interval.first > u64::MAX as u128 {
+            return None;
+        }
+        Some(interval.first as u64)
+    }
+
+    /// How many places a chunk has, if there is such a chunk.
+    pub fn count_of(&self, chunk: u64) -> Option<u64>
+        ensures { result ≡ count_of (dimension_of self.now) chunk }
+    {
+        let interval = self.interval(chunk)?;
+        Some(interval.count)
+    }
+}

@@ -1,0 +1,21 @@
+//! Chunk grids as lists of dimensions of any kind, with every lookup.
+#![tactic(auto)]
+
+pub mod dimension;
+pub mod error;
+pub mod fixed;
+pub mod interval;
+pub mod laws;
+pub mod lookups;
+pub mod run;
+pub mod search;
+#[cfg(test)]
+mod tests;
+pub mod varying;
+
+pub use dimension::Dimension;
+pub use error::{IncompatibleDimensionalityError, LookupError};
+pub use fixed::{FixedEdge, ZeroEdgeError};
+pub use interval::{BoundedInterval, ChunkInterval};
+pub use run::Run;
+pub use varying::{VaryingEdges, VaryingEdgesError};

@@ -1,0 +1,202 @@
+//! Chunks of varying edges, by runs of equal ones.
+ghost use Rattle.std.specs.Prelude.{◌≡◌, ◌⊎◌, ℕ, ◌↔◌, ◌<◌, ◌≤◌, ◌^◌, IsTrue, true, false, length, sum, map, option_map, IfOk, IfErr};
+ghost use Rattle.std.specs.Option.{SomeIff};
+ghost use Rattle.zarr_grids_chunks.specs.Grids.{varying, interval};
+ghost use Rattle.zarr_grids_dimensions.specs.Runs.{expanded, edges, counts, lengths, running};
+ghost use Rattle.zarr_grids_dimensions.specs.Lookups.{all_positive, is_dimension, in_interval};
+ghost use Rattle.zarr_grids_dimensions.specs.Intervals.{interval_of};
+
+use crate::interval::ChunkInterval;
+use crate::run::Run;
+use crate::search::last_at_most;
+use std::alloc::{AllocError, Global};
+use thiserror::Error;
+
+/// One dimension of an array and the edges of its chunks, held by runs: a lookup takes the logarithm of their number.
+#[derive(Debug, Drop)]
+pub struct VaryingEdges {
+    size: u64,
+    runs: Vec<Run>,
+    first_chunks: Vec<u128>,
+    first_places: Vec<u128>,
+    ghost chunks: { first_chunks.items ≡ running 0 (counts runs.items) },
+    ghost places: { first_places.items ≡ running 0 (lengths runs.items) },
+    pub ghost few: { length (expanded runs.items) < 2 ^ 64 },
+    pub ghost extent: { sum (expanded runs.items) < 2 ^ 128 },
+    pub ghost positive: { all_positive (edges runs.items) ≡ true },
+    pub ghost counted: { all_positive (counts runs.items) ≡ true },
+    pub ghost dimension: { is_dimension (varying size (expanded runs.items)) ≡ true },
+}
+
+/// Why chunks of varying edges cannot be made.
+#[derive(Clone, Copy, Debug, PartialEq, Eq, Error)]
+pub enum VaryingEdgesError {
+    /// A run's edge is 0.
+    #[error("the edge of a run of chunks is 0")]
+    ZeroEdge,
+    /// A run has no chunk.
+    #[error("a run of chunks has no chunk")]
+    ZeroCount,
+    /// There are more than 2^64 - 1 chunks.
+    #[error("there are more than 2^64 - 1 chunks")]
+    TooManyChunks,
+    /// The edges' sum is less than the size.
+    #[error("the sum of the chunks' edges is less than the size of the dimension")]
+    TooShort,
+    /// Memory ran out.
+    #[error("out of memory")]
+    OutOfMemory,
+}
+
+impl From<AllocError> for VaryingEdgesError {
+    ghost use Rattle.zarr_grids_dimensions.specs.declared.varying.VaryingEdgesError.TheVariants.{OutOfMemory};
+
+    ghost from_gives = { λ _ e. e ≡ OutOfMemory };
+
+    fn from(_error: AllocError) -> VaryingEdgesError {
+        VaryingEdgesError::OutOfMemory
+    }
+}
+
+impl VaryingEdges {
+    /// The runs as chunks of a dimension of this size. Their edges' sum may pass the size, and may pass 2^64 - 1.
+    pub fn new(alloc: Global, size: u64, runs: Vec<Run>) -> Result<VaryingEdges, VaryingEdgesError>
+        ensures made { IfOk result (λ varied. (varied.size ≡ size) × (varied.runs ≡ runs)) }
+        ensures edge { result ≡ Err VaryingEdgesError.ZeroEdge → all_positive (edges runs.items) ≡ false }
+        ensures count { result ≡ Err VaryingEdgesError.ZeroCount → all_positive (counts runs.items) ≡ false }
+        ensures many { result ≡ Err VaryingEdgesError.TooManyChunks → 2 ^ 64 ≤ length (expanded runs.items) }
+        ensures short { result ≡ Err VaryingEdgesError.TooShort → sum (expanded runs.items) < size }
+    {
+        check_runs(&runs)?;
+        let Some(_) = count_chunks(&runs) else {
+            return Err(VaryingEdgesError::TooManyChunks);
+        };
+        let first_chunks = first_chunks_of(alloc, &runs)?;
+        let first_places = first_places_of(alloc, &runs)?;
+        if first_places[runs.len()] < size as u128 {
+            return Err(VaryingEdgesError::TooShort);
+        }
+        Ok(VaryingEdges {
+            size,
+            runs,
+            first_chunks,
+            first_places,
+        })
+    }
+
+    /// The array's size in this dimension.
+    pub fn size(&self) -> u64
+        ensures { result ≡ self.now.size }
+    {
+        self.size
+    }
+
+    /// The runs of equal edges.
+    pub fn runs(&self) -> &[Run]
+        ensures { result.now ≡ self.now.runs.items }
+    {
+        &self.runs
+    }
+
+    /// The sum of all edges. It may be more than the size.
+    pub fn sum(&self) -> u128
+        ensures { result ≡ sum (expanded self.now.runs.items) }
+    {
+        self.first_places[self.runs.len()]
+    }
+
+    /// How many chunks there are.
+    pub fn chunk_count(&self) -> u64
+        ensures { result ≡ length (expanded self.now.runs.items) }
+    {
+        self.first_chunks[self.runs.len()] as u64
+    }
+
+    /// The chunk that a place lies in, below the size or not.
+    pub fn chunk_of(&self, place: u64) -> Option<u64>
+        ensures { (chunk : ℕ) → (result ≡ Some chunk) ↔ IsTrue (in_interval (varying self.now.size (expanded self.now.runs.items)) chunk place) }
+    {
+        let at = last_at_most(&self.first_places, place as u128);
+        if at == self.runs.len() {
+            return None;
+        }
+        let within = (place as u128 - self.first_places[at]) / self.runs[at].edge as u128;
+        Some((self.first_chunks[at] + within) as u64)
+    }
+
+    /// Where a chunk lies.
+    pub fn interval(&self, chunk: u64) -> Option<ChunkInterval>
+        ensures { option_map interval_of result ≡ interval (varying self.now.size (expanded self.now.runs.items)) chunk }
+    {
+        let at = last_at_most(&self.first_chunks, chunk as u128);
+        if at == self.runs.len() {
+            return None;
+        }
+        let edge = self.runs[at].edge;
+        let within = chunk as u128 - self.first_chunks[at];
+        Some(ChunkInterval {
+            first: self.first_places[at] + within * edge as u128,
+            count: edge,
+        })
+    }
+}
+
+/// Refuses a run with no place.
+fn check_runs(runs: &[Run]) -> Result<(), VaryingEdgesError>
+    ensures edges { IfOk result (λ _. all_positive (edges runs.now) ≡ true) }
+    ensures counts { IfOk result (λ _. all_positive (counts runs.now) ≡ true) }
+    ensures edge { result ≡ Err VaryingEdgesError.ZeroEdge → all_positive (edges runs.now) ≡ false }
+    ensures count { result ≡ Err VaryingEdgesError.ZeroCount → all_positive (counts runs.now) ≡ false }
+    ensures zeros { IfErr result (λ e. (e ≡ VaryingEdgesError.ZeroEdge) ⊎ (e ≡ VaryingEdgesError.ZeroCount)) }
+{
+    for run in runs {
+        if run.edge == 0 {
+            return Err(VaryingEdgesError::ZeroEdge);
+        }
+        if run.count == 0 {
+            return Err(VaryingEdgesError::ZeroCount);
+        }
+    }
+    Ok(())
+}
+
+/// How many chunks there are, if that is at most 2^64 - 1.
+fn count_chunks(runs: &[Run]) -> Option<u64>
+    ensures { SomeIff result (sum (counts runs.now) < 2 ^ 64) (sum (counts runs.now)) }
+{
+    let mut count: u64 = 0;
+    for run in runs {
+        count = count.checked_add(run.count)?;
+    }
+    Some(count)
+}
+
+/// The first chunk number of each run, and after them how many chunks there are.
+fn first_chunks_of(alloc: Global, runs: &[Run]) -> Result<Vec<u128>, AllocError>
+    requires { sum (counts runs.now) < 2 ^ 64 }
+    ensures { IfOk result (λ chunks. chunks.items ≡ running 0 (counts runs.now)) }
+{
+    let mut chunks = Vec::with_capacity(alloc, runs.len())?;
+    let mut next: u128 = 0;
+    for run in runs {
+        chunks.push(next)?;
+        next += run.count as u128;
+    }
+    chunks.push(next)?;
+    Ok(chunks)
+}
+
+/// The first place of each run, and after them the sum of all edges.
+fn first_places_of(alloc: Global, runs: &[Run]) -> Result<Vec<u128>, AllocError>
+    requires { sum (counts runs.now) < 2 ^ 64 }
+    ensures { IfOk result (λ places. places.items ≡ running 0 (lengths runs.now)) }
+{
+    let mut places = Vec::with_capacity(alloc, runs.len())?;
+    let mut next: u128 = 0;
+    for run in runs {
+        places.push(next)?;
+        next += run.count as u128 * run.edge as u128;
+    }
+    places.push(next)?;
+    Ok(places)
+}
