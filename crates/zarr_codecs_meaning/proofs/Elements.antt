@@ -16,7 +16,7 @@ use Rattle.zarr_codecs_meaning.specs.Chains.Padding.{no_padding_byte, first_byte
 use Rattle.zarr_codecs_meaning.specs.Places.{place_numbers}
 use Rattle.zarr_codecs_meaning.specs.Fits.{last_kept, kept_bits, bits_in, packed_size, padding_size, is_lossless}
 use Rattle.zarr_codecs_meaning.specs.Encoding.{in_order, ordered, element_bits, element_of_bits, packed, padding_bits, with_padding}
-use Rattle.zarr_codecs_meaning.specs.Decoding.{all_there, tested, element_at, is_whole, without_padding, unpacked, decoded, cell_at}
+use Rattle.zarr_codecs_meaning.specs.Decoding.{all_there, tested, element_at, is_whole, without_padding, unpacked, decoded}
 use Rattle.zarr_codecs_meaning.specs.Laws.{AreCells}
 use Rattle.zarr_codecs_meaning.proofs.Lists.{both_true, Each, each_passes, each_weaker, each_get, each_append}
 use Rattle.zarr_codecs_meaning.proofs.Values.{fixed_value, length-digits, length-in_order, length-ordered, length-element_bits}
@@ -71,7 +71,7 @@ ordered_twice order (c ∷ cs) text h =
     ∙ (ap (λ ns. ns ++ ordered order cs back) (in_order_twice order (take n text))
     ∙ (ap (λ ns. take n text ++ ns) (ordered_twice order cs (drop n text) (length-drop n text ∙ omega (arith, h))) ∙ take-append-drop n text)))
 
-pub bytes_open : (order : Option Endianness) (elements : Elements) (shape : List ℕ) (cells : List Cell) → is_fixed elements.type ≡ true → AreCells elements shape cells
+bytes_open : (order : Option Endianness) (elements : Elements) (shape : List ℕ) (cells : List Cell) → is_fixed elements.type ≡ true → AreCells elements shape cells
     → is_whole elements.type shape (flat_map (λ cell. ordered order (components elements.type) (cell_bytes cell)) cells) ≡ true
 bytes_open order elements shape cells fixed are =
     let width = bytes_in (components elements.type) in
@@ -97,12 +97,6 @@ element_read order elements shape cells fixed are i below =
     let text_back : ordered order parts (take width (drop (i * width) value)) ≡ cell_bytes cell =
     ap (ordered order parts) (slice_flat text width cells i elements.fill wide below) ∙ ordered_twice order parts (cell_bytes cell) (ap (λ (c : Cell). length (cell_bytes c)) v.is ∙ v.long) in
     ap (λ ns. tested type (of_bytes ns)) text_back ∙ (ap (tested type) same ∙ ap (λ (b : Bool). if b then Some cell else None) is)
-
-pub bytes_read : (order : Option Endianness) (elements : Elements) (shape : List ℕ) (cells : List Cell) → is_fixed elements.type ≡ true → AreCells elements shape cells → (i : ℕ) → i < length cells
-    → cell_at (bytes order) elements shape (flat_map (λ cell. ordered order (components elements.type) (cell_bytes cell)) cells) i ≡ Some (get_or cells i elements.fill)
-bytes_read order elements shape cells fixed are i below =
-    let value = flat_map (λ cell. ordered order (components elements.type) (cell_bytes cell)) cells in
-    ap (λ (b : Bool). if b then element_at order elements.type value i else None) (bytes_open order elements shape cells fixed are) ∙ element_read order elements shape cells fixed are i below
 
 pub bytes_back : (order : Option Endianness) (elements : Elements) (shape : List ℕ) (cells : List Cell) → is_fixed elements.type ≡ true → AreCells elements shape cells
     → decoded (bytes order) elements shape (flat_map (λ cell. ordered order (components elements.type) (cell_bytes cell)) cells) ≡ Some cells

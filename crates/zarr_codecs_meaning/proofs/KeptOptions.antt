@@ -32,7 +32,7 @@ length_step : (t : Bool) (c : Cell) (ones others : List Cell) (n : ℕ) → leng
 length_step true c ones others n h k = ap suc h
 length_step false c ones others n h k = ap suc k
 
-length-spread : (masks found : List Cell) → length (spread masks found) ≡ length masks
+pub length-spread : (masks found : List Cell) → length (spread masks found) ≡ length masks
 length-spread [] found = refl
 length-spread (m ∷ ms) [] = ap suc (length-spread ms [])
 length-spread (m ∷ ms) (c ∷ cs) = length_step (number 256 (cell_bytes m) == 1) c (spread ms cs) (spread ms (c ∷ cs)) (length ms) (length-spread ms cs) (length-spread ms (c ∷ cs))

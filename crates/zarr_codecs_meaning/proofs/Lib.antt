@@ -17,7 +17,8 @@ pub mod Fitting
 pub mod Representations
 pub mod Meaning
 pub mod Tight
-pub mod Reading
+pub mod Counts
+pub mod PartReading
 pub mod Once
 pub mod PartsOnce
 pub mod KeptBits

@@ -21,6 +21,10 @@ pub if_some : {X : Type 0} (b : Bool) (o : Option X) (y : X) → (if b then o el
 if_some true o y h = (refl, h)
 if_some false o y h = cc
 
+pub elim_some : {X : Type 0} (b : Bool) (o : Option X) (y : X) → elim b [ true ↦ o | false ↦ None ] ≡ Some y → (b ≡ true) × (o ≡ Some y)
+elim_some true o y h = (refl, h)
+elim_some false o y h = cc
+
 -- P of each element
 abbrev pub Each : {X : Type 0} → (X → Type 0) → List X → Type 0
 Each P [] = Unit {0}

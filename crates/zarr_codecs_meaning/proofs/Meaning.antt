@@ -58,7 +58,7 @@ shard_stands subchunk inner index location elements shape value cells slice lawf
     (pairs_from base os, joined_texts os, record { text = shard.text; long = long; read = read; is = sym shard.is }, stand)
 
 -- the pairs that are read of what stands
-pub pairs_read : (subchunk : List ℕ) (inner index : Chain) (location : Location) (elements : Elements) (shape value : List ℕ) (cells : List Cell) (h : Stands (sharded subchunk inner index location) elements shape value cells)
+pairs_read : (subchunk : List ℕ) (inner index : Chain) (location : Location) (elements : Elements) (shape value : List ℕ) (cells : List Cell) (h : Stands (sharded subchunk inner index location) elements shape value cells)
     → pairs_in (decoded index (zero_filled uint64) (index_shape shape subchunk)) location (index_size index (index_shape shape subchunk)) value ≡ Some h.0
 pairs_read subchunk inner index location elements shape value cells h =
     let pairs_shape = index_shape shape subchunk in
@@ -193,7 +193,7 @@ pub either : (b : Bool) (P Q : Type 0) → P → Q → MatchBool b P Q
 either true P Q p q = p
 either false P Q p q = q
 
-pub one_of : (b : Bool) (P Q : Type 0) → MatchBool b P Q → P ⊎ Q
+one_of : (b : Bool) (P Q : Type 0) → MatchBool b P Q → P ⊎ Q
 one_of true P Q h = inl h
 one_of false P Q h = inr h
 

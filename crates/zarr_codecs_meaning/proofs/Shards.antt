@@ -20,7 +20,7 @@ use Rattle.zarr_codecs_meaning.proofs.Positions.{IsAmong, position_found, gather
 
 -- ---- cells that are the fill value
 
-pub same_is : (a b : Cell) → same_cell a b ≡ true → a ≡ b
+same_is : (a b : Cell) → same_cell a b ≡ true → a ≡ b
 same_is (of_bytes xs) (of_bytes ys) h = ap of_bytes (same_bytes xs ys h) where
   same_bytes : (xs ys : List ℕ) → bytes_eq xs ys ≡ true → xs ≡ ys
   same_bytes [] [] h = refl

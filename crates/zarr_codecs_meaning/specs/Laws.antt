@@ -70,6 +70,11 @@ abbrev pub TightStands : Type 0
 TightStands = (chain : Chain) (elements : Elements) (shape value : List ℕ) (cells : List Cell) → IsLawfulChain chain → fits chain elements.type shape ≡ true → is_lossless chain elements.type ≡ true → AreCells elements shape cells
     → Tight chain elements shape value cells → Stands chain elements shape value cells
 
+-- where a value is decoded, a part of it is the cells at its places, whoever wrote the value
+abbrev pub PartDecoded : Type 0
+PartDecoded = (chain : Chain) (elements : Elements) (shape value : List ℕ) (cells : List Cell) (places : List ℕ) → fits chain elements.type shape ≡ true
+    → decoded chain elements shape value ≡ Some cells → list_all (λ place. nat_lt place (product shape)) places ≡ true → part_decoded chain elements shape value places ≡ Some (gather elements.fill cells places)
+
 -- a part of what stands for cells is those cells at its places
 abbrev pub PartSelects : Type 0
 PartSelects = (chain : Chain) (elements : Elements) (shape value : List ℕ) (cells : List Cell) (places : List ℕ) → IsLawfulChain chain → fits chain elements.type shape ≡ true → is_lossless chain elements.type ≡ true → AreCells elements shape cells

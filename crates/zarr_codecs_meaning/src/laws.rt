@@ -1,5 +1,5 @@
 //! Worked examples and laws of codec chains. Each function does nothing: its contract is the law.
-ghost use Rattle.zarr_codecs_meaning.specs.Laws.{EncodedSize, ShardSize, EncodedStands, StandsDecoded, StandingAlike, EncodedTight, TightStands, PartSelects};
+ghost use Rattle.zarr_codecs_meaning.specs.Laws.{EncodedSize, ShardSize, EncodedStands, StandsDecoded, StandingAlike, EncodedTight, TightStands, PartDecoded, PartSelects};
 ghost use Rattle.zarr_codecs_meaning.specs.KeptLaws.{KeptDecoded, KeptCells, KeptTwice, KeptEncoded, KeptLossless};
 ghost use Rattle.zarr_codecs_meaning.specs.WorkedValues.{ValueRows, FitRows};
 ghost use Rattle.zarr_codecs_meaning.specs.WorkedPlain.{PlainRows};
@@ -68,6 +68,11 @@ pub fn encoded_tight()
 /// What is tight for cells stands for them.
 pub fn tight_stands()
     ensures { TightStands }
+{}
+
+/// Where a value is decoded, a part of it is the cells at its places.
+pub fn part_decoded()
+    ensures { PartDecoded }
 {}
 
 /// A part of what stands for cells is read as those cells at its places.
