@@ -1,8 +1,16 @@
+pub mod AllWalk
+pub mod BoxWalk
+pub mod Declared
 pub mod EachWalk
+pub mod Elements
 pub mod Expanded
 pub mod FixedIntervals
+pub mod Meeting
+pub mod Monotone
 pub mod OneChunk
 pub mod PlaceWalk
 pub mod Running
+pub mod Union
+pub mod UnionBox
 pub mod VaryingIntervals
 pub mod VaryingLookups

@@ -1,7 +1,7 @@
 -- What the lookups find: chunks and places by intervals.
-use Rattle.std.specs.Prelude.{ℕ, ◌+◌, List, [], ◌∷◌, sum, Bool, true, false, ◌&&◌, nat_le, nat_lt}
+use Rattle.std.specs.Prelude.{ℕ, ◌+◌, List, [], ◌∷◌, sum, Bool, true, false, ◌&&◌, ◌||◌, nat_eq, nat_le, nat_lt}
 use Rattle.std.specs.Option.{option_map_or}
-use Rattle.zarr_grids_chunks.specs.Grids.{Interval, Dimension, regular, clipped, varying, interval, Grid}
+use Rattle.zarr_grids_chunks.specs.Grids.{Interval, Dimension, regular, clipped, varying, interval, chunk_count, Grid}
 
 abbrev pub all_positive : List ℕ → Bool
 all_positive [] = true
@@ -34,3 +34,21 @@ lies_in [] [] (p ∷ ps) = false
 lies_in [] (k ∷ ks) ps = false
 lies_in (d ∷ ds) [] ps = false
 lies_in (d ∷ ds) (k ∷ ks) [] = false
+
+abbrev pub are_dimensions : Grid → Bool
+are_dimensions [] = true
+are_dimensions (d ∷ ds) = is_dimension d && are_dimensions ds
+
+-- whether a test passes in each dimension, and there are as many numbers as dimensions
+abbrev pub in_all : (Dimension → ℕ → Bool) → Grid → List ℕ → Bool
+in_all test (d ∷ ds) (n ∷ ns) = test d n && in_all test ds ns
+in_all test [] [] = true
+in_all test [] (n ∷ ns) = false
+in_all test (d ∷ ds) [] = false
+
+-- a chunk number is below the count, where a count of 0 stands for no limit
+abbrev pub chunk_inbounds : Dimension → ℕ → Bool
+chunk_inbounds d k = nat_eq (chunk_count d) 0 || nat_lt k (chunk_count d)
+
+abbrev pub place_inbounds : Dimension → ℕ → Bool
+place_inbounds d p = nat_lt p (size_of d)

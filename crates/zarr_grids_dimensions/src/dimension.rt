@@ -1,7 +1,7 @@
 //! One dimension of a chunk grid.
 ghost use Rattle.std.specs.Prelude.{◌≡◌, ℕ, ◌↔◌, IsTrue, IfOk, IsErr, option_map, option_and_then};
 ghost use Rattle.zarr_grids_chunks.specs.Grids.{regular, clipped, interval, chunk_count, bounded};
-ghost use Rattle.zarr_grids_dimensions.specs.Lookups.{size_of, in_interval};
+ghost use Rattle.zarr_grids_dimensions.specs.Lookups.{size_of, in_interval, chunk_inbounds, place_inbounds};
 ghost use Rattle.zarr_grids_dimensions.specs.Chunks.{first_of, count_of};
 ghost use Rattle.zarr_grids_dimensions.specs.Dimensions.{dimension_of};
 ghost use Rattle.zarr_grids_dimensions.specs.Intervals.{interval_of, bounded_of};
@@ -107,5 +107,20 @@ impl Dimension {
     {
         let interval = self.interval(chunk)?;
         Some(interval.count)
+    }
+
+    /// Whether a chunk number is below the count of chunks. A count of 0 counts as no limit here.
+    pub fn chunk_inbounds(&self, chunk: u64) -> bool
+        ensures { result ≡ chunk_inbounds (dimension_of self.now) chunk }
+    {
+        let count = self.chunk_count();
+        count == 0 || chunk < count
+    }
+
+    /// Whether a place is below the size.
+    pub fn place_inbounds(&self, place: u64) -> bool
+        ensures { result ≡ place_inbounds (dimension_of self.now) place }
+    {
+        place < self.size()
     }
 }

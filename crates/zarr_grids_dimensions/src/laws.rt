@@ -1,5 +1,10 @@
 //! Laws of chunks and places. Each function does nothing: its contract is the law.
-ghost use Rattle.zarr_grids_dimensions.specs.Laws.{IntervalsApart, PlaceInOneInterval};
+ghost use Rattle.zarr_grids_dimensions.specs.Laws.{IntervalsApart, PlaceInOneInterval, ChunksApart, PlaceInOneChunk};
+ghost use Rattle.zarr_grids_dimensions.specs.Lookups.{is_dimension};
+ghost use Rattle.zarr_grids_dimensions.specs.Dimensions.{dimension_of};
+ghost use Rattle.std.specs.Prelude.{◌≡◌, true};
+
+use crate::dimension::Dimension;
 
 /// The intervals of two chunks of a dimension share no place.
 pub fn intervals_apart()
@@ -10,3 +15,27 @@ pub fn intervals_apart()
 pub fn place_in_one_interval()
     ensures { PlaceInOneInterval }
 {}
+
+/// Two chunks share no place.
+pub fn chunks_apart()
+    ensures { ChunksApart }
+{}
+
+/// Each place below the array shape lies in exactly one chunk, which is below the grid shape.
+pub fn place_in_one_chunk()
+    ensures { PlaceInOneChunk }
+{}
+
+/// Each dimension that code holds has positive edges that cover its size.
+pub fn is_always_dimension(dimension: &Dimension)
+    ensures { is_dimension (dimension_of dimension.now) ≡ true }
+{
+    match dimension {
+        Dimension::Regular(fixed) | Dimension::Clipped(fixed) => {
+            let _edge = fixed.edge;
+        }
+        Dimension::Varying(edges) => {
+            let _size = edges.size();
+        }
+    }
+}

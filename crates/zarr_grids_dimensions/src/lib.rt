@@ -1,6 +1,7 @@
 //! Chunk grids as lists of dimensions of any kind, with every lookup.
 #![tactic(auto)]
 
+pub mod boxes;
 pub mod dimension;
 pub mod error;
 pub mod fixed;

@@ -1,14 +1,17 @@
 //! Lookups in grids of any dimensions.
-ghost use Rattle.std.specs.Prelude.{◌≡◌, ℕ, List, ◌↔◌, IsTrue, length, map, IfOk, IfErr};
-ghost use Rattle.zarr_grids_chunks.specs.Grids.{grid_shape};
-ghost use Rattle.zarr_grids_dimensions.specs.Lookups.{size_of, lies_in};
-ghost use Rattle.zarr_grids_dimensions.specs.Chunks.{origin, shape, numbers};
+ghost use Rattle.std.specs.Prelude.{◌≡◌, ℕ, List, ◌↔◌, ◌<◌, ◌≤◌, ◌-◌, IsTrue, length, slice_index, map, option_map, IfOk, IfErr, MatchOption};
+ghost use Rattle.zarr_grids_boxes.specs.Boxes.{each2};
+ghost use Rattle.zarr_grids_boxes.specs.Subsets.{region_of};
+ghost use Rattle.zarr_grids_chunks.specs.Grids.{grid_shape, chunk_box};
+ghost use Rattle.zarr_grids_dimensions.specs.Lookups.{size_of, lies_in, in_all, chunk_inbounds, place_inbounds};
+ghost use Rattle.zarr_grids_dimensions.specs.Chunks.{origin, shape, numbers, IsElement};
 ghost use Rattle.zarr_grids_dimensions.specs.Dimensions.{grid_of};
 ghost use Rattle.zarr_grids_dimensions.specs.Errors.{Tells};
 
 use crate::dimension::Dimension;
 use crate::error::{IncompatibleDimensionalityError, LookupError};
 use std::alloc::{AllocError, Global};
+use zarr_grids_boxes::ArraySubset;
 
 /// How many chunks the array has in each dimension.
 pub fn grid_shape(alloc: Global, grid: &[Dimension]) -> Result<Vec<u64>, AllocError>
@@ -89,8 +92,67 @@ pub fn chunk_shape(
     }
 }
 
+/// Where a place lies in its chunk: the place less the chunk's first place.
+pub fn chunk_element_indices(
+    alloc: Global,
+    grid: &[Dimension],
+    place: &[u64],
+) -> Result<Option<Vec<u64>>, LookupError>
+    ensures found { IfOk result (λ found. MatchOption found ((chunk : List ℕ) → ¬ IsTrue (lies_in (grid_of grid.now) chunk place.now)) (λ element. IsElement (grid_of grid.now) place.now element.items)) }
+    ensures rank { IfOk result (λ _. length place.now ≡ length grid.now) }
+    ensures error { IfErr result (Tells (length place.now) (length grid.now)) }
+{
+    if place.len() != grid.len() {
+        return Err(incompatible(place.len(), grid.len()));
+    }
+    match find_element(alloc, grid, place) {
+        Ok(found) => Ok(found),
+        Err(error) => Err(LookupError::OutOfMemory(error)),
+    }
+}
+
+/// The box of a chunk, if there is such a chunk and its end is at most 2^64 - 1 in each dimension.
+pub fn subset(
+    alloc: Global,
+    grid: &[Dimension],
+    chunk: &[u64],
+) -> Result<Option<ArraySubset>, LookupError>
+    ensures found { IfOk result (λ found. option_map region_of found ≡ chunk_box (grid_of grid.now) chunk.now) }
+    ensures rank { IfOk result (λ _. length chunk.now ≡ length grid.now) }
+    ensures error { IfErr result (Tells (length chunk.now) (length grid.now)) }
+{
+    if chunk.len() != grid.len() {
+        return Err(incompatible(chunk.len(), grid.len()));
+    }
+    match find_subset(alloc, grid, chunk) {
+        Ok(found) => Ok(found),
+        Err(error) => Err(LookupError::OutOfMemory(error)),
+    }
+}
+
+/// Whether a chunk is below the grid shape, where a number of 0 in the grid shape counts as no limit. No chunk of another
+/// dimensionality is.
+pub fn chunk_indices_inbounds(grid: &[Dimension], chunk: &[u64]) -> bool
+    ensures { result ≡ in_all chunk_inbounds (grid_of grid.now) chunk.now }
+{
+    if chunk.len() != grid.len() {
+        return false;
+    }
+    are_chunks_inbounds(grid, chunk)
+}
+
+/// Whether a place is below the array shape. No place of another dimensionality is.
+pub fn array_indices_inbounds(grid: &[Dimension], place: &[u64]) -> bool
+    ensures { result ≡ in_all place_inbounds (grid_of grid.now) place.now }
+{
+    if place.len() != grid.len() {
+        return false;
+    }
+    are_places_inbounds(grid, place)
+}
+
 /// The error for another dimensionality.
-fn incompatible(got: usize, expected: usize) -> LookupError
+pub(crate) fn incompatible(got: usize, expected: usize) -> LookupError
     requires { ¬ (got ≡ expected) }
     ensures { Tells got expected result }
 {
@@ -98,7 +160,7 @@ fn incompatible(got: usize, expected: usize) -> LookupError
 }
 
 /// The chunk of a place with the grid's dimensions.
-fn find_chunk(
+pub(crate) fn find_chunk(
     alloc: Global,
     grid: &[Dimension],
     place: &[u64],
@@ -152,4 +214,85 @@ fn find_shape(
         found.push(count)?;
     }
     Ok(Some(found))
+}
+
+/// The box of a chunk with the grid's dimensions.
+pub(crate) fn find_subset(
+    alloc: Global,
+    grid: &[Dimension],
+    chunk: &[u64],
+) -> Result<Option<ArraySubset>, AllocError>
+    requires { length chunk.now ≡ length grid.now }
+    ensures { IfOk result (λ found. option_map region_of found ≡ chunk_box (grid_of grid.now) chunk.now) }
+{
+    let mut start = Vec::with_capacity(alloc, grid.len())?;
+    let mut shape = Vec::with_capacity(alloc, grid.len())?;
+    for k in 0..grid.len() {
+        let Some(interval) = grid[k].bounded(chunk[k]) else {
+            return Ok(None);
+        };
+        start.push(interval.first)?;
+        shape.push(interval.count)?;
+    }
+    Ok(Some(ArraySubset { start, shape }))
+}
+
+/// Whether a chunk with the grid's dimensions is below the grid shape.
+fn are_chunks_inbounds(grid: &[Dimension], chunk: &[u64]) -> bool
+    requires { length chunk.now ≡ length grid.now }
+    ensures { result ≡ in_all chunk_inbounds (grid_of grid.now) chunk.now }
+{
+    for k in 0..grid.len() {
+        if !grid[k].chunk_inbounds(chunk[k]) {
+            return false;
+        }
+    }
+    true
+}
+
+/// Whether a place with the grid's dimensions is below the array shape.
+fn are_places_inbounds(grid: &[Dimension], place: &[u64]) -> bool
+    requires { length place.now ≡ length grid.now }
+    ensures { result ≡ in_all place_inbounds (grid_of grid.now) place.now }
+{
+    for k in 0..grid.len() {
+        if !grid[k].place_inbounds(place[k]) {
+            return false;
+        }
+    }
+    true
+}
+
+/// Where a place with the grid's dimensions lies in its chunk.
+fn find_element(
+    alloc: Global,
+    grid: &[Dimension],
+    place: &[u64],
+) -> Result<Option<Vec<u64>>, AllocError>
+    requires { length place.now ≡ length grid.now }
+    ensures { IfOk result (λ found. MatchOption found ((chunk : List ℕ) → ¬ IsTrue (lies_in (grid_of grid.now) chunk place.now)) (λ element. IsElement (grid_of grid.now) place.now element.items)) }
+{
+    let found = find_chunk(alloc, grid, place)?;
+    let Some(chunk) = found else {
+        return Ok(None);
+    };
+    let origin = find_origin(alloc, grid, &chunk)?;
+    let Some(first) = origin else {
+        return Ok(None);
+    };
+    let element = differences(alloc, place, &first)?;
+    Ok(Some(element))
+}
+
+/// Each number less the other list's.
+fn differences(alloc: Global, numbers: &[u64], others: &[u64]) -> Result<Vec<u64>, AllocError>
+    requires same { length others.now ≡ length numbers.now }
+    requires less { (k : ℕ) → k < length numbers.now → slice_index others.now k ≤ slice_index numbers.now k }
+    ensures { IfOk result (λ found. found.items ≡ each2 (λ n o. n - o) numbers.now others.now) }
+{
+    let mut found = Vec::with_capacity(alloc, numbers.len())?;
+    for k in 0..numbers.len() {
+        found.push(numbers[k] - others[k])?;
+    }
+    Ok(found)
 }

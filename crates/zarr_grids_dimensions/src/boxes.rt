@@ -1,0 +1,197 @@
+//! Boxes of places and boxes of chunks.
+ghost use Rattle.std.specs.Prelude.{◌≡◌, ℕ, List, ◌↔◌, ◌⊎◌, ◌+◌, ◌<◌, ◌≤◌, ◌^◌, IsTrue, length, slice_index, IfOk, IfErr, MatchOption};
+ghost use Rattle.zarr_grids_boxes.specs.Boxes.{product, is_in_box, EndsFit};
+ghost use Rattle.zarr_grids_boxes.specs.Subsets.{region_of};
+ghost use Rattle.zarr_grids_chunks.specs.Grids.{chunk_box};
+ghost use Rattle.zarr_grids_chunks.specs.Regular.{last_index};
+ghost use Rattle.zarr_grids_dimensions.specs.Chunks.{Meets, LiesNowhere, LiesAmong, counts_to, lengths_to};
+ghost use Rattle.zarr_grids_dimensions.specs.Dimensions.{grid_of};
+ghost use Rattle.zarr_grids_dimensions.specs.Errors.{Tells};
+
+use crate::dimension::Dimension;
+use crate::error::LookupError;
+use crate::lookups::{find_chunk, find_subset, incompatible};
+use std::alloc::{AllocError, Global};
+use zarr_grids_boxes::ArraySubset;
+use zarr_grids_boxes::walk::has_no_place;
+
+/// The chunks that a box of places meets, as a box of chunk indices; `None` where the first or the last place of a box
+/// that is not empty lies in no chunk.
+pub fn chunks_in_array_subset(
+    alloc: Global,
+    grid: &[Dimension],
+    subset: &ArraySubset,
+) -> Result<Option<ArraySubset>, LookupError>
+    ensures met { IfOk result (λ found. MatchOption found (Unit {0}) (λ chunks. (chunk : List ℕ) → IsTrue (is_in_box chunks.start.items chunks.shape.items chunk) ↔ Meets (grid_of grid.now) (region_of subset.now) chunk)) }
+    ensures missing { IfOk result (λ found. MatchOption found (LiesNowhere (grid_of grid.now) subset.now.start.items ⊎ LiesNowhere (grid_of grid.now) (last_index subset.now.start.items subset.now.shape.items)) (λ _. Unit {0})) }
+    ensures some { IfOk result (λ found. MatchOption found (0 < product subset.now.shape.items) (λ chunks. length chunks.start.items ≡ length grid.now)) }
+    ensures rank { IfOk result (λ _. length subset.now.start.items ≡ length grid.now) }
+    ensures error { IfErr result (Tells (length subset.now.start.items) (length grid.now)) }
+{
+    if subset.start.len() != grid.len() {
+        return Err(incompatible(subset.start.len(), grid.len()));
+    }
+    if has_no_place(&subset.shape) {
+        return match empty_subset(alloc, grid.len()) {
+            Ok(empty) => Ok(Some(empty)),
+            Err(error) => Err(LookupError::OutOfMemory(error)),
+        };
+    }
+    match find_chunks(alloc, grid, &subset.start, &subset.shape) {
+        Ok(found) => Ok(found),
+        Err(error) => Err(LookupError::OutOfMemory(error)),
+    }
+}
+
+/// The places of all chunks of a box of chunk indices, as one box; `None` where the first or the last chunk of a box that
+/// is not empty has no box.
+pub fn chunks_subset(
+    alloc: Global,
+    grid: &[Dimension],
+    chunks: &ArraySubset,
+) -> Result<Option<ArraySubset>, LookupError>
+    ensures united { IfOk result (λ found. MatchOption found (Unit {0}) (λ subset. (place : List ℕ) → IsTrue (is_in_box subset.start.items subset.shape.items place) ↔ LiesAmong (grid_of grid.now) (region_of chunks.now) place)) }
+    ensures missing { IfOk result (λ found. MatchOption found ((chunk_box (grid_of grid.now) chunks.now.start.items ≡ None) ⊎ (chunk_box (grid_of grid.now) (last_index chunks.now.start.items chunks.now.shape.items) ≡ None)) (λ _. Unit {0})) }
+    ensures some { IfOk result (λ found. MatchOption found (0 < product chunks.now.shape.items) (λ subset. length subset.start.items ≡ length grid.now)) }
+    ensures rank { IfOk result (λ _. length chunks.now.start.items ≡ length grid.now) }
+    ensures error { IfErr result (Tells (length chunks.now.start.items) (length grid.now)) }
+{
+    if chunks.start.len() != grid.len() {
+        return Err(incompatible(chunks.start.len(), grid.len()));
+    }
+    if has_no_place(&chunks.shape) {
+        return match empty_subset(alloc, grid.len()) {
+            Ok(empty) => Ok(Some(empty)),
+            Err(error) => Err(LookupError::OutOfMemory(error)),
+        };
+    }
+    match find_union(alloc, grid, &chunks.start, &chunks.shape) {
+        Ok(found) => Ok(found),
+        Err(error) => Err(LookupError::OutOfMemory(error)),
+    }
+}
+
+/// A box of no place.
+fn empty_subset(alloc: Global, dimensionality: usize) -> Result<ArraySubset, AllocError>
+    requires { 0 < dimensionality }
+    ensures rank { IfOk result (λ subset. length subset.start.items ≡ dimensionality) }
+    ensures empty { IfOk result (λ subset. (place : List ℕ) → ¬ IsTrue (is_in_box subset.start.items subset.shape.items place)) }
+{
+    let start = vec![in alloc; 0u64; dimensionality]?;
+    let shape = vec![in alloc; 0u64; dimensionality]?;
+    Ok(ArraySubset { start, shape })
+}
+
+/// The chunks that a box with the grid's dimensions meets, which has a place.
+fn find_chunks(
+    alloc: Global,
+    grid: &[Dimension],
+    start: &[u64],
+    shape: &[u64],
+) -> Result<Option<ArraySubset>, AllocError>
+    requires rank { length start.now ≡ length grid.now }
+    requires same { length shape.now ≡ length start.now }
+    requires some { 0 < product shape.now }
+    requires fit { EndsFit start.now shape.now }
+    ensures met { IfOk result (λ found. MatchOption found (Unit {0}) (λ chunks. (chunk : List ℕ) → IsTrue (is_in_box chunks.start.items chunks.shape.items chunk) ↔ Meets (grid_of grid.now) (record { start = start.now; shape = shape.now }) chunk)) }
+    ensures missing { IfOk result (λ found. MatchOption found (LiesNowhere (grid_of grid.now) start.now ⊎ LiesNowhere (grid_of grid.now) (last_index start.now shape.now)) (λ _. Unit {0})) }
+    ensures rank { IfOk result (λ found. MatchOption found (Unit {0}) (λ chunks. length chunks.start.items ≡ length grid.now)) }
+{
+    let found_first = find_chunk(alloc, grid, start)?;
+    let Some(first) = found_first else {
+        return Ok(None);
+    };
+    let place = last_place(alloc, start, shape)?;
+    let found_last = find_chunk(alloc, grid, &place)?;
+    let Some(last) = found_last else {
+        return Ok(None);
+    };
+    let counts = count_to(alloc, &first, &last)?;
+    Ok(Some(ArraySubset {
+        start: first,
+        shape: counts,
+    }))
+}
+
+/// The last place of a box that has one.
+fn last_place(alloc: Global, start: &[u64], shape: &[u64]) -> Result<Vec<u64>, AllocError>
+    requires same { length shape.now ≡ length start.now }
+    requires some { 0 < product shape.now }
+    requires fit { EndsFit start.now shape.now }
+    ensures { IfOk result (λ place. place.items ≡ last_index start.now shape.now) }
+{
+    let mut place = Vec::with_capacity(alloc, start.len())?;
+    for k in 0..start.len() {
+        place.push(start[k] + (shape[k] - 1))?;
+    }
+    Ok(place)
+}
+
+/// How many numbers there are from each first to each last.
+fn count_to(alloc: Global, firsts: &[u64], lasts: &[u64]) -> Result<Vec<u64>, AllocError>
+    requires same { length lasts.now ≡ length firsts.now }
+    requires order { (k : ℕ) → k < length firsts.now → slice_index firsts.now k ≤ slice_index lasts.now k }
+    requires fit { (k : ℕ) → k < length firsts.now → slice_index lasts.now k + 1 < 2 ^ 64 }
+    ensures { IfOk result (λ counts. counts.items ≡ counts_to firsts.now lasts.now) }
+{
+    let mut counts = Vec::with_capacity(alloc, firsts.len())?;
+    for k in 0..firsts.len() {
+        counts.push(lasts[k] - firsts[k] + 1)?;
+    }
+    Ok(counts)
+}
+
+/// The places of the chunks of a box with the grid's dimensions, which has a chunk.
+fn find_union(
+    alloc: Global,
+    grid: &[Dimension],
+    start: &[u64],
+    shape: &[u64],
+) -> Result<Option<ArraySubset>, AllocError>
+    requires rank { length start.now ≡ length grid.now }
+    requires same { length shape.now ≡ length start.now }
+    requires some { 0 < product shape.now }
+    requires fit { EndsFit start.now shape.now }
+    ensures united { IfOk result (λ found. MatchOption found (Unit {0}) (λ subset. (place : List ℕ) → IsTrue (is_in_box subset.start.items subset.shape.items place) ↔ LiesAmong (grid_of grid.now) (record { start = start.now; shape = shape.now }) place)) }
+    ensures missing { IfOk result (λ found. MatchOption found ((chunk_box (grid_of grid.now) start.now ≡ None) ⊎ (chunk_box (grid_of grid.now) (last_index start.now shape.now) ≡ None)) (λ _. Unit {0})) }
+    ensures rank { IfOk result (λ found. MatchOption found (Unit {0}) (λ subset. length subset.start.items ≡ length grid.now)) }
+{
+    let found_first = find_subset(alloc, grid, start)?;
+    let Some(first) = found_first else {
+        return Ok(None);
+    };
+    let chunk = last_place(alloc, start, shape)?;
+    let found_last = find_subset(alloc, grid, &chunk)?;
+    let Some(last) = found_last else {
+        return Ok(None);
+    };
+    let lengths = length_to(alloc, &first.start, &last.start, &last.shape)?;
+    let ArraySubset {
+        start: origin,
+        shape: _,
+    } = first;
+    Ok(Some(ArraySubset {
+        start: origin,
+        shape: lengths,
+    }))
+}
+
+/// How many numbers there are from each first number up to the end of another interval.
+fn length_to(
+    alloc: Global,
+    firsts: &[u64],
+    starts: &[u64],
+    counts: &[u64],
+) -> Result<Vec<u64>, AllocError>
+    requires starts { length starts.now ≡ length firsts.now }
+    requires counts { length counts.now ≡ length firsts.now }
+    requires order { (k : ℕ) → k < length firsts.now → slice_index firsts.now k ≤ slice_index starts.now k }
+    requires fit { EndsFit starts.now counts.now }
+    ensures { IfOk result (λ lengths. lengths.items ≡ lengths_to firsts.now starts.now counts.now) }
+{
+    let mut lengths = Vec::with_capacity(alloc, firsts.len())?;
+    for k in 0..firsts.len() {
+        lengths.push(starts[k] + counts[k] - firsts[k])?;
+    }
+    Ok(lengths)
+}
