@@ -12,8 +12,8 @@ use Rattle.zarr_codecs_meaning.specs.Types.{Cell}
 use Rattle.zarr_codecs_meaning.specs.Places.{gather, place_numbers, part_of}
 use Rattle.zarr_codecs_meaning.proofs.Lists.{both_true}
 use Rattle.zarr_codecs_meaning.proofs.Covers.{zeros, place_ravel}
-use Rattle.zarr_sharding_changes.specs.Regions.{whole, cell_after, overlaid}
-use Rattle.zarr_sharding_changes.proofs.Subchunks.{IsWithin, place_within}
+use Rattle.zarr_sharding_changes.specs.Regions.{IsInside, whole, cell_after, overlaid}
+use Rattle.zarr_sharding_changes.proofs.Subchunks.{place_within}
 
 -- two functions that agree on the numbers below a count
 pub same_numbers : {X : Type 0} (f g : ℕ → X) (count : ℕ) → ((n : ℕ) → n < count → f n ≡ g n) → map f (range_with_len 0 count) ≡ map g (range_with_len 0 count)
@@ -24,7 +24,7 @@ abbrev pub number_in : List ℕ → Region → ℕ → ℕ
 number_in shape box n = ravel (place_at box.start box.shape n) shape
 
 -- the cells of a box, by the numbers of its own places
-pub gathered_box : (fill : Cell) (shape : List ℕ) (box : Region) (cells : List Cell) → IsWithin box.start box.shape shape → gather fill cells (part_of shape box).places ≡ map (λ n. get_or cells (number_in shape box n) fill) (place_numbers box.shape)
+pub gathered_box : (fill : Cell) (shape : List ℕ) (box : Region) (cells : List Cell) → IsInside box.start box.shape shape → gather fill cells (part_of shape box).places ≡ map (λ n. get_or cells (number_in shape box n) fill) (place_numbers box.shape)
 gathered_box fill shape box cells within =
     let same : length box.start ≡ length box.shape = let one = within.starts in let two = within.ends in omega arith in
     ap (λ (found : List (List ℕ)). gather fill cells (map (λ place. ravel place shape) found)) (places_by_number box.start box.shape same)
@@ -38,14 +38,14 @@ overlaid_at fill shape place region new cells is =
     ∙ ap (λ (found : List ℕ). cell_after fill region new found (get_or cells n fill)) (place_ravel shape place is)
 
 -- what a subchunk has at each of its places afterwards
-pub gathered_overlaid : (fill : Cell) (shape : List ℕ) (box region : Region) (new cells : List Cell) → IsWithin box.start box.shape shape
+pub gathered_overlaid : (fill : Cell) (shape : List ℕ) (box region : Region) (new cells : List Cell) → IsInside box.start box.shape shape
     → gather fill (overlaid fill (whole shape) region new cells) (part_of shape box).places ≡ map (λ n. cell_after fill region new (place_at box.start box.shape n) (get_or cells (number_in shape box n) fill)) (place_numbers box.shape)
 gathered_overlaid fill shape box region new cells within =
     gathered_box fill shape box (overlaid fill (whole shape) region new cells) within
     ∙ same_numbers (λ n. get_or (overlaid fill (whole shape) region new cells) (number_in shape box n) fill) (λ n. cell_after fill region new (place_at box.start box.shape n) (get_or cells (number_in shape box n) fill)) (product box.shape)
     (λ n below. overlaid_at fill shape (place_at box.start box.shape n) region new cells (place_within box.start box.shape shape n within below))
 
-pub part_overlaid : (fill : Cell) (shape : List ℕ) (box region : Region) (new cells : List Cell) → IsWithin box.start box.shape shape
+pub part_overlaid : (fill : Cell) (shape : List ℕ) (box region : Region) (new cells : List Cell) → IsInside box.start box.shape shape
     → gather fill (overlaid fill (whole shape) region new cells) (part_of shape box).places ≡ overlaid fill box region new (gather fill cells (part_of shape box).places)
 part_overlaid fill shape box region new cells within =
     let part = gather fill cells (part_of shape box).places in
@@ -91,7 +91,7 @@ apart ss es ts us n same h below = elim (cases_Bool (is_in_box ts us (place_at s
 test_false : (b : Bool) (one two : Cell) → b ≡ false → (if b then one else two) ≡ two
 test_false b one two h = ap (λ (t : Bool). if t then one else two) h
 
-pub part_kept : (fill : Cell) (shape : List ℕ) (box region : Region) (new cells : List Cell) → IsWithin box.start box.shape shape → share_place box.start box.shape region.start region.shape ≡ false
+pub part_kept : (fill : Cell) (shape : List ℕ) (box region : Region) (new cells : List Cell) → IsInside box.start box.shape shape → share_place box.start box.shape region.start region.shape ≡ false
     → gather fill (overlaid fill (whole shape) region new cells) (part_of shape box).places ≡ gather fill cells (part_of shape box).places
 part_kept fill shape box region new cells within h =
     let same : length box.start ≡ length box.shape = let one = within.starts in let two = within.ends in omega arith in
@@ -106,7 +106,7 @@ test_true : (b : Bool) (one two : Cell) → b ≡ true → (if b then one else t
 test_true b one two h = ap (λ (t : Bool). if t then one else two) h
 
 -- at the places of the region the array has the new cells
-pub region_read : (fill : Cell) (shape : List ℕ) (region : Region) (new cells : List Cell) → IsWithin region.start region.shape shape → length new ≡ product region.shape
+pub region_read : (fill : Cell) (shape : List ℕ) (region : Region) (new cells : List Cell) → IsInside region.start region.shape shape → length new ≡ product region.shape
     → gather fill (overlaid fill (whole shape) region new cells) (part_of shape region).places ≡ new
 region_read fill shape region new cells within count =
     let same : length region.start ≡ length region.shape = let one = within.starts in let two = within.ends in omega arith in

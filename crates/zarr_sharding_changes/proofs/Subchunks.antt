@@ -8,17 +8,12 @@ use Rattle.zarr_grids_boxes.proofs.Places.{place_at_below, length-place_at}
 use Rattle.zarr_codecs_meaning.specs.Places.{grid_of, box_of}
 use Rattle.zarr_codecs_meaning.specs.Fits.{can_cut}
 use Rattle.zarr_codecs_meaning.proofs.Lists.{both_true}
+use Rattle.zarr_sharding_changes.specs.Regions.{IsInside}
 
--- the box with this start and these lengths lies in an array of this shape
-pub record IsWithin (start lengths shape : List ℕ) : Type 0 where
-  pub starts : length start ≡ length shape
-  pub ends : length lengths ≡ length shape
-  pub below : (k : ℕ) → k < length shape → slice_index start k + slice_index lengths k ≤ slice_index shape k
-
-within-nil : IsWithin [] [] []
+within-nil : IsInside [] [] []
 within-nil = record { starts = refl; ends = refl; below = λ k l. absurd (omega arith) }
 
-within-cons : (s e n : ℕ) (ss es ns : List ℕ) → s + e ≤ n → IsWithin ss es ns → IsWithin (s ∷ ss) (e ∷ es) (n ∷ ns)
+within-cons : (s e n : ℕ) (ss es ns : List ℕ) → s + e ≤ n → IsInside ss es ns → IsInside (s ∷ ss) (e ∷ es) (n ∷ ns)
 within-cons s e n ss es ns h rest = record { starts = ap suc rest.starts; ends = ap suc rest.ends; below = step } where
   step : (k : ℕ) → k < length (n ∷ ns) → slice_index (s ∷ ss) k + slice_index (e ∷ es) k ≤ slice_index (n ∷ ns) k
   step zero l = h
@@ -31,7 +26,7 @@ begins_inside i size edge some h =
     let split : suc i * edge ≡ i * edge + edge = grind arith in
     omega arith
 
-pub box_within : (shape subchunk index : List ℕ) → can_cut shape subchunk ≡ true → IsIndex index (grid_of shape subchunk) → IsWithin (box_of shape subchunk index).start (box_of shape subchunk index).shape shape
+pub box_within : (shape subchunk index : List ℕ) → can_cut shape subchunk ≡ true → IsIndex index (grid_of shape subchunk) → IsInside (box_of shape subchunk index).start (box_of shape subchunk index).shape shape
 box_within [] [] [] cuts h = within-nil
 box_within [] [] (i ∷ is) cuts h = let l = h.same in absurd (omega arith)
 box_within [] (edge ∷ edges) index cuts h = cc
@@ -44,7 +39,7 @@ box_within (size ∷ sizes) (edge ∷ edges) (i ∷ is) cuts h =
     within-cons (i * edge) (min edge (size - i * edge)) size box.start box.shape sizes (omega arith) (box_within sizes edges is both.1 (IsIndex-tail i ((size + (edge - 1)) / edge) is (grid_of sizes edges) h))
 
 -- a place of a box that lies in an array is a place of the array
-pub place_within : (start lengths shape : List ℕ) (n : ℕ) → IsWithin start lengths shape → n < product lengths → IsIndex (place_at start lengths n) shape
+pub place_within : (start lengths shape : List ℕ) (n : ℕ) → IsInside start lengths shape → n < product lengths → IsIndex (place_at start lengths n) shape
 place_within start lengths shape n within h =
     let same : length start ≡ length lengths = let one = within.starts in let two = within.ends in omega arith in
     record {

@@ -22,7 +22,7 @@ ChangesWritten = (slices : Slices) (inner : Chain) (elements : Elements) (base :
 
 -- after a box of cells was put over an array that it lies in, the array has those cells at its places
 abbrev pub RegionWritten : Type 0
-RegionWritten = (fill : Cell) (shape : List ℕ) (region : Region) (new cells : List Cell) → IsInside region shape → length new ≡ product region.shape
+RegionWritten = (fill : Cell) (shape : List ℕ) (region : Region) (new cells : List Cell) → IsInside region.start region.shape shape → length new ≡ product region.shape
     → gather fill (overlaid fill (whole shape) region new cells) (part_of shape region).places ≡ new
 
 -- a box of cells put over an array is that box put over each subchunk

@@ -4,11 +4,11 @@ use Rattle.zarr_grids_boxes.specs.Boxes.{Region, is_in_box, ravel, place_at, eac
 use Rattle.zarr_codecs_meaning.specs.Types.{Cell}
 use Rattle.zarr_codecs_meaning.specs.Places.{place_numbers}
 
--- a box lies in an array of this shape
-pub record IsInside (box : Region) (shape : List ℕ) : Type 0 where
-  pub starts : length box.start ≡ length shape
-  pub sizes : length box.shape ≡ length shape
-  pub ends : (k : ℕ) → k < length shape → slice_index box.start k + slice_index box.shape k ≤ slice_index shape k
+-- the box with this start and these lengths lies in an array of this shape
+pub record IsInside (start lengths shape : List ℕ) : Type 0 where
+  pub starts : length start ≡ length shape
+  pub ends : length lengths ≡ length shape
+  pub below : (k : ℕ) → k < length shape → slice_index start k + slice_index lengths k ≤ slice_index shape k
 
 -- all of an array of this shape
 abbrev pub whole : List ℕ → Region
