@@ -1,4 +1,5 @@
 pub mod Ascending
+pub mod GridSizes
 pub mod Lists
 pub mod Points
 pub mod ReadsBack

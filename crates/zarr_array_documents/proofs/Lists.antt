@@ -1,13 +1,11 @@
 -- Lists of codecs, of sizes, of storage transformers and of names.
-use Rattle.std.proofs.Common.{◌≡◌, ℕ, suc, ◌<◌, ◌≤◌, List, [], ◌∷◌, length, map, true, false, ◌&&◌, ◌==◌, Option, Some, None, is_some, option_map, option_and_then, if◌then◌else◌, nat_lt, refl, ap, ◌∙◌, arith}
+use Rattle.std.proofs.Common.{◌≡◌, ℕ, suc, ◌≤◌, List, [], ◌∷◌, length, map, true, false, ◌&&◌, ◌==◌, Option, Some, None, is_some, option_map, option_and_then, if◌then◌else◌, refl, ap, ◌∙◌, arith}
 use Rattle.std.specs.List.{list_all}
-use Rattle.std.proofs.Math.Nat.{mul-pos}
-use Rattle.std.proofs.lemmas.Bool.{ltb-true, and_parts, ne_eqb}
+use Rattle.std.proofs.lemmas.Bool.{ne_eqb}
 use Rattle.serde_json.specs.Data.{Data, null, boolean, number, string, array, object, no_items, item}
 use Rattle.serde_json.specs.Find.{as_array}
 use Rattle.serde_json.specs.View.{view, items_of, items_view}
 use Rattle.serde_json.specs.declared.value.Value.{Value}
-use Rattle.zarr_grids_boxes.specs.Boxes.{product}
 use Rattle.zarr_grids_metadata.specs.ExtensionPoints.{written_point_in}
 use Rattle.zarr_array_documents.specs.Parts.{chain_of, is_empty_list, name_in, names_of, names_for}
 use Rattle.zarr_array_documents.specs.Written.{written_points}
@@ -17,13 +15,6 @@ pub long_chain : (codecs : List Value) → 2 ≤ length codecs → chain_of (ite
 long_chain [] h = absurd (omega arith)
 long_chain (c ∷ []) h = absurd (omega arith)
 long_chain (c ∷ d ∷ codecs) h = refl
-
--- the product of positive sizes
-pub positive_product : (sizes : List ℕ) → list_all (λ n. nat_lt 0 n) sizes ≡ true → 0 < product sizes
-positive_product [] h = omega arith
-positive_product (n ∷ sizes) h =
-    let parts = and_parts (nat_lt 0 n) (list_all (λ m. nat_lt 0 m) sizes) h in
-    mul-pos (ltb-true 0 n parts.0) (positive_product sizes parts.1)
 
 -- a JSON list without items, by how many it has
 pub empty_list : (d : Data) (values : List Value) → Some (items_view values) ≡ as_array d → (length values == 0) ≡ is_empty_list d

@@ -1,23 +1,28 @@
 -- The document that is written for one that opens says what that one says, with the mark.
 use Rattle.std.proofs.Common.{◌≡◌, ℕ, suc, ◌≤◌, max, List, length, codes, Bool, true, false, not, ◌==◌, nat_le, Option, Some, None, option_map, option_and_then, unwrap_or, Result, Ok, Err, refl, ap, ◌∙◌, arith}
 use Rattle.std.specs.Option.{ok_or}
+use Rattle.std.specs.Result.{result_ok}
 use Rattle.std.proofs.lemmas.Bool.{leb-true, le-leb, not-true, not_from_false}
 use Rattle.serde_json.specs.Data.{Data, null, boolean, number, string, array, object, Items, no_items, item, Members, no_members, depth, members_depth}
 use Rattle.serde_json.specs.Find.{get_member, as_object}
 use Rattle.serde_json.specs.Written.{has_float, members_have_float}
-use Rattle.zarr_grids_chunks.specs.Grids.{regular_grid}
+use Rattle.zarr_grids_chunks.specs.Grids.{Grid}
+use Rattle.zarr_grids_configurations.specs.Configurations.{configuration_of_point, configuration_in}
+use Rattle.zarr_grids_configurations.specs.Grids.{Edges, grid_in}
+use Rattle.zarr_grids_configurations.specs.Numbers.{sizes_in}
 use Rattle.zarr_grids_keys.specs.Keys.{KeyEncoding}
+use Rattle.zarr_grids_key_metadata.specs.KeyMetadata.{keys_made, keys_in}
 use Rattle.zarr_codecs_cells.specs.Cells.{DataType, uint8, Cell}
 use Rattle.zarr_codecs_cells.specs.Json.{cell_in}
 use Rattle.zarr_codecs_chain.specs.Chain.{Chain}
 use Rattle.zarr_grids_metadata.specs.ExtensionPoints.{written_point_in}
 use Rattle.zarr_grids_metadata.proofs.PutLemmas.{depth_put, depth_got, float_put, float_got}
-use Rattle.zarr_array_documents.specs.Parts.{sizes_in, attributes_in, chain_in, chain_of, bytes_codec, no_more, type_in, chunk_shape_of, chunk_shape_in, has_no_transformers, keys_of, keys_in, dimension_names_in}
+use Rattle.zarr_array_documents.specs.Parts.{attributes_in, chain_in, chain_of, bytes_codec, no_more, type_in, has_no_transformers, dimension_names_in}
 use Rattle.zarr_array_documents.specs.Documents.{Document, Metadata, FieldsFound, ◌>>=◌, ◌>>◌, check, additional_in, must_understand_any, is_number, is_text, depth_limit, read_metadata, read_document}
 use Rattle.zarr_array_documents.specs.Written.{written_points, written_codecs, mark, marked, written_fields, given_attributes, written_members, written_document, with_mark}
 use Rattle.zarr_array_documents.specs.declared.error.DocumentError.{DocumentError}
 use Rattle.zarr_array_documents.specs.declared.error.DocumentError.TheVariants.{Depth, Float, Fields, AdditionalField, Codecs, DataTypes, ChunkGrid, Dimensionality, FillValue, StorageTransformers, ChunkKeyEncoding, DimensionNames}
-use Rattle.zarr_array_documents.proofs.Points.{configuration_of-written}
+use Rattle.zarr_array_documents.proofs.Points.{extension_point-written, configuration_of-written}
 use Rattle.zarr_array_documents.proofs.WrittenFields.{additional_in-written_fields, additional_in-put, members_depth-written_fields, members_have_float-written_fields}
 use Rattle.zarr_array_documents.proofs.WrittenDocuments.{marked_attributes, names_given, get_names, get_attributes, get_written, get_left_out, get_plain, names-written}
 
@@ -161,71 +166,73 @@ chain_in-written (object ms) = refl
 type_in-written : (d : Data) → type_in (written_point_in d) ≡ type_in d
 type_in-written d = ap (option_and_then (no_more uint8)) (configuration_of-written (codes "uint8") d)
 
-chunk_shape_in-written : (d : Data) → chunk_shape_in (written_point_in d) ≡ chunk_shape_in d
-chunk_shape_in-written d = ap (option_and_then chunk_shape_of) (configuration_of-written (codes "regular") d)
+configuration_in-written : (d : Data) → configuration_in (written_point_in d) ≡ configuration_in d
+configuration_in-written d = ap (option_and_then configuration_of_point) (extension_point-written d)
 
 keys_in-written : (d : Data) → keys_in (written_point_in d) ≡ keys_in d
-keys_in-written d = ap (option_and_then keys_of) (configuration_of-written (codes "default") d)
+keys_in-written d = ap (option_and_then (λ point. result_ok (keys_made point))) (extension_point-written d)
 
 abbrev Rest : Type 0
-Rest = Chain → DataType → List ℕ → Result Metadata DocumentError
+Rest = Chain → DataType → List Edges → Result Metadata DocumentError
 
--- up to the chunk shape
-abbrev early : Bool → Option Chain → Option DataType → Option (List ℕ) → Rest → Result Metadata DocumentError
-early understood chain type chunk_shape rest = do
+-- up to the configuration of the grid
+abbrev early : Bool → Option Chain → Option DataType → Option (List Edges) → Rest → Result Metadata DocumentError
+early understood chain type configuration rest = do
   check understood AdditionalField
   chain ← ok_or chain Codecs
   type ← ok_or type DataTypes
-  chunk_shape ← ok_or chunk_shape ChunkGrid
-  rest chain type chunk_shape
+  configuration ← ok_or configuration ChunkGrid
+  rest chain type configuration
 
 -- and from there
-abbrev late : Bool → Option Cell → Bool → Option KeyEncoding → Option (Option (List (Option (List ℕ)))) → List ℕ → Members → Members → Rest
-late same fill plain keys names shape attributes additional chain type chunk_shape = do
+abbrev late : Bool → Option Grid → Option Cell → Bool → Option KeyEncoding → Option (Option (List (Option (List ℕ)))) → List ℕ → Members → Members → Chain → DataType → Result Metadata DocumentError
+late same grid fill plain keys names shape attributes additional chain type = do
   check same Dimensionality
+  grid ← ok_or grid ChunkGrid
   fill ← ok_or fill FillValue
   check plain StorageTransformers
   keys ← ok_or keys ChunkKeyEncoding
   names ← ok_or names DimensionNames
-  Ok (record { document = record { shape = shape; type = type; fill = fill; grid = regular_grid shape chunk_shape; keys = keys; chain = chain }; attributes = attributes; dimension_names = names; additional_fields = additional })
+  Ok (record { document = record { shape = shape; type = type; fill = fill; grid = grid; keys = keys; chain = chain }; attributes = attributes; dimension_names = names; additional_fields = additional })
 
-early-written : (understood : Bool) (chain : Option Chain) (type : Option DataType) (chunk_shape : Option (List ℕ)) (rest new : Rest) (m n : Metadata)
-    → ((c : Chain) (t : DataType) (s : List ℕ) → rest c t s ≡ Ok m → new c t s ≡ Ok n)
-    → early understood chain type chunk_shape rest ≡ Ok m → early understood chain type chunk_shape new ≡ Ok n
-early-written false c t s rest new m n h is = absurd (cc)
-early-written true None t s rest new m n h is = absurd (cc)
-early-written true (Some c) None s rest new m n h is = absurd (cc)
+early-written : (understood : Bool) (chain : Option Chain) (type : Option DataType) (configuration : Option (List Edges)) (rest new : Rest) (m n : Metadata)
+    → ((c : Chain) (t : DataType) (es : List Edges) → rest c t es ≡ Ok m → new c t es ≡ Ok n)
+    → early understood chain type configuration rest ≡ Ok m → early understood chain type configuration new ≡ Ok n
+early-written false c t es rest new m n h is = absurd (cc)
+early-written true None t es rest new m n h is = absurd (cc)
+early-written true (Some c) None es rest new m n h is = absurd (cc)
 early-written true (Some c) (Some t) None rest new m n h is = absurd (cc)
-early-written true (Some c) (Some t) (Some s) rest new m n h is = h c t s is
+early-written true (Some c) (Some t) (Some es) rest new m n h is = h c t es is
 
-late-written : (same : Bool) (fill : Option Cell) (plain : Bool) (keys : Option KeyEncoding) (names : Option (Option (List (Option (List ℕ))))) (shape : List ℕ) (attributes additional : Members)
-    → (c : Chain) (t : DataType) (s : List ℕ) (m : Metadata)
-    → late same fill plain keys names shape attributes additional c t s ≡ Ok m → late same fill true keys names shape (marked attributes) additional c t s ≡ Ok (with_mark m)
-late-written false f p k n shape as' xs c t s m is = absurd (cc)
-late-written true None p k n shape as' xs c t s m is = absurd (cc)
-late-written true (Some f) false k n shape as' xs c t s m is = absurd (cc)
-late-written true (Some f) true None n shape as' xs c t s m is = absurd (cc)
-late-written true (Some f) true (Some k) None shape as' xs c t s m is = absurd (cc)
-late-written true (Some f) true (Some k) (Some n) shape as' xs c t s m is =
-    let e : record { document = record { shape = shape; type = t; fill = f; grid = regular_grid shape s; keys = k; chain = c }; attributes = as'; dimension_names = n; additional_fields = xs } ≡ m = cc in
+late-written : (same : Bool) (grid : Option Grid) (fill : Option Cell) (plain : Bool) (keys : Option KeyEncoding) (names : Option (Option (List (Option (List ℕ))))) (shape : List ℕ) (attributes additional : Members)
+    → (c : Chain) (t : DataType) (m : Metadata)
+    → late same grid fill plain keys names shape attributes additional c t ≡ Ok m → late same grid fill true keys names shape (marked attributes) additional c t ≡ Ok (with_mark m)
+late-written false g f p k n shape as' xs c t m is = absurd (cc)
+late-written true None f p k n shape as' xs c t m is = absurd (cc)
+late-written true (Some g) None p k n shape as' xs c t m is = absurd (cc)
+late-written true (Some g) (Some f) false k n shape as' xs c t m is = absurd (cc)
+late-written true (Some g) (Some f) true None n shape as' xs c t m is = absurd (cc)
+late-written true (Some g) (Some f) true (Some k) None shape as' xs c t m is = absurd (cc)
+late-written true (Some g) (Some f) true (Some k) (Some n) shape as' xs c t m is =
+    let e : record { document = record { shape = shape; type = t; fill = f; grid = g; keys = k; chain = c }; attributes = as'; dimension_names = n; additional_fields = xs } ≡ m = cc in
     ap (λ r. Ok (with_mark r)) e
 
 -- what follows once the fields were found
 abbrev after_fields : Members → Option Data → Option Data → FieldsFound → Result Metadata DocumentError
 after_fields additional transformers names found =
-    early (not (must_understand_any additional)) (chain_in found.codecs) (type_in found.data_type) (chunk_shape_in found.chunk_grid)
-    (λ chain type chunk_shape. late (length chunk_shape == length found.shape) (cell_in type found.fill_value) (has_no_transformers transformers) (keys_in found.chunk_key_encoding)
-    (dimension_names_in (length found.shape) names) found.shape found.attributes additional chain type chunk_shape)
+    early (not (must_understand_any additional)) (chain_in found.codecs) (type_in found.data_type) (configuration_in found.chunk_grid)
+    (λ chain type configuration. late (length configuration == length found.shape) (grid_in found.shape configuration) (cell_in type found.fill_value) (has_no_transformers transformers) (keys_in found.chunk_key_encoding)
+    (dimension_names_in (length found.shape) names) found.shape found.attributes additional chain type)
 
 after_fields-written : (additional : Members) (transformers names new : Option Data) (found : FieldsFound) (m : Metadata) → ((n : ℕ) → dimension_names_in n new ≡ dimension_names_in n names)
     → after_fields additional transformers names found ≡ Ok m → after_fields additional None new (written_found found) ≡ Ok (with_mark m)
 after_fields-written additional transformers names new found m same is =
-    rw (chain_in-written found.codecs, type_in-written found.data_type, chunk_shape_in-written found.chunk_grid)
-    (early-written (not (must_understand_any additional)) (chain_in found.codecs) (type_in found.data_type) (chunk_shape_in found.chunk_grid) _ _ m (with_mark m)
-    (λ c t s h.
+    rw (chain_in-written found.codecs, type_in-written found.data_type, configuration_in-written found.chunk_grid)
+    (early-written (not (must_understand_any additional)) (chain_in found.codecs) (type_in found.data_type) (configuration_in found.chunk_grid) _ _ m (with_mark m)
+    (λ c t es h.
     rw (keys_in-written found.chunk_key_encoding, same (length found.shape))
-    (late-written (length s == length found.shape) (cell_in t found.fill_value) (has_no_transformers transformers) (keys_in found.chunk_key_encoding) (dimension_names_in (length found.shape) names)
-    found.shape found.attributes additional c t s m h)) is)
+    (late-written (length es == length found.shape) (grid_in found.shape es) (cell_in t found.fill_value) (has_no_transformers transformers) (keys_in found.chunk_key_encoding) (dimension_names_in (length found.shape) names)
+    found.shape found.attributes additional c t m h)) is)
 
 -- ---- all checks
 

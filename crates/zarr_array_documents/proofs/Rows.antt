@@ -1,11 +1,11 @@
 -- Worked documents: what the definitions say of them, by computation.
 use Rattle.std.proofs.Common.{◌≡◌, ℕ, List, [], ◌∷◌, codes, Bool, true, false, Some, None, Result, Ok, Err, refl}
 use Rattle.serde_json.specs.Data.{Data, null, boolean, number, unsigned, string, array, object, Items, item, no_items, Members, member, no_members, put}
-use Rattle.zarr_grids_chunks.specs.Grids.{regular}
-use Rattle.zarr_grids_keys.specs.Keys.{default}
+use Rattle.zarr_grids_chunks.specs.Grids.{regular, clipped, varying, Grid}
+use Rattle.zarr_grids_keys.specs.Keys.{KeyEncoding, default, v2, suffixed}
 use Rattle.zarr_codecs_cells.specs.Cells.{uint8}
 use Rattle.zarr_codecs_chain.specs.Chain.{bytes}
-use Rattle.zarr_array_documents.specs.Documents.{Document, Metadata, read_metadata, read_document}
+use Rattle.zarr_array_documents.specs.Documents.{Document, read_metadata, read_document}
 use Rattle.zarr_array_documents.specs.Written.{written_document}
 use Rattle.zarr_array_documents.specs.declared.error.DocumentError.{DocumentError}
 use Rattle.zarr_array_documents.specs.declared.error.DocumentError.TheVariants.{Fields, AdditionalField, Codecs, ChunkGrid, Dimensionality, FillValue, StorageTransformers, ChunkKeyEncoding, DimensionNames}
@@ -47,9 +47,13 @@ document_with name value = object (put name value plain)
 
 -- ---- read
 
--- what is said of 4 by 4 cells in chunks of 2 by 2
+-- what is said of 4 by 4 cells on this grid, stored under these keys
+abbrev pub four_by_four : Grid → KeyEncoding → Document
+four_by_four grid keys = record { shape = 4 ∷ 4 ∷ []; type = uint8; fill = 0 ∷ []; grid = grid; keys = keys; chain = bytes }
+
+-- the same in chunks of 2 by 2, with this separator of keys
 abbrev pub two_by_two : ℕ → Document
-two_by_two separator = record { shape = 4 ∷ 4 ∷ []; type = uint8; fill = 0 ∷ []; grid = regular 4 2 ∷ regular 4 2 ∷ []; keys = default separator; chain = bytes }
+two_by_two separator = four_by_four (regular 4 2 ∷ regular 4 2 ∷ []) (default separator)
 
 pub plain_reads : read_document (object plain) ≡ Ok (two_by_two 47)
 plain_reads = refl
@@ -68,6 +72,51 @@ edge_of_0 = refl
 
 pub three_edges : read_document (document_with (codes "chunk_grid") (regular_with (2 ∷ 2 ∷ 2 ∷ []))) ≡ Err Dimensionality
 three_edges = refl
+
+-- ---- the other grids and encodings of keys
+
+abbrev pub on_grid : List ℕ → Members → Result Document DocumentError
+on_grid name configuration = read_document (document_with (codes "chunk_grid") (object (member (codes "configuration") (object configuration) (member (codes "name") (string name) no_members))))
+
+pub bounded_reads : on_grid (codes "regular_bounded") (member (codes "chunk_shape") (array (sizes (3 ∷ 5 ∷ []))) no_members) ≡ Ok (four_by_four (clipped 4 3 ∷ clipped 4 5 ∷ []) (default 47))
+bounded_reads = refl
+
+-- a list of edges that sum to the size, and one edge
+abbrev pub listed_edges : List ℕ → Members
+listed_edges edges = member (codes "chunk_shape") (array (item (array (sizes edges)) (item (size 3) no_items))) no_members
+
+pub rectangular_reads : on_grid (codes "rectangular") (listed_edges (1 ∷ 3 ∷ [])) ≡ Ok (four_by_four (varying 4 (1 ∷ 3 ∷ []) ∷ regular 4 3 ∷ []) (default 47))
+rectangular_reads = refl
+
+pub other_sum : on_grid (codes "rectangular") (listed_edges (1 ∷ 2 ∷ [])) ≡ Err ChunkGrid
+other_sum = refl
+
+-- two chunks of 1 and one of 3, and one edge
+abbrev pub run_edges : List ℕ → Members
+run_edges kind = member (codes "chunk_shapes") (array (item (array (item (array (sizes (1 ∷ 2 ∷ []))) (item (size 3) no_items))) (item (size 4) no_items))) (member (codes "kind") (string kind) no_members)
+
+pub rectilinear_reads : on_grid (codes "rectilinear") (run_edges (codes "inline")) ≡ Ok (four_by_four (varying 4 (1 ∷ 1 ∷ 3 ∷ []) ∷ regular 4 4 ∷ []) (default 47))
+rectilinear_reads = refl
+
+pub other_kind : on_grid (codes "rectilinear") (run_edges (codes "outline")) ≡ Err ChunkGrid
+other_kind = refl
+
+abbrev pub with_keys : Data → Result Document DocumentError
+with_keys encoding = read_document (document_with (codes "chunk_key_encoding") encoding)
+
+pub v2_reads : with_keys (string (codes "v2")) ≡ Ok (four_by_four (regular 4 2 ∷ regular 4 2 ∷ []) (v2 46))
+v2_reads = refl
+
+abbrev pub suffix : List ℕ → Data
+suffix text = point_with (codes "default_suffix") (codes "suffix") (string text)
+
+pub suffix_reads : with_keys (suffix (codes ".bin")) ≡ Ok (four_by_four (regular 4 2 ∷ regular 4 2 ∷ []) (suffixed 47 (codes ".bin")))
+suffix_reads = refl
+
+pub suffix_with_slash : with_keys (suffix (codes "a/")) ≡ Err ChunkKeyEncoding
+suffix_with_slash = refl
+
+-- ---- the order of the checks
 
 -- the codecs are checked before the chunk grid
 pub codec_first : read_document (object (put (codes "codecs") (array (item (string (codes "gzip")) no_items)) (put (codes "chunk_grid") (regular_with (0 ∷ [])) plain))) ≡ Err Codecs

@@ -5,13 +5,17 @@ use Rattle.std.specs.Option.{ok_or}
 use Rattle.serde_json.specs.Data.{Data, Members, no_members, member, depth}
 use Rattle.serde_json.specs.Find.{get_member, as_number, as_u64, as_str, as_object}
 use Rattle.serde_json.specs.Written.{has_float}
-use Rattle.zarr_grids_chunks.specs.Grids.{Grid, regular_grid}
+use Rattle.zarr_grids_chunks.specs.Grids.{Grid}
+use Rattle.zarr_grids_configurations.specs.Configurations.{configuration_in}
+use Rattle.zarr_grids_configurations.specs.Grids.{grid_in}
+use Rattle.zarr_grids_configurations.specs.Numbers.{sizes_in}
 use Rattle.zarr_grids_keys.specs.Keys.{KeyEncoding}
+use Rattle.zarr_grids_key_metadata.specs.KeyMetadata.{keys_in}
 use Rattle.zarr_codecs_cells.specs.Cells.{DataType, Cell}
 use Rattle.zarr_codecs_cells.specs.Json.{cell_in}
 use Rattle.zarr_codecs_chain.specs.Chain.{Chain}
 use Rattle.zarr_grids_metadata.specs.ExtensionPoints.{must_understand_field}
-use Rattle.zarr_array_documents.specs.Parts.{sizes_in, attributes_in, chain_in, type_in, chunk_shape_in, has_no_transformers, keys_in, dimension_names_in}
+use Rattle.zarr_array_documents.specs.Parts.{attributes_in, chain_in, type_in, has_no_transformers, dimension_names_in}
 use Rattle.zarr_array_documents.specs.declared.error.DocumentError.{DocumentError}
 use Rattle.zarr_array_documents.specs.declared.error.DocumentError.TheVariants.{Depth, Float, Fields, AdditionalField, Codecs, DataTypes, ChunkGrid, Dimensionality, FillValue, StorageTransformers, ChunkKeyEncoding, DimensionNames}
 
@@ -118,13 +122,14 @@ read_members ms = do
   check (not (must_understand_any (additional_in ms))) AdditionalField
   chain ← ok_or (chain_in found.codecs) Codecs
   type ← ok_or (type_in found.data_type) DataTypes
-  chunk_shape ← ok_or (chunk_shape_in found.chunk_grid) ChunkGrid
-  check (length chunk_shape == length found.shape) Dimensionality
+  configuration ← ok_or (configuration_in found.chunk_grid) ChunkGrid
+  check (length configuration == length found.shape) Dimensionality
+  grid ← ok_or (grid_in found.shape configuration) ChunkGrid
   fill ← ok_or (cell_in type found.fill_value) FillValue
   check (has_no_transformers (get_member (codes "storage_transformers") ms)) StorageTransformers
   keys ← ok_or (keys_in found.chunk_key_encoding) ChunkKeyEncoding
   names ← ok_or (dimension_names_in (length found.shape) (get_member (codes "dimension_names") ms)) DimensionNames
-  Ok (record { document = record { shape = found.shape; type = type; fill = fill; grid = regular_grid found.shape chunk_shape; keys = keys; chain = chain }; attributes = found.attributes; dimension_names = names; additional_fields = additional_in ms })
+  Ok (record { document = record { shape = found.shape; type = type; fill = fill; grid = grid; keys = keys; chain = chain }; attributes = found.attributes; dimension_names = names; additional_fields = additional_in ms })
 
 -- all that a document says, or the first check that refuses it
 abbrev pub read_metadata : Data → Result Metadata DocumentError

@@ -1,21 +1,11 @@
 -- What the fields of an array document say, one by one (Zarr core specification, "Array metadata"; the names of extension points are this project's profile).
-use Rattle.std.specs.Prelude.{ℕ, List, [], ◌∷◌, length, Bool, true, false, ◌&&◌, ◌||◌, ◌==◌, nat_lt, codes, bytes_eq, if◌then◌else◌, Option, Some, None, option_map, option_and_then, unwrap_or}
-use Rattle.std.specs.List.{list_all}
+use Rattle.std.specs.Prelude.{ℕ, List, [], ◌∷◌, length, Bool, true, false, ◌&&◌, ◌||◌, ◌==◌, codes, bytes_eq, if◌then◌else◌, Option, Some, None, option_map, option_and_then, unwrap_or}
 use Rattle.serde_json.specs.Data.{Data, null, boolean, number, string, array, object, Items, no_items, item, Members, no_members}
-use Rattle.serde_json.specs.Find.{get_member, as_number, as_u64, as_str, as_array, as_object}
-use Rattle.zarr_grids_keys.specs.Keys.{KeyEncoding, default}
+use Rattle.serde_json.specs.Find.{get_member, as_str, as_array, as_object}
 use Rattle.zarr_codecs_cells.specs.Cells.{DataType, uint8}
 use Rattle.zarr_codecs_chain.specs.Chain.{Chain, bytes}
 use Rattle.zarr_grids_metadata.specs.Members.{has_only}
 use Rattle.zarr_grids_metadata.specs.ExtensionPoints.{configuration_of}
-
--- the sizes that a JSON list says, where each of its values is a whole number
-abbrev pub sizes_of : Items → Option (List ℕ)
-sizes_of no_items = Some []
-sizes_of (item d ds) = option_and_then (λ n. option_map (λ ns. n ∷ ns) (sizes_of ds)) (option_and_then as_u64 (as_number d))
-
-abbrev pub sizes_in : Data → Option (List ℕ)
-sizes_in d = option_and_then sizes_of (as_array d)
 
 -- ---- the parts of a document
 
@@ -41,30 +31,6 @@ no_more x ms = if has_only [] ms then Some x else None
 
 abbrev pub type_in : Data → Option DataType
 type_in d = option_and_then (no_more uint8) (configuration_of (codes "uint8") d)
-
--- the chunk shape of a regular grid: positive numbers
-abbrev pub positive_sizes : List ℕ → Option (List ℕ)
-positive_sizes sizes = if list_all (λ n. nat_lt 0 n) sizes then Some sizes else None
-
-abbrev pub chunk_shape_of : Members → Option (List ℕ)
-chunk_shape_of ms = if has_only (codes "chunk_shape" ∷ []) ms then option_and_then positive_sizes (option_and_then sizes_in (get_member (codes "chunk_shape") ms)) else None
-
-abbrev pub chunk_shape_in : Data → Option (List ℕ)
-chunk_shape_in d = option_and_then chunk_shape_of (configuration_of (codes "regular") d)
-
--- the separator of the key encoding `default`: a slash or a dot, and a slash where it is absent
-abbrev pub separator_of : List ℕ → Option ℕ
-separator_of text = if bytes_eq text (codes "/") then Some 47 else (if bytes_eq text (codes ".") then Some 46 else None)
-
-abbrev pub separator_in : Option Data → Option ℕ
-separator_in None = Some 47
-separator_in (Some d) = option_and_then separator_of (as_str d)
-
-abbrev pub keys_of : Members → Option KeyEncoding
-keys_of ms = if has_only (codes "separator" ∷ []) ms then option_map default (separator_in (get_member (codes "separator") ms)) else None
-
-abbrev pub keys_in : Data → Option KeyEncoding
-keys_in d = option_and_then keys_of (configuration_of (codes "default") d)
 
 -- ---- optional fields
 

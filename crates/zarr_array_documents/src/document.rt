@@ -1,18 +1,20 @@
 //! Documents that were opened.
-ghost use Rattle.std.specs.Prelude.{◌≡◌, ◌<◌, length};
-ghost use Rattle.zarr_grids_boxes.specs.Boxes.{product};
+ghost use Rattle.std.specs.Prelude.{◌≡◌, map};
+ghost use Rattle.zarr_grids_dimensions.specs.Lookups.{size_of};
+ghost use Rattle.zarr_grids_dimensions.specs.Dimensions.{grid_of};
 
-use zarr_grids_keys::ChunkKeySeparator;
+use zarr_grids_dimensions::Dimension;
+use zarr_grids_keys::ChunkKeyEncoding;
 
-/// A document that was opened: cells of type uint8 on a regular grid, with the codec `bytes` alone
-/// and the chunk key encoding `default`.
+/// A document that was opened: cells of type uint8 on any chunk grid, with the codec `bytes` alone
+/// and any chunk key encoding.
 #[derive(Debug, Drop)]
 pub struct ArrayDocument {
     pub shape: Vec<u64>,
-    pub chunk_shape: Vec<u64>,
+    /// How the chunks lie, in each dimension of the array.
+    pub grid: Vec<Dimension>,
     pub fill_value: u8,
-    /// Stands before each number of a chunk's key.
-    pub separator: ChunkKeySeparator,
-    ghost same: { length chunk_shape.items ≡ length shape.items },
-    ghost positive: { 0 < product chunk_shape.items },
+    /// How a chunk's index becomes its key.
+    pub keys: ChunkKeyEncoding,
+    ghost sized: { map size_of (grid_of grid.items) ≡ shape.items },
 }

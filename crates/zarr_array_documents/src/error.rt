@@ -22,6 +22,7 @@ pub enum DocumentError {
     Codecs,
     #[error("the data type is not supported")]
     DataTypes,
+    /// No chunk grid has the name and the configuration, or they make no grid of the shape.
     #[error("the chunk grid is not supported")]
     ChunkGrid,
     #[error("the chunk grid has another dimensionality than the array")]

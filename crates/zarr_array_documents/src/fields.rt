@@ -6,9 +6,9 @@ ghost use Rattle.zarr_array_documents.specs.Documents.{field, shape_in, is_numbe
 ghost use Rattle.zarr_array_documents.specs.Parts.{attributes_in};
 
 use crate::error::DocumentError;
-use crate::sizes::sizes_in;
 use serde_json::{Map, Value};
 use std::alloc::Global;
+use zarr_grids_configurations::numbers::sizes_in;
 use zarr_grids_metadata::{member, must_understand_field};
 
 /// The fields that every document has.

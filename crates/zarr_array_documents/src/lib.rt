@@ -4,13 +4,12 @@
 pub mod document;
 pub mod error;
 mod fields;
+mod grids;
+mod keys;
 pub mod laws;
 mod names;
 mod parts;
 mod reading;
-mod sizes;
-#[cfg(test)]
-mod tests;
 mod writing;
 
 pub use document::ArrayDocument;

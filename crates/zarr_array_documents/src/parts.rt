@@ -1,19 +1,13 @@
 //! What the fields of a document say.
-ghost use Rattle.std.specs.Prelude.{◌≡◌, ◌<◌, ◌∷◌, [], IfOk, IfSome, Some, None, option_map, if◌then◌else◌, is_some};
+ghost use Rattle.std.specs.Prelude.{◌≡◌, ◌∷◌, [], Some, None, option_map, if◌then◌else◌};
 ghost use Rattle.serde_json.specs.View.{view, items_view};
 ghost use Rattle.serde_json.specs.Data.{item, no_items};
-ghost use Rattle.zarr_grids_boxes.specs.Boxes.{product};
-ghost use Rattle.zarr_grids_keys.specs.Keys.{default};
-ghost use Rattle.zarr_grids_keys.specs.Separators.{separator_byte};
 ghost use Rattle.zarr_codecs_cells.specs.Cells.{uint8};
 ghost use Rattle.zarr_codecs_cells.specs.Json.{cell_in};
 ghost use Rattle.zarr_codecs_chain.specs.Chain.{bytes};
-ghost use Rattle.zarr_array_documents.specs.Parts.{chain_in, chain_of, is_endian, type_in, chunk_shape_in, keys_in, separator_in, has_no_transformers, is_empty_list};
+ghost use Rattle.zarr_array_documents.specs.Parts.{chain_in, chain_of, is_endian, type_in, has_no_transformers, is_empty_list};
 
-use crate::sizes::{are_positive, sizes_in};
 use serde_json::Value;
-use std::alloc::{AllocError, Global};
-use zarr_grids_keys::ChunkKeySeparator;
 use zarr_grids_metadata::Configuration;
 
 /// Whether the codecs are `bytes` alone.
@@ -71,31 +65,6 @@ pub(crate) fn is_uint8(data_type: &Value) -> bool
     }
 }
 
-/// The chunk shape of a regular grid, of which each size is positive.
-#[tactic(auto, using(crate::proofs::Lists::positive_product))]
-pub(crate) fn chunk_shape_in(
-    alloc: Global,
-    chunk_grid: &Value,
-) -> Result<Option<Vec<u64>>, AllocError>
-    ensures value { IfOk result
-        (λ sizes. option_map (λ v. v.items) sizes ≡ chunk_shape_in (view chunk_grid.now)) }
-    ensures positive { IfOk result (λ sizes. IfSome sizes (λ v. 0 < product v.items)) }
-{
-    let Some(configuration) = Configuration::of("regular", chunk_grid) else {
-        return Ok(None);
-    };
-    if !configuration.has_only(&["chunk_shape"]) {
-        return Ok(None);
-    }
-    let Some(chunk_shape) = configuration.member("chunk_shape") else {
-        return Ok(None);
-    };
-    match sizes_in(alloc, chunk_shape)? {
-        Some(sizes) if are_positive(&sizes) => Ok(Some(sizes)),
-        _ => Ok(None),
-    }
-}
-
 /// The fill value, where the field is a value of type uint8.
 pub(crate) fn fill_value_in(fill_value: &Value) -> Option<u8>
     ensures { option_map (λ b. b ∷ []) result ≡ cell_in uint8 (view fill_value.now) }
@@ -121,33 +90,5 @@ fn is_empty_list(value: &Value) -> bool
     match value.as_array() {
         Some(items) => items.is_empty(),
         None => false,
-    }
-}
-
-/// The separator of the chunk key encoding, where that is `default`.
-pub(crate) fn separator_of(chunk_key_encoding: &Value) -> Option<ChunkKeySeparator>
-    ensures { keys_in (view chunk_key_encoding.now)
-        ≡ option_map (λ separator. default (separator_byte separator)) result }
-{
-    let configuration = Configuration::of("default", chunk_key_encoding)?;
-    if configuration.has_only(&["separator"]) {
-        separator_in(configuration.member("separator"))
-    } else {
-        None
-    }
-}
-
-/// The separator that a member says: a slash where it is absent.
-fn separator_in(separator: Option<&Value>) -> Option<ChunkKeySeparator>
-    ensures { option_map separator_byte result
-        ≡ separator_in (option_map (λ v. view v.now) separator.entry) }
-{
-    let Some(separator) = separator else {
-        return Some(ChunkKeySeparator::Slash);
-    };
-    match separator.as_str()? {
-        "/" => Some(ChunkKeySeparator::Slash),
-        "." => Some(ChunkKeySeparator::Dot),
-        _ => None,
     }
 }

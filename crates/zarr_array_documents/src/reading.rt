@@ -7,10 +7,10 @@ ghost use Rattle.zarr_array_documents.specs.Meanings.{meaning_of};
 use crate::document::ArrayDocument;
 use crate::error::DocumentError;
 use crate::fields::{RequiredFields, must_understand_any};
+use crate::grids::{configuration_in, grid_in};
+use crate::keys::keys_in;
 use crate::names::are_dimension_names;
-use crate::parts::{
-    chunk_shape_in, fill_value_in, has_no_transformers, is_bytes_chain, is_uint8, separator_of,
-};
+use crate::parts::{fill_value_in, has_no_transformers, is_bytes_chain, is_uint8};
 use serde_json::{Map, Value};
 use std::alloc::Global;
 use zarr_grids_metadata::{has_float, is_deeper, member};
@@ -52,28 +52,25 @@ fn read_members(alloc: Global, members: &Map<String, Value>) -> Result<ArrayDocu
     if !is_uint8(fields.data_type) {
         return Err(DocumentError::DataTypes);
     }
-    let Some(chunk_shape) = chunk_shape_in(alloc, fields.chunk_grid)? else {
-        return Err(DocumentError::ChunkGrid);
-    };
-    if chunk_shape.len() != fields.shape.len() {
+    let configuration = configuration_in(alloc, fields.chunk_grid)?;
+    if configuration.given_edges().dimensionality() != fields.shape.len() {
         return Err(DocumentError::Dimensionality);
     }
+    let grid = grid_in(alloc, &fields.shape, &configuration)?;
     let Some(fill_value) = fill_value_in(fields.fill_value) else {
         return Err(DocumentError::FillValue);
     };
     if !has_no_transformers(member(members, "storage_transformers")) {
         return Err(DocumentError::StorageTransformers);
     }
-    let Some(separator) = separator_of(fields.chunk_key_encoding) else {
-        return Err(DocumentError::ChunkKeyEncoding);
-    };
+    let keys = keys_in(alloc, fields.chunk_key_encoding)?;
     if !are_dimension_names(member(members, "dimension_names"), fields.shape.len()) {
         return Err(DocumentError::DimensionNames);
     }
     Ok(ArrayDocument {
         shape: fields.shape,
-        chunk_shape,
+        grid,
         fill_value,
-        separator,
+        keys,
     })
 }

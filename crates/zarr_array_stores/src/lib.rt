@@ -2,7 +2,5 @@
 #![tactic(auto)]
 
 pub mod memory_store;
-#[cfg(test)]
-mod tests;
 
 pub use memory_store::MemoryStore;

@@ -1,6 +1,6 @@
 -- What is known of sizes: bounds within one another, and those of a chain that takes each shape.
 use Rattle.std.proofs.Common.{◌≡◌, ℕ, ◌+◌, ◌*◌, ◌/◌, ◌≤◌, List, [], ◌∷◌, length, map, sym, refl, arith, Option, Some, None, true, unwrap_or, option_and_then, option_map, length-append, subst}
-use Rattle.std.proofs.lemmas.Bool.{le-leb, leb-true}
+use Rattle.std.proofs.lemmas.Bool.{le-leb, leb-true, and_parts}
 use Rattle.std.proofs.lemmas.Map.Views.{exact_unsigned_eq}
 use Rattle.std.proofs.Math.Nat.{mul-le-mul_left}
 use Rattle.zarr_grids_boxes.specs.Boxes.{product}
@@ -12,7 +12,6 @@ use Rattle.zarr_codecs_meaning.specs.Places.{Part}
 use Rattle.zarr_codecs_meaning.specs.Fits.{bits_in, packed_size, padding_size, bound_of, at_most, sum_of_bounds, representation_of, is_size_as, is_bound_within, takes_each_shape}
 use Rattle.zarr_codecs_meaning.specs.Encoding.{joined_texts, pieces_of}
 use Rattle.zarr_codecs_meaning.specs.Laws.{IsLawfulChain}
-use Rattle.zarr_codecs_meaning.proofs.Lists.{both_true}
 use Rattle.zarr_codecs_meaning.proofs.Shards.{TextsStand}
 
 -- ---- One bound
@@ -94,7 +93,7 @@ bounds_grow (packbits padding first last) type one two lawful takes less =
       packed_less padding one two less = omega arith
 bounds_grow (vlen index texts width location) type one two lawful takes less = refl
 bounds_grow (optional mask values) type one two lawful takes less =
-    let t = both_true (takes_each_shape mask) (takes_each_shape values) takes in
+    let t = and_parts (takes_each_shape mask) (takes_each_shape values) takes in
     let inner = unwrap_or (inner_type type) type in
     let mask_before = bound_of (representation_of mask bool one) in
     let mask_after = bound_of (representation_of mask bool two) in

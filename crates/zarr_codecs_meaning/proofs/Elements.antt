@@ -1,7 +1,7 @@
 -- Elements of fixed types, written and read back.
 use Rattle.std.proofs.Common.{◌≡◌, ℕ, zero, suc, ◌+◌, ◌-◌, ◌*◌, ◌/◌, ◌%◌, ◌^◌, ◌<◌, ◌≤◌, List, [], ◌∷◌, ◌++◌, length, map, get_or, take, drop, replicate, ap, ◌∙◌, sym, refl, arith, Option, Some, None, option_and_then, option_map, Bool, true, false, ◌&&◌, ◌==◌, if◌then◌else◌, length-append, length-take, length-drop, take-append-drop, div-one}
 use Rattle.std.specs.List.{flat_map, range_with_len}
-use Rattle.std.proofs.lemmas.Bool.{eq-eqb}
+use Rattle.std.proofs.lemmas.Bool.{eq-eqb, and_parts}
 use Rattle.std.proofs.lemmas.List.{length-map, get_or-map, reverse-reverse, take-append-le, drop-append-le}
 use Rattle.std.proofs.lemmas.List.FromFn.{fill_by_all}
 use Rattle.std.proofs.lemmas.Map.Views.{exact_unsigned_eq}
@@ -14,13 +14,13 @@ use Rattle.zarr_codecs_meaning.specs.Chains.Chain.{bytes, packbits}
 use Rattle.zarr_codecs_meaning.specs.Chains.Endianness.{little, big}
 use Rattle.zarr_codecs_meaning.specs.Chains.Padding.{no_padding_byte, first_byte, last_byte}
 use Rattle.zarr_codecs_meaning.specs.Places.{place_numbers}
-use Rattle.zarr_codecs_meaning.specs.Fits.{last_kept, kept_bits, bits_in, packed_size, padding_size, is_lossless}
+use Rattle.zarr_codecs_meaning.specs.Fits.{last_kept, kept_bits, bits_in, packed_size, padding_size}
 use Rattle.zarr_codecs_meaning.specs.Encoding.{in_order, ordered, element_bits, element_of_bits, packed, padding_bits, with_padding}
 use Rattle.zarr_codecs_meaning.specs.Decoding.{all_there, tested, element_at, is_whole, without_padding, unpacked, decoded}
 use Rattle.zarr_codecs_meaning.specs.Laws.{AreCells}
-use Rattle.zarr_codecs_meaning.proofs.Lists.{both_true, Each, each_passes, each_weaker, each_get, each_append}
+use Rattle.zarr_codecs_meaning.proofs.Lists.{Each, every, each_passes, each_weaker, each_get, each_append}
 use Rattle.zarr_codecs_meaning.proofs.Values.{fixed_value, length-digits, length-in_order, length-ordered, length-element_bits}
-use Rattle.zarr_codecs_meaning.proofs.Sizes.{bytes_length, bits_length, length-with_padding, every}
+use Rattle.zarr_codecs_meaning.proofs.Sizes.{bytes_length, bits_length, length-with_padding}
 use Rattle.zarr_codecs_meaning.proofs.Digits.{number_digits, digits_number, digits_below, bytes_below, each-take, each-drop, unpacked_packed}
 
 pub on_true : {X : Type 0} (b : Bool) (x y : X) → b ≡ true → elim b [ true ↦ x | false ↦ y ] ≡ x
@@ -125,7 +125,7 @@ pub record KeepsAll (first : ℕ) (last : Option ℕ) (c : Component) : Type 0 w
 
 pub keeps_all : (first : ℕ) (last : Option ℕ) (c : Component) → ((first == 0) && (last_kept last c + 1 == c.width)) ≡ true → KeepsAll first last c
 keeps_all first last c h =
-    let both = both_true (first == 0) (last_kept last c + 1 == c.width) h in
+    let both = and_parts (first == 0) (last_kept last c + 1 == c.width) h in
     record { from_zero = exact_unsigned_eq first 0 both.0; to_last = exact_unsigned_eq (last_kept last c + 1) c.width both.1 }
 
 pub element_back : (first : ℕ) (last : Option ℕ) (parts : List Component) (text : List ℕ) → Each (KeepsAll first last) parts → length text ≡ bytes_in parts → Each (λ b. b < 256) text → are_components parts text ≡ true
@@ -144,7 +144,7 @@ element_back first last (c ∷ cs) text keeps h below fine =
     let long : length bits ≡ kept = length-digits 2 kept (number 256 front / 2 ^ first) in
     let one : take kept (bits ++ others) ≡ bits = ap (λ k. take k (bits ++ others)) (sym long) ∙ take-append_seam bits others in
     let two : drop kept (bits ++ others) ≡ others = ap (λ k. drop k (bits ++ others)) (sym long) ∙ drop-append_seam bits others in
-    let both = both_true (is_component c front) (are_components cs (drop n text)) fine in
+    let both = and_parts (is_component c front) (are_components cs (drop n text)) fine in
     let whole : number 256 front / 2 ^ first ≡ number 256 front = ap (λ k. number 256 front / 2 ^ k) zero_ ∙ div-one (number 256 front) in
     let same_bits : bits ≡ digits 2 c.width (number 256 front) = ap (λ k. digits 2 k (number 256 front / 2 ^ first)) all ∙ ap (digits 2 c.width) whole in
     let scaled : number 2 bits * 2 ^ first ≡ number 2 (digits 2 c.width (number 256 front)) = ap (λ k. number 2 bits * 2 ^ k) zero_ ∙ (omega arith ∙ ap (number 2) same_bits) in
@@ -215,10 +215,3 @@ packbits_kept padding first last elements shape cells many =
     ∙ sym (ap (λ ns. of_bytes (element_of_bits first last parts (take width (drop (i * width) ns)))) found ∙ ap (λ ns. of_bytes (element_of_bits first last parts ns)) slice) in
     on_true (length value == packed_size padding first last parts (product shape)) (Some (map (unpacked first last type (flat_map (digits 2 8) (without_padding padding value))) (place_numbers shape))) None (eq-eqb (length value) (packed_size padding first last parts (product shape)) long)
     ∙ ap Some (sym (fill_by_all (unpacked first last type (flat_map (digits 2 8) (without_padding padding value))) (map kept_one cells) (product shape) elements.fill (length-map cells kept_one ∙ many) read))
-
-pub packbits_back : (padding : Padding) (first : ℕ) (last : Option ℕ) (elements : Elements) (shape : List ℕ) (cells : List Cell) → is_fixed elements.type ≡ true → is_lossless (packbits padding first last) elements.type ≡ true → AreCells elements shape cells
-    → decoded (packbits padding first last) elements shape (with_padding padding (flat_map (λ cell. element_bits first last (components elements.type) (cell_bytes cell)) cells)) ≡ Some cells
-packbits_back padding first last elements shape cells fixed lossless are =
-    let parts = components elements.type in
-    let keeps : Each (KeepsAll first last) parts = each_weaker (λ (c : Component). ((first == 0) && (last_kept last c + 1 == c.width)) ≡ true) (KeepsAll first last) parts (keeps_all first last) (each_passes (λ (c : Component). (first == 0) && (last_kept last c + 1 == c.width)) parts lossless) in
-    packbits_kept padding first last elements shape cells are.whole ∙ ap Some (packbits_lossless first last elements.type cells fixed keeps (each_passes (is_value elements.type) cells are.values))

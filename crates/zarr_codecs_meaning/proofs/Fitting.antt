@@ -1,44 +1,23 @@
 -- What it says that a chain with chains inside fits, and what such a chain makes of cells.
-use Rattle.std.proofs.Common.{◌≡◌, ℕ, ◌+◌, ◌-◌, ◌*◌, ◌^◌, ◌<◌, List, [], ◌∷◌, length, ap, ◌∙◌, sym, refl, arith, Option, Some, None, option_map, true, false, not, ◌&&◌, is_some, length-append}
+use Rattle.std.proofs.Common.{◌≡◌, ℕ, ◌+◌, ◌-◌, ◌*◌, ◌^◌, ◌<◌, List, [], ◌∷◌, length, ap, ◌∙◌, sym, refl, arith, Option, Some, None, option_map, true, not, ◌&&◌, is_some, length-append}
 use Rattle.std.specs.Prelude.{nat_lt}
 use Rattle.std.specs.List.{list_all}
-use Rattle.std.proofs.lemmas.Bool.{ltb-true}
+use Rattle.std.proofs.lemmas.Bool.{ltb-true, and_parts}
 use Rattle.std.proofs.lemmas.List.{length-map}
 use Rattle.zarr_grids_boxes.specs.Boxes.{product}
-use Rattle.zarr_codecs_meaning.specs.Types.{DataType, bool, uint64, Elements, Cell, is_value, inner_type, zero_filled}
+use Rattle.zarr_codecs_meaning.specs.Types.{uint64, Elements, Cell, is_value, inner_type, zero_filled}
 use Rattle.zarr_codecs_meaning.specs.Chains.{Chain, Location}
-use Rattle.zarr_codecs_meaning.specs.Chains.Chain.{optional, sharded}
+use Rattle.zarr_codecs_meaning.specs.Chains.Chain.{sharded}
 use Rattle.zarr_codecs_meaning.specs.Chains.Location.{at_start, at_end}
 use Rattle.zarr_codecs_meaning.specs.Places.{Part, parts_of, index_shape}
-use Rattle.zarr_codecs_meaning.specs.Fits.{fits, takes_each_shape, size_of, is_some_below, can_cut, divides}
+use Rattle.zarr_codecs_meaning.specs.Fits.{fits, size_of, is_some_below, can_cut, divides}
 use Rattle.zarr_codecs_meaning.specs.Encoding.{encoded, Pair, Piece, piece_of, pieces_of, stored_pieces, joined_texts, pairs_from, pair_cells, index_size, base_of, joined, shard_of}
 use Rattle.zarr_codecs_meaning.specs.Laws.{AreCells}
-use Rattle.zarr_codecs_meaning.proofs.Lists.{both_true, bind_some, map_some, if_some, Each, each_passes}
+use Rattle.zarr_codecs_meaning.proofs.Lists.{map_some, if_some, Each, each_passes}
 use Rattle.zarr_codecs_meaning.proofs.Steps.{length-gather, values_gathered}
 use Rattle.zarr_codecs_meaning.proofs.Shards.{length-pairs_from, length-stored, length-pair_cells, AreWords, words_from, part_cells, TextsStand, stored_stand}
 use Rattle.zarr_codecs_meaning.proofs.Parts.{part_counts, index_product}
 use Rattle.zarr_codecs_meaning.proofs.Words.{pair_cells_are_values}
-
--- ---- `optional`
-
--- what an optional type's fitting says
-pub record FittedOption (mask values : Chain) (type : DataType) (shape : List ℕ) : Type 0 where
-  pub inner : DataType
-  pub is : inner_type type ≡ Some inner
-  pub mask_fits : fits mask bool shape ≡ true
-  pub takes : takes_each_shape values ≡ true
-  pub values_fit : fits values inner (0 ∷ []) ≡ true
-
-pub fitted_option : (mask values : Chain) (type : DataType) (shape : List ℕ) → fits (optional mask values) type shape ≡ true → FittedOption mask values type shape
-fitted_option mask values type shape fit = by_inner (inner_type type) refl fit where
-  by_inner : (o : Option DataType) → inner_type type ≡ o → (elim o [ None ↦ false | Some inner ↦ fits mask bool shape && (takes_each_shape values && fits values inner (0 ∷ [])) ]) ≡ true → FittedOption mask values type shape
-  by_inner None e fit = cc
-  by_inner (Some inner) e fit =
-      let a = both_true (fits mask bool shape) (takes_each_shape values && fits values inner (0 ∷ [])) fit in
-      let b = both_true (takes_each_shape values) (fits values inner (0 ∷ [])) a.1 in
-      record { inner = inner; is = e; mask_fits = a.0; takes = b.0; values_fit = b.1 }
-
--- ---- `sharded`
 
 -- what a shard's fitting says
 pub record Fitted (subchunk : List ℕ) (inner index : Chain) (elements : Elements) (shape : List ℕ) : Type 0 where
@@ -59,11 +38,11 @@ fitted subchunk inner index location elements shape fit =
     let c = list_all (λ (part : Part). fits inner elements.type part.shape) (parts_of shape subchunk) in
     let b = can_cut shape subchunk in
     let a = not (is_some (inner_type elements.type)) in
-    let one = both_true (divides shape subchunk) (a && (b && (c && (d && e)))) fit in
-    let two = both_true a (b && (c && (d && e))) one.1 in
-    let three = both_true b (c && (d && e)) two.1 in
-    let four = both_true c (d && e) three.1 in
-    let five = both_true d e four.1 in
+    let one = and_parts (divides shape subchunk) (a && (b && (c && (d && e)))) fit in
+    let two = and_parts a (b && (c && (d && e))) one.1 in
+    let three = and_parts b (c && (d && e)) two.1 in
+    let four = and_parts c (d && e) three.1 in
+    let five = and_parts d e four.1 in
     record { cuts = three.0; each = four.0; index_fits = five.0; sized = some_below (2 ^ 63) (size_of index uint64 pairs_shape) five.1 }
 
 -- the pairs of a shard as the cells of its index
@@ -107,32 +86,30 @@ texts_stand subchunk inner index elements shape cells stored slice f are law e =
     (λ part one two v h. law part.shape v (part_cells fill cells part) one two h)) in
     stored_stand (encoded inner elements) slice fill (pieces_of fill cells (parts_of shape subchunk)) stored each e
 
--- what is made of a shard's cells: the texts of the pieces, and the text of the index
-pub record IsShard (subchunk : List ℕ) (inner index : Chain) (location : Location) (elements : Elements) (shape value : List ℕ) (cells : List Cell) : Type 0 where
-  pub stored : List (Option (List ℕ))
-  pub are_stored : stored_pieces (encoded inner elements) elements.fill (pieces_of elements.fill cells (parts_of shape subchunk)) ≡ Some stored
+-- what is made of the texts of a shard's subchunks: offsets below the mark of an absent one, and the text of the index
+pub record IsShard (subchunk : List ℕ) (index : Chain) (location : Location) (shape value : List ℕ) (stored : List (Option (List ℕ))) : Type 0 where
   pub short : base_of location (index_size index (index_shape shape subchunk)) + length (joined_texts stored) < 2 ^ 64 - 1
   pub pairs_are : AreCells (zero_filled uint64) (index_shape shape subchunk) (pair_cells (pairs_from (base_of location (index_size index (index_shape shape subchunk))) stored))
   pub text : List ℕ
   pub is_text : encoded index (zero_filled uint64) (index_shape shape subchunk) (pair_cells (pairs_from (base_of location (index_size index (index_shape shape subchunk))) stored)) ≡ Some text
   pub is : joined location text (joined_texts stored) ≡ value
 
-pub shard_made : (subchunk : List ℕ) (inner index : Chain) (location : Location) (elements : Elements) (shape value : List ℕ) (cells : List Cell)
-    → encoded (sharded subchunk inner index location) elements shape cells ≡ Some value → IsShard subchunk inner index location elements shape value cells
-shard_made subchunk inner index location elements shape value cells h =
+pub shard_made : (subchunk : List ℕ) (index : Chain) (location : Location) (shape value : List ℕ) (stored : List (Option (List ℕ))) → length stored ≡ length (parts_of shape subchunk)
+    → shard_of (encoded index (zero_filled uint64) (index_shape shape subchunk)) location (index_size index (index_shape shape subchunk)) stored ≡ Some value → IsShard subchunk index location shape value stored
+shard_made subchunk index location shape value stored count h =
     let pairs_shape = index_shape shape subchunk in
-    let words = zero_filled uint64 in
-    let size = index_size index pairs_shape in
-    let base = base_of location size in
-    let parts = parts_of shape subchunk in
-    let pieces = pieces_of elements.fill cells parts in
-    let found = bind_some (shard_of (encoded index words pairs_shape) location size) (stored_pieces (encoded inner elements) elements.fill pieces) value h in
-    let os = found.0 in
-    let guarded = if_some (nat_lt (base + length (joined_texts os)) (2 ^ 64 - 1)) (option_map (λ (text : List ℕ). joined location text (joined_texts os)) (encoded index words pairs_shape (pair_cells (pairs_from base os)))) value found.2 in
-    let short = ltb-true (base + length (joined_texts os)) (2 ^ 64 - 1) guarded.0 in
-    let made = map_some (λ (text : List ℕ). joined location text (joined_texts os)) (encoded index words pairs_shape (pair_cells (pairs_from base os))) value guarded.1 in
-    let count : length (pairs_from base os) ≡ length parts = length-pairs_from os base ∙ (length-stored (encoded inner elements) elements.fill pieces os found.1 ∙ length-map parts (piece_of elements.fill cells)) in
-    record { stored = os; are_stored = found.1; short = short; pairs_are = pairs_are_cells shape subchunk (pairs_from base os) (words_from os base short) count; text = made.0; is_text = made.1; is = made.2 }
+    let base = base_of location (index_size index pairs_shape) in
+    let content = joined_texts stored in
+    let pairs = pairs_from base stored in
+    let text = encoded index (zero_filled uint64) pairs_shape (pair_cells pairs) in
+    let guarded = if_some (nat_lt (base + length content) (2 ^ 64 - 1)) (option_map (λ (front : List ℕ). joined location front content) text) value h in
+    let short = ltb-true (base + length content) (2 ^ 64 - 1) guarded.0 in
+    let made = map_some (λ (front : List ℕ). joined location front content) text value guarded.1 in
+    record { short = short; pairs_are = pairs_are_cells shape subchunk pairs (words_from stored base short) (length-pairs_from stored base ∙ count); text = made.0; is_text = made.1; is = made.2 }
+
+-- as many texts are stored as there are subchunks
+pub stored_count : (encode : List ℕ → List Cell → Option (List ℕ)) (fill : Cell) (cells : List Cell) (parts : List Part) (stored : List (Option (List ℕ))) → stored_pieces encode fill (pieces_of fill cells parts) ≡ Some stored → length stored ≡ length parts
+stored_count encode fill cells parts stored e = length-stored encode fill (pieces_of fill cells parts) stored e ∙ length-map parts (piece_of fill cells)
 
 pub length-joined : (location : Location) (index text : List ℕ) → length (joined location index text) ≡ length index + length text
 length-joined at_start index text = length-append index text

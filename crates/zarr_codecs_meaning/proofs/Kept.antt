@@ -1,40 +1,34 @@
 -- What a chain keeps of cells: by recursion over chains.
-use Rattle.std.proofs.Common.{◌≡◌, ℕ, ◌+◌, ◌/◌, ◌^◌, ◌<◌, List, [], ◌∷◌, length, map, ap, ◌∙◌, sym, refl, arith, Option, Some, None, option_and_then, option_map, unwrap_or, Bool, true, ◌&&◌, ◌==◌}
+use Rattle.std.proofs.Common.{◌≡◌, ℕ, ◌+◌, List, [], ◌∷◌, length, map, ap, ◌∙◌, sym, refl, arith, Option, Some, None, option_and_then, unwrap_or, Bool, true, ◌&&◌, ◌==◌}
 use Rattle.std.specs.Prelude.{nat_lt, nat_le}
 use Rattle.std.specs.List.{list_all, flat_map}
-use Rattle.std.proofs.lemmas.Bool.{ltb-true, leb-true}
+use Rattle.std.proofs.lemmas.Bool.{ltb-true, leb-true, and_parts}
 use Rattle.std.proofs.lemmas.List.{length-map}
 use Rattle.std.proofs.lemmas.List.FromFn.{length-range_with_len}
 use Rattle.zarr_grids_boxes.specs.Boxes.{product}
-use Rattle.zarr_codecs_meaning.specs.Numbers.{digits}
-use Rattle.zarr_codecs_meaning.specs.Types.{DataType, bool, integer, unsigned, uint8, uint64, components, is_fixed, inner_type, is_value, Cell, of_bytes, cell_bytes, Elements, zero_filled}
+use Rattle.zarr_codecs_meaning.specs.Types.{DataType, bool, integer, unsigned, uint8, uint64, components, inner_type, is_value, Cell, cell_bytes, Elements, zero_filled}
 use Rattle.zarr_codecs_meaning.specs.Chains.{Chain, Step}
 use Rattle.zarr_codecs_meaning.specs.Chains.Chain.{bytes, packbits, vlen, optional, after_step, then_bytes, sharded}
-use Rattle.zarr_codecs_meaning.specs.Places.{gather, place_numbers, position_of, step_shape, step_places, undone_places, Part, index_shape}
-use Rattle.zarr_codecs_meaning.specs.Fits.{fits, takes_each_shape, step_fits, order_fits, bits_fit, last_kept, is_lossless, keeps_indices, is_plain}
-use Rattle.zarr_codecs_meaning.specs.Encoding.{encoded, ends_from, last_number, number_cells, mask_cell, index_size, with_padding}
+use Rattle.zarr_codecs_meaning.specs.Places.{gather, place_numbers, position_of, step_shape, step_places, undone_places, Part}
+use Rattle.zarr_codecs_meaning.specs.Fits.{fits, takes_each_shape, step_fits, bits_fit, last_kept, is_lossless, is_plain}
+use Rattle.zarr_codecs_meaning.specs.Encoding.{encoded, mask_cell, with_padding}
 use Rattle.zarr_codecs_meaning.specs.Keeping.{kept, cut_again, spread}
-use Rattle.zarr_codecs_meaning.specs.Decoding.{decoded}
-use Rattle.zarr_codecs_meaning.specs.Standing.{IsEncoding}
-use Rattle.zarr_codecs_meaning.specs.Laws.{IsLawfulChain, AreCells}
-use Rattle.zarr_codecs_meaning.proofs.Lists.{both_true, bind_some, some_same, Each, each_passes, each_weaker}
+use Rattle.zarr_codecs_meaning.specs.Laws.{AreCells}
+use Rattle.zarr_codecs_meaning.proofs.Lists.{Each, each_passes, each_weaker}
 use Rattle.zarr_codecs_meaning.proofs.Steps.{length-gather, values_gathered, step_count}
 use Rattle.zarr_codecs_meaning.proofs.Sizes.{cells_moved}
-use Rattle.zarr_codecs_meaning.proofs.Elements.{KeepsAll, keeps_all, bytes_back, packbits_lossless, packbits_kept}
+use Rattle.zarr_codecs_meaning.proofs.Elements.{KeepsAll, keeps_all, packbits_lossless}
 use Rattle.zarr_codecs_meaning.proofs.Positions.{gathered_back}
 use Rattle.zarr_codecs_meaning.proofs.Covers.{step_covers}
 use Rattle.zarr_codecs_meaning.proofs.Once.{gathered_again, step_once}
 use Rattle.zarr_codecs_meaning.proofs.Shards.{part_cells}
 use Rattle.zarr_codecs_meaning.proofs.Fitting.{fitted, each_part}
-use Rattle.zarr_codecs_meaning.proofs.Meaning.{laws_of, shard_stands}
-use Rattle.zarr_codecs_meaning.proofs.Texts.{ends_below, length-ends, numbers_are_values, bytes_again}
-use Rattle.zarr_codecs_meaning.proofs.Zeros.{zero_is_value}
+use Rattle.zarr_codecs_meaning.proofs.Texts.{bytes_again}
 use Rattle.zarr_codecs_meaning.proofs.Options.{spread_back}
 use Rattle.zarr_codecs_meaning.proofs.KeptElements.{packs, packbits_cells, packbits_twice, packbits_bits}
 use Rattle.zarr_codecs_meaning.proofs.KeptTexts.{content_of, texts_fit, are_texts, content_cells, keeps_bytes, cut_back, vlen_cells, vlen_twice, vlen_encoded}
-use Rattle.zarr_codecs_meaning.proofs.KeptOptions.{found_in, options_fit, are_options, found_cells, mask_cells, optional_cells, optional_twice, optional_encoded}
-use Rattle.zarr_codecs_meaning.proofs.KeptReading.{vlen_decoded, optional_decoded}
-use Rattle.zarr_codecs_meaning.proofs.KeptShards.{kept_part, part_kept, shard_cells, shard_twice, shard_same, PartKeeps, shard_read}
+use Rattle.zarr_codecs_meaning.proofs.KeptOptions.{found_in, options_fit, are_options, found_cells, optional_cells, optional_twice, optional_encoded}
+use Rattle.zarr_codecs_meaning.proofs.KeptShards.{kept_part, part_kept, shard_cells, shard_twice, shard_same}
 
 -- cells put back from where an array codec took them
 cells_put_back : (step : Step) (elements : Elements) (shape : List ℕ) (cells : List Cell) → AreCells elements (step_shape step shape) cells → AreCells elements shape (gather elements.fill cells (undone_places step shape))
@@ -66,7 +60,7 @@ kept_cells (optional mask values) elements shape cells fit are =
     let inside = kept_cells values (zero_filled inner) (length found ∷ []) found (f.values_fit (length found ∷ [])) (found_cells inner cells (are_options elements.type inner cells f.is are.values)) in
     optional_cells elements shape inner cells (kept values (zero_filled inner) (length found ∷ []) found) f.is are inside.values
 kept_cells (after_step step chain) elements shape cells fit are =
-    let both = both_true (step_fits step shape) (fits chain elements.type (step_shape step shape)) fit in
+    let both = and_parts (step_fits step shape) (fits chain elements.type (step_shape step shape)) fit in
     let moved = gather elements.fill cells (step_places step shape) in
     cells_put_back step elements shape (kept chain elements (step_shape step shape) moved) (kept_cells chain elements (step_shape step shape) moved both.1 (cells_moved step elements shape cells both.0 are))
 kept_cells (then_bytes chain codec) elements shape cells fit are = kept_cells chain elements shape cells fit are
@@ -95,7 +89,7 @@ kept_twice (optional mask values) elements shape cells fit are =
     let whole = (kept_cells values (zero_filled inner) some found (f.values_fit some) inside).whole in
     optional_twice (kept values (zero_filled inner)) cells (omega (arith, whole)) (kept_twice values (zero_filled inner) some found (f.values_fit some) inside)
 kept_twice (after_step step chain) elements shape cells fit are =
-    let both = both_true (step_fits step shape) (fits chain elements.type (step_shape step shape)) fit in
+    let both = and_parts (step_fits step shape) (fits chain elements.type (step_shape step shape)) fit in
     let moved = gather elements.fill cells (step_places step shape) in
     let inside = cells_moved step elements shape cells both.0 are in
     ap (λ (xs : List Cell). gather elements.fill (kept chain elements (step_shape step shape) xs) (undone_places step shape))
@@ -145,7 +139,7 @@ kept_encoded (optional mask values) elements shape cells plain fit are =
     optional_encoded (encoded mask (zero_filled bool) shape) (encoded values (zero_filled inner)) cells (kept values (zero_filled inner) some found) (omega (arith, whole))
     (kept_encoded values (zero_filled inner) some found (plain_where_taken values f.takes) (f.values_fit some) inside)
 kept_encoded (after_step step chain) elements shape cells plain fit are =
-    let both = both_true (step_fits step shape) (fits chain elements.type (step_shape step shape)) fit in
+    let both = and_parts (step_fits step shape) (fits chain elements.type (step_shape step shape)) fit in
     let moved = gather elements.fill cells (step_places step shape) in
     let inside = cells_moved step elements shape cells both.0 are in
     ap (encoded chain elements (step_shape step shape)) (cells_taken_again step elements shape (kept chain elements (step_shape step shape) moved) both.0 (kept_cells chain elements (step_shape step shape) moved both.1 inside))
@@ -154,6 +148,11 @@ kept_encoded (then_bytes chain codec) elements shape cells plain fit are = ap (o
 kept_encoded (sharded subchunk inner index location) elements shape cells plain fit are = cc
 
 -- ---- chains that keep all
+
+-- of the present elements too no bit is dropped
+pub inner_lossless : (values : Chain) (type : DataType) (t : Bool) (o : Option DataType) → (t && (elim o [ None ↦ true | Some inner ↦ is_lossless values inner ])) ≡ true → o ≡ Some (unwrap_or o type) → is_lossless values (unwrap_or o type) ≡ true
+inner_lossless values type t None h e = cc
+inner_lossless values type t (Some inner) h e = (and_parts t (is_lossless values inner) h).1
 
 pub kept_lossless : (chain : Chain) (elements : Elements) (shape : List ℕ) (cells : List Cell) → is_lossless chain elements.type ≡ true → fits chain elements.type shape ≡ true → AreCells elements shape cells → kept chain elements shape cells ≡ cells
 kept_lossless (bytes order) elements shape cells lossless fit are = refl
@@ -166,7 +165,7 @@ kept_lossless (vlen index texts width location) elements shape cells lossless fi
     let content = content_of cells in
     let some = length content ∷ [] in
     let is = are_texts elements.type cells f.variable are.values in
-    let l = both_true (is_lossless index (integer unsigned width)) (is_lossless texts uint8) lossless in
+    let l = and_parts (is_lossless index (integer unsigned width)) (is_lossless texts uint8) lossless in
     ap (λ (xs : List Cell). cut_again cells (flat_map cell_bytes xs)) (kept_lossless texts (zero_filled uint8) some content l.1 (f.texts_fit some) (content_cells cells is))
     ∙ (ap (cut_again cells) (bytes_again (flat_map cell_bytes cells)) ∙ cut_back cells is)
 kept_lossless (optional mask values) elements shape cells lossless fit are =
@@ -176,18 +175,15 @@ kept_lossless (optional mask values) elements shape cells lossless fit are =
     let some = length found ∷ [] in
     let options = are_options elements.type inner cells f.is are.values in
     let l : is_lossless values inner ≡ true = inner_lossless values elements.type (is_lossless mask bool) (inner_type elements.type) lossless f.is in
-    ap (spread (map mask_cell cells)) (kept_lossless values (zero_filled inner) some found l (f.values_fit some) (found_cells inner cells options)) ∙ spread_back inner cells options where
-      inner_lossless : (values : Chain) (type : DataType) (t : Bool) (o : Option DataType) → (t && (elim o [ None ↦ true | Some inner ↦ is_lossless values inner ])) ≡ true → o ≡ Some (unwrap_or o type) → is_lossless values (unwrap_or o type) ≡ true
-      inner_lossless values type t None h e = cc
-      inner_lossless values type t (Some inner) h e = (both_true t (is_lossless values inner) h).1
+    ap (spread (map mask_cell cells)) (kept_lossless values (zero_filled inner) some found l (f.values_fit some) (found_cells inner cells options)) ∙ spread_back inner cells options
 kept_lossless (after_step step chain) elements shape cells lossless fit are =
-    let both = both_true (step_fits step shape) (fits chain elements.type (step_shape step shape)) fit in
+    let both = and_parts (step_fits step shape) (fits chain elements.type (step_shape step shape)) fit in
     ap (λ (xs : List Cell). gather elements.fill xs (undone_places step shape)) (kept_lossless chain elements (step_shape step shape) (gather elements.fill cells (step_places step shape)) lossless both.1 (cells_moved step elements shape cells both.0 are))
     ∙ gathered_back elements.fill cells (step_places step shape) _ are.whole (step_covers step shape both.0)
 kept_lossless (then_bytes chain codec) elements shape cells lossless fit are = kept_lossless chain elements shape cells lossless fit are
 kept_lossless (sharded subchunk inner index location) elements shape cells lossless fit are =
     let f = fitted subchunk inner index location elements shape fit in
-    let l = both_true (is_lossless inner elements.type) (is_lossless index uint64) lossless in
+    let l = and_parts (is_lossless inner elements.type) (is_lossless index uint64) lossless in
     shard_same (kept inner elements) elements.fill shape subchunk cells f.cuts are.whole
     (each_part subchunk inner index elements shape cells (λ (part : Part). kept inner elements part.shape (part_cells elements.fill cells part) ≡ part_cells elements.fill cells part) f are
     (λ part one two. kept_lossless inner elements part.shape (part_cells elements.fill cells part) l.0 one two))
@@ -196,20 +192,20 @@ kept_lossless (sharded subchunk inner index location) elements shape cells lossl
 one_bit : (first : ℕ) (last : Option ℕ) → list_all (bits_fit first last) (components bool) ≡ true → Each (KeepsAll first last) (components bool)
 one_bit first last h =
     let top = last_kept last (record { width = 1; byte_count = 1; sign = unsigned }) in
-    let both = both_true (nat_le first top) (nat_lt top 1) (both_true (nat_le first top && nat_lt top 1) true h).0 in
+    let both = and_parts (nat_le first top) (nat_lt top 1) (and_parts (nat_le first top && nat_lt top 1) true h).0 in
     let from = leb-true first top both.0 in
     let to = ltb-true top 1 both.1 in
     (record { from_zero = omega (arith, from, to); to_last = omega (arith, to) }, tt)
 
 -- of a mask all is kept, by whichever chain
-kept_mask : (chain : Chain) (shape : List ℕ) (cells : List Cell) → fits chain bool shape ≡ true → AreCells (zero_filled bool) shape cells → kept chain (zero_filled bool) shape cells ≡ cells
+pub kept_mask : (chain : Chain) (shape : List ℕ) (cells : List Cell) → fits chain bool shape ≡ true → AreCells (zero_filled bool) shape cells → kept chain (zero_filled bool) shape cells ≡ cells
 kept_mask (bytes order) shape cells fit are = refl
 kept_mask (packbits padding first last) shape cells fit are = packbits_lossless first last bool cells refl (one_bit first last fit) (each_passes (is_value bool) cells are.values)
 kept_mask (vlen index texts width location) shape cells fit are = cc
 kept_mask (optional mask values) shape cells fit are = cc
 kept_mask (after_step step chain) shape cells fit are =
     let fill = (zero_filled bool).fill in
-    let both = both_true (step_fits step shape) (fits chain bool (step_shape step shape)) fit in
+    let both = and_parts (step_fits step shape) (fits chain bool (step_shape step shape)) fit in
     ap (λ (xs : List Cell). gather fill xs (undone_places step shape)) (kept_mask chain (step_shape step shape) (gather fill cells (step_places step shape)) both.1 (cells_moved step (zero_filled bool) shape cells both.0 are))
     ∙ gathered_back fill cells (step_places step shape) _ are.whole (step_covers step shape both.0)
 kept_mask (then_bytes chain codec) shape cells fit are = kept_mask chain shape cells fit are
@@ -219,68 +215,3 @@ kept_mask (sharded subchunk inner index location) shape cells fit are =
     shard_same (kept inner bools) bools.fill shape subchunk cells f.cuts are.whole
     (each_part subchunk inner index bools shape cells (λ (part : Part). kept inner bools part.shape (part_cells bools.fill cells part) ≡ part_cells bools.fill cells part) f are
     (λ part one two. kept_mask inner part.shape (part_cells bools.fill cells part) one two))
-
--- ---- decoding
-
--- offsets as the cells of an index
-offset_cells : (width count : ℕ) (cells : List Cell) → length cells ≡ count → last_number 0 (ends_from 0 (map cell_bytes cells)) < 2 ^ width → AreCells (zero_filled (integer unsigned width)) ((count + 1) ∷ []) (number_cells width (0 ∷ ends_from 0 (map cell_bytes cells)))
-offset_cells width count cells whole low =
-    let offsets = 0 ∷ ends_from 0 (map cell_bytes cells) in
-    let below = ends_below cells 0 (2 ^ width) low in record {
-      fill = zero_is_value (integer unsigned width);
-      values = numbers_are_values width offsets (below.0, below.1);
-      whole = length-map offsets (λ n. of_bytes (digits 256 ((width + 7) / 8) n)) ∙ omega (arith, length-ends cells 0, whole);
-    }
-
-pub kept_decoded : (chain : Chain) (elements : Elements) (shape value : List ℕ) (cells : List Cell) → IsLawfulChain chain → fits chain elements.type shape ≡ true → keeps_indices chain ≡ true → AreCells elements shape cells
-    → encoded chain elements shape cells ≡ Some value → decoded chain elements shape value ≡ Some (kept chain elements shape cells)
-kept_decoded (bytes order) elements shape value cells lawful fit keeps are h =
-    ap (decoded (bytes order) elements shape) (sym (some_same h)) ∙ bytes_back order elements shape cells (both_true (is_fixed elements.type) (order_fits order (components elements.type)) fit).0 are
-kept_decoded (packbits padding first last) elements shape value cells lawful fit keeps are h =
-    ap (decoded (packbits padding first last) elements shape) (sym (some_same h)) ∙ packbits_kept padding first last elements shape cells are.whole
-kept_decoded (vlen index texts width location) elements shape value cells lawful fit keeps are h =
-    let f = texts_fit index texts width location elements.type shape fit in
-    let numbers = zero_filled (integer unsigned width) in
-    let index_shape_ = (product shape + 1) ∷ [] in
-    let offsets = number_cells width (0 ∷ ends_from 0 (map cell_bytes cells)) in
-    let k = both_true (is_lossless index (integer unsigned width)) (keeps_indices texts) keeps in
-    let laws = laws_of index lawful.0 in
-    let content = content_of cells in
-    let some = length content ∷ [] in
-    let inside = content_cells cells (are_texts elements.type cells f.variable are.values) in
-    let keep = kept texts (zero_filled uint8) some content in
-    vlen_decoded (encoded index numbers index_shape_) (decoded index numbers index_shape_) (encoded texts (zero_filled uint8)) (decoded texts (zero_filled uint8)) width location cells keep value
-    (keeps_bytes cells keep (kept_cells texts (zero_filled uint8) some content (f.texts_fit some) inside))
-    (λ text low e.
-    let are_numbers = offset_cells width (product shape) cells are.whole low in
-    laws.decodes numbers index_shape_ text offsets f.index_fits k.0 are_numbers (laws.stands numbers index_shape_ text offsets f.index_fits k.0 are_numbers e))
-    (λ text e. kept_decoded texts (zero_filled uint8) some text content lawful.1 (f.texts_fit some) k.1 inside e) h
-kept_decoded (optional mask values) elements shape value cells lawful fit keeps are h =
-    let f = options_fit mask values elements.type shape fit in
-    let bools = zero_filled bool in
-    let inner = unwrap_or (inner_type elements.type) elements.type in
-    let found = found_in cells in
-    let some = length found ∷ [] in
-    let k = both_true (keeps_indices mask) (keeps_indices values) keeps in
-    let inside = found_cells inner cells (are_options elements.type inner cells f.is are.values) in
-    let masks = mask_cells shape cells are.whole in
-    let whole = (kept_cells values (zero_filled inner) some found (f.values_fit some) inside).whole in
-    optional_decoded (encoded mask bools shape) (decoded mask bools shape) (encoded values (zero_filled inner)) (decoded values (zero_filled inner)) cells (kept values (zero_filled inner) some found) value (omega (arith, whole))
-    (λ text e. kept_decoded mask bools shape text (map mask_cell cells) lawful.0 f.mask_fits k.0 masks e ∙ ap Some (kept_mask mask shape (map mask_cell cells) f.mask_fits masks))
-    (λ text e. kept_decoded values (zero_filled inner) some text found lawful.1 (f.values_fit some) k.1 inside e) h
-kept_decoded (after_step step chain) elements shape value cells lawful fit keeps are h =
-    let both = both_true (step_fits step shape) (fits chain elements.type (step_shape step shape)) fit in
-    ap (option_map (λ (found : List Cell). gather elements.fill found (undone_places step shape)))
-    (kept_decoded chain elements (step_shape step shape) value (gather elements.fill cells (step_places step shape)) lawful both.1 keeps (cells_moved step elements shape cells both.0 are) h)
-kept_decoded (then_bytes chain codec) elements shape value cells lawful fit keeps are h =
-    let found = bind_some codec.encode (encoded chain elements shape cells) value h in
-    ap (option_and_then (decoded chain elements shape)) (lawful.1.undoes found.0 value found.2) ∙ kept_decoded chain elements shape found.0 cells lawful.0 fit keeps are found.1
-kept_decoded (sharded subchunk inner index location) elements shape value cells lawful fit keeps are h =
-    let f = fitted subchunk inner index location elements shape fit in
-    let k = both_true (keeps_indices inner) (is_lossless index uint64) keeps in
-    let fill = elements.fill in
-    let pairs_shape = index_shape shape subchunk in
-    let stands = shard_stands subchunk inner index location elements shape value cells (IsEncoding inner elements) lawful.1 (laws_of index lawful.1) fit k.1 are (λ part text found one two e. e) h in
-    shard_read (decoded index (zero_filled uint64) pairs_shape) (decoded inner elements) (kept inner elements) (IsEncoding inner elements) location (index_size index pairs_shape) fill cells shape subchunk value
-    (each_part subchunk inner index elements shape cells (PartKeeps (decoded inner elements) (kept inner elements) (IsEncoding inner elements) fill cells) f are
-    (λ part one two. (two.whole, λ v e. kept_decoded inner elements part.shape v (part_cells fill cells part) lawful.0 one k.0 two e))) stands

@@ -2,7 +2,7 @@
 use Rattle.std.proofs.Common.{◌≡◌, ℕ, ◌+◌, ◌*◌, ◌/◌, ◌%◌, ◌^◌, ◌<◌, ◌≤◌, List, [], ◌∷◌, ◌++◌, length, map, take, drop, ap, ◌∙◌, sym, refl, arith, Option, Bool, true, ◌&&◌, ◌==◌, if◌then◌else◌, length-append, length-take, length-drop, pow-add, pow_mono, pow_pos, subst}
 use Rattle.std.specs.Prelude.{nat_lt, nat_le}
 use Rattle.std.specs.List.{list_all, flat_map}
-use Rattle.std.proofs.lemmas.Bool.{eq-eqb, ltb-true, lt-ltb, leb-true}
+use Rattle.std.proofs.lemmas.Bool.{eq-eqb, ltb-true, lt-ltb, leb-true, and_parts}
 use Rattle.std.proofs.lemmas.List.{length-map}
 use Rattle.std.proofs.Math.Seq.{take-append_seam, drop-append_seam}
 use Rattle.std.proofs.Math.Nat.{mul-lt-mul_of_pos_right}
@@ -14,7 +14,7 @@ use Rattle.zarr_codecs_meaning.specs.Fits.{last_kept, kept_bits, bits_fit}
 use Rattle.zarr_codecs_meaning.specs.Encoding.{element_bits, element_of_bits}
 use Rattle.zarr_codecs_meaning.specs.Keeping.{kept}
 use Rattle.zarr_codecs_meaning.specs.Laws.{AreCells}
-use Rattle.zarr_codecs_meaning.proofs.Lists.{both_true, Each, each_passes, all_pass, each_weaker, each_map, each_append}
+use Rattle.zarr_codecs_meaning.proofs.Lists.{Each, each_passes, all_pass, each_weaker, each_map, each_append}
 use Rattle.zarr_codecs_meaning.proofs.Values.{fixed_value, length-digits}
 use Rattle.zarr_codecs_meaning.proofs.Digits.{digits_below, bytes_below, each-take, each-drop}
 use Rattle.zarr_codecs_meaning.proofs.Elements.{are_bits, kept_cell}
@@ -27,7 +27,7 @@ pub record KeepsBits (first : ℕ) (last : Option ℕ) (c : Component) : Type 0 
 
 keeps_bits : (first : ℕ) (last : Option ℕ) (c : Component) → bits_fit first last c ≡ true → KeepsBits first last c
 keeps_bits first last c h =
-    let both = both_true (nat_le first (last_kept last c)) (nat_lt (last_kept last c) c.width) h in
+    let both = and_parts (nat_le first (last_kept last c)) (nat_lt (last_kept last c) c.width) h in
     let from = leb-true first (last_kept last c) both.0 in
     let to = ltb-true (last_kept last c) c.width both.1 in
     record { are = omega (arith, from); within = omega (arith, to) }
@@ -139,7 +139,7 @@ pub record Packs (first : ℕ) (last : Option ℕ) (type : DataType) : Type 0 wh
 
 pub packs : (first : ℕ) (last : Option ℕ) (type : DataType) → (is_fixed type && list_all (bits_fit first last) (components type)) ≡ true → Packs first last type
 packs first last type fit =
-    let both = both_true (is_fixed type) (list_all (bits_fit first last) (components type)) fit in
+    let both = and_parts (is_fixed type) (list_all (bits_fit first last) (components type)) fit in
     record { fixed = both.0; keeps = keep_bits first last (components type) both.1 }
 
 pub packbits_cells : (padding : Padding) (first : ℕ) (last : Option ℕ) (elements : Elements) (shape : List ℕ) (cells : List Cell) → Packs first last elements.type → AreCells elements shape cells → AreCells elements shape (kept (packbits padding first last) elements shape cells)

@@ -2,6 +2,7 @@
 use Rattle.std.proofs.Common.{◌≡◌, ℕ, suc, List, [], ◌∷◌, length, map, ap, ◌∙◌, refl, arith, Option, Some, None, option_and_then, unwrap_or, Bool, true, false, ◌&&◌, ◌==◌, if◌then◌else◌}
 use Rattle.std.specs.List.{filter_map, list_all}
 use Rattle.std.proofs.lemmas.List.{length-map}
+use Rattle.std.proofs.lemmas.Bool.{and_parts}
 use Rattle.zarr_grids_boxes.specs.Boxes.{product}
 use Rattle.zarr_codecs_meaning.specs.Numbers.{number}
 use Rattle.zarr_codecs_meaning.specs.Types.{DataType, bool, inner_type, is_value, Cell, of_bytes, cell_bytes, absent, present, Elements, zero_filled}
@@ -11,9 +12,9 @@ use Rattle.zarr_codecs_meaning.specs.Fits.{fits, takes_each_shape}
 use Rattle.zarr_codecs_meaning.specs.Encoding.{mask_cell, present_cell, with_mask, unless_none, options_encoded}
 use Rattle.zarr_codecs_meaning.specs.Keeping.{spread}
 use Rattle.zarr_codecs_meaning.specs.Laws.{AreCells}
-use Rattle.zarr_codecs_meaning.proofs.Lists.{both_true, Each, each_passes, all_pass, each_weaker}
+use Rattle.zarr_codecs_meaning.proofs.Lists.{Each, each_passes, all_pass, each_weaker}
 use Rattle.zarr_codecs_meaning.proofs.Zeros.{zero_is_value, fits_each}
-use Rattle.zarr_codecs_meaning.proofs.Options.{IsOption, option_value, masks_are_values, found_are_values}
+use Rattle.zarr_codecs_meaning.proofs.Options.{IsOption, absent_first, option_value, masks_are_values, found_are_values}
 use Rattle.zarr_codecs_meaning.proofs.KeptTexts.{of_length, unless_kept}
 
 abbrev pub found_in : List Cell → List Cell
@@ -23,10 +24,6 @@ abbrev pub spread_by : List Cell → List Cell → List Cell
 spread_by cells found = spread (map mask_cell cells) found
 
 -- ---- cells spread
-
-not_first : (masks found : List Cell) → spread (of_bytes (0 ∷ []) ∷ masks) found ≡ absent ∷ spread masks found
-not_first masks [] = refl
-not_first masks (cell ∷ found) = refl
 
 length_step : (t : Bool) (c : Cell) (ones others : List Cell) (n : ℕ) → length ones ≡ n → length others ≡ n → length (if t then present c ∷ ones else absent ∷ others) ≡ suc n
 length_step true c ones others n h k = ap suc h
@@ -39,16 +36,16 @@ length-spread (m ∷ ms) (c ∷ cs) = length_step (number 256 (cell_bytes m) == 
 
 masks_alike : (cells found : List Cell) → length found ≡ length (found_in cells) → map mask_cell (spread_by cells found) ≡ map mask_cell cells
 masks_alike [] found h = refl
-masks_alike (of_bytes text ∷ cells) found h = ap (map mask_cell) (not_first (map mask_cell cells) found) ∙ ap (λ (xs : List Cell). of_bytes (0 ∷ []) ∷ xs) (masks_alike cells found h)
-masks_alike (absent ∷ cells) found h = ap (map mask_cell) (not_first (map mask_cell cells) found) ∙ ap (λ (xs : List Cell). of_bytes (0 ∷ []) ∷ xs) (masks_alike cells found h)
+masks_alike (of_bytes text ∷ cells) found h = ap (map mask_cell) (absent_first (map mask_cell cells) found) ∙ ap (λ (xs : List Cell). of_bytes (0 ∷ []) ∷ xs) (masks_alike cells found h)
+masks_alike (absent ∷ cells) found h = ap (map mask_cell) (absent_first (map mask_cell cells) found) ∙ ap (λ (xs : List Cell). of_bytes (0 ∷ []) ∷ xs) (masks_alike cells found h)
 masks_alike (present cell ∷ cells) [] h = absurd (omega arith)
 masks_alike (present cell ∷ cells) (c ∷ cs) h = ap (λ (xs : List Cell). of_bytes (1 ∷ []) ∷ xs) (masks_alike cells cs (omega arith))
 
 found_alike : (cells found : List Cell) → length found ≡ length (found_in cells) → found_in (spread_by cells found) ≡ found
 found_alike [] [] h = refl
 found_alike [] (c ∷ cs) h = absurd (omega arith)
-found_alike (of_bytes text ∷ cells) found h = ap found_in (not_first (map mask_cell cells) found) ∙ found_alike cells found h
-found_alike (absent ∷ cells) found h = ap found_in (not_first (map mask_cell cells) found) ∙ found_alike cells found h
+found_alike (of_bytes text ∷ cells) found h = ap found_in (absent_first (map mask_cell cells) found) ∙ found_alike cells found h
+found_alike (absent ∷ cells) found h = ap found_in (absent_first (map mask_cell cells) found) ∙ found_alike cells found h
 found_alike (present cell ∷ cells) [] h = absurd (omega arith)
 found_alike (present cell ∷ cells) (c ∷ cs) h = ap (λ (xs : List Cell). c ∷ xs) (found_alike cells cs (omega arith))
 
@@ -86,8 +83,8 @@ options_fit mask values type shape fit =
           → (o ≡ Some (unwrap_or o type)) × (fits mask bool shape ≡ true) × (takes_each_shape values ≡ true) × (fits values (unwrap_or o type) (0 ∷ []) ≡ true)
       by_inner None h = cc
       by_inner (Some inner) h =
-          let a = both_true (fits mask bool shape) (takes_each_shape values && fits values inner (0 ∷ [])) h in
-          let b = both_true (takes_each_shape values) (fits values inner (0 ∷ [])) a.1 in
+          let a = and_parts (fits mask bool shape) (takes_each_shape values && fits values inner (0 ∷ [])) h in
+          let b = and_parts (takes_each_shape values) (fits values inner (0 ∷ [])) a.1 in
           (refl, a.0, b.0, b.1)
 
 pub are_options : (type inner : DataType) (cells : List Cell) → inner_type type ≡ Some inner → list_all (is_value type) cells ≡ true → Each (IsOption inner) cells

@@ -2,7 +2,7 @@
 use Rattle.std.proofs.Common.{◌≡◌, ℕ, ◌^◌, ◌<◌, List, [], ◌∷◌, ◌++◌, length, map, take, drop, ap, ◌∙◌, sym, refl, arith, Option, Some, None, option_and_then, option_map, ◌&&◌, ◌==◌, if◌then◌else◌}
 use Rattle.std.specs.Prelude.{nat_lt}
 use Rattle.std.specs.List.{flat_map}
-use Rattle.std.proofs.lemmas.Bool.{ltb-true}
+use Rattle.std.proofs.lemmas.Bool.{ltb-true, and_parts}
 use Rattle.std.proofs.lemmas.List.{length-map}
 use Rattle.zarr_codecs_meaning.specs.Numbers.{number, word}
 use Rattle.zarr_codecs_meaning.specs.Types.{Cell, of_bytes, cell_bytes}
@@ -10,7 +10,7 @@ use Rattle.zarr_codecs_meaning.specs.Chains.{Location}
 use Rattle.zarr_codecs_meaning.specs.Encoding.{ends_from, last_number, number_cells, sections, with_index, with_mask, is_short, unless_none, mask_cell, texts_encoded, options_encoded}
 use Rattle.zarr_codecs_meaning.specs.Keeping.{cut_again, spread}
 use Rattle.zarr_codecs_meaning.specs.Decoding.{sections_of, texts_between, texts_of, masked_of, count_present, read_unless_none, texts_decoded, options_decoded}
-use Rattle.zarr_codecs_meaning.proofs.Lists.{both_true, bind_some, if_some, some_same}
+use Rattle.zarr_codecs_meaning.proofs.Lists.{bind_some, if_some, some_same}
 use Rattle.zarr_codecs_meaning.proofs.Texts.{ends_below, last_end, between_back, numbers_again, sections_back}
 use Rattle.zarr_codecs_meaning.proofs.Options.{count_found, masked_back}
 use Rattle.zarr_codecs_meaning.proofs.KeptTexts.{content_of, KeepsBytes, cut_joined, ends_alike}
@@ -81,7 +81,7 @@ optional_decoded mask_encode mask_decode encode decode cells found value many ma
     let made = bind_some next (mask_encode masks) value h in
     let text = bind_some (with_mask made.0) data_text value made.2 in
     let told = if_some (is_short made.0 && is_short text.0) (Some (word (length made.0) ++ (word (length text.0) ++ (made.0 ++ text.0)))) value text.2 in
-    let shorts = both_true (is_short made.0) (is_short text.0) told.0 in
+    let shorts = and_parts (is_short made.0) (is_short text.0) told.0 in
     let count = count_present masks in
     let result = λ (sections_ : List ℕ × List ℕ). λ (ms : List Cell). option_map (spread ms) (read_unless_none (count_present ms) sections_.1 (decode (count_present ms ∷ []))) in
     let whole = λ (sections_ : List ℕ × List ℕ). option_and_then (result sections_) (mask_decode sections_.0) in

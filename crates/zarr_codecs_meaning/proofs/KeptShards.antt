@@ -18,8 +18,8 @@ use Rattle.zarr_codecs_meaning.specs.Laws.{AreCells}
 use Rattle.zarr_codecs_meaning.proofs.Lists.{Each, each_passes, all_pass, each_get, each_map}
 use Rattle.zarr_codecs_meaning.proofs.Positions.{each_at}
 use Rattle.zarr_codecs_meaning.proofs.Shards.{fill_is_replicate, words_of, pairs_back, is_present, index_read, slice_found, part_cells, arranged_back}
-use Rattle.zarr_codecs_meaning.proofs.Parts.{part_counts, parts_cover}
-use Rattle.zarr_codecs_meaning.proofs.PartsOnce.{no_part, parts_again}
+use Rattle.zarr_codecs_meaning.proofs.Parts.{part_counts, no_part, parts_cover}
+use Rattle.zarr_codecs_meaning.proofs.PartsOnce.{parts_again}
 
 -- what is kept of a subchunk
 abbrev pub kept_part : (List ℕ → List Cell → List Cell) → Cell → List Cell → Part → List Cell
@@ -129,7 +129,7 @@ shard_same keep fill shape subchunk cells cuts whole same =
 -- ---- reading
 
 -- the pairs that are read of a value that stands by some relation of slices
-pairs_found : (index : List ℕ → Option (List Cell)) (inner : List ℕ → List ℕ → List Cell → Type 0) (location : Location) (size : ℕ) (fill : Cell) (pieces : List Piece) (value : List ℕ) (h : ShardStands index inner location size fill pieces value)
+pub pairs_found : (index : List ℕ → Option (List Cell)) (inner : List ℕ → List ℕ → List Cell → Type 0) (location : Location) (size : ℕ) (fill : Cell) (pieces : List Piece) (value : List ℕ) (h : ShardStands index inner location size fill pieces value)
     → pairs_in index location size value ≡ Some h.0
 pairs_found index inner location size fill pieces value h =
     let laid = h.2 in

@@ -4,6 +4,7 @@ use Rattle.std.specs.Prelude.{nat_lt}
 use Rattle.std.specs.List.{flat_map, list_all}
 use Rattle.std.proofs.lemmas.List.{length-map}
 use Rattle.std.proofs.Math.Seq.{take-append_seam, drop-append_seam}
+use Rattle.std.proofs.lemmas.Bool.{and_parts}
 use Rattle.zarr_grids_boxes.specs.Boxes.{product}
 use Rattle.zarr_codecs_meaning.specs.Types.{DataType, bool, integer, custom, string, variable_bytes, optional_of, unsigned, uint8, is_variable, is_value, Cell, of_bytes, cell_bytes, Elements, zero_filled}
 use Rattle.zarr_codecs_meaning.specs.Chains.{Chain, Location}
@@ -12,7 +13,7 @@ use Rattle.zarr_codecs_meaning.specs.Fits.{fits, takes_each_shape}
 use Rattle.zarr_codecs_meaning.specs.Encoding.{ends_from, last_number, number_cells, byte_cells, with_index, unless_none, texts_encoded}
 use Rattle.zarr_codecs_meaning.specs.Keeping.{cut_again}
 use Rattle.zarr_codecs_meaning.specs.Laws.{AreCells}
-use Rattle.zarr_codecs_meaning.proofs.Lists.{both_true, Each, each_passes, each_weaker, each_append}
+use Rattle.zarr_codecs_meaning.proofs.Lists.{Each, each_passes, each_weaker, each_append}
 use Rattle.zarr_codecs_meaning.proofs.Values.{fixed_value}
 use Rattle.zarr_codecs_meaning.proofs.Digits.{bytes_below, each-take, each-drop}
 use Rattle.zarr_codecs_meaning.proofs.Zeros.{zero_is_value, fits_each}
@@ -130,9 +131,9 @@ pub texts_fit : (index texts : Chain) (width : ℕ) (location : Location) (type 
 texts_fit index texts width location type shape fit =
     let front = fits index (integer unsigned width) ((product shape + 1) ∷ []) in
     let back = takes_each_shape texts && fits texts uint8 (0 ∷ []) in
-    let a = both_true (is_variable type) (front && back) fit in
-    let b = both_true front back a.1 in
-    let c = both_true (takes_each_shape texts) (fits texts uint8 (0 ∷ [])) b.1 in
+    let a = and_parts (is_variable type) (front && back) fit in
+    let b = and_parts front back a.1 in
+    let c = and_parts (takes_each_shape texts) (fits texts uint8 (0 ∷ [])) b.1 in
     record { variable = a.0; index_fits = b.0; takes = c.0; texts_fit = λ some. fits_each texts uint8 (0 ∷ []) some c.0 c.1 }
 
 pub are_texts : (type : DataType) (cells : List Cell) → is_variable type ≡ true → list_all (is_value type) cells ≡ true → Each IsText cells

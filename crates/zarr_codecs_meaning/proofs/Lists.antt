@@ -1,10 +1,7 @@
 -- Lists, options and tests.
 use Rattle.std.proofs.Common.{◌≡◌, ℕ, zero, suc, ◌*◌, List, [], ◌∷◌, ◌++◌, length, map, get_or, replicate, ap, ◌∙◌, refl, arith, Option, Some, None, option_and_then, option_map, Bool, true, false, ◌&&◌, length-append, if◌then◌else◌}
 use Rattle.std.specs.List.{flat_map, list_all}
-
-pub both_true : (a b : Bool) → (a && b) ≡ true → (a ≡ true) × (b ≡ true)
-both_true true b h = (refl, h)
-both_true false b h = cc
+use Rattle.std.proofs.lemmas.Bool.{and_parts}
 
 pub some_same : {X : Type 0} {x y : X} → Some x ≡ Some y → x ≡ y
 some_same h = cc
@@ -30,9 +27,13 @@ abbrev pub Each : {X : Type 0} → (X → Type 0) → List X → Type 0
 Each P [] = Unit {0}
 Each P (x ∷ xs) = P x × Each P xs
 
+pub every : {X : Type 0} (P : X → Type 0) (xs : List X) → ((x : X) → P x) → Each P xs
+every P [] law = tt
+every P (x ∷ xs) law = (law x, every P xs law)
+
 pub each_passes : {X : Type 0} (test : X → Bool) (xs : List X) → list_all test xs ≡ true → Each (λ x. test x ≡ true) xs
 each_passes test [] h = tt
-each_passes test (x ∷ xs) h = let b = both_true (test x) (list_all test xs) h in (b.0, each_passes test xs b.1)
+each_passes test (x ∷ xs) h = let b = and_parts (test x) (list_all test xs) h in (b.0, each_passes test xs b.1)
 
 pub all_pass : {X : Type 0} (test : X → Bool) (xs : List X) → Each (λ x. test x ≡ true) xs → list_all test xs ≡ true
 all_pass test [] h = refl

@@ -1,8 +1,7 @@
 -- Numbers of which each stands in a list once: cells put back are gathered again.
-use Rattle.std.proofs.Common.{◌≡◌, ℕ, zero, suc, ◌+◌, ◌<◌, ◌≤◌, List, [], ◌∷◌, ◌++◌, length, map, get_or, slice_index, ap, ◌∙◌, sym, refl, arith, Bool, true, false, cond, not, ◌==◌, ◌⊎◌, inl, inr, if◌then◌else◌, length-append, subst}
-use Rattle.std.specs.Prelude.{nat_lt}
-use Rattle.std.specs.List.{list_all, list_any, range_with_len}
-use Rattle.std.proofs.lemmas.Bool.{eq-eqb, ltb-true}
+use Rattle.std.proofs.Common.{◌≡◌, ℕ, zero, suc, ◌+◌, ◌<◌, ◌≤◌, List, [], ◌∷◌, ◌++◌, length, map, get_or, slice_index, ap, ◌∙◌, sym, refl, arith, Bool, true, false, cond, not, ◌==◌, ◌⊎◌, inl, inr, if◌then◌else◌, length-append}
+use Rattle.std.specs.List.{range_with_len}
+use Rattle.std.proofs.lemmas.Bool.{eq-eqb, and_parts}
 use Rattle.std.proofs.lemmas.List.{get_or-map, length-map}
 use Rattle.std.proofs.lemmas.List.FromFn.{length-range_with_len, get_or-range_with_len, fill_by_all, get_or-map-range_with_len}
 use Rattle.std.proofs.lemmas.Map.Views.{exact_unsigned_eq}
@@ -13,10 +12,9 @@ use Rattle.zarr_codecs_meaning.specs.Chains.{Step}
 use Rattle.zarr_codecs_meaning.specs.Chains.Step.{transpose, reshape, squeeze}
 use Rattle.zarr_codecs_meaning.specs.Places.{gather, position_of, places_of, untransposed, step_places}
 use Rattle.zarr_codecs_meaning.specs.Fits.{step_fits, is_permutation}
-use Rattle.zarr_codecs_meaning.proofs.Lists.{both_true, each_passes}
 use Rattle.zarr_codecs_meaning.proofs.Steps.{length-places_of}
-use Rattle.zarr_codecs_meaning.proofs.Positions.{IsAmong, among_at, any_among, each_at, position_found, position_read}
-use Rattle.zarr_codecs_meaning.proofs.Covers.{zeros, place_is_index, ravel_place, place_ravel, places_at}
+use Rattle.zarr_codecs_meaning.proofs.Positions.{IsAmong, among_at, position_found, position_read}
+use Rattle.zarr_codecs_meaning.proofs.Covers.{zeros, place_is_index, ravel_place, place_ravel, places_at, IsOrder, is_order}
 
 -- ---- as many numbers as are covered
 
@@ -121,26 +119,9 @@ gathered_again fill cells ns count whole once =
 
 -- ---- array codecs
 
--- an order names each dimension, and once
-record IsOrder (order : List ℕ) : Type 0 where
-  pub low : (i : ℕ) → i < length order → get_or order i 0 < length order
-  pub among : (d : ℕ) → d < length order → IsAmong d order
-  pub position : (i : ℕ) → i < length order → position_of (get_or order i 0) order ≡ i
-
-is_order : (order : List ℕ) → is_permutation order ≡ true → IsOrder order
-is_order order fit =
-    let n = length order in
-    let two = both_true (list_all (λ d. nat_lt d n) order) (list_all (λ d. list_any (λ m. m == d) order) (range_with_len 0 n)) fit in
-    let every_one = each_passes (λ d. list_any (λ m. m == d) order) (range_with_len 0 n) two.1 in
-    let among : (d : ℕ) → d < n → IsAmong d order = λ d below.
-    let in_range : d < length (range_with_len 0 n) = omega (arith, below, length-range_with_len 0 n) in
-    let at_d : get_or (range_with_len 0 n) d 0 ≡ d = get_or-range_with_len 0 n d 0 below ∙ omega arith in
-    any_among d order (subst (λ k. list_any (λ m. m == k) order ≡ true) at_d (each_at (λ d. list_any (λ m. m == d) order ≡ true) (range_with_len 0 n) d 0 every_one in_range)) in
-    record {
-      low = λ i h. ltb-true (get_or order i 0) n (each_at (λ d. nat_lt d n ≡ true) order i 0 (each_passes (λ d. nat_lt d n) order two.0) h);
-      among = among;
-      position = λ i h. apart_position order i (covering_apart [] order n (λ d below. inr (among d below)) (omega arith)) h;
-    }
+-- an order names each dimension once
+order_position : (order : List ℕ) → IsOrder order → (i : ℕ) → i < length order → position_of (get_or order i 0) order ≡ i
+order_position order is i h = apart_position order i (covering_apart [] order (length order) (λ d below. inr (is.among d below)) (omega arith)) h
 
 untransposed_index : (order q shape : List ℕ) → IsOrder order → length order ≡ length shape → IsIndex q (map (slice_index shape) order) → IsIndex (untransposed order q) shape
 untransposed_index order q shape is same h = record {
@@ -161,7 +142,7 @@ transposed_back order q is same =
     let u = untransposed order q in
     let read : (i : ℕ) → i < n → get_or (map (slice_index u) order) i 0 ≡ get_or q i 0 = λ i h.
     let d = get_or order i 0 in
-    get_or-map (slice_index u) order i 0 0 h ∙ (get_or-map-range_with_len (λ k. slice_index q (position_of k order)) 0 n d d 0 (is.low i h) (omega arith) ∙ ap (slice_index q) (is.position i h)) in
+    get_or-map (slice_index u) order i 0 0 h ∙ (get_or-map-range_with_len (λ k. slice_index q (position_of k order)) 0 n d d 0 (is.low i h) (omega arith) ∙ ap (slice_index q) (order_position order is i h)) in
     fill_by_all (λ i. get_or q i 0) (map (slice_index u) order) n 0 (length-map order (slice_index u)) read ∙ sym (fill_by_all (λ i. get_or q i 0) q n 0 same (λ k h. refl))
 
 range_once : (count : ℕ) → IsOnce count (range_with_len 0 count)
@@ -175,7 +156,7 @@ range_once count =
 -- an array codec takes each cell to one place
 pub step_once : (step : Step) (shape : List ℕ) → step_fits step shape ≡ true → IsOnce (product shape) (step_places step shape)
 step_once (transpose order) shape fit =
-    let one = both_true (length order == length shape) (is_permutation order) fit in
+    let one = and_parts (length order == length shape) (is_permutation order) fit in
     let same = exact_unsigned_eq (length order) (length shape) one.0 in
     let is = is_order order one.1 in
     let new_shape = map (slice_index shape) order in

@@ -2,14 +2,14 @@
 use Rattle.std.proofs.Common.{◌≡◌, ℕ, suc, ◌+◌, ◌<◌, ◌≤◌, ◌^◌, List, [], ◌∷◌, ◌++◌, length, map, take, drop, ap, ◌∙◌, sym, refl, arith, Some, None, Bool, true, false, ◌&&◌, ◌==◌, if◌then◌else◌, length-append}
 use Rattle.std.specs.Prelude.{nat_le}
 use Rattle.std.specs.List.{filter_map, list_all}
-use Rattle.std.proofs.lemmas.Bool.{le-leb, eq-eqb}
+use Rattle.std.proofs.lemmas.Bool.{le-leb, eq-eqb, and_parts}
 use Rattle.std.proofs.Math.Seq.{take-append_seam, drop-append_seam, drop-drop}
 use Rattle.zarr_codecs_meaning.specs.Numbers.{number, word}
 use Rattle.zarr_codecs_meaning.specs.Types.{DataType, bool, integer, custom, string, variable_bytes, optional_of, inner_type, is_value, are_bytes, Cell, of_bytes, absent, present}
 use Rattle.zarr_codecs_meaning.specs.Encoding.{mask_cell, present_cell}
 use Rattle.zarr_codecs_meaning.specs.Keeping.{spread}
 use Rattle.zarr_codecs_meaning.specs.Decoding.{masked_of, count_present}
-use Rattle.zarr_codecs_meaning.proofs.Lists.{both_true, Each}
+use Rattle.zarr_codecs_meaning.proofs.Lists.{Each}
 use Rattle.zarr_codecs_meaning.proofs.Shards.{number_word}
 
 -- a value of an optional type
@@ -24,7 +24,7 @@ option_value (integer sign width) inner cell e h = cc
 option_value (custom parts) inner cell e h = cc
 option_value string inner cell e h = cc
 option_value variable_bytes inner cell e h = cc
-option_value (optional_of type) inner (of_bytes text) e h = let no : false ≡ true = (both_true (are_bytes text) false h).1 in cc
+option_value (optional_of type) inner (of_bytes text) e h = let no : false ≡ true = (and_parts (are_bytes text) false h).1 in cc
 option_value (optional_of type) inner absent e h = tt
 option_value (optional_of type) inner (present cell) e h = let same : type ≡ inner = cc in sym (ap (λ t. is_value t cell) same) ∙ h
 
@@ -40,7 +40,7 @@ found_are_values inner (of_bytes text ∷ cells) h = elim h.0 [ ]
 found_are_values inner (absent ∷ cells) h = found_are_values inner cells h.1
 found_are_values inner (present cell ∷ cells) h = ap (λ (b : Bool). b && list_all (is_value inner) (filter_map present_cell cells)) h.0 ∙ found_are_values inner cells h.1
 
-absent_first : (masks found : List Cell) → spread (of_bytes (0 ∷ []) ∷ masks) found ≡ absent ∷ spread masks found
+pub absent_first : (masks found : List Cell) → spread (of_bytes (0 ∷ []) ∷ masks) found ≡ absent ∷ spread masks found
 absent_first masks [] = refl
 absent_first masks (cell ∷ found) = refl
 

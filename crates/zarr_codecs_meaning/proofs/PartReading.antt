@@ -2,8 +2,9 @@
 use Rattle.std.proofs.Common.{◌≡◌, ℕ, zero, suc, ◌<◌, List, [], ◌∷◌, length, map, get_or, slice_get, replicate, ap, ◌∙◌, sym, refl, arith, Option, Some, None, option_and_then, option_map, is_some, Bool, true, false, inl, inr, if◌then◌else◌}
 use Rattle.std.specs.Prelude.{nat_lt}
 use Rattle.std.specs.List.{list_all, range_with_len}
-use Rattle.std.proofs.lemmas.Bool.{ltb-true, lt-ltb}
+use Rattle.std.proofs.lemmas.Bool.{ltb-true, lt-ltb, and_parts}
 use Rattle.std.proofs.lemmas.List.{get_or-map, get_or-replicate}
+use Rattle.std.proofs.lemmas.Option.{slice_get-get_or}
 use Rattle.std.proofs.lemmas.List.FromFn.{length-range_with_len, length-map-range_with_len, get_or-range_with_len, get_or-map-range_with_len}
 use Rattle.zarr_grids_boxes.specs.Boxes.{product}
 use Rattle.zarr_codecs_meaning.specs.Types.{uint64, Elements, Cell, zero_filled}
@@ -14,7 +15,7 @@ use Rattle.zarr_codecs_meaning.specs.Fits.{fits, step_fits}
 use Rattle.zarr_codecs_meaning.specs.Encoding.{Pair, index_size}
 use Rattle.zarr_codecs_meaning.specs.Keeping.{arranged}
 use Rattle.zarr_codecs_meaning.specs.Decoding.{all_there, element_at, is_whole, decoded, cell_at, cell_of_part, opens, part_decoded, is_absent, slice_at, pairs_in, pieces_decoded}
-use Rattle.zarr_codecs_meaning.proofs.Lists.{both_true, bind_some, map_some, elim_some, Each, each_passes}
+use Rattle.zarr_codecs_meaning.proofs.Lists.{bind_some, map_some, elim_some, Each, each_passes}
 use Rattle.zarr_codecs_meaning.proofs.Steps.{step_count}
 use Rattle.zarr_codecs_meaning.proofs.Positions.{position_found}
 use Rattle.zarr_codecs_meaning.proofs.Covers.{step_covers}
@@ -28,13 +29,8 @@ record Reads (chain : Chain) (elements : Elements) (shape value : List ℕ) (cel
   pub opened : opens chain elements shape value ≡ true
   pub cell : (n : ℕ) → n < product shape → cell_at chain elements shape value n ≡ Some (get_or cells n elements.fill)
 
-picked : {X : Type 0} (xs : List X) (n : ℕ) (d : X) → n < length xs → slice_get xs n ≡ Some (get_or xs n d)
-picked [] n d h = absurd (omega arith)
-picked (x ∷ xs) zero d h = refl
-picked (x ∷ xs) (suc n) d h = picked xs n d (omega arith)
-
 selected : (o : Option (List Cell)) (cells : List Cell) (n : ℕ) (fill : Cell) → o ≡ Some cells → n < length cells → option_and_then (λ found. slice_get found n) o ≡ Some (get_or cells n fill)
-selected o cells n fill is h = ap (option_and_then (λ (found : List Cell). slice_get found n)) is ∙ picked cells n fill h
+selected o cells n fill is h = ap (option_and_then (λ (found : List Cell). slice_get found n)) is ∙ slice_get-get_or cells n fill h
 
 -- where all are there, each is
 found_at : {X : Type 0} (f : ℕ → Option X) (ns : List ℕ) (xs : List X) (i : ℕ) (d : X) → all_there (map f ns) ≡ Some xs → i < length ns → f (get_or ns i 0) ≡ Some (get_or xs i d)
@@ -128,7 +124,7 @@ reads_of (optional mask values) elements shape value cells fit h =
       cell = λ n below. selected (decoded (optional mask values) elements shape value) cells n elements.fill h (omega (arith, below, many));
     }
 reads_of (after_step step chain) elements shape value cells fit h =
-    let both = both_true (step_fits step shape) (fits chain elements.type (step_shape step shape)) fit in
+    let both = and_parts (step_fits step shape) (fits chain elements.type (step_shape step shape)) fit in
     let ns = step_places step shape in
     let made = map_some (λ (found : List Cell). gather elements.fill found (undone_places step shape)) (decoded chain elements (step_shape step shape) value) cells h in
     let rest = reads_of chain elements (step_shape step shape) value made.0 both.1 made.1 in record {

@@ -1,27 +1,26 @@
 -- The subchunks of a shape cover it.
-use Rattle.std.proofs.Common.{◌≡◌, ℕ, zero, suc, ◌+◌, ◌-◌, ◌*◌, ◌/◌, ◌%◌, ◌<◌, min, List, [], ◌∷◌, ◌++◌, length, map, get_or, ap, ◌∙◌, sym, refl, arith, true, subst, inl, inr}
+use Rattle.std.proofs.Common.{◌≡◌, ℕ, zero, suc, ◌+◌, ◌-◌, ◌*◌, ◌/◌, ◌%◌, ◌<◌, min, List, [], ◌∷◌, ◌++◌, length, get_or, ap, ◌∙◌, sym, refl, arith, true, subst, inl, inr}
 use Rattle.std.specs.Prelude.{nat_lt}
 use Rattle.std.proofs.Math.Nat.{le-div_iff_mul-le}
-use Rattle.std.proofs.lemmas.Bool.{ltb-true}
-use Rattle.std.proofs.lemmas.List.{length-map, get_or-map}
-use Rattle.std.proofs.lemmas.List.FromFn.{get_or-map-range_with_len}
+use Rattle.std.proofs.lemmas.Bool.{ltb-true, and_parts}
+use Rattle.std.proofs.lemmas.List.{length-map}
 use Rattle.zarr_grids_boxes.specs.Boxes.{product, places, place_at, ravel, each2, IsIndex}
-use Rattle.zarr_grids_boxes.proofs.Places.{place_at-ravel, places_by_number, IsIndex-cons, IsIndex-nil}
-use Rattle.zarr_grids_boxes.proofs.Dimensions.{ravel_below, IsIndex-tail}
+use Rattle.zarr_grids_boxes.proofs.Places.{IsIndex-cons, IsIndex-nil}
+use Rattle.zarr_grids_boxes.proofs.Dimensions.{IsIndex-tail}
 use Rattle.zarr_grids_boxes.proofs.InBox.{length-places}
 use Rattle.zarr_codecs_meaning.specs.Places.{Part, grid_of, box_of, part_of, parts_of, places_of, index_shape}
 use Rattle.zarr_codecs_meaning.specs.Fits.{can_cut}
-use Rattle.zarr_codecs_meaning.proofs.Lists.{both_true, Each, each_map}
+use Rattle.zarr_codecs_meaning.proofs.Lists.{Each, each_map}
 use Rattle.zarr_codecs_meaning.proofs.Steps.{length-places_of}
 use Rattle.zarr_codecs_meaning.proofs.Positions.{IsAmong, among_at}
-use Rattle.zarr_codecs_meaning.proofs.Covers.{zeros, place_is_index, ravel_place, places_at}
+use Rattle.zarr_codecs_meaning.proofs.Covers.{zeros, place_is_index, ravel_place, box_places_at, places_at}
 use Rattle.zarr_codecs_meaning.proofs.Shards.{IsCovered}
 
 pub same_length : (shape subchunk : List ℕ) → can_cut shape subchunk ≡ true → length shape ≡ length subchunk
 same_length [] [] h = refl
 same_length [] (p ∷ ps) h = cc
 same_length (n ∷ ns) [] h = cc
-same_length (n ∷ ns) (p ∷ ps) h = ap suc (same_length ns ps (both_true (nat_lt 0 p) (can_cut ns ps) h).1)
+same_length (n ∷ ns) (p ∷ ps) h = ap suc (same_length ns ps (and_parts (nat_lt 0 p) (can_cut ns ps) h).1)
 
 pub box_lengths : (shape subchunk index : List ℕ) → length shape ≡ length subchunk → length (box_of shape subchunk index).start ≡ length (box_of shape subchunk index).shape
 box_lengths [] [] [] l = refl
@@ -79,7 +78,7 @@ lies_in [] (p ∷ ps) place cuts h = cc
 lies_in (n ∷ ns) [] place cuts h = cc
 lies_in (n ∷ ns) (p ∷ ps) [] cuts h = let l = h.same in absurd (omega arith)
 lies_in (n ∷ ns) (p ∷ ps) (x ∷ xs) cuts h =
-    let both = both_true (nat_lt 0 p) (can_cut ns ps) cuts in
+    let both = and_parts (nat_lt 0 p) (can_cut ns ps) cuts in
     let some = ltb-true 0 p both.0 in
     let low : x < n = h.below 0 (omega arith) in
     let rest = lies_in ns ps xs both.1 (IsIndex-tail x n xs ns h) in
@@ -90,21 +89,11 @@ lies_in (n ∷ ns) (p ∷ ps) (x ∷ xs) cuts h =
       is = ap (λ k. k ∷ each2 (λ s i. s + i) (box_of ns ps (block xs ps)).start (inside xs ps)) here.1 ∙ ap (λ ks. x ∷ ks) rest.is;
     }
 
--- what a map of the places of a box has at a place's number
-pub box_places_at : (f : List ℕ → ℕ) (start shape index : List ℕ) → length start ≡ length shape → IsIndex index shape
-    → (ravel index shape < length (map f (places start shape))) × (get_or (map f (places start shape)) (ravel index shape) 0 ≡ f (each2 (λ s i. s + i) start index))
-box_places_at f start shape index l h =
-    let below = ravel_below index shape h in
-    let long : ravel index shape < length (places start shape) = omega (arith, below, length-places start shape l) in
-    let number : get_or (places start shape) (ravel index shape) [] ≡ each2 (λ s i. s + i) start index =
-    ap (λ (ps : List (List ℕ)). get_or ps (ravel index shape) []) (places_by_number start shape l)
-    ∙ (get_or-map-range_with_len (place_at start shape) 0 (product shape) (ravel index shape) (ravel index shape) [] below (omega arith) ∙ place_at-ravel start shape index l h) in
-    (omega (arith, long, length-map (places start shape) f), get_or-map f (places start shape) (ravel index shape) [] 0 long ∙ ap f number)
+-- no subchunk
+abbrev pub no_part : Part
+no_part = record { shape = []; places = [] }
 
-nowhere : Part
-nowhere = record { shape = []; places = [] }
-
-covered_at : (n : ℕ) (parts : List Part) (k : ℕ) → k < length parts → IsAmong n (get_or parts k nowhere).places → IsCovered n parts
+covered_at : (n : ℕ) (parts : List Part) (k : ℕ) → k < length parts → IsAmong n (get_or parts k no_part).places → IsCovered n parts
 covered_at n [] k h is = absurd (omega arith)
 covered_at n (part ∷ parts) zero h is = inl is
 covered_at n (part ∷ parts) (suc k) h is = inr (covered_at n parts k (omega arith) is)
@@ -115,7 +104,7 @@ parts_cover shape subchunk n cuts h =
     let lies = lies_in shape subchunk p cuts (place_is_index shape n h) in
     let g = block p subchunk in
     let box = box_of shape subchunk g in
-    let found = places_at (λ index. part_of shape (box_of shape subchunk index)) (grid_of shape subchunk) g nowhere lies.grid in
-    let inner = box_places_at (λ place. ravel place shape) box.start box.shape (inside p subchunk) (box_lengths shape subchunk g (same_length shape subchunk cuts)) lies.within in
+    let found = places_at (λ index. part_of shape (box_of shape subchunk index)) (grid_of shape subchunk) g no_part lies.grid in
+    let inner = box_places_at (λ place. ravel place shape) box.start box.shape (inside p subchunk) 0 (box_lengths shape subchunk g (same_length shape subchunk cuts)) lies.within in
     let is : get_or (part_of shape box).places (ravel (inside p subchunk) box.shape) 0 ≡ n = inner.1 ∙ (ap (λ place. ravel place shape) lies.is ∙ ravel_place shape n h) in
     covered_at n (parts_of shape subchunk) (ravel g (grid_of shape subchunk)) found.0 (subst (λ (part : Part). IsAmong n part.places) (sym found.1) (among_at (part_of shape box).places (ravel (inside p subchunk) box.shape) n inner.0 is))

@@ -1,7 +1,7 @@
 -- Each place of a shape lies in one subchunk: what was arranged from subchunks is cut into them again.
 use Rattle.std.proofs.Common.{◌≡◌, ℕ, zero, suc, ◌+◌, ◌-◌, ◌*◌, ◌<◌, min, List, [], ◌∷◌, length, map, get_or, ap, ◌∙◌, sym, refl, arith, Bool, true, false, if◌then◌else◌}
 use Rattle.std.specs.Prelude.{nat_lt}
-use Rattle.std.proofs.lemmas.Bool.{ltb-true, lt-ltb}
+use Rattle.std.proofs.lemmas.Bool.{ltb-true, lt-ltb, and_parts}
 use Rattle.std.proofs.lemmas.Nat.{div-mul-add, mod-mul-add}
 use Rattle.std.proofs.lemmas.List.{length-map, get_or-map}
 use Rattle.std.proofs.lemmas.List.FromFn.{fill_by_all, get_or-map-range_with_len}
@@ -13,11 +13,10 @@ use Rattle.zarr_codecs_meaning.specs.Types.{Cell}
 use Rattle.zarr_codecs_meaning.specs.Places.{gather, place_numbers, position_of, Part, grid_of, box_of, part_of, parts_of}
 use Rattle.zarr_codecs_meaning.specs.Fits.{can_cut}
 use Rattle.zarr_codecs_meaning.specs.Keeping.{arranged}
-use Rattle.zarr_codecs_meaning.proofs.Lists.{both_true}
 use Rattle.zarr_codecs_meaning.proofs.Positions.{among_at, position_found, position_read}
-use Rattle.zarr_codecs_meaning.proofs.Covers.{zeros, place_is_index, ravel_place, place_ravel, places_at}
+use Rattle.zarr_codecs_meaning.proofs.Covers.{zeros, place_is_index, ravel_place, place_ravel, box_places_at, places_at}
 use Rattle.zarr_codecs_meaning.proofs.Shards.{part_cells}
-use Rattle.zarr_codecs_meaning.proofs.Parts.{same_length, length-parts, block, inside, box_lengths, box_places_at}
+use Rattle.zarr_codecs_meaning.proofs.Parts.{same_length, length-parts, block, inside, box_lengths, no_part}
 
 -- the place in the whole of a place in a subchunk
 abbrev pub outward : List ℕ → List ℕ → List ℕ → List ℕ → List ℕ
@@ -38,7 +37,7 @@ tells_part (n ∷ ns) [] index place cuts l h = cc
 tells_part (n ∷ ns) (p ∷ ps) [] place cuts l h = absurd (omega arith)
 tells_part (n ∷ ns) (p ∷ ps) (i ∷ is) [] cuts l h = let s = h.same in absurd (omega arith)
 tells_part (n ∷ ns) (p ∷ ps) (i ∷ is) (x ∷ xs) cuts l h =
-    let both = both_true (nat_lt 0 p) (can_cut ns ps) cuts in
+    let both = and_parts (nat_lt 0 p) (can_cut ns ps) cuts in
     let low : x < min p (n - i * p) = h.below 0 (omega arith) in
     let small : x < p = omega (arith, low) in
     let within : i * p + x < n = omega (arith, low) in
@@ -48,9 +47,6 @@ tells_part (n ∷ ns) (p ∷ ps) (i ∷ is) (x ∷ xs) cuts l h =
       tells_index = ap (λ k. k ∷ block (outward ns ps is xs) ps) (div-mul-add i p x small) ∙ ap (λ ks. i ∷ ks) rest.tells_index;
       tells_place = ap (λ k. k ∷ inside (outward ns ps is xs) ps) (mod-mul-add i p x small) ∙ ap (λ ks. x ∷ ks) rest.tells_place;
     }
-
-abbrev pub no_part : Part
-no_part = record { shape = []; places = [] }
 
 -- the number of a place of a part
 abbrev pub number_in : List Part → ℕ → ℕ → ℕ
@@ -100,7 +96,7 @@ found_at shape subchunk k i cuts h l =
       grid = number;
       within = at_;
       tells = tells_part shape subchunk g q cuts long is_in;
-      here = ap (λ (part : Part). get_or part.places i 0) part_is ∙ (ap (λ m. get_or (part_of shape box).places m 0) (sym at_) ∙ (box_places_at (λ place. ravel place shape) box.start box.shape q wide is_in).1);
+      here = ap (λ (part : Part). get_or part.places i 0) part_is ∙ (ap (λ m. get_or (part_of shape box).places m 0) (sym at_) ∙ (box_places_at (λ place. ravel place shape) box.start box.shape q 0 wide is_in).1);
     } where
       grid_length : (shape subchunk : List ℕ) → length shape ≡ length subchunk → length (grid_of shape subchunk) ≡ length shape
       grid_length [] subchunk l = refl

@@ -1,25 +1,24 @@
 -- What a chain tells of the size of what it writes is true, and how long a shard is.
 use Rattle.std.proofs.Common.{◌≡◌, ℕ, ◌+◌, ◌*◌, ◌/◌, ◌≤◌, List, [], ◌∷◌, ◌++◌, length, map, ap, ◌∙◌, sym, refl, arith, Option, Some, true, ◌&&◌, option_and_then, unwrap_or, length-append, subst}
-use Rattle.std.specs.List.{flat_map, filter_map, list_all}
-use Rattle.std.proofs.lemmas.Bool.{eq-eqb}
+use Rattle.std.specs.List.{flat_map, filter_map}
+use Rattle.std.proofs.lemmas.Bool.{eq-eqb, and_parts}
 use Rattle.std.proofs.lemmas.Map.Views.{exact_unsigned_eq}
-use Rattle.std.proofs.lemmas.List.{length-map}
 use Rattle.zarr_grids_boxes.specs.Boxes.{product}
 use Rattle.zarr_codecs_meaning.specs.Numbers.{word}
-use Rattle.zarr_codecs_meaning.specs.Types.{DataType, bool, uint64, Cell, cell_bytes, components, bytes_in, is_fixed, is_value, inner_type, Elements, zero_filled}
+use Rattle.zarr_codecs_meaning.specs.Types.{bool, uint64, Cell, cell_bytes, components, bytes_in, is_fixed, inner_type, Elements, zero_filled}
 use Rattle.zarr_codecs_meaning.specs.Chains.{BytesRepresentation, Chain, Location}
 use Rattle.zarr_codecs_meaning.specs.Chains.BytesRepresentation.{fixed_size, bounded_size, unbounded_size}
 use Rattle.zarr_codecs_meaning.specs.Chains.Chain.{bytes, packbits, vlen, optional, after_step, then_bytes, sharded}
 use Rattle.zarr_codecs_meaning.specs.Places.{gather, step_shape, step_places, Part, parts_of, index_shape}
 use Rattle.zarr_codecs_meaning.specs.Fits.{fits, takes_each_shape, size_of, fixed_of, bound_of, sum_of_bounds, representation_of, is_size_as, is_bound_within, step_fits, bits_in, packed_size, padding_size, order_fits}
-use Rattle.zarr_codecs_meaning.specs.Encoding.{encoded, element_bits, is_short, with_mask, unless_none, mask_cell, present_cell, pieces_of, stored_pieces, joined_texts, pairs_from, pair_cells, index_size, base_of}
+use Rattle.zarr_codecs_meaning.specs.Encoding.{encoded, element_bits, is_short, with_mask, unless_none, mask_cell, present_cell, pieces_of, stored_pieces, joined_texts, pairs_from, pair_cells, index_size, base_of, shard_of}
 use Rattle.zarr_codecs_meaning.specs.Laws.{IsLawfulChain, AreCells}
-use Rattle.zarr_codecs_meaning.proofs.Lists.{both_true, bind_some, if_some, some_same, Each, each_passes, each_weaker}
+use Rattle.zarr_codecs_meaning.proofs.Lists.{bind_some, if_some, some_same}
 use Rattle.zarr_codecs_meaning.proofs.Bounds.{size_within, size_at_most, zero_within, within_again, plus, plus_within, options_within, texts_within, bounds_grow}
 use Rattle.zarr_codecs_meaning.proofs.Sizes.{length-with_padding, cells_moved, bytes_length, bits_length}
-use Rattle.zarr_codecs_meaning.proofs.Zeros.{zero_is_value, fits_each}
-use Rattle.zarr_codecs_meaning.proofs.Options.{IsOption, option_value, masks_are_values, found_are_values, length-found}
-use Rattle.zarr_codecs_meaning.proofs.Fitting.{fitted_option, fitted, texts_stand, IsShard, shard_made, length-joined}
+use Rattle.zarr_codecs_meaning.proofs.Options.{length-found}
+use Rattle.zarr_codecs_meaning.proofs.KeptOptions.{options_fit, are_options, found_cells, mask_cells}
+use Rattle.zarr_codecs_meaning.proofs.Fitting.{Fitted, fitted, texts_stand, IsShard, shard_made, stored_count, length-joined}
 
 -- of the elements that are present no more is told than of all
 data_within : (chain : Chain) (elements : Elements) (found : List Cell) (text : List ℕ) (most : ℕ) → IsLawfulChain chain → takes_each_shape chain ≡ true → length found ≤ most → unless_none found (encoded chain elements (length found ∷ []) found) ≡ Some text
@@ -44,15 +43,14 @@ with_mask_long mask text value h =
     sym (ap length (some_same told.1)) ∙ long
 
 -- the index and the texts of a shard
-shard_long : (subchunk : List ℕ) (inner index : Chain) (location : Location) (elements : Elements) (shape value : List ℕ) (cells : List Cell) (shard : IsShard subchunk inner index location elements shape value cells)
-    → length value ≡ length shard.text + length (joined_texts shard.stored)
-shard_long subchunk inner index location elements shape value cells shard = sym (ap length shard.is) ∙ length-joined location shard.text (joined_texts shard.stored)
+shard_long : (subchunk : List ℕ) (index : Chain) (location : Location) (shape value : List ℕ) (stored : List (Option (List ℕ))) (shard : IsShard subchunk index location shape value stored) → length value ≡ length shard.text + length (joined_texts stored)
+shard_long subchunk index location shape value stored shard = sym (ap length shard.is) ∙ length-joined location shard.text (joined_texts stored)
 
 pub encoded_size : (chain : Chain) (elements : Elements) (shape value : List ℕ) (cells : List Cell) → IsLawfulChain chain → fits chain elements.type shape ≡ true → AreCells elements shape cells
     → encoded chain elements shape cells ≡ Some value → is_size_as (representation_of chain elements.type shape) (length value) ≡ true
 encoded_size (bytes order) elements shape value cells lawful fit are h =
     let parts = components elements.type in
-    let fixed = (both_true (is_fixed elements.type) (order_fits order parts) fit).0 in
+    let fixed = (and_parts (is_fixed elements.type) (order_fits order parts) fit).0 in
     let long = bytes_length order elements cells fixed are.values in
     let whole : length cells * bytes_in parts ≡ product shape * bytes_in parts = ap (λ n. n * bytes_in parts) are.whole in
     let turned : product shape * bytes_in parts ≡ bytes_in parts * product shape = grind arith in
@@ -67,31 +65,23 @@ encoded_size (packbits padding first last) elements shape value cells lawful fit
 encoded_size (vlen index texts width location) elements shape value cells lawful fit are h = refl
 encoded_size (optional mask values) elements shape value cells lawful fit are h =
     let type = elements.type in
-    let f = fitted_option mask values type shape fit in
+    let f = options_fit mask values type shape fit in
     let bools = zero_filled bool in
     let inner = unwrap_or (inner_type type) type in
-    let same : inner ≡ f.inner = ap (λ (o : Option DataType). unwrap_or o type) f.is in
     let found = filter_map present_cell cells in
     let masks = map mask_cell cells in
     let data_text = unless_none found (encoded values (zero_filled inner) (length found ∷ []) found) in
     let next : List ℕ → Option (List ℕ) = λ (front : List ℕ). option_and_then (with_mask front) data_text in
     let made = bind_some next (encoded mask bools shape masks) value h in
     let text = bind_some (with_mask made.0) data_text value made.2 in
-    let options : Each (IsOption f.inner) cells = each_weaker (λ cell. is_value type cell ≡ true) (IsOption f.inner) cells (λ cell v. option_value type f.inner cell f.is v) (each_passes (is_value type) cells are.values) in
-    let are_masks : AreCells bools shape masks = record { fill = refl; values = masks_are_values cells; whole = length-map cells mask_cell ∙ are.whole } in
-    let are_found : AreCells (zero_filled inner) (length found ∷ []) found = record {
-      fill = zero_is_value inner;
-      values = subst (λ t. list_all (is_value t) found ≡ true) (sym same) (found_are_values f.inner cells options);
-      whole = omega arith;
-    } in
-    let found_fit = subst (λ t. fits values t (length found ∷ []) ≡ true) (sym same) (fits_each values f.inner (0 ∷ []) (length found ∷ []) f.takes f.values_fit) in
+    let are_found = found_cells inner cells (are_options type inner cells f.is are.values) in
     let mask_known = representation_of mask bool shape in
-    let one = size_within mask_known (length made.0) (encoded_size mask bools shape made.0 masks lawful.0 f.mask_fits are_masks made.1) in
+    let one = size_within mask_known (length made.0) (encoded_size mask bools shape made.0 masks lawful.0 f.mask_fits (mask_cells shape cells are.whole) made.1) in
     let two = data_within values (zero_filled inner) found text.0 (product shape) lawful.1 f.takes (omega (arith, length-found cells, are.whole)) text.1
-    (λ e. encoded_size values (zero_filled inner) (length found ∷ []) text.0 found lawful.1 found_fit are_found e) in
+    (λ e. encoded_size values (zero_filled inner) (length found ∷ []) text.0 found lawful.1 (f.values_fit (length found ∷ [])) are_found e) in
     options_within (length made.0) (length text.0) (length value) (bound_of mask_known) (bound_of (representation_of values inner (product shape ∷ []))) one two (with_mask_long made.0 text.0 value text.2)
 encoded_size (after_step step chain) elements shape value cells lawful fit are h =
-    let both = both_true (step_fits step shape) (fits chain elements.type (step_shape step shape)) fit in
+    let both = and_parts (step_fits step shape) (fits chain elements.type (step_shape step shape)) fit in
     encoded_size chain elements (step_shape step shape) value (gather elements.fill cells (step_places step shape)) lawful both.1 (cells_moved step elements shape cells both.0 are) h
 encoded_size (then_bytes chain codec) elements shape value cells lawful fit are h =
     let found = bind_some codec.encode (encoded chain elements shape cells) value h in
@@ -100,18 +90,20 @@ encoded_size (sharded subchunk inner index location) elements shape value cells 
     let pairs_shape = index_shape shape subchunk in
     let parts = parts_of shape subchunk in
     let f = fitted subchunk inner index location elements shape fit in
-    let shard = shard_made subchunk inner index location elements shape value cells h in
-    let pairs = pair_cells (pairs_from (base_of location (index_size index pairs_shape)) shard.stored) in
+    let found = bind_some (shard_of (encoded index (zero_filled uint64) pairs_shape) location (index_size index pairs_shape)) (stored_pieces (encoded inner elements) elements.fill (pieces_of elements.fill cells parts)) value h in
+    let stored = found.0 in
+    let shard = shard_made subchunk index location shape value stored (stored_count (encoded inner elements) elements.fill cells parts stored found.1) found.2 in
+    let pairs = pair_cells (pairs_from (base_of location (index_size index pairs_shape)) stored) in
     let index_known = representation_of index uint64 pairs_shape in
     let one = size_within index_known (length shard.text) (encoded_size index (zero_filled uint64) pairs_shape shard.text pairs lawful.1 f.index_fits shard.pairs_are shard.is_text) in
     let bound : List ℕ → Option ℕ = λ (part : List ℕ). bound_of (representation_of inner elements.type part) in
-    let texts = texts_stand subchunk inner index elements shape cells shard.stored (λ part text found. is_bound_within (Some (length text)) (bound part) ≡ true) f are
-    (λ part text found fit' are' e. size_within (representation_of inner elements.type part) (length text) (encoded_size inner elements part text found lawful.0 fit' are' e)) shard.are_stored in
-    let two = texts_within bound elements.fill cells parts shard.stored texts in
+    let texts = texts_stand subchunk inner index elements shape cells stored (λ part text found. is_bound_within (Some (length text)) (bound part) ≡ true) f are
+    (λ part text found fit' are' e. size_within (representation_of inner elements.type part) (length text) (encoded_size inner elements part text found lawful.0 fit' are' e)) found.1 in
+    let two = texts_within bound elements.fill cells parts stored texts in
     let bounds = sum_of_bounds (map (λ (part : Part). bound part.shape) parts) in
     size_at_most (plus (bound_of index_known) bounds) (length value)
-    (subst (λ n. is_bound_within (Some n) (plus (bound_of index_known) bounds) ≡ true) (sym (shard_long subchunk inner index location elements shape value cells shard))
-    (plus_within (Some (length shard.text)) (Some (length (joined_texts shard.stored))) (bound_of index_known) bounds one two))
+    (subst (λ n. is_bound_within (Some n) (plus (bound_of index_known) bounds) ≡ true) (sym (shard_long subchunk index location shape value stored shard))
+    (plus_within (Some (length shard.text)) (Some (length (joined_texts stored))) (bound_of index_known) bounds one two))
 
 fixed_long : (known : BytesRepresentation) (size long : ℕ) → is_size_as known long ≡ true → fixed_of known ≡ Some size → long ≡ size
 fixed_long (fixed_size n) size long h is = exact_unsigned_eq long n h ∙ some_same is
@@ -124,20 +116,20 @@ pub encoded_length : (chain : Chain) (elements : Elements) (shape value : List �
 encoded_length chain elements shape value cells size lawful fit are h is = fixed_long (representation_of chain elements.type shape) size (length value) (encoded_size chain elements shape value cells lawful fit are h) is
 
 -- the index of a shard is as long as it is told
-pub index_long : (subchunk : List ℕ) (inner index : Chain) (location : Location) (elements : Elements) (shape value : List ℕ) (cells : List Cell) → IsLawfulChain index → fits (sharded subchunk inner index location) elements.type shape ≡ true
-    → (shard : IsShard subchunk inner index location elements shape value cells) → length shard.text ≡ index_size index (index_shape shape subchunk)
-index_long subchunk inner index location elements shape value cells lawful fit shard =
+pub index_long : (subchunk : List ℕ) (inner index : Chain) (location : Location) (elements : Elements) (shape value : List ℕ) (stored : List (Option (List ℕ))) → IsLawfulChain index → Fitted subchunk inner index elements shape
+    → (shard : IsShard subchunk index location shape value stored) → length shard.text ≡ index_size index (index_shape shape subchunk)
+index_long subchunk inner index location elements shape value stored lawful f shard =
     let pairs_shape = index_shape shape subchunk in
-    let f = fitted subchunk inner index location elements shape fit in
-    let pairs = pair_cells (pairs_from (base_of location (index_size index pairs_shape)) shard.stored) in
+    let pairs = pair_cells (pairs_from (base_of location (index_size index pairs_shape)) stored) in
     encoded_length index (zero_filled uint64) pairs_shape shard.text pairs f.sized.0 lawful f.index_fits shard.pairs_are shard.is_text f.sized.1 ∙ sym (ap (λ (o : Option ℕ). unwrap_or o 0) f.sized.1)
 
 pub shard_size : (subchunk : List ℕ) (inner index : Chain) (location : Location) (elements : Elements) (shape value : List ℕ) (cells : List Cell) (stored : List (Option (List ℕ))) → IsLawfulChain index → fits (sharded subchunk inner index location) elements.type shape ≡ true
     → stored_pieces (encoded inner elements) elements.fill (pieces_of elements.fill cells (parts_of shape subchunk)) ≡ Some stored → encoded (sharded subchunk inner index location) elements shape cells ≡ Some value
     → length value ≡ index_size index (index_shape shape subchunk) + length (joined_texts stored)
 shard_size subchunk inner index location elements shape value cells stored lawful fit are_stored h =
-    let size = index_size index (index_shape shape subchunk) in
-    let shard = shard_made subchunk inner index location elements shape value cells h in
-    let same : shard.stored ≡ stored = some_same (sym shard.are_stored ∙ are_stored) in
-    shard_long subchunk inner index location elements shape value cells shard
-    ∙ (ap (λ n. n + length (joined_texts shard.stored)) (index_long subchunk inner index location elements shape value cells lawful fit shard) ∙ ap (λ (os : List (Option (List ℕ))). size + length (joined_texts os)) same)
+    let pairs_shape = index_shape shape subchunk in
+    let parts = parts_of shape subchunk in
+    let made = sym (ap (option_and_then (shard_of (encoded index (zero_filled uint64) pairs_shape) location (index_size index pairs_shape))) are_stored) ∙ h in
+    let shard = shard_made subchunk index location shape value stored (stored_count (encoded inner elements) elements.fill cells parts stored are_stored) made in
+    shard_long subchunk index location shape value stored shard
+    ∙ ap (λ n. n + length (joined_texts stored)) (index_long subchunk inner index location elements shape value stored lawful (fitted subchunk inner index location elements shape fit) shard)

@@ -1,32 +1,27 @@
 -- Shards: what is written stands, and what stands is read.
-use Rattle.std.proofs.Common.{◌≡◌, ℕ, ◌+◌, ◌-◌, ◌*◌, ◌<◌, ◌≤◌, ◌^◌, List, [], ◌∷◌, ◌++◌, length, map, get_or, take, drop, replicate, ap, ◌∙◌, sym, refl, arith, ◌⊎◌, inl, inr, subst, Option, Some, None, Bool, true, false, ◌==◌, option_and_then, option_map, if◌then◌else◌, append_assoc, length-append, mod-eq_of_lt}
-use Rattle.std.specs.Prelude.{nat_lt, bytes_eq}
-use Rattle.std.proofs.lemmas.Bool.{cases_Bool, le-leb, lt-ltb, ltb-true}
+use Rattle.std.proofs.Common.{◌≡◌, ℕ, ◌+◌, ◌-◌, ◌*◌, ◌<◌, ◌≤◌, ◌^◌, List, [], ◌∷◌, ◌++◌, length, map, get_or, take, drop, replicate, ap, ◌∙◌, sym, refl, arith, ◌⊎◌, inl, inr, subst, Option, Some, None, Bool, true, false, ◌==◌, option_map, if◌then◌else◌, append_assoc, length-append, mod-eq_of_lt}
+use Rattle.std.specs.Prelude.{nat_lt}
+use Rattle.std.proofs.lemmas.Bool.{cases_Bool, le-leb, lt-ltb, ltb-true, and_parts}
 use Rattle.std.proofs.lemmas.Map.Views.{exact_unsigned_eq}
+use Rattle.std.proofs.lemmas.Slice.Eq.{bytes_eq-Decides}
 use Rattle.std.proofs.Math.Seq.{take-append_seam, drop-append_seam}
-use Rattle.zarr_grids_boxes.specs.Boxes.{product}
 use Rattle.zarr_codecs_meaning.specs.Numbers.{number, word}
 use Rattle.zarr_codecs_meaning.specs.Types.{Cell, of_bytes, absent, present, same_cell, is_fill}
 use Rattle.zarr_codecs_meaning.specs.Chains.{Location}
 use Rattle.zarr_codecs_meaning.specs.Chains.Location.{at_start, at_end}
 use Rattle.zarr_codecs_meaning.specs.Places.{gather, position_of, Part}
-use Rattle.zarr_codecs_meaning.specs.Encoding.{Pair, Piece, piece_of, pieces_of, stored_of, stored_pieces, text_of, joined_texts, pairs_from, pair_cells, base_of, joined}
+use Rattle.zarr_codecs_meaning.specs.Encoding.{Pair, Piece, stored_of, stored_pieces, text_of, joined_texts, pairs_from, pair_cells, base_of, joined}
 use Rattle.zarr_codecs_meaning.specs.Keeping.{arranged}
-use Rattle.zarr_codecs_meaning.specs.Decoding.{is_absent, slice_at, pairs_of_cells, index_text, pieces_decoded}
-use Rattle.zarr_codecs_meaning.specs.Standing.{HasSlice, PieceStands, PiecesStand}
-use Rattle.zarr_codecs_meaning.proofs.Lists.{both_true, some_same, bind_some, map_some, Each}
+use Rattle.zarr_codecs_meaning.specs.Decoding.{is_absent, slice_at, pairs_of_cells, index_text}
+use Rattle.zarr_codecs_meaning.specs.Standing.{HasSlice, TextStands, PiecesStand}
+use Rattle.zarr_codecs_meaning.proofs.Lists.{some_same, bind_some, map_some, Each, every}
 use Rattle.zarr_codecs_meaning.proofs.Digits.{number_digits}
 use Rattle.zarr_codecs_meaning.proofs.Positions.{IsAmong, position_found, gathered_read}
 
 -- ---- cells that are the fill value
 
 same_is : (a b : Cell) → same_cell a b ≡ true → a ≡ b
-same_is (of_bytes xs) (of_bytes ys) h = ap of_bytes (same_bytes xs ys h) where
-  same_bytes : (xs ys : List ℕ) → bytes_eq xs ys ≡ true → xs ≡ ys
-  same_bytes [] [] h = refl
-  same_bytes [] (y ∷ ys) h = cc
-  same_bytes (x ∷ xs) [] h = cc
-  same_bytes (x ∷ xs) (y ∷ ys) h = let k = both_true (x == y) (bytes_eq xs ys) h in ap (λ n. n ∷ xs) (exact_unsigned_eq x y k.0) ∙ ap (λ zs. y ∷ zs) (same_bytes xs ys k.1)
+same_is (of_bytes xs) (of_bytes ys) h = ap of_bytes ((bytes_eq-Decides xs ys).0 h)
 same_is (of_bytes xs) absent h = cc
 same_is (of_bytes xs) (present b) h = cc
 same_is absent (of_bytes ys) h = cc
@@ -39,16 +34,12 @@ same_is (present a) (present b) h = ap present (same_is a b h)
 pub fill_is_replicate : (fill : Cell) (cells : List Cell) → is_fill fill cells ≡ true → cells ≡ replicate (length cells) fill
 fill_is_replicate fill [] h = refl
 fill_is_replicate fill (c ∷ cs) h =
-    let k = both_true (same_cell c fill) (is_fill fill cs) h in
+    let k = and_parts (same_cell c fill) (is_fill fill cs) h in
     ap (λ x. x ∷ cs) (same_is c fill k.0) ∙ ap (λ xs. fill ∷ xs) (fill_is_replicate fill cs k.1)
 
 -- ---- writing
 
--- the text is what a subchunk is to be stored as, or there is none for one that is all fill
-abbrev pub TextStands : (List ℕ → List ℕ → List Cell → Type 0) → Cell → Piece → Option (List ℕ) → Type 0
-TextStands inner fill piece None = is_fill fill piece.1 ≡ true
-TextStands inner fill piece (Some text) = (is_fill fill piece.1 ≡ false) × inner piece.0 text piece.1
-
+-- each text is what its subchunk is to be stored as, and there are as many of both
 abbrev pub TextsStand : (List ℕ → List ℕ → List Cell → Type 0) → Cell → List Piece → List (Option (List ℕ)) → Type 0
 TextsStand inner fill [] [] = Unit {0}
 TextsStand inner fill [] (o ∷ os) = ⊥
@@ -90,13 +81,17 @@ pub length-pairs_from : (os : List (Option (List ℕ))) (offset : ℕ) → lengt
 length-pairs_from [] offset = refl
 length-pairs_from (o ∷ os) offset = let h = length-pairs_from os (offset + length (text_of o)) in omega (arith, h)
 
+-- there is a text, or none, for each piece
+pub length-texts : (inner : List ℕ → List ℕ → List Cell → Type 0) (fill : Cell) (xs : List Piece) (os : List (Option (List ℕ))) → TextsStand inner fill xs os → length os ≡ length xs
+length-texts inner fill [] [] h = refl
+length-texts inner fill [] (o ∷ os) h = elim h [ ]
+length-texts inner fill (x ∷ xs) [] h = elim h [ ]
+length-texts inner fill (x ∷ xs) (o ∷ os) h = let rest = length-texts inner fill xs os h.1 in omega (arith, rest)
+
 pub length-stored : (encode : List ℕ → List Cell → Option (List ℕ)) (fill : Cell) (xs : List Piece) (os : List (Option (List ℕ))) → stored_pieces encode fill xs ≡ Some os → length os ≡ length xs
-length-stored encode fill [] os e = sym (ap length (some_same e))
-length-stored encode fill (x ∷ xs) os e =
-    let now = bind_some (λ (first : Option (List ℕ)). option_map (λ (others : List (Option (List ℕ))). first ∷ others) (stored_pieces encode fill xs)) (stored_of fill x.1 (encode x.0 x.1)) os e in
-    let rest = map_some (λ (others : List (Option (List ℕ))). now.0 ∷ others) (stored_pieces encode fill xs) os now.2 in
-    let h = length-stored encode fill xs rest.0 rest.1 in
-    sym (ap length rest.2) ∙ omega (arith, h)
+length-stored encode fill xs os e =
+    let any = λ (shape text : List ℕ). λ (cells : List Cell). Unit {0} in
+    length-texts any fill xs os (stored_stand encode any fill xs os (every (λ (x : Piece). (v : List ℕ) → encode x.0 x.1 ≡ Some v → Unit {0}) xs (λ x v h. tt)) e)
 
 -- ---- pairs as cells
 
@@ -142,7 +137,7 @@ words_from (Some v ∷ os) offset low =
 
 not_absent : (m n : ℕ) → m < 2 ^ 64 - 1 → is_absent (m, n) ≡ false
 not_absent m n low = elim (cases_Bool (is_absent (m, n))) [
-  | inl t ↦ let e = exact_unsigned_eq m (2 ^ 64 - 1) (both_true (m == 2 ^ 64 - 1) (n == 2 ^ 64 - 1) t).0 in absurd (omega (arith, e))
+  | inl t ↦ let e = exact_unsigned_eq m (2 ^ 64 - 1) (and_parts (m == 2 ^ 64 - 1) (n == 2 ^ 64 - 1) t).0 in absurd (omega (arith, e))
   | inr f ↦ f
 ]
 
@@ -179,33 +174,6 @@ slice_found at_end base index text value p slice is begins h =
 
 abbrev pub part_cells : Cell → List Cell → Part → List Cell
 part_cells fill cells part = gather fill cells part.places
-
--- a subchunk that stands is decoded
-piece_decoded : (decode : List ℕ → List ℕ → Option (List Cell)) (inner : List ℕ → List ℕ → List Cell → Type 0) (fill : Cell) (base : ℕ) (was value : List ℕ) (x : Piece) (p : Pair)
-    → ((q : Pair) (slice : List ℕ) → HasSlice base was q slice → slice_at value q ≡ Some slice) → ((v : List ℕ) → inner x.0 v x.1 → decode x.0 v ≡ Some x.1) → length x.1 ≡ product x.0 → PieceStands inner fill base was x p
-    → (if is_absent p then Some (replicate (product x.0) fill) else option_and_then (decode x.0) (slice_at value p)) ≡ Some x.1
-piece_decoded decode inner fill base was value x p reads law count (inl h) =
-    ap (λ (q : Pair). if is_absent q then Some (replicate (product x.0) fill) else option_and_then (decode x.0) (slice_at value q)) h.1
-    ∙ ap Some (sym (fill_is_replicate fill x.1 h.0 ∙ ap (λ n. replicate n fill) count))
-piece_decoded decode inner fill base was value x p reads law count (inr h) =
-    ap (λ (t : Bool). if t then Some (replicate (product x.0) fill) else option_and_then (decode x.0) (slice_at value p)) (is_present base was p h.1.0 h.1.1)
-    ∙ (ap (option_and_then (decode x.0)) (reads p h.1.0 h.1.1) ∙ law h.1.0 h.1.2)
-
--- what is asked of each part of a shard
-abbrev pub PartLaw : (List ℕ → List ℕ → Option (List Cell)) → (List ℕ → List ℕ → List Cell → Type 0) → Cell → List Cell → Part → Type 0
-PartLaw decode inner fill cells part = (length (part_cells fill cells part) ≡ product part.shape) × ((v : List ℕ) → inner part.shape v (part_cells fill cells part) → decode part.shape v ≡ Some (part_cells fill cells part))
-
-pub parts_decoded : (decode : List ℕ → List ℕ → Option (List Cell)) (inner : List ℕ → List ℕ → List Cell → Type 0) (fill : Cell) (cells : List Cell) (base : ℕ) (was value : List ℕ)
-    → ((q : Pair) (slice : List ℕ) → HasSlice base was q slice → slice_at value q ≡ Some slice) → (parts : List Part) (ps : List Pair) → Each (PartLaw decode inner fill cells) parts → PiecesStand inner fill base was (pieces_of fill cells parts) ps
-    → pieces_decoded decode fill value parts ps ≡ Some (map (part_cells fill cells) parts)
-parts_decoded decode inner fill cells base was value reads [] [] law h = refl
-parts_decoded decode inner fill cells base was value reads [] (p ∷ ps) law h = elim h [ ]
-parts_decoded decode inner fill cells base was value reads (part ∷ parts) [] law h = elim h [ ]
-parts_decoded decode inner fill cells base was value reads (part ∷ parts) (p ∷ ps) law h =
-    let here = piece_decoded decode inner fill base was value (piece_of fill cells part) p reads law.0.1 law.0.0 h.0 in
-    let rest = parts_decoded decode inner fill cells base was value reads parts ps law.1 h.1 in
-    ap (option_and_then (λ (found : List Cell). option_map (λ (others : List (List Cell)). found ∷ others) (pieces_decoded decode fill value parts ps))) here
-    ∙ ap (option_map (λ (others : List (List Cell)). part_cells fill cells part ∷ others)) rest
 
 -- ---- arranging
 

@@ -10,7 +10,7 @@ use Rattle.zarr_codecs_meaning.specs.Places.{gather, step_shape, step_places}
 use Rattle.zarr_codecs_meaning.specs.Fits.{step_fits, bits_in, padding_size}
 use Rattle.zarr_codecs_meaning.specs.Encoding.{ordered, element_bits, packed, with_padding, padding_bits}
 use Rattle.zarr_codecs_meaning.specs.Laws.{AreCells}
-use Rattle.zarr_codecs_meaning.proofs.Lists.{Each, each_passes, each_weaker, length-flat_map}
+use Rattle.zarr_codecs_meaning.proofs.Lists.{every, each_passes, each_weaker, length-flat_map}
 use Rattle.zarr_codecs_meaning.proofs.Values.{fixed_value, length-ordered, length-element_bits}
 use Rattle.zarr_codecs_meaning.proofs.Steps.{length-gather, values_gathered, step_count}
 
@@ -21,10 +21,6 @@ pub length-with_padding : (padding : Padding) (bits : List ℕ) → length (with
 length-with_padding no_padding_byte bits = length-packed bits ∙ omega arith
 length-with_padding first_byte bits = let h = length-packed bits in omega (arith, h)
 length-with_padding last_byte bits = let h = length-packed bits in length-append (packed bits) (padding_bits bits ∷ []) ∙ omega (arith, h)
-
-pub every : {X : Type 0} (P : X → Type 0) (xs : List X) → ((x : X) → P x) → Each P xs
-every P [] law = tt
-every P (x ∷ xs) law = (law x, every P xs law)
 
 -- the cells that an array codec gives
 pub cells_moved : (step : Step) (elements : Elements) (shape : List ℕ) (cells : List Cell) → step_fits step shape ≡ true → AreCells elements shape cells → AreCells elements (step_shape step shape) (gather elements.fill cells (step_places step shape))

@@ -4,6 +4,7 @@ use Rattle.std.specs.List.{list_all, filter}
 use Rattle.std.proofs.lemmas.List.{length-map}
 use Rattle.std.proofs.lemmas.List.FromFn.{length-range_with_len}
 use Rattle.std.proofs.lemmas.Map.Views.{exact_unsigned_eq}
+use Rattle.std.proofs.lemmas.Bool.{and_parts}
 use Rattle.zarr_grids_boxes.specs.Boxes.{product, ravel}
 use Rattle.zarr_grids_boxes.proofs.InBox.{length-places}
 use Rattle.zarr_codecs_meaning.specs.Types.{Cell}
@@ -11,7 +12,7 @@ use Rattle.zarr_codecs_meaning.specs.Chains.{Step}
 use Rattle.zarr_codecs_meaning.specs.Chains.Step.{transpose, reshape, squeeze}
 use Rattle.zarr_codecs_meaning.specs.Places.{gather, places_of, untransposed, squeezed, known_product, step_shape, step_places}
 use Rattle.zarr_codecs_meaning.specs.Fits.{step_fits, entry_fits}
-use Rattle.zarr_codecs_meaning.proofs.Lists.{both_true, each_get, each_map, each_passes, all_pass}
+use Rattle.zarr_codecs_meaning.proofs.Lists.{each_get, each_map, each_passes, all_pass}
 
 pub length-gather : (fill : Cell) (cells : List Cell) (ns : List ℕ) → length (gather fill cells ns) ≡ length ns
 length-gather fill cells ns = length-map ns (λ n. get_or cells n fill)
@@ -42,6 +43,6 @@ product-squeezed shape = squeezed_from (filter (λ size. not (size == 1)) shape)
 pub step_count : (step : Step) (shape : List ℕ) → step_fits step shape ≡ true → length (step_places step shape) ≡ product (step_shape step shape)
 step_count (transpose order) shape h = length-map (places_of (step_shape (transpose order) shape)) (λ place. ravel (untransposed order place) shape) ∙ length-places_of (step_shape (transpose order) shape)
 step_count (reshape entries) shape h =
-    let both = both_true (list_all (entry_fits (known_product entries shape) (length shape)) entries) (product (step_shape (reshape entries) shape) == product shape) h in
+    let both = and_parts (list_all (entry_fits (known_product entries shape) (length shape)) entries) (product (step_shape (reshape entries) shape) == product shape) h in
     length-range_with_len 0 (product shape) ∙ sym (exact_unsigned_eq (product (step_shape (reshape entries) shape)) (product shape) both.1)
 step_count squeeze shape h = length-range_with_len 0 (product shape) ∙ sym (product-squeezed shape)

@@ -2,7 +2,7 @@
 use Rattle.std.proofs.Common.{◌≡◌, ℕ, suc, ◌+◌, ◌-◌, ◌^◌, ◌<◌, List, [], ◌∷◌, ◌++◌, length, map, take, drop, ap, ◌∙◌, sym, refl, arith, Some, None, option_map, Bool, true, ◌&&◌, if◌then◌else◌, append_assoc, length-append, mod-eq_of_lt, subst}
 use Rattle.std.specs.Prelude.{nat_le}
 use Rattle.std.specs.List.{flat_map, list_all}
-use Rattle.std.proofs.lemmas.Bool.{le-leb}
+use Rattle.std.proofs.lemmas.Bool.{le-leb, and_parts}
 use Rattle.std.proofs.Math.Seq.{take-append_seam, drop-append_seam, drop-drop}
 use Rattle.zarr_codecs_meaning.specs.Numbers.{number, word}
 use Rattle.zarr_codecs_meaning.specs.Types.{DataType, bool, integer, custom, string, variable_bytes, optional_of, unsigned, uint8, is_variable, is_value, are_bytes, Cell, of_bytes, absent, present, cell_bytes}
@@ -10,7 +10,7 @@ use Rattle.zarr_codecs_meaning.specs.Chains.{Location}
 use Rattle.zarr_codecs_meaning.specs.Chains.Location.{at_start, at_end}
 use Rattle.zarr_codecs_meaning.specs.Encoding.{ends_from, number_cells, byte_cells, sections, last_number}
 use Rattle.zarr_codecs_meaning.specs.Decoding.{sections_of, texts_between}
-use Rattle.zarr_codecs_meaning.proofs.Lists.{both_true, Each}
+use Rattle.zarr_codecs_meaning.proofs.Lists.{Each}
 use Rattle.zarr_codecs_meaning.proofs.Shards.{number_word}
 use Rattle.zarr_codecs_meaning.proofs.Words.{number_back, number_is_value}
 
@@ -20,8 +20,8 @@ pub record IsText (cell : Cell) : Type 0 where
   pub bytes : are_bytes (cell_bytes cell) ≡ true
 
 pub text_value : (type : DataType) (cell : Cell) → is_variable type ≡ true → is_value type cell ≡ true → IsText cell
-text_value string (of_bytes text) v h = record { is = refl; bytes = (both_true (are_bytes text) true h).0 }
-text_value variable_bytes (of_bytes text) v h = record { is = refl; bytes = (both_true (are_bytes text) true h).0 }
+text_value string (of_bytes text) v h = record { is = refl; bytes = (and_parts (are_bytes text) true h).0 }
+text_value variable_bytes (of_bytes text) v h = record { is = refl; bytes = (and_parts (are_bytes text) true h).0 }
 text_value bool (of_bytes text) v h = cc
 text_value (integer sign width) (of_bytes text) v h = cc
 text_value (custom parts) (of_bytes text) v h = cc
@@ -38,10 +38,6 @@ text_value bool (present cell) v h = cc
 text_value (integer sign width) (present cell) v h = cc
 text_value (custom parts) (present cell) v h = cc
 text_value (optional_of inner) (present cell) v h = cc
-
-pub texts_again : (cells : List Cell) → Each IsText cells → map of_bytes (map cell_bytes cells) ≡ cells
-texts_again [] h = refl
-texts_again (c ∷ cs) h = ap (λ (x : Cell). x ∷ map of_bytes (map cell_bytes cs)) h.0.is ∙ ap (λ xs. c ∷ xs) (texts_again cs h.1)
 
 -- the offsets are below what the last one is below
 pub ends_below : (cells : List Cell) (offset bound : ℕ) → last_number offset (ends_from offset (map cell_bytes cells)) < bound → (offset < bound) × Each (λ n. n < bound) (ends_from offset (map cell_bytes cells))

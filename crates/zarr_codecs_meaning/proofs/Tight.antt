@@ -1,6 +1,7 @@
 -- What is encoded is tight, and what is tight stands.
 use Rattle.std.proofs.Common.{◌≡◌, ℕ, List, [], ◌∷◌, Some, Bool, true, false, inl, inr}
 use Rattle.std.specs.Prelude.{MatchBool}
+use Rattle.std.proofs.lemmas.Bool.{and_parts}
 use Rattle.zarr_codecs_meaning.specs.Types.{Elements, Cell, uint64}
 use Rattle.zarr_codecs_meaning.specs.Chains.{Chain}
 use Rattle.zarr_codecs_meaning.specs.Chains.Chain.{bytes, packbits, vlen, optional, after_step, then_bytes, sharded}
@@ -9,7 +10,7 @@ use Rattle.zarr_codecs_meaning.specs.Fits.{fits, is_lossless, is_plain, step_fit
 use Rattle.zarr_codecs_meaning.specs.Encoding.{Pair, Piece, pieces_of, encoded}
 use Rattle.zarr_codecs_meaning.specs.Standing.{PieceStands, PiecesStand, IsEncoding, Stands, Tight}
 use Rattle.zarr_codecs_meaning.specs.Laws.{IsLawfulChain, AreCells}
-use Rattle.zarr_codecs_meaning.proofs.Lists.{both_true, bind_some, Each}
+use Rattle.zarr_codecs_meaning.proofs.Lists.{bind_some, Each}
 use Rattle.zarr_codecs_meaning.proofs.Sizes.{cells_moved}
 use Rattle.zarr_codecs_meaning.proofs.Shards.{part_cells}
 use Rattle.zarr_codecs_meaning.proofs.Fitting.{fitted, each_part, each_piece}
@@ -35,16 +36,16 @@ tight_stands (packbits padding first last) elements shape value cells lawful fit
 tight_stands (vlen index texts width location) elements shape value cells lawful fit lossless are h = h
 tight_stands (optional mask values) elements shape value cells lawful fit lossless are h = h
 tight_stands (after_step step chain) elements shape value cells lawful fit lossless are h =
-    let both = both_true (step_fits step shape) (fits chain elements.type (step_shape step shape)) fit in
+    let both = and_parts (step_fits step shape) (fits chain elements.type (step_shape step shape)) fit in
     tight_stands chain elements (step_shape step shape) value (gather elements.fill cells (step_places step shape)) lawful both.1 lossless (cells_moved step elements shape cells both.0 are) h
 tight_stands (then_bytes chain codec) elements shape value cells lawful fit lossless are h =
     match_map (is_plain chain) _ _ _ (λ k. (k.0, k.1, tight_stands chain elements shape k.0 cells lawful.0 fit lossless are k.2)) h
 tight_stands (sharded subchunk inner index location) elements shape value cells lawful fit lossless are h =
-    let l = both_true (is_lossless inner elements.type) (is_lossless index uint64) lossless in
+    let l = and_parts (is_lossless inner elements.type) (is_lossless index uint64) lossless in
     let f = fitted subchunk inner index location elements shape fit in
     let each = each_piece (λ piece. (v : List ℕ) → IsEncoding inner elements piece.0 v piece.1 → Stands inner elements piece.0 v piece.1) elements.fill cells (parts_of shape subchunk)
     (each_part subchunk inner index elements shape cells (λ (part : Part). (v : List ℕ) → IsEncoding inner elements part.shape v (part_cells elements.fill cells part) → Stands inner elements part.shape v (part_cells elements.fill cells part)) f are
-    (λ part one two v e. (laws_of inner lawful.0).stands elements part.shape v (part_cells elements.fill cells part) one l.0 two e)) in
+    (λ part one two v e. (laws_of inner lawful.0).stands elements part.shape v (part_cells elements.fill cells part) one (inl l.0) two e)) in
     (h.0, h.1, h.2, relaxed (IsEncoding inner elements) (Stands inner elements) elements.fill _ h.1 (pieces_of elements.fill cells (parts_of shape subchunk)) h.0 each h.3)
 
 pub encoded_tight : (chain : Chain) (elements : Elements) (shape value : List ℕ) (cells : List Cell) → IsLawfulChain chain → fits chain elements.type shape ≡ true → is_lossless chain elements.type ≡ true → AreCells elements shape cells
@@ -54,10 +55,10 @@ encoded_tight (packbits padding first last) elements shape value cells lawful fi
 encoded_tight (vlen index texts width location) elements shape value cells lawful fit lossless are h = h
 encoded_tight (optional mask values) elements shape value cells lawful fit lossless are h = h
 encoded_tight (after_step step chain) elements shape value cells lawful fit lossless are h =
-    let both = both_true (step_fits step shape) (fits chain elements.type (step_shape step shape)) fit in
+    let both = and_parts (step_fits step shape) (fits chain elements.type (step_shape step shape)) fit in
     encoded_tight chain elements (step_shape step shape) value (gather elements.fill cells (step_places step shape)) lawful both.1 lossless (cells_moved step elements shape cells both.0 are) h
 encoded_tight (then_bytes chain codec) elements shape value cells lawful fit lossless are h =
     let found = bind_some codec.encode (encoded chain elements shape cells) value h in
     either (is_plain chain) _ _ h (found.0, lawful.1.undoes found.0 value found.2, encoded_tight chain elements shape found.0 cells lawful.0 fit lossless are found.1)
 encoded_tight (sharded subchunk inner index location) elements shape value cells lawful fit lossless are h =
-    shard_stands subchunk inner index location elements shape value cells (IsEncoding inner elements) lawful.1 (laws_of index lawful.1) fit (both_true (is_lossless inner elements.type) (is_lossless index uint64) lossless).1 are (λ part text found one two e. e) h
+    shard_stands subchunk inner index location elements shape value cells (IsEncoding inner elements) lawful.1 (laws_of index lawful.1) fit (and_parts (is_lossless inner elements.type) (is_lossless index uint64) lossless).1 are (λ part text found one two e. e) h

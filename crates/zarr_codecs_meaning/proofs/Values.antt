@@ -2,13 +2,13 @@
 use Rattle.std.proofs.Common.{◌≡◌, ℕ, zero, suc, ◌/◌, ◌^◌, List, [], ◌∷◌, length, take, drop, ap, ◌∙◌, sym, refl, arith, Option, Some, None, Bool, true, ◌&&◌, ◌==◌, if◌then◌else◌, length-append, length-take, length-drop}
 use Rattle.std.proofs.lemmas.List.{length-reverse}
 use Rattle.std.proofs.lemmas.Map.Views.{exact_unsigned_eq}
+use Rattle.std.proofs.lemmas.Bool.{and_parts}
 use Rattle.zarr_codecs_meaning.specs.Numbers.{digits, number}
 use Rattle.zarr_codecs_meaning.specs.Types.{DataType, bool, integer, custom, string, variable_bytes, optional_of, Component, components, bytes_in, is_fixed, is_variable, is_value, are_bytes, are_components, Cell, of_bytes, absent, present}
 use Rattle.zarr_codecs_meaning.specs.Chains.{Endianness}
 use Rattle.zarr_codecs_meaning.specs.Chains.Endianness.{little, big}
 use Rattle.zarr_codecs_meaning.specs.Fits.{kept_bits, bits_in}
 use Rattle.zarr_codecs_meaning.specs.Encoding.{in_order, ordered, element_bits}
-use Rattle.zarr_codecs_meaning.proofs.Lists.{both_true}
 
 -- a value of a fixed type
 pub record IsFixedValue (type : DataType) (cell : Cell) : Type 0 where
@@ -22,8 +22,8 @@ pub fixed_value : (type : DataType) (cell : Cell) → is_fixed type ≡ true →
 fixed_value type (of_bytes text) fixed h =
     let parts = components type in
     let open_ = ap (λ (b : Bool). are_bytes text && (if b then (length text == bytes_in parts) && are_components parts text else is_variable type)) (sym fixed) ∙ h in
-    let one = both_true (are_bytes text) ((length text == bytes_in parts) && are_components parts text) open_ in
-    let two = both_true (length text == bytes_in parts) (are_components parts text) one.1 in
+    let one = and_parts (are_bytes text) ((length text == bytes_in parts) && are_components parts text) open_ in
+    let two = and_parts (length text == bytes_in parts) (are_components parts text) one.1 in
     record { text = text; is = refl; bytes = one.0; long = exact_unsigned_eq (length text) (bytes_in parts) two.0; fine = two.1 }
 fixed_value bool absent fixed h = cc
 fixed_value (integer sign width) absent fixed h = cc

@@ -1,6 +1,6 @@
 -- The cell of zeros is a value, and what fits one shape fits each where the chain takes each.
 use Rattle.std.proofs.Common.{◌≡◌, ℕ, zero, suc, ◌+◌, ◌-◌, ◌/◌, ◌%◌, ◌^◌, List, [], ◌∷◌, length, take, drop, ap, ◌∙◌, refl, arith, Option, Some, None, Bool, true, false, ◌&&◌, ◌==◌, if◌then◌else◌, pow_pos, mod-eq_of_lt}
-use Rattle.std.proofs.lemmas.Bool.{eq-eqb, lt-ltb}
+use Rattle.std.proofs.lemmas.Bool.{eq-eqb, lt-ltb, and_parts}
 use Rattle.std.proofs.lemmas.List.{length-replicate}
 use Rattle.zarr_grids_boxes.specs.Boxes.{product}
 use Rattle.zarr_codecs_meaning.specs.Numbers.{number}
@@ -8,7 +8,7 @@ use Rattle.zarr_codecs_meaning.specs.Types.{DataType, bool, integer, custom, str
 use Rattle.zarr_codecs_meaning.specs.Chains.{Chain}
 use Rattle.zarr_codecs_meaning.specs.Chains.Chain.{bytes, packbits, vlen, optional, after_step, then_bytes, sharded}
 use Rattle.zarr_codecs_meaning.specs.Fits.{fits, takes_each_shape}
-use Rattle.zarr_codecs_meaning.proofs.Lists.{both_true, zero_list}
+use Rattle.zarr_codecs_meaning.proofs.Lists.{zero_list}
 
 zeros_are_bytes : (n : ℕ) → are_bytes (zero_list n) ≡ true
 zeros_are_bytes zero = refl
@@ -63,20 +63,20 @@ pub fits_each : (chain : Chain) (type : DataType) (one two : List ℕ) → takes
 fits_each (bytes order) type one two takes fit = fit
 fits_each (packbits padding first last) type one two takes fit = fit
 fits_each (vlen index texts width location) type one two takes fit =
-    let t = both_true (takes_each_shape index) (takes_each_shape texts) takes in
+    let t = and_parts (takes_each_shape index) (takes_each_shape texts) takes in
     let rest = λ (shape : List ℕ). fits index (integer unsigned width) ((product shape + 1) ∷ []) in
     let last = takes_each_shape texts && fits texts uint8 (0 ∷ []) in
-    let a = both_true (is_variable type) (rest one && last) fit in
-    let b = both_true (rest one) last a.1 in
+    let a = and_parts (is_variable type) (rest one && last) fit in
+    let b = and_parts (rest one) last a.1 in
     ap (λ (t : Bool). t && (rest two && last)) a.0 ∙ (ap (λ (t : Bool). t && last) (fits_each index (integer unsigned width) ((product one + 1) ∷ []) ((product two + 1) ∷ []) t.0 b.0) ∙ b.1)
 fits_each (optional mask values) type one two takes fit =
-    let t = both_true (takes_each_shape mask) (takes_each_shape values) takes in
+    let t = and_parts (takes_each_shape mask) (takes_each_shape values) takes in
     masked_fits (inner_type type) values (fits mask bool one) (fits mask bool two) (fits_each mask bool one two t.0) fit where
       masked_fits : (o : Option DataType) (values : Chain) (before after : Bool) → (before ≡ true → after ≡ true)
           → (elim o [ None ↦ false | Some inner ↦ before && (takes_each_shape values && fits values inner (0 ∷ [])) ]) ≡ true → (elim o [ None ↦ false | Some inner ↦ after && (takes_each_shape values && fits values inner (0 ∷ [])) ]) ≡ true
       masked_fits None values before after law h = h
       masked_fits (Some inner) values before after law h =
-          let b = both_true before (takes_each_shape values && fits values inner (0 ∷ [])) h in
+          let b = and_parts before (takes_each_shape values && fits values inner (0 ∷ [])) h in
           ap (λ (t : Bool). t && (takes_each_shape values && fits values inner (0 ∷ []))) (law b.0) ∙ b.1
 fits_each (after_step step chain) type one two takes fit = cc
 fits_each (then_bytes chain codec) type one two takes fit = fits_each chain type one two takes fit

@@ -1,5 +1,5 @@
 -- What a stored value means, however it was written.
-use Rattle.std.specs.Prelude.{◌≡◌, ℕ, ◌+◌, ◌-◌, ◌^◌, ◌<◌, List, [], ◌∷◌, ◌++◌, length, Option, Some, true, false, ◌⊎◌, MatchBool, MatchOption}
+use Rattle.std.specs.Prelude.{◌≡◌, ℕ, ◌+◌, ◌-◌, ◌^◌, ◌<◌, List, [], ◌∷◌, ◌++◌, length, Option, Some, None, true, false, ◌⊎◌, MatchBool, MatchOption}
 use Rattle.zarr_codecs_meaning.specs.Types.{uint64, Cell, is_fill, Elements, zero_filled}
 use Rattle.zarr_codecs_meaning.specs.Chains.{Chain, Location}
 use Rattle.zarr_codecs_meaning.specs.Chains.Chain.{bytes, packbits, vlen, optional, after_step, then_bytes, sharded}
@@ -21,6 +21,11 @@ pub record HasSlice (base : ℕ) («data» : List ℕ) (pair : Pair) (slice : Li
 abbrev pub PieceStands : (List ℕ → List ℕ → List Cell → Type 0) → Cell → ℕ → List ℕ → Piece → Pair → Type 0
 PieceStands inner fill base «data» piece pair =
     ((is_fill fill piece.1 ≡ true) × (pair ≡ absent_pair)) ⊎ ((is_fill fill piece.1 ≡ false) × ((slice : List ℕ) × HasSlice base «data» pair slice × inner piece.0 slice piece.1))
+
+-- there is no text for a subchunk that is all fill; any other text stands for the subchunk's cells
+abbrev pub TextStands : (List ℕ → List ℕ → List Cell → Type 0) → Cell → Piece → Option (List ℕ) → Type 0
+TextStands inner fill piece None = is_fill fill piece.1 ≡ true
+TextStands inner fill piece (Some text) = (is_fill fill piece.1 ≡ false) × inner piece.0 text piece.1
 
 -- each pair stands for its subchunk, and there are as many of both
 abbrev pub PiecesStand : (List ℕ → List ℕ → List Cell → Type 0) → Cell → ℕ → List ℕ → List Piece → List Pair → Type 0

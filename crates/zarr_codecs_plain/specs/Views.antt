@@ -1,5 +1,5 @@
 -- Declared chains as chains of the definitions.
-use Rattle.std.specs.Prelude.{map, option_map}
+use Rattle.std.specs.Prelude.{ℕ, map, option_map}
 use Rattle.zarr_codecs_meaning.specs.Chains as meaning
 use Rattle.zarr_codecs_meaning.specs.Chains.{ByteCodec, Chain}
 use Rattle.zarr_codecs_meaning.specs.Chains.Chain.{bytes, packbits, vlen, optional, after_step, then_bytes, sharded}
@@ -18,6 +18,8 @@ use Rattle.zarr_codecs_plain.specs.declared.chain.Padding.{Padding}
 use Rattle.zarr_codecs_plain.specs.declared.chain.Padding.TheVariants.{NoPaddingByte, FirstByte, LastByte}
 use Rattle.zarr_codecs_plain.specs.declared.chain.Location.{Location}
 use Rattle.zarr_codecs_plain.specs.declared.chain.Location.TheVariants.{Start, End}
+use Rattle.zarr_codecs_plain.specs.declared.chain.IndexDataType.{IndexDataType}
+use Rattle.zarr_codecs_plain.specs.declared.chain.IndexDataType.TheVariants.{UInt32, UInt64}
 use Rattle.zarr_codecs_plain.specs.declared.chain.ShapeEntry.{ShapeEntry}
 use Rattle.zarr_codecs_plain.specs.declared.chain.ShapeEntry.TheVariants.{Size, Product, LeftOver}
 use Rattle.zarr_codecs_plain.specs.declared.chain.Step.{Step}
@@ -37,6 +39,11 @@ abbrev pub location_of : Location → meaning.Location
 location_of Start = at_start
 location_of End = at_end
 
+-- how many bits an offset has
+abbrev pub width_of : IndexDataType → ℕ
+width_of UInt32 = 32
+width_of UInt64 = 64
+
 abbrev pub entry_of : ShapeEntry → meaning.ShapeEntry
 entry_of (Size n) = size_entry n
 entry_of (Product dimensions) = product_entry dimensions.items
@@ -51,7 +58,7 @@ step_of Squeeze = squeeze
 abbrev pub chain_of : {B : Type 0} → (B → ByteCodec) → PlainChain B → Chain
 chain_of codec (Bytes order) = bytes (option_map order_of order)
 chain_of codec (PackBits padding first last) = packbits (padding_of padding) first last
-chain_of codec (Vlen' p index q texts width location) = vlen (chain_of codec index) (chain_of codec texts) width (location_of location)
+chain_of codec (Vlen' p index q texts offsets location) = vlen (chain_of codec index) (chain_of codec texts) (width_of offsets) (location_of location)
 chain_of codec (Optional' p mask q values) = optional (chain_of codec mask) (chain_of codec values)
 chain_of codec (AfterStep' step p chain) = after_step (step_of step) (chain_of codec chain)
 chain_of codec (ThenBytes' p chain b) = then_bytes (chain_of codec chain) (codec b)

@@ -3,6 +3,7 @@ ghost use Rattle.std.specs.Prelude.{◌≡◌, IfOk, option_map};
 ghost use Rattle.zarr_codecs_meaning.specs.Chains.{ByteCodec};
 ghost use Rattle.zarr_codecs_plain.specs.Sizes.{size_known};
 
+use crate::error::PlainError;
 use crate::representation::BytesRepresentation;
 use std::alloc::{AllocError, Global};
 
@@ -26,6 +27,13 @@ pub enum Padding {
 pub enum Location {
     Start,
     End,
+}
+
+/// The type of the offsets that `vlen` writes.
+#[derive(Clone, Copy)]
+pub enum IndexDataType {
+    UInt32,
+    UInt64,
 }
 
 /// One entry of a new shape: a size, the product of the sizes of some dimensions of the old shape, or what is left over.
@@ -58,7 +66,7 @@ pub trait PlainByteCodec: Drop {
         ensures { IfOk result (λ r. option_map (λ v. v.items) r ≡ (meaning self.now).decode text.now) };
 
     /// What is known of the size of what it makes, by what is known of the size of what it is given.
-    fn representation(&self, known: BytesRepresentation) -> Result<BytesRepresentation, AllocError>
+    fn representation(&self, known: BytesRepresentation) -> Result<BytesRepresentation, PlainError>
         ensures { IfOk result (λ r. size_known r ≡ (meaning self.now).representation (size_known known)) };
 }
 
@@ -72,11 +80,10 @@ pub enum PlainChain<B> {
         first_bit: usize,
         last_bit: Option<usize>,
     },
-    /// The width of the index's unsigned integers is in bits.
     Vlen {
         index: Box<PlainChain<B>>,
         data: Box<PlainChain<B>>,
-        index_width: usize,
+        index_data_type: IndexDataType,
         location: Location,
     },
     Optional {

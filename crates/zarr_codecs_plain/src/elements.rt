@@ -9,6 +9,7 @@ ghost use Rattle.zarr_codecs_plain.specs.Bits.{bit_of, bits_of, bit_from, bit_ab
 
 use crate::bits::{bits_of, packed};
 use crate::chain::Endianness;
+use crate::error::PlainError;
 use crate::shapes::multiply;
 use crate::sizes::{kept_bits, kept_end};
 use crate::slices::{back, front};
@@ -103,7 +104,7 @@ fn push_element_bits(
     last: Option<usize>,
     parts: &[Component],
     text: &[u8],
-) -> Result<(), AllocError>
+) -> Result<(), PlainError>
     ensures { OnOk result (bits_of out.new.items ≡ bits_of out.old.items ++ element_bits first last (components_of parts.now) text.now) }
 {
     match parts.split_first() {
@@ -123,7 +124,7 @@ pub fn element_bits(
     last: Option<usize>,
     parts: &[Component],
     text: &[u8],
-) -> Result<Vec<bool>, AllocError>
+) -> Result<Vec<bool>, PlainError>
     ensures { IfOk result (λ v. bits_of v.items ≡ element_bits first last (components_of parts.now) text.now) }
 {
     let mut out = Vec::new(alloc);
@@ -175,7 +176,7 @@ pub fn component_of_bits(
     first: usize,
     end: usize,
     bits: &[bool],
-) -> Result<Vec<u8>, AllocError>
+) -> Result<Vec<u8>, PlainError>
     ensures { IfOk result (λ v. v.items ≡ digits 256 part.now.byte_count
         (extended (sign_of part.now.sign) end part.now.byte_count (number 2 (take (end - first) (bits_of bits.now)) * 2 ^ first))) }
 {
@@ -196,7 +197,7 @@ fn push_element(
     last: Option<usize>,
     parts: &[Component],
     bits: &[bool],
-) -> Result<(), AllocError>
+) -> Result<(), PlainError>
     ensures { OnOk result (out.new.items ≡ out.old.items ++ element_of_bits first last (components_of parts.now) (bits_of bits.now)) }
 {
     match parts.split_first() {
@@ -220,7 +221,7 @@ pub fn element_of_bits(
     last: Option<usize>,
     parts: &[Component],
     bits: &[bool],
-) -> Result<Vec<u8>, AllocError>
+) -> Result<Vec<u8>, PlainError>
     ensures { IfOk result (λ v. v.items ≡ element_of_bits first last (components_of parts.now) (bits_of bits.now)) }
 {
     let mut out = Vec::new(alloc);

@@ -1,12 +1,13 @@
 //! What chains of Zarr codecs encode and decode, in a plain and slow form that follows the
-//! definitions word by word: faster forms are compared with it. A number that does not fit is
-//! answered as want of memory, since as many things could not be held.
+//! definitions word by word: faster forms are compared with it. What allocates alone answers `AllocError`;
+//! what also counts answers `PlainError`, which tells a number that passes 2^64 - 1 from want of memory.
 #![tactic(auto)]
 
 pub mod bits;
 pub mod cells;
 pub mod chain;
 pub mod elements;
+pub mod error;
 pub mod numbers;
 pub mod parts;
 pub mod places;
@@ -18,5 +19,8 @@ pub mod steps;
 pub mod types;
 pub mod values;
 
-pub use chain::{Endianness, Location, Padding, PlainByteCodec, PlainChain, ShapeEntry, Step};
+pub use chain::{
+    Endianness, IndexDataType, Location, Padding, PlainByteCodec, PlainChain, ShapeEntry, Step,
+};
+pub use error::PlainError;
 pub use representation::BytesRepresentation;

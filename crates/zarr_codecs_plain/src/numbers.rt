@@ -2,6 +2,7 @@
 ghost use Rattle.std.specs.Prelude.{◌≡◌, ◌++◌, IfOk, OnOk};
 ghost use Rattle.zarr_codecs_meaning.specs.Numbers.{digits, number, word};
 
+use crate::error::PlainError;
 use std::alloc::{AllocError, Global};
 
 /// So many of the lowest bytes of a number.
@@ -24,8 +25,8 @@ pub fn word(alloc: Global, n: u64) -> Result<Vec<u8>, AllocError>
     digits(alloc, 8, n)
 }
 
-/// The number that bytes write, of any count of bytes.
-pub fn number(bytes: &[u8]) -> Result<u64, AllocError>
+/// The number that bytes write, of any count of bytes. `Size` where it is 2^64 or more.
+pub fn number(bytes: &[u8]) -> Result<u64, PlainError>
     ensures { IfOk result (λ n. n ≡ number 256 bytes.now) }
 {
     let mut n: u64 = 0;
@@ -34,7 +35,7 @@ pub fn number(bytes: &[u8]) -> Result<u64, AllocError>
         left -= 1;
         let higher = match n.checked_mul(256) {
             Some(higher) => higher,
-            None => return Err(AllocError),
+            None => return Err(PlainError::Size),
         };
         n = higher + bytes[left] as u64;
     }

@@ -4,6 +4,7 @@ ghost use Rattle.zarr_grids_boxes.specs.Boxes.{each2};
 ghost use Rattle.zarr_codecs_meaning.specs.Places.{part_of, parts_of, box_of};
 ghost use Rattle.zarr_codecs_plain.specs.Subchunks.{part_as};
 
+use crate::error::PlainError;
 use crate::places::{places, places_of, ravel_each};
 use crate::shapes::{grid_of, multiply};
 use std::alloc::{AllocError, Global};
@@ -16,7 +17,7 @@ pub struct Part {
 }
 
 /// Where the subchunk with this index begins, behind other numbers.
-fn push_start(start: &mut Vec<usize>, index: &[usize], subchunk: &[usize]) -> Result<(), AllocError>
+fn push_start(start: &mut Vec<usize>, index: &[usize], subchunk: &[usize]) -> Result<(), PlainError>
     ensures { OnOk result (start.new.items ≡ start.old.items ++ each2 (λ i edge. i * edge) index.now subchunk.now) }
 {
     match (index.split_first(), subchunk.split_first()) {
@@ -64,7 +65,7 @@ fn part_at(
     shape: &[usize],
     subchunk: &[usize],
     index: &[usize],
-) -> Result<Part, AllocError>
+) -> Result<Part, PlainError>
     ensures { IfOk result (λ part. part_as part ≡ part_of shape.now (box_of shape.now subchunk.now index.now)) }
 {
     let mut start = Vec::new(alloc);
@@ -82,7 +83,7 @@ fn part_at(
 }
 
 /// The subchunks of an array, row-major. Those at its ends are clipped to it.
-pub fn parts(alloc: Global, shape: &[usize], subchunk: &[usize]) -> Result<Vec<Part>, AllocError>
+pub fn parts(alloc: Global, shape: &[usize], subchunk: &[usize]) -> Result<Vec<Part>, PlainError>
     ensures { IfOk result (λ v. map part_as v.items ≡ parts_of shape.now subchunk.now) }
 {
     let grid = grid_of(alloc, shape, subchunk)?;

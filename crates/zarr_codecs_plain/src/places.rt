@@ -4,11 +4,13 @@ ghost use Rattle.std.specs.List.{range_with_len};
 ghost use Rattle.zarr_grids_boxes.specs.Boxes.{places, ravel};
 ghost use Rattle.zarr_codecs_meaning.specs.Places.{place_numbers, places_of, position_of};
 
+use crate::error::PlainError;
 use crate::shapes::{add, multiply, product};
 use std::alloc::{AllocError, Global};
 
-/// The number of a place in an array of this shape.
-pub fn ravel(place: &[usize], shape: &[usize]) -> Result<usize, AllocError>
+/// The number of a place in an array of this shape. `Size` where it, or the count of places behind
+/// one of its dimensions, is 2^64 or more.
+pub fn ravel(place: &[usize], shape: &[usize]) -> Result<usize, PlainError>
     ensures { IfOk result (λ n. n ≡ ravel place.now shape.now) }
 {
     match (place.split_first(), shape.split_first()) {
@@ -52,7 +54,7 @@ fn rows(
     begin: usize,
     size: usize,
     inner: &[Vec<usize>],
-) -> Result<Vec<Vec<usize>>, AllocError>
+) -> Result<Vec<Vec<usize>>, PlainError>
     ensures { IfOk result (λ v. map (λ place. place.items) v.items
         ≡ flat_map (λ i. map (λ place. i ∷ place) (map (λ place. place.items) inner.now)) (range_with_len begin size)) }
 {
@@ -69,7 +71,7 @@ pub fn places(
     alloc: Global,
     start: &[usize],
     shape: &[usize],
-) -> Result<Vec<Vec<usize>>, AllocError>
+) -> Result<Vec<Vec<usize>>, PlainError>
     ensures { IfOk result (λ v. map (λ place. place.items) v.items ≡ places start.now shape.now) }
 {
     match (start.split_first(), shape.split_first()) {
@@ -86,7 +88,7 @@ pub fn places(
 }
 
 /// All places of a shape, row-major.
-pub fn places_of(alloc: Global, shape: &[usize]) -> Result<Vec<Vec<usize>>, AllocError>
+pub fn places_of(alloc: Global, shape: &[usize]) -> Result<Vec<Vec<usize>>, PlainError>
     ensures { IfOk result (λ v. map (λ place. place.items) v.items ≡ places_of shape.now) }
 {
     let zeros: Vec<usize> = shape.iter().map(|_| 0).collect(alloc)?;
@@ -94,7 +96,7 @@ pub fn places_of(alloc: Global, shape: &[usize]) -> Result<Vec<Vec<usize>>, Allo
 }
 
 /// The numbers of all places of a shape.
-pub fn place_numbers(alloc: Global, shape: &[usize]) -> Result<Vec<usize>, AllocError>
+pub fn place_numbers(alloc: Global, shape: &[usize]) -> Result<Vec<usize>, PlainError>
     ensures { IfOk result (λ v. v.items ≡ place_numbers shape.now) }
 {
     let mut numbers = Vec::new(alloc);
@@ -109,7 +111,7 @@ pub fn ravel_each(
     alloc: Global,
     places: &[Vec<usize>],
     shape: &[usize],
-) -> Result<Vec<usize>, AllocError>
+) -> Result<Vec<usize>, PlainError>
     ensures { IfOk result (λ v. v.items ≡ map (λ place. ravel place shape.now) (map (λ place. place.items) places.now)) }
 {
     let mut numbers = Vec::new(alloc);

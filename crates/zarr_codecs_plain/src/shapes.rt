@@ -1,36 +1,42 @@
 //! Shapes, and what array codecs and shards make of them.
-ghost use Rattle.std.specs.Prelude.{◌≡◌, ◌+◌, ◌-◌, ◌*◌, ◌/◌, ◌++◌, map, slice_index, not, ◌==◌, IfOk, OnOk};
+ghost use Rattle.std.specs.Prelude.{◌≡◌, ◌≤◌, ◌+◌, ◌-◌, ◌*◌, ◌/◌, ◌^◌, ℕ, ◌++◌, map, slice_index, not, ◌==◌, IfOk, IfErr, OnOk};
 ghost use Rattle.std.specs.List.{filter};
 ghost use Rattle.zarr_grids_boxes.specs.Boxes.{product};
 ghost use Rattle.zarr_codecs_meaning.specs.Places.{known_product, entry_size, squeezed, step_shape, grid_of, index_shape};
 ghost use Rattle.zarr_codecs_plain.specs.Views.{entry_of, step_of};
+ghost use Rattle.zarr_codecs_plain.specs.Sizes.{IsNumber};
+ghost use Rattle.zarr_codecs_plain.specs.declared.error.PlainError.TheVariants.{Size};
 
 use crate::chain::{ShapeEntry, Step};
+use crate::error::PlainError;
 use std::alloc::{AllocError, Global};
 
-/// The product of two numbers.
-pub fn multiply(left: usize, right: usize) -> Result<usize, AllocError>
-    ensures { IfOk result (λ n. n ≡ left * right) }
+/// The product of two numbers. `Size` where it passes 2^64 - 1.
+pub fn multiply(left: usize, right: usize) -> Result<usize, PlainError>
+    ensures ok { IfOk result (λ n. n ≡ left * right) }
+    ensures size { IfErr result (λ e. (e ≡ Size) × (2 ^ 64 ≤ left * right)) }
 {
     match left.checked_mul(right) {
         Some(n) => Ok(n),
-        None => Err(AllocError),
+        None => Err(PlainError::Size),
     }
 }
 
-/// The sum of two numbers.
-pub fn add(left: usize, right: usize) -> Result<usize, AllocError>
-    ensures { IfOk result (λ n. n ≡ left + right) }
+/// The sum of two numbers. `Size` where it passes 2^64 - 1.
+pub fn add(left: usize, right: usize) -> Result<usize, PlainError>
+    ensures ok { IfOk result (λ n. n ≡ left + right) }
+    ensures size { IfErr result (λ e. (e ≡ Size) × (2 ^ 64 ≤ left + right)) }
 {
     match left.checked_add(right) {
         Some(n) => Ok(n),
-        None => Err(AllocError),
+        None => Err(PlainError::Size),
     }
 }
 
-/// How many places an array of this shape has.
-pub fn product(shape: &[usize]) -> Result<usize, AllocError>
-    ensures { IfOk result (λ n. n ≡ product shape.now) }
+/// How many places an array of this shape has. `Size` where they are 2^64 or more.
+pub fn product(shape: &[usize]) -> Result<usize, PlainError>
+    ensures ok { IfOk result (λ n. n ≡ product shape.now) }
+    ensures size { IfErr result (λ e. (e ≡ Size) × (2 ^ 64 ≤ product shape.now)) }
 {
     match shape.split_first() {
         None => Ok(1),
@@ -57,8 +63,9 @@ fn sizes_at(alloc: Global, shape: &[usize], dimensions: &[usize]) -> Result<Vec<
 }
 
 /// The product of the sizes in these dimensions.
-fn product_of(shape: &[usize], dimensions: &[usize]) -> Result<usize, AllocError>
-    ensures { IfOk result (λ n. n ≡ product (map (slice_index shape.now) dimensions.now)) }
+fn product_of(shape: &[usize], dimensions: &[usize]) -> Result<usize, PlainError>
+    ensures ok { IfOk result (λ n. n ≡ product (map (slice_index shape.now) dimensions.now)) }
+    ensures size { IfErr result (λ e. (e ≡ Size) × (2 ^ 64 ≤ product (map (slice_index shape.now) dimensions.now))) }
 {
     match dimensions.split_first() {
         None => Ok(1),
@@ -72,18 +79,47 @@ fn product_of(shape: &[usize], dimensions: &[usize]) -> Result<usize, AllocError
     }
 }
 
+/// The product of two numbers that may have passed 2^64 - 1, which is 0 where one of them is 0.
+fn product_of_two(
+    left: Result<usize, PlainError>,
+    right: Result<usize, PlainError>,
+) -> Result<usize, PlainError>
+    ensures { (n m : ℕ) → IsNumber left n → IsNumber right m → IsNumber result (n * m) }
+{
+    match (left, right) {
+        (Ok(0), _) => Ok(0),
+        (_, Ok(0)) => Ok(0),
+        (Ok(left), Ok(right)) => multiply(left, right),
+        _ => Err(PlainError::Size),
+    }
+}
+
 /// The product of the sizes of a new shape, without that of an entry that is left over.
-fn known_product(entries: &[ShapeEntry], shape: &[usize]) -> Result<usize, AllocError>
-    ensures { IfOk result (λ n. n ≡ known_product (map entry_of entries.now) shape.now) }
+fn known_product(entries: &[ShapeEntry], shape: &[usize]) -> Result<usize, PlainError>
+    ensures { IsNumber result (known_product (map entry_of entries.now) shape.now) }
 {
     match entries.split_first() {
         None => Ok(1),
-        Some((ShapeEntry::Size(size), rest)) => multiply(*size, known_product(rest, shape)?),
-        Some((ShapeEntry::Product(dimensions), rest)) => multiply(
-            product_of(shape, dimensions)?,
-            known_product(rest, shape)?,
+        Some((ShapeEntry::Size(size), rest)) => product_of_two(
+            Ok(*size),
+            known_product(rest, shape),
+        ),
+        Some((ShapeEntry::Product(dimensions), rest)) => product_of_two(
+            product_of(shape, dimensions),
+            known_product(rest, shape),
         ),
         Some((ShapeEntry::LeftOver, rest)) => known_product(rest, shape),
+    }
+}
+
+/// What is left over of so many elements by a product that may have passed 2^64 - 1.
+fn left_over(count: usize, known: Result<usize, PlainError>) -> usize
+    ensures { (n : ℕ) → IsNumber known n → result ≡ count / n }
+{
+    match known {
+        Ok(0) => 0,
+        Ok(known) => count / known,
+        Err(_) => 0,
     }
 }
 
@@ -92,18 +128,15 @@ fn entry_size(
     entries: &[ShapeEntry],
     shape: &[usize],
     entry: &ShapeEntry,
-) -> Result<usize, AllocError>
+) -> Result<usize, PlainError>
     ensures { IfOk result (λ n. n ≡ entry_size (known_product (map entry_of entries.now) shape.now) shape.now (entry_of entry.now)) }
 {
     match entry {
         ShapeEntry::Size(size) => Ok(*size),
         ShapeEntry::Product(dimensions) => product_of(shape, dimensions),
         ShapeEntry::LeftOver => {
-            let known = known_product(entries, shape)?;
-            if known == 0 {
-                return Ok(0);
-            }
-            Ok(product(shape)? / known)
+            let count = product(shape)?;
+            Ok(left_over(count, known_product(entries, shape)))
         }
     }
 }
@@ -113,7 +146,7 @@ fn reshaped(
     alloc: Global,
     entries: &[ShapeEntry],
     shape: &[usize],
-) -> Result<Vec<usize>, AllocError>
+) -> Result<Vec<usize>, PlainError>
     ensures { IfOk result (λ v. v.items ≡ map (entry_size (known_product (map entry_of entries.now) shape.now) shape.now) (map entry_of entries.now)) }
 {
     let mut sizes = Vec::new(alloc);
@@ -146,14 +179,15 @@ fn squeezed(alloc: Global, shape: &[usize]) -> Result<Vec<usize>, AllocError>
     Ok(sizes)
 }
 
-/// The shape of what an array codec makes of an array.
-pub fn step_shape(alloc: Global, step: &Step, shape: &[usize]) -> Result<Vec<usize>, AllocError>
+/// The shape of what an array codec makes of an array. `Size` where a size of a new shape passes
+/// 2^64 - 1, or where one is left over of an array of 2^64 elements or more.
+pub fn step_shape(alloc: Global, step: &Step, shape: &[usize]) -> Result<Vec<usize>, PlainError>
     ensures { IfOk result (λ v. v.items ≡ step_shape (step_of step.now) shape.now) }
 {
     match step {
-        Step::Transpose(order) => sizes_at(alloc, shape, order),
+        Step::Transpose(order) => Ok(sizes_at(alloc, shape, order)?),
         Step::Reshape(entries) => reshaped(alloc, entries, shape),
-        Step::Squeeze => squeezed(alloc, shape),
+        Step::Squeeze => Ok(squeezed(alloc, shape)?),
     }
 }
 

@@ -11,15 +11,16 @@ ghost use Rattle.zarr_codecs_plain.specs.Sizes.{size_known};
 ghost use Rattle.zarr_codecs_plain.specs.Subchunks.{part_as};
 
 use crate::chain::{Padding, PlainByteCodec, PlainChain};
+use crate::error::PlainError;
 use crate::parts::{Part, parts};
 use crate::representation::BytesRepresentation;
 use crate::shapes::{add, index_shape, multiply, product, step_shape};
 use crate::types::{components, present_type};
-use std::alloc::{AllocError, Global};
+use std::alloc::Global;
 use zarr_codecs_types::{Component, DataType};
 
 /// How many bytes components take together.
-pub fn bytes_in(parts: &[Component]) -> Result<usize, AllocError>
+pub fn bytes_in(parts: &[Component]) -> Result<usize, PlainError>
     ensures { IfOk result (λ n. n ≡ bytes_in (components_of parts.now)) }
 {
     match parts.split_first() {
@@ -29,7 +30,7 @@ pub fn bytes_in(parts: &[Component]) -> Result<usize, AllocError>
 }
 
 /// The number of bits up to the last one that is kept of a component.
-pub fn kept_end(last: Option<usize>, part: &Component) -> Result<usize, AllocError>
+pub fn kept_end(last: Option<usize>, part: &Component) -> Result<usize, PlainError>
     ensures { IfOk result (λ n. n ≡ last_kept last (component_of part.now) + 1) }
 {
     match last {
@@ -39,7 +40,7 @@ pub fn kept_end(last: Option<usize>, part: &Component) -> Result<usize, AllocErr
 }
 
 /// How many bits are kept of a component.
-pub fn kept_bits(first: usize, last: Option<usize>, part: &Component) -> Result<usize, AllocError>
+pub fn kept_bits(first: usize, last: Option<usize>, part: &Component) -> Result<usize, PlainError>
     ensures { IfOk result (λ n. n ≡ kept_bits first last (component_of part.now)) }
 {
     let end = kept_end(last, part)?;
@@ -47,7 +48,7 @@ pub fn kept_bits(first: usize, last: Option<usize>, part: &Component) -> Result<
 }
 
 /// How many bits are kept of an element.
-pub fn bits_in(first: usize, last: Option<usize>, parts: &[Component]) -> Result<usize, AllocError>
+pub fn bits_in(first: usize, last: Option<usize>, parts: &[Component]) -> Result<usize, PlainError>
     ensures { IfOk result (λ n. n ≡ bits_in first last (components_of parts.now)) }
 {
     match parts.split_first() {
@@ -74,7 +75,7 @@ pub fn packed_size(
     last: Option<usize>,
     parts: &[Component],
     count: usize,
-) -> Result<usize, AllocError>
+) -> Result<usize, PlainError>
     ensures { IfOk result (λ n. n ≡ packed_size (padding_of padding) first last (components_of parts.now) count) }
 {
     let width = bits_in(first, last, parts)?;
@@ -116,7 +117,7 @@ fn at_most(bound: Option<usize>) -> BytesRepresentation
 }
 
 /// The sum of two bounds, where both are there.
-fn add_bounds(bound: Option<usize>, other: Option<usize>) -> Result<Option<usize>, AllocError>
+fn add_bounds(bound: Option<usize>, other: Option<usize>) -> Result<Option<usize>, PlainError>
     ensures { IfOk result (λ r. r ≡ option_and_then (λ n. option_map (λ m. n + m) other) bound) }
 {
     match (bound, other) {
@@ -132,7 +133,7 @@ fn parts_bound<B: PlainByteCodec>(
     chain: &PlainChain<B>,
     data_type: &DataType,
     subchunks: &[Part],
-) -> Result<Option<usize>, AllocError>
+) -> Result<Option<usize>, PlainError>
     ensures { IfOk result (λ r. r
         ≡ sum_of_bounds (map (λ part. bound_of (representation_of (chain_of B.meaning chain.now) (type_of data_type.now) part.shape)) (map part_as subchunks.now))) }
 {
@@ -149,7 +150,7 @@ fn whole_size(
     alloc: Global,
     data_type: &DataType,
     shape: &[usize],
-) -> Result<BytesRepresentation, AllocError>
+) -> Result<BytesRepresentation, PlainError>
     ensures { IfOk result (λ r. size_known r ≡ fixed_size (bytes_in (components (type_of data_type.now)) * product shape.now)) }
 {
     let parts = components(alloc, data_type)?;
@@ -165,7 +166,7 @@ fn bits_size(
     last: Option<usize>,
     data_type: &DataType,
     shape: &[usize],
-) -> Result<BytesRepresentation, AllocError>
+) -> Result<BytesRepresentation, PlainError>
     ensures { IfOk result (λ r. size_known r
         ≡ fixed_size (packed_size (padding_of padding) first last (components (type_of data_type.now)) (product shape.now))) }
 {
@@ -181,7 +182,7 @@ pub fn representation_of<B: PlainByteCodec>(
     chain: &PlainChain<B>,
     data_type: &DataType,
     shape: &[usize],
-) -> Result<BytesRepresentation, AllocError>
+) -> Result<BytesRepresentation, PlainError>
     ensures { IfOk result (λ r. size_known r ≡ representation_of (chain_of B.meaning chain.now) (type_of data_type.now) shape.now) }
 {
     match chain {
@@ -228,7 +229,7 @@ pub fn size_of<B: PlainByteCodec>(
     chain: &PlainChain<B>,
     data_type: &DataType,
     shape: &[usize],
-) -> Result<Option<usize>, AllocError>
+) -> Result<Option<usize>, PlainError>
     ensures { IfOk result (λ n. n ≡ size_of (chain_of B.meaning chain.now) (type_of data_type.now) shape.now) }
 {
     let known = representation_of(alloc, chain, data_type, shape)?;
@@ -240,7 +241,7 @@ pub fn index_size<B: PlainByteCodec>(
     alloc: Global,
     index: &PlainChain<B>,
     shape: &[usize],
-) -> Result<usize, AllocError>
+) -> Result<usize, PlainError>
     ensures { IfOk result (λ n. n ≡ index_size (chain_of B.meaning index.now) shape.now) }
 {
     match size_of(alloc, index, &DataType::UInt64, shape)? {

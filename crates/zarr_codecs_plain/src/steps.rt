@@ -5,6 +5,7 @@ ghost use Rattle.zarr_codecs_meaning.specs.Places.{untransposed, step_places, un
 ghost use Rattle.zarr_codecs_plain.specs.Views.{step_of};
 
 use crate::chain::Step;
+use crate::error::PlainError;
 use crate::places::{place_numbers, places_of, position_of, ravel};
 use crate::shapes::{product, size_at, step_shape};
 use std::alloc::{AllocError, Global};
@@ -26,7 +27,7 @@ fn untransposed_each(
     order: &[usize],
     places: &[Vec<usize>],
     shape: &[usize],
-) -> Result<Vec<usize>, AllocError>
+) -> Result<Vec<usize>, PlainError>
     ensures { IfOk result (λ v. v.items
         ≡ map (λ place. ravel (untransposed order.now place) shape.now) (map (λ place. place.items) places.now)) }
 {
@@ -39,7 +40,7 @@ fn untransposed_each(
 }
 
 /// For each place of what an array codec makes, the number of the place that the cell comes from.
-pub fn step_places(alloc: Global, step: &Step, shape: &[usize]) -> Result<Vec<usize>, AllocError>
+pub fn step_places(alloc: Global, step: &Step, shape: &[usize]) -> Result<Vec<usize>, PlainError>
     ensures { IfOk result (λ v. v.items ≡ step_places (step_of step.now) shape.now) }
 {
     match step {
@@ -54,7 +55,7 @@ pub fn step_places(alloc: Global, step: &Step, shape: &[usize]) -> Result<Vec<us
 }
 
 /// For each place before an array codec, the number of the place that its cell has afterwards.
-pub fn undone_places(alloc: Global, step: &Step, shape: &[usize]) -> Result<Vec<usize>, AllocError>
+pub fn undone_places(alloc: Global, step: &Step, shape: &[usize]) -> Result<Vec<usize>, PlainError>
     ensures { IfOk result (λ v. v.items ≡ undone_places (step_of step.now) shape.now) }
 {
     let places = step_places(alloc, step, shape)?;

@@ -2,7 +2,10 @@
 ghost use Rattle.std.specs.Prelude.{◌≡◌, [], ◌∷◌, replicate, unwrap_or, IfOk};
 ghost use Rattle.zarr_codecs_meaning.specs.Types.{of_bytes, integer, unsigned, components, inner_type, is_fixed, is_variable, zero_cell};
 ghost use Rattle.zarr_codecs_types.specs.Views.{sign_of, type_of, cell_of, components_of};
+ghost use Rattle.zarr_codecs_plain.specs.Views.{width_of};
 
+use crate::chain::IndexDataType;
+use crate::error::PlainError;
 use crate::sizes::bytes_in;
 use std::alloc::{AllocError, Global};
 use zarr_codecs_types::{Cell, Component, DataType, Sign};
@@ -83,24 +86,18 @@ pub fn present_type(data_type: &DataType) -> &DataType
     }
 }
 
-/// Unsigned integers of this width in bits. No data type has a width that is not 2, 4, 8, 16, 32 or
-/// 64: of another one an element cannot be held.
-pub fn unsigned_type(width: usize) -> Result<DataType, AllocError>
-    ensures { IfOk result (λ t. type_of t ≡ integer unsigned width) }
+/// The type of the offsets that an index of `vlen` has.
+pub fn offset_type(index_data_type: IndexDataType) -> DataType
+    ensures { type_of result ≡ integer unsigned (width_of index_data_type) }
 {
-    match width {
-        2 => Ok(DataType::UInt2),
-        4 => Ok(DataType::UInt4),
-        8 => Ok(DataType::UInt8),
-        16 => Ok(DataType::UInt16),
-        32 => Ok(DataType::UInt32),
-        64 => Ok(DataType::UInt64),
-        _ => Err(AllocError),
+    match index_data_type {
+        IndexDataType::UInt32 => DataType::UInt32,
+        IndexDataType::UInt64 => DataType::UInt64,
     }
 }
 
 /// The cell of so many zero bytes.
-fn zeros(alloc: Global, count: usize) -> Result<Cell, AllocError>
+fn zeros(alloc: Global, count: usize) -> Result<Cell, PlainError>
     ensures { IfOk result (λ c. cell_of c ≡ of_bytes (replicate count 0)) }
 {
     let bytes = vec![in alloc; 0; count]?;
@@ -108,7 +105,7 @@ fn zeros(alloc: Global, count: usize) -> Result<Cell, AllocError>
 }
 
 /// The cell of zero bytes, the empty text, or absent.
-pub fn zero_cell(alloc: Global, data_type: &DataType) -> Result<Cell, AllocError>
+pub fn zero_cell(alloc: Global, data_type: &DataType) -> Result<Cell, PlainError>
     ensures { IfOk result (λ c. cell_of c ≡ zero_cell (type_of data_type.now)) }
 {
     match data_type {

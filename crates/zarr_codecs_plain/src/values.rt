@@ -5,10 +5,11 @@ ghost use Rattle.zarr_codecs_types.specs.Views.{component_of, components_of, typ
 
 use crate::bits::bits_of;
 use crate::elements::component_of_bits;
+use crate::error::PlainError;
 use crate::sizes::bytes_in;
 use crate::slices::{back, front};
 use crate::types::{components, is_fixed, is_variable};
-use std::alloc::{AllocError, Global};
+use std::alloc::Global;
 use zarr_codecs_types::{Component, DataType};
 
 /// Whether two texts are one.
@@ -20,7 +21,7 @@ fn same_bytes(text: &[u8], other: &[u8]) -> bool
 
 /// Whether the bits above a component's own are as its sign rule says, where there are as many bytes
 /// as it takes.
-fn is_component(alloc: Global, part: &Component, bytes: &[u8]) -> Result<bool, AllocError>
+fn is_component(alloc: Global, part: &Component, bytes: &[u8]) -> Result<bool, PlainError>
     ensures { IfOk result (λ b. length bytes.now ≡ part.now.byte_count → b ≡ is_component (component_of part.now) bytes.now) }
 {
     let bits = bits_of(alloc, bytes)?;
@@ -29,7 +30,7 @@ fn is_component(alloc: Global, part: &Component, bytes: &[u8]) -> Result<bool, A
 }
 
 /// Whether the components that bytes write one after another are as their rules say.
-fn are_components(alloc: Global, parts: &[Component], text: &[u8]) -> Result<bool, AllocError>
+fn are_components(alloc: Global, parts: &[Component], text: &[u8]) -> Result<bool, PlainError>
     requires { length text.now ≡ bytes_in (components_of parts.now) }
     ensures { IfOk result (λ b. b ≡ are_components (components_of parts.now) text.now) }
 {
@@ -48,7 +49,7 @@ pub fn is_value_in_bytes(
     alloc: Global,
     data_type: &DataType,
     text: &[u8],
-) -> Result<bool, AllocError>
+) -> Result<bool, PlainError>
     ensures { IfOk result (λ b. b ≡ is_value_in_bytes (type_of data_type.now) text.now) }
 {
     if !is_fixed(data_type) {

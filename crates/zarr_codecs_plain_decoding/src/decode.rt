@@ -8,7 +8,7 @@ ghost use Rattle.zarr_codecs_meaning.specs.Encoding.{index_size};
 ghost use Rattle.zarr_codecs_meaning.specs.Decoding.{decoded, part_decoded, read_unless_none, texts_of, count_present, pairs_in, pieces_decoded, is_absent, slice_at};
 ghost use Rattle.zarr_codecs_meaning.specs.Keeping.{spread, arranged};
 ghost use Rattle.zarr_codecs_types.specs.Views.{type_of, cell_of, cells_of};
-ghost use Rattle.zarr_codecs_plain.specs.Views.{chain_of, location_of, step_of, elements_of};
+ghost use Rattle.zarr_codecs_plain.specs.Views.{chain_of, location_of, step_of, elements_of, width_of};
 ghost use Rattle.zarr_codecs_plain.specs.Subchunks.{part_as};
 
 use crate::decode_elements::{decode_bytes, decode_packed};
@@ -19,17 +19,19 @@ use crate::decode_texts::{
     texts_between,
 };
 use std::alloc::{AllocError, Global};
+use zarr_codecs_plain::PlainError;
 use zarr_codecs_plain::cells::{clone_cell, gather};
-use zarr_codecs_plain::chain::{Location, PlainByteCodec, PlainChain, Step};
+use zarr_codecs_plain::chain::{IndexDataType, Location, PlainByteCodec, PlainChain, Step};
 use zarr_codecs_plain::parts::{Part, parts};
 use zarr_codecs_plain::places::place_numbers;
 use zarr_codecs_plain::shapes::{add, index_shape, product, step_shape};
 use zarr_codecs_plain::sizes::index_size;
 use zarr_codecs_plain::steps::undone_places;
-use zarr_codecs_plain::types::{present_type, unsigned_type, zero_cell};
+use zarr_codecs_plain::types::{offset_type, present_type, zero_cell};
 use zarr_codecs_types::{Cell, DataType};
 
-/// The cells of an array of this shape that a value is decoded to. `None` is damage.
+/// The cells of an array of this shape that a value is decoded to. `None` is damage. `Size` where a
+/// count of places, of bytes or of bits that the way needs is 2^64 or more.
 #[cycle(decode)]
 pub fn decode<B: PlainByteCodec>(
     alloc: Global,
@@ -38,7 +40,7 @@ pub fn decode<B: PlainByteCodec>(
     fill: &Cell,
     shape: &[usize],
     value: &[u8],
-) -> Result<Option<Vec<Cell>>, AllocError>
+) -> Result<Option<Vec<Cell>>, PlainError>
     ensures { IfOk result (λ r. option_map (λ v. cells_of v.items) r
         ≡ decoded (chain_of B.meaning chain.now) (elements_of data_type.now fill.now) shape.now value.now) }
 {
@@ -56,11 +58,11 @@ pub fn decode<B: PlainByteCodec>(
         PlainChain::Vlen {
             index,
             data,
-            index_width,
+            index_data_type,
             location,
         } => match sections_of(*location, value)? {
             Some((front, text)) => {
-                let offsets = decode_offsets(alloc, index, *index_width, shape, front)?;
+                let offsets = decode_offsets(alloc, index, *index_data_type, shape, front)?;
                 decode_texts(alloc, data, offsets, text)
             }
             None => Ok(None),
@@ -102,7 +104,7 @@ fn undone(
     fill: &Cell,
     shape: &[usize],
     cells: Option<Vec<Cell>>,
-) -> Result<Option<Vec<Cell>>, AllocError>
+) -> Result<Option<Vec<Cell>>, PlainError>
     ensures { IfOk result (λ r. option_map (λ v. cells_of v.items) r
         ≡ option_map (λ cells. gather (cell_of fill.now) cells (undone_places (step_of step.now) shape.now)) (option_map (λ v. cells_of v.items) cells)) }
 {
@@ -123,7 +125,7 @@ fn decode_zero_filled<B: PlainByteCodec>(
     data_type: &DataType,
     shape: &[usize],
     value: &[u8],
-) -> Result<Option<Vec<Cell>>, AllocError>
+) -> Result<Option<Vec<Cell>>, PlainError>
     ensures { IfOk result (λ r. option_map (λ v. cells_of v.items) r
         ≡ decoded (chain_of B.meaning chain.now) (zero_filled (type_of data_type.now)) shape.now value.now) }
 {
@@ -139,7 +141,7 @@ fn decode_unless_none<B: PlainByteCodec>(
     data_type: &DataType,
     count: usize,
     text: &[u8],
-) -> Result<Option<Vec<Cell>>, AllocError>
+) -> Result<Option<Vec<Cell>>, PlainError>
     ensures { IfOk result (λ r. option_map (λ v. cells_of v.items) r
         ≡ read_unless_none count text.now (decoded (chain_of B.meaning chain.now) (zero_filled (type_of data_type.now)) (count ∷ []))) }
 {
@@ -158,15 +160,15 @@ fn decode_unless_none<B: PlainByteCodec>(
 fn decode_offsets<B: PlainByteCodec>(
     alloc: Global,
     index: &PlainChain<B>,
-    width: usize,
+    index_data_type: IndexDataType,
     shape: &[usize],
     text: &[u8],
-) -> Result<Option<Vec<usize>>, AllocError>
+) -> Result<Option<Vec<usize>>, PlainError>
     ensures { IfOk result (λ r. option_map (λ v. v.items) r
         ≡ option_map (map (λ cell. number 256 (cell_bytes cell)))
-        (decoded (chain_of B.meaning index.now) (zero_filled (integer unsigned width)) ((product shape.now + 1) ∷ []) text.now)) }
+        (decoded (chain_of B.meaning index.now) (zero_filled (integer unsigned (width_of index_data_type))) ((product shape.now + 1) ∷ []) text.now)) }
 {
-    let data_type = unsigned_type(width)?;
+    let data_type = offset_type(index_data_type);
     let count = add(product(shape)?, 1)?;
     match decode_zero_filled(alloc, index, &data_type, &[count], text)? {
         Some(cells) => Ok(Some(numbers_of(alloc, &cells)?)),
@@ -181,7 +183,7 @@ fn texts_of<B: PlainByteCodec>(
     chain: &PlainChain<B>,
     offsets: &[usize],
     text: &[u8],
-) -> Result<Option<Vec<Cell>>, AllocError>
+) -> Result<Option<Vec<Cell>>, PlainError>
     ensures { IfOk result (λ r. option_map (λ v. cells_of v.items) r
         ≡ option_map (map of_bytes) (texts_of (λ long. option_map (flat_map cell_bytes)
         (read_unless_none long text.now (decoded (chain_of B.meaning chain.now) (zero_filled uint8) (long ∷ [])))) offsets.now)) }
@@ -195,7 +197,7 @@ fn texts_of<B: PlainByteCodec>(
     match decode_unless_none(alloc, chain, &DataType::UInt8, last_number(0, ends), text)? {
         Some(cells) => {
             let content = joined_bytes(alloc, &cells)?;
-            texts_between(alloc, 0, ends, &content)
+            Ok(texts_between(alloc, 0, ends, &content)?)
         }
         None => Ok(None),
     }
@@ -208,7 +210,7 @@ fn decode_texts<B: PlainByteCodec>(
     chain: &PlainChain<B>,
     offsets: Option<Vec<usize>>,
     text: &[u8],
-) -> Result<Option<Vec<Cell>>, AllocError>
+) -> Result<Option<Vec<Cell>>, PlainError>
     ensures { IfOk result (λ r. option_map (λ v. cells_of v.items) r
         ≡ option_and_then (λ ns. option_map (map of_bytes) (texts_of (λ long. option_map (flat_map cell_bytes)
         (read_unless_none long text.now (decoded (chain_of B.meaning chain.now) (zero_filled uint8) (long ∷ [])))) ns)) (option_map (λ v. v.items) offsets)) }
@@ -227,7 +229,7 @@ fn decode_present<B: PlainByteCodec>(
     data_type: &DataType,
     masks: Option<Vec<Cell>>,
     text: &[u8],
-) -> Result<Option<Vec<Cell>>, AllocError>
+) -> Result<Option<Vec<Cell>>, PlainError>
     ensures { IfOk result (λ r. option_map (λ v. cells_of v.items) r
         ≡ option_and_then (λ masks. option_map (spread masks) (read_unless_none (count_present masks) text.now
         (decoded (chain_of B.meaning chain.now) (zero_filled (type_of data_type.now)) (count_present masks ∷ [])))) (option_map (λ v. cells_of v.items) masks)) }
@@ -250,7 +252,7 @@ pub fn pairs_in<B: PlainByteCodec>(
     location: Location,
     shape: &[usize],
     value: &[u8],
-) -> Result<Option<Vec<(usize, usize)>>, AllocError>
+) -> Result<Option<Vec<(usize, usize)>>, PlainError>
     ensures { IfOk result (λ r. option_map (λ v. v.items) r
         ≡ pairs_in (decoded (chain_of B.meaning index.now) (zero_filled uint64) shape.now) (location_of location)
         (index_size (chain_of B.meaning index.now) shape.now) value.now) }
@@ -281,7 +283,7 @@ fn piece_decoded<B: PlainByteCodec>(
     value: &[u8],
     shape: &[usize],
     pair: (usize, usize),
-) -> Result<Option<Vec<Cell>>, AllocError>
+) -> Result<Option<Vec<Cell>>, PlainError>
     ensures { IfOk result (λ r. option_map (λ v. cells_of v.items) r
         ≡ (if is_absent pair then Some (replicate (product shape.now) (cell_of fill.now))
         else option_and_then (decoded (chain_of B.meaning inner.now) (elements_of data_type.now fill.now) shape.now) (slice_at value.now pair))) }
@@ -316,7 +318,7 @@ fn pieces_decoded<B: PlainByteCodec>(
     value: &[u8],
     parts: &[Part],
     pairs: &[(usize, usize)],
-) -> Result<Option<Vec<Vec<Cell>>>, AllocError>
+) -> Result<Option<Vec<Vec<Cell>>>, PlainError>
     ensures { IfOk result (λ r. option_map (λ v. map (λ cells. cells_of cells.items) v.items) r
         ≡ pieces_decoded (decoded (chain_of B.meaning inner.now) (elements_of data_type.now fill.now)) (cell_of fill.now) value.now
         (map part_as parts.now) pairs.now) }
@@ -347,7 +349,7 @@ fn decode_parts<B: PlainByteCodec>(
     value: &[u8],
     parts: &[Part],
     pairs: Option<Vec<(usize, usize)>>,
-) -> Result<Option<Vec<Cell>>, AllocError>
+) -> Result<Option<Vec<Cell>>, PlainError>
     ensures { IfOk result (λ r. option_map (λ v. cells_of v.items) r
         ≡ option_and_then (λ pairs. option_map (λ pieces. map (arranged (cell_of fill.now) (map part_as parts.now) pieces) (place_numbers shape.now))
         (pieces_decoded (decoded (chain_of B.meaning inner.now) (elements_of data_type.now fill.now)) (cell_of fill.now) value.now
@@ -363,7 +365,8 @@ fn decode_parts<B: PlainByteCodec>(
     Ok(Some(arranged_at(alloc, fill, parts, &pieces, &places)?))
 }
 
-/// The cells that a value has at these places, in their order. `None` is damage.
+/// The cells that a value has at these places, in their order. `None` is damage, and `Size` as of
+/// `decode`.
 pub fn decode_part<B: PlainByteCodec>(
     alloc: Global,
     chain: &PlainChain<B>,
@@ -372,7 +375,7 @@ pub fn decode_part<B: PlainByteCodec>(
     shape: &[usize],
     value: &[u8],
     places: &[usize],
-) -> Result<Option<Vec<Cell>>, AllocError>
+) -> Result<Option<Vec<Cell>>, PlainError>
     ensures { IfOk result (λ r. option_map (λ v. cells_of v.items) r
         ≡ part_decoded (chain_of B.meaning chain.now) (elements_of data_type.now fill.now) shape.now value.now places.now) }
 {

@@ -7,7 +7,8 @@ ghost use Rattle.zarr_codecs_types.specs.Views.{type_of, cell_of, cells_of};
 ghost use Rattle.zarr_codecs_plain.specs.Views.{order_of, padding_of, elements_of};
 ghost use Rattle.zarr_codecs_plain.specs.Bits.{bits_of};
 
-use std::alloc::{AllocError, Global};
+use std::alloc::Global;
+use zarr_codecs_plain::PlainError;
 use zarr_codecs_plain::bits::bits_of;
 use zarr_codecs_plain::chain::{Endianness, Padding};
 use zarr_codecs_plain::elements::{element_of_bits, ordered};
@@ -32,7 +33,7 @@ pub fn is_whole(
     data_type: &DataType,
     shape: &[usize],
     value: &[u8],
-) -> Result<bool, AllocError>
+) -> Result<bool, PlainError>
     ensures { IfOk result (λ b. b ≡ is_whole (type_of data_type.now) shape.now value.now) }
 {
     let parts = components(alloc, data_type)?;
@@ -47,7 +48,7 @@ pub fn element_at(
     data_type: &DataType,
     value: &[u8],
     place: usize,
-) -> Result<Option<Cell>, AllocError>
+) -> Result<Option<Cell>, PlainError>
     ensures { IfOk result (λ r. option_map cell_of r
         ≡ element_at (option_map order_of order) (type_of data_type.now) value.now place) }
 {
@@ -69,7 +70,7 @@ pub fn elements_at(
     data_type: &DataType,
     value: &[u8],
     places: &[usize],
-) -> Result<Option<Vec<Cell>>, AllocError>
+) -> Result<Option<Vec<Cell>>, PlainError>
     ensures { IfOk result (λ r. option_map (λ v. cells_of v.items) r
         ≡ all_there (map (element_at (option_map order_of order) (type_of data_type.now) value.now) places.now)) }
 {
@@ -91,7 +92,7 @@ pub fn decode_bytes(
     fill: &Cell,
     shape: &[usize],
     value: &[u8],
-) -> Result<Option<Vec<Cell>>, AllocError>
+) -> Result<Option<Vec<Cell>>, PlainError>
     ensures { IfOk result (λ r. option_map (λ v. cells_of v.items) r
         ≡ decoded (bytes (option_map order_of order)) (elements_of data_type.now fill.now) shape.now value.now) }
 {
@@ -127,7 +128,7 @@ pub fn unpacked(
     data_type: &DataType,
     bits: &[bool],
     place: usize,
-) -> Result<Cell, AllocError>
+) -> Result<Cell, PlainError>
     ensures { IfOk result (λ c. cell_of c ≡ unpacked first last (type_of data_type.now) (bits_of bits.now) place) }
 {
     let parts = components(alloc, data_type)?;
@@ -145,7 +146,7 @@ pub fn unpacked_at(
     data_type: &DataType,
     bits: &[bool],
     places: &[usize],
-) -> Result<Vec<Cell>, AllocError>
+) -> Result<Vec<Cell>, PlainError>
     ensures { IfOk result (λ v. cells_of v.items
         ≡ map (unpacked first last (type_of data_type.now) (bits_of bits.now)) places.now) }
 {
@@ -166,7 +167,7 @@ pub fn decode_packed(
     fill: &Cell,
     shape: &[usize],
     value: &[u8],
-) -> Result<Option<Vec<Cell>>, AllocError>
+) -> Result<Option<Vec<Cell>>, PlainError>
     ensures { IfOk result (λ r. option_map (λ v. cells_of v.items) r
         ≡ decoded (packbits (padding_of padding) first last) (elements_of data_type.now fill.now) shape.now value.now) }
 {

@@ -9,6 +9,7 @@ use crate::decode::{decode, pairs_in};
 use crate::decode_elements::{element_at, is_whole};
 use crate::decode_shards::{is_absent, slice_at};
 use std::alloc::{AllocError, Global};
+use zarr_codecs_plain::PlainError;
 use zarr_codecs_plain::cells::clone_cell;
 use zarr_codecs_plain::chain::{PlainByteCodec, PlainChain};
 use zarr_codecs_plain::parts::{Part, parts};
@@ -25,7 +26,7 @@ pub fn opens<B: PlainByteCodec>(
     fill: &Cell,
     shape: &[usize],
     value: &[u8],
-) -> Result<bool, AllocError>
+) -> Result<bool, PlainError>
     ensures { IfOk result (λ b. b
         ≡ opens (chain_of B.meaning chain.now) (elements_of data_type.now fill.now) shape.now value.now) }
 {
@@ -62,7 +63,7 @@ fn is_decoded<B: PlainByteCodec>(
     fill: &Cell,
     shape: &[usize],
     value: &[u8],
-) -> Result<bool, AllocError>
+) -> Result<bool, PlainError>
     ensures { IfOk result (λ b. b
         ≡ is_some (decoded (chain_of B.meaning chain.now) (elements_of data_type.now fill.now) shape.now value.now)) }
 {
@@ -82,7 +83,7 @@ pub fn cell_at<B: PlainByteCodec>(
     shape: &[usize],
     value: &[u8],
     place: usize,
-) -> Result<Option<Cell>, AllocError>
+) -> Result<Option<Cell>, PlainError>
     ensures { IfOk result (λ r. option_map cell_of r
         ≡ cell_at (chain_of B.meaning chain.now) (elements_of data_type.now fill.now) shape.now value.now place) }
 {
@@ -140,13 +141,13 @@ fn decoded_at<B: PlainByteCodec>(
     shape: &[usize],
     value: &[u8],
     place: usize,
-) -> Result<Option<Cell>, AllocError>
+) -> Result<Option<Cell>, PlainError>
     ensures { IfOk result (λ r. option_map cell_of r
         ≡ option_and_then (λ cells. slice_get cells place)
         (decoded (chain_of B.meaning chain.now) (elements_of data_type.now fill.now) shape.now value.now)) }
 {
     match decode(alloc, chain, data_type, fill, shape, value)? {
-        Some(cells) => nth_cell(alloc, &cells, place),
+        Some(cells) => Ok(nth_cell(alloc, &cells, place)?),
         None => Ok(None),
     }
 }
@@ -172,7 +173,7 @@ fn cell_of_parts<B: PlainByteCodec>(
     place: usize,
     parts: &[Part],
     pairs: Option<Vec<(usize, usize)>>,
-) -> Result<Option<Cell>, AllocError>
+) -> Result<Option<Cell>, PlainError>
     ensures { IfOk result (λ r. option_map cell_of r
         ≡ option_and_then (cell_of_part (cell_at (chain_of B.meaning inner.now) (elements_of data_type.now fill.now)) (cell_of fill.now) value.now place (map part_as parts.now))
         (option_map (λ v. v.items) pairs)) }
@@ -194,7 +195,7 @@ fn cell_of_part<B: PlainByteCodec>(
     place: usize,
     parts: &[Part],
     pairs: &[(usize, usize)],
-) -> Result<Option<Cell>, AllocError>
+) -> Result<Option<Cell>, PlainError>
     ensures { IfOk result (λ r. option_map cell_of r
         ≡ cell_of_part (cell_at (chain_of B.meaning inner.now) (elements_of data_type.now fill.now)) (cell_of fill.now) value.now place
         (map part_as parts.now) pairs.now) }
@@ -224,7 +225,7 @@ fn cell_of_piece<B: PlainByteCodec>(
     shape: &[usize],
     pair: (usize, usize),
     n: usize,
-) -> Result<Option<Cell>, AllocError>
+) -> Result<Option<Cell>, PlainError>
     ensures { IfOk result (λ r. option_map cell_of r
         ≡ (if is_absent pair then Some (cell_of fill.now)
         else option_and_then (λ slice. cell_at (chain_of B.meaning inner.now) (elements_of data_type.now fill.now) shape.now slice n) (slice_at value.now pair))) }
@@ -247,7 +248,7 @@ pub fn cells_at<B: PlainByteCodec>(
     shape: &[usize],
     value: &[u8],
     places: &[usize],
-) -> Result<Option<Vec<Cell>>, AllocError>
+) -> Result<Option<Vec<Cell>>, PlainError>
     ensures { IfOk result (λ r. option_map (λ v. cells_of v.items) r
         ≡ all_there (map (cell_at (chain_of B.meaning chain.now) (elements_of data_type.now fill.now) shape.now value.now) places.now)) }
 {

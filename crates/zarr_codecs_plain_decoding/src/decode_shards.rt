@@ -8,6 +8,7 @@ ghost use Rattle.zarr_codecs_plain.specs.Subchunks.{part_as};
 
 use crate::decode_elements::cut;
 use std::alloc::{AllocError, Global};
+use zarr_codecs_plain::PlainError;
 use zarr_codecs_plain::cells::{cell_bytes, clone_cell};
 use zarr_codecs_plain::chain::Location;
 use zarr_codecs_plain::numbers::number;
@@ -46,7 +47,7 @@ pub fn index_text(location: Location, size: usize, value: &[u8]) -> &[u8]
 }
 
 /// The numbers of the cells, in pairs.
-pub fn pairs_of_cells(alloc: Global, cells: &[Cell]) -> Result<Vec<(usize, usize)>, AllocError>
+pub fn pairs_of_cells(alloc: Global, cells: &[Cell]) -> Result<Vec<(usize, usize)>, PlainError>
     ensures { IfOk result (λ v. v.items ≡ pairs_of_cells (cells_of cells.now)) }
 {
     let mut pairs = Vec::new(alloc);

@@ -11,13 +11,14 @@ ghost use Rattle.zarr_codecs_meaning.specs.Chains.Location.{at_start, at_end};
 
 use crate::decode_elements::cut;
 use std::alloc::{AllocError, Global};
+use zarr_codecs_plain::PlainError;
 use zarr_codecs_plain::cells::{cell_bytes, clone_cell};
 use zarr_codecs_plain::chain::Location;
 use zarr_codecs_plain::numbers::number;
 use zarr_codecs_types::Cell;
 
 /// The index and the data of a text that tells the index's length.
-pub fn sections_of(location: Location, text: &[u8]) -> Result<Option<(&[u8], &[u8])>, AllocError>
+pub fn sections_of(location: Location, text: &[u8]) -> Result<Option<(&[u8], &[u8])>, PlainError>
     ensures { IfOk result (λ r. option_map (λ p. (p.0.now, p.1.now)) r ≡ sections_of (location_of location) text.now) }
 {
     match location {
@@ -27,7 +28,7 @@ pub fn sections_of(location: Location, text: &[u8]) -> Result<Option<(&[u8], &[u
 }
 
 /// The index and the data behind the index's length.
-pub fn sections_behind(text: &[u8]) -> Result<Option<(&[u8], &[u8])>, AllocError>
+pub fn sections_behind(text: &[u8]) -> Result<Option<(&[u8], &[u8])>, PlainError>
     ensures { IfOk result (λ r. option_map (λ p. (p.0.now, p.1.now)) r ≡ sections_of at_start text.now) }
 {
     let long = number(cut(text, 0, 8))? as usize;
@@ -39,7 +40,7 @@ pub fn sections_behind(text: &[u8]) -> Result<Option<(&[u8], &[u8])>, AllocError
 }
 
 /// The index and the data before the index's length.
-pub fn sections_before(text: &[u8]) -> Result<Option<(&[u8], &[u8])>, AllocError>
+pub fn sections_before(text: &[u8]) -> Result<Option<(&[u8], &[u8])>, PlainError>
     ensures { IfOk result (λ r. option_map (λ p. (p.0.now, p.1.now)) r ≡ sections_of at_end text.now) }
 {
     let start = text.len().saturating_sub(8);
@@ -53,7 +54,7 @@ pub fn sections_before(text: &[u8]) -> Result<Option<(&[u8], &[u8])>, AllocError
 }
 
 /// The mask and the data of a text that tells the length of each.
-pub fn masked_of(text: &[u8]) -> Result<Option<(&[u8], &[u8])>, AllocError>
+pub fn masked_of(text: &[u8]) -> Result<Option<(&[u8], &[u8])>, PlainError>
     ensures { IfOk result (λ r. option_map (λ p. (p.0.now, p.1.now)) r ≡ masked_of text.now) }
 {
     let long = number(cut(text, 0, 8))? as usize;
@@ -66,7 +67,7 @@ pub fn masked_of(text: &[u8]) -> Result<Option<(&[u8], &[u8])>, AllocError>
 }
 
 /// The numbers that cells write.
-pub fn numbers_of(alloc: Global, cells: &[Cell]) -> Result<Vec<usize>, AllocError>
+pub fn numbers_of(alloc: Global, cells: &[Cell]) -> Result<Vec<usize>, PlainError>
     ensures { IfOk result (λ v. v.items ≡ map (λ cell. number 256 (cell_bytes cell)) (cells_of cells.now)) }
 {
     let mut numbers = Vec::new(alloc);
@@ -128,14 +129,14 @@ pub fn texts_between(
 }
 
 /// Whether a cell of a mask says that an element is present.
-pub fn is_one(mask: &Cell) -> Result<bool, AllocError>
+pub fn is_one(mask: &Cell) -> Result<bool, PlainError>
     ensures { IfOk result (λ b. b ≡ (number 256 (cell_bytes (cell_of mask.now)) == 1)) }
 {
     Ok(number(cell_bytes(mask))? == 1)
 }
 
 /// How many ones a mask has.
-pub fn count_present(masks: &[Cell]) -> Result<usize, AllocError>
+pub fn count_present(masks: &[Cell]) -> Result<usize, PlainError>
     ensures { IfOk result (λ n. n ≡ count_present (cells_of masks.now)) }
 {
     let mut count = 0;
@@ -148,7 +149,7 @@ pub fn count_present(masks: &[Cell]) -> Result<usize, AllocError>
 }
 
 /// Cells that are present where the mask says one, in their order.
-pub fn spread(alloc: Global, masks: &[Cell], found: &[Cell]) -> Result<Vec<Cell>, AllocError>
+pub fn spread(alloc: Global, masks: &[Cell], found: &[Cell]) -> Result<Vec<Cell>, PlainError>
     ensures { IfOk result (λ v. cells_of v.items ≡ spread (cells_of masks.now) (cells_of found.now)) }
 {
     let mut cells = Vec::new(alloc);

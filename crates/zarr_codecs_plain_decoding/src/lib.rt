@@ -7,5 +7,3 @@ mod decode_elements;
 mod decode_places;
 mod decode_shards;
 mod decode_texts;
-#[cfg(test)]
-mod tests;

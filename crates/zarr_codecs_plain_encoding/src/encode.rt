@@ -6,7 +6,7 @@ ghost use Rattle.zarr_codecs_meaning.specs.Places.{step_shape, step_places, gath
 ghost use Rattle.zarr_codecs_meaning.specs.Chains.Chain.{sharded};
 ghost use Rattle.zarr_codecs_meaning.specs.Encoding.{encoded, unless_none, texts_encoded, options_encoded, stored_chunk, stored_pieces, pieces_of, shard_of, index_size, number_cells};
 ghost use Rattle.zarr_codecs_types.specs.Views.{type_of, cell_of, cells_of};
-ghost use Rattle.zarr_codecs_plain.specs.Views.{chain_of, elements_of, step_of, location_of};
+ghost use Rattle.zarr_codecs_plain.specs.Views.{chain_of, elements_of, step_of, location_of, width_of};
 ghost use Rattle.zarr_codecs_plain.specs.Subchunks.{part_as};
 
 use crate::encode_elements::{encode_bytes, encode_packed};
@@ -15,18 +15,20 @@ use crate::encode_shards::{base_of, is_below_mark, joined, joined_texts, pair_ce
 use crate::encode_texts::{
     byte_cells, is_below_power, joined_bytes, last_number, number_cells, offsets, with_index,
 };
-use std::alloc::{AllocError, Global};
+use std::alloc::Global;
+use zarr_codecs_plain::PlainError;
 use zarr_codecs_plain::cells::{gather, is_fill};
-use zarr_codecs_plain::chain::{Location, PlainByteCodec, PlainChain, Step};
+use zarr_codecs_plain::chain::{IndexDataType, Location, PlainByteCodec, PlainChain, Step};
 use zarr_codecs_plain::parts::{Part, parts};
 use zarr_codecs_plain::shapes::{add, index_shape, product, step_shape};
 use zarr_codecs_plain::sizes::index_size;
 use zarr_codecs_plain::steps::step_places;
-use zarr_codecs_plain::types::{components, present_type, unsigned_type, zero_cell};
+use zarr_codecs_plain::types::{components, offset_type, present_type, zero_cell};
 use zarr_codecs_types::{Cell, DataType};
 
 /// The bytes that a chain makes of the cells of an array of this shape. `None` where a caller's
-/// codec refuses, or an offset or a length is too large for where it is written.
+/// codec refuses, or an offset or a length is too large for where it is written. `Size` where a
+/// count of places, of bytes or of bits that the way needs is 2^64 or more.
 #[cycle(encode)]
 pub fn encode<B: PlainByteCodec>(
     alloc: Global,
@@ -35,7 +37,7 @@ pub fn encode<B: PlainByteCodec>(
     fill: &Cell,
     shape: &[usize],
     cells: &[Cell],
-) -> Result<Option<Vec<u8>>, AllocError>
+) -> Result<Option<Vec<u8>>, PlainError>
     ensures { IfOk result (λ r. option_map (λ v. v.items) r
         ≡ encoded (chain_of B.meaning chain.now) (elements_of data_type.now fill.now) shape.now (cells_of cells.now)) }
 {
@@ -57,9 +59,17 @@ pub fn encode<B: PlainByteCodec>(
         PlainChain::Vlen {
             index,
             data,
-            index_width,
+            index_data_type,
             location,
-        } => encode_texts(alloc, index, data, *index_width, *location, shape, cells),
+        } => encode_texts(
+            alloc,
+            index,
+            data,
+            *index_data_type,
+            *location,
+            shape,
+            cells,
+        ),
         PlainChain::Optional { mask, data } => encode_options(
             alloc, mask, data, data_type, shape, cells,
         ),
@@ -69,7 +79,7 @@ pub fn encode<B: PlainByteCodec>(
         PlainChain::ThenBytes(chain, codec) => match encode(
             alloc, chain, data_type, fill, shape, cells,
         )? {
-            Some(text) => codec.encode(alloc, &text),
+            Some(text) => Ok(codec.encode(alloc, &text)?),
             None => Ok(None),
         },
         PlainChain::Sharded {
@@ -99,7 +109,7 @@ fn encode_zero_filled<B: PlainByteCodec>(
     data_type: &DataType,
     shape: &[usize],
     cells: &[Cell],
-) -> Result<Option<Vec<u8>>, AllocError>
+) -> Result<Option<Vec<u8>>, PlainError>
     ensures { IfOk result (λ r. option_map (λ v. v.items) r
         ≡ encoded (chain_of B.meaning chain.now) (zero_filled (type_of data_type.now)) shape.now (cells_of cells.now)) }
 {
@@ -115,7 +125,7 @@ fn encode_unless_none<B: PlainByteCodec>(
     chain: &PlainChain<B>,
     data_type: &DataType,
     cells: &[Cell],
-) -> Result<Option<Vec<u8>>, AllocError>
+) -> Result<Option<Vec<u8>>, PlainError>
     ensures { IfOk result (λ r. option_map (λ v. v.items) r
         ≡ unless_none (cells_of cells.now) (encoded (chain_of B.meaning chain.now) (zero_filled (type_of data_type.now)) (length (cells_of cells.now) ∷ []) (cells_of cells.now))) }
 {
@@ -125,21 +135,21 @@ fn encode_unless_none<B: PlainByteCodec>(
     encode_zero_filled(alloc, chain, data_type, &[cells.len()], cells)
 }
 
-/// Offsets by the chain of an index of this width.
+/// Offsets by the chain of an index of this type.
 #[cycle(encode)]
 fn encode_offsets<B: PlainByteCodec>(
     alloc: Global,
     index: &PlainChain<B>,
-    index_width: usize,
+    index_data_type: IndexDataType,
     shape: &[usize],
     offsets: &[u64],
-) -> Result<Option<Vec<u8>>, AllocError>
+) -> Result<Option<Vec<u8>>, PlainError>
     ensures { IfOk result (λ r. option_map (λ v. v.items) r
-        ≡ encoded (chain_of B.meaning index.now) (zero_filled (integer unsigned index_width)) ((product shape.now + 1) ∷ []) (number_cells index_width offsets.now)) }
+        ≡ encoded (chain_of B.meaning index.now) (zero_filled (integer unsigned (width_of index_data_type))) ((product shape.now + 1) ∷ []) (number_cells (width_of index_data_type) offsets.now)) }
 {
-    let data_type = unsigned_type(index_width)?;
+    let data_type = offset_type(index_data_type);
     let count = add(product(shape)?, 1)?;
-    let cells = number_cells(alloc, index_width, offsets)?;
+    let cells = number_cells(alloc, index_data_type, offsets)?;
     encode_zero_filled(alloc, index, &data_type, &[count], &cells)
 }
 
@@ -149,22 +159,22 @@ fn encode_texts<B: PlainByteCodec>(
     alloc: Global,
     index: &PlainChain<B>,
     texts: &PlainChain<B>,
-    index_width: usize,
+    index_data_type: IndexDataType,
     location: Location,
     shape: &[usize],
     cells: &[Cell],
-) -> Result<Option<Vec<u8>>, AllocError>
+) -> Result<Option<Vec<u8>>, PlainError>
     ensures { IfOk result (λ r. option_map (λ v. v.items) r
         ≡ texts_encoded
-        (encoded (chain_of B.meaning index.now) (zero_filled (integer unsigned index_width)) ((product shape.now + 1) ∷ []))
+        (encoded (chain_of B.meaning index.now) (zero_filled (integer unsigned (width_of index_data_type))) ((product shape.now + 1) ∷ []))
         (λ content. encoded (chain_of B.meaning texts.now) (zero_filled uint8) (length content ∷ []) content)
-        index_width (location_of location) (cells_of cells.now)) }
+        (width_of index_data_type) (location_of location) (cells_of cells.now)) }
 {
     let offsets = offsets(alloc, cells)?;
-    if !is_below_power(last_number(0, &offsets), index_width) {
+    if !is_below_power(last_number(0, &offsets), index_data_type) {
         return Ok(None);
     }
-    let Some(front) = encode_offsets(alloc, index, index_width, shape, &offsets)? else {
+    let Some(front) = encode_offsets(alloc, index, index_data_type, shape, &offsets)? else {
         return Ok(None);
     };
     let text = joined_bytes(alloc, cells)?;
@@ -187,7 +197,7 @@ fn encode_options<B: PlainByteCodec>(
     data_type: &DataType,
     shape: &[usize],
     cells: &[Cell],
-) -> Result<Option<Vec<u8>>, AllocError>
+) -> Result<Option<Vec<u8>>, PlainError>
     ensures { IfOk result (λ r. option_map (λ v. v.items) r
         ≡ options_encoded
         (encoded (chain_of B.meaning mask.now) (zero_filled bool) shape.now)
@@ -218,7 +228,7 @@ fn encode_after_step<B: PlainByteCodec>(
     fill: &Cell,
     shape: &[usize],
     cells: &[Cell],
-) -> Result<Option<Vec<u8>>, AllocError>
+) -> Result<Option<Vec<u8>>, PlainError>
     ensures { IfOk result (λ r. option_map (λ v. v.items) r
         ≡ encoded (chain_of B.meaning chain.now) (elements_of data_type.now fill.now) (step_shape (step_of step.now) shape.now)
         (gather (cell_of fill.now) (cells_of cells.now) (step_places (step_of step.now) shape.now))) }
@@ -239,7 +249,7 @@ pub fn stored_chunk<B: PlainByteCodec>(
     fill: &Cell,
     shape: &[usize],
     cells: &[Cell],
-) -> Result<Option<Option<Vec<u8>>>, AllocError>
+) -> Result<Option<Option<Vec<u8>>>, PlainError>
     ensures { IfOk result (λ r. option_map (option_map (λ v. v.items)) r
         ≡ stored_chunk (chain_of B.meaning chain.now) (elements_of data_type.now fill.now) shape.now (cells_of cells.now)) }
 {
@@ -261,7 +271,7 @@ fn encode_parts<B: PlainByteCodec>(
     fill: &Cell,
     cells: &[Cell],
     parts: &[Part],
-) -> Result<Option<Vec<Option<Vec<u8>>>>, AllocError>
+) -> Result<Option<Vec<Option<Vec<u8>>>>, PlainError>
     ensures { IfOk result (λ r. option_map (λ v. map (option_map (λ t. t.items)) v.items) r
         ≡ stored_pieces (encoded (chain_of B.meaning inner.now) (elements_of data_type.now fill.now)) (cell_of fill.now)
         (pieces_of (cell_of fill.now) (cells_of cells.now) (map part_as parts.now))) }
@@ -285,7 +295,7 @@ fn encode_stored<B: PlainByteCodec>(
     location: Location,
     pairs_shape: &[usize],
     stored: &[Option<Vec<u8>>],
-) -> Result<Option<Vec<u8>>, AllocError>
+) -> Result<Option<Vec<u8>>, PlainError>
     ensures { IfOk result (λ r. option_map (λ v. v.items) r
         ≡ shard_of (encoded (chain_of B.meaning index.now) (zero_filled uint64) pairs_shape.now) (location_of location)
         (index_size (chain_of B.meaning index.now) pairs_shape.now) (map (option_map (λ t. t.items)) stored.now)) }
@@ -319,7 +329,7 @@ fn encode_shard<B: PlainByteCodec>(
     fill: &Cell,
     shape: &[usize],
     cells: &[Cell],
-) -> Result<Option<Vec<u8>>, AllocError>
+) -> Result<Option<Vec<u8>>, PlainError>
     ensures { IfOk result (λ r. option_map (λ v. v.items) r
         ≡ encoded (sharded subchunk_shape.now (chain_of B.meaning inner.now) (chain_of B.meaning index.now) (location_of location))
         (elements_of data_type.now fill.now) shape.now (cells_of cells.now)) }

@@ -7,6 +7,7 @@ ghost use Rattle.zarr_codecs_plain.specs.Views.{order_of, padding_of};
 ghost use Rattle.zarr_codecs_plain.specs.Bits.{bits_of};
 
 use std::alloc::{AllocError, Global};
+use zarr_codecs_plain::PlainError;
 use zarr_codecs_plain::bits::with_padding;
 use zarr_codecs_plain::cells::cell_bytes;
 use zarr_codecs_plain::chain::{Endianness, Padding};
@@ -38,7 +39,7 @@ fn kept_bits(
     last: Option<usize>,
     parts: &[Component],
     cells: &[Cell],
-) -> Result<Vec<bool>, AllocError>
+) -> Result<Vec<bool>, PlainError>
     ensures { IfOk result (λ v. bits_of v.items
         ≡ flat_map (λ cell. element_bits first last (components_of parts.now) (cell_bytes cell)) (cells_of cells.now)) }
 {
@@ -58,10 +59,10 @@ pub fn encode_packed(
     last: Option<usize>,
     parts: &[Component],
     cells: &[Cell],
-) -> Result<Vec<u8>, AllocError>
+) -> Result<Vec<u8>, PlainError>
     ensures { IfOk result (λ v. v.items ≡ with_padding (padding_of padding)
         (flat_map (λ cell. element_bits first last (components_of parts.now) (cell_bytes cell)) (cells_of cells.now))) }
 {
     let bits = kept_bits(alloc, first, last, parts, cells)?;
-    with_padding(alloc, padding, &bits)
+    Ok(with_padding(alloc, padding, &bits)?)
 }

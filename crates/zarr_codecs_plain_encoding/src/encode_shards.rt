@@ -8,6 +8,7 @@ ghost use Rattle.zarr_codecs_plain.specs.Views.{location_of};
 
 use crate::encode_texts::number_cell;
 use std::alloc::{AllocError, Global};
+use zarr_codecs_plain::PlainError;
 use zarr_codecs_plain::chain::Location;
 use zarr_codecs_plain::shapes::add;
 use zarr_codecs_types::Cell;
@@ -48,7 +49,7 @@ pub fn pairs_from(
     alloc: Global,
     offset: usize,
     stored: &[Option<Vec<u8>>],
-) -> Result<Vec<(u64, u64)>, AllocError>
+) -> Result<Vec<(u64, u64)>, PlainError>
     ensures { IfOk result (λ v. v.items ≡ pairs_from offset (map (option_map (λ t. t.items)) stored.now)) }
 {
     let mut pairs = Vec::new(alloc);

@@ -1,20 +1,21 @@
 //! Texts as an index of offsets and their joined bytes.
-ghost use Rattle.std.specs.Prelude.{◌≡◌, ◌^◌, [], ◌∷◌, ◌++◌, map, flat_map, Some, nat_lt, IfOk};
+ghost use Rattle.std.specs.Prelude.{◌≡◌, ◌+◌, ◌/◌, ◌^◌, [], ◌∷◌, ◌++◌, map, flat_map, Some, nat_lt, IfOk};
 ghost use Rattle.zarr_codecs_meaning.specs.Types.{of_bytes, cell_bytes};
 ghost use Rattle.zarr_codecs_meaning.specs.Numbers.{digits};
 ghost use Rattle.zarr_codecs_meaning.specs.Encoding.{ends_from, number_cells, byte_cells, with_index, last_number};
 ghost use Rattle.zarr_codecs_types.specs.Views.{cell_of, cells_of};
-ghost use Rattle.zarr_codecs_plain.specs.Views.{location_of};
+ghost use Rattle.zarr_codecs_plain.specs.Views.{location_of, width_of};
 
 use std::alloc::{AllocError, Global};
+use zarr_codecs_plain::PlainError;
 use zarr_codecs_plain::cells::cell_bytes;
-use zarr_codecs_plain::chain::Location;
+use zarr_codecs_plain::chain::{IndexDataType, Location};
 use zarr_codecs_plain::numbers::{digits, word};
 use zarr_codecs_plain::shapes::add;
 use zarr_codecs_types::Cell;
 
 /// Where the first text begins, and where each text ends.
-pub fn offsets(alloc: Global, cells: &[Cell]) -> Result<Vec<u64>, AllocError>
+pub fn offsets(alloc: Global, cells: &[Cell]) -> Result<Vec<u64>, PlainError>
     ensures { IfOk result (λ v. v.items ≡ 0 ∷ ends_from 0 (map cell_bytes (cells_of cells.now))) }
 {
     let mut offsets = Vec::new(alloc);
@@ -46,11 +47,25 @@ pub fn number_cell(alloc: Global, count: usize, n: u64) -> Result<Cell, AllocErr
     Ok(Cell::Bytes(bytes))
 }
 
-/// Numbers of this width in bits as cells.
-pub fn number_cells(alloc: Global, width: usize, numbers: &[u64]) -> Result<Vec<Cell>, AllocError>
-    ensures { IfOk result (λ v. cells_of v.items ≡ number_cells width numbers.now) }
+/// How many bytes an offset takes.
+fn offset_size(index_data_type: IndexDataType) -> usize
+    ensures { result ≡ (width_of index_data_type + 7) / 8 }
 {
-    let count = add(width, 7)? / 8;
+    match index_data_type {
+        IndexDataType::UInt32 => 4,
+        IndexDataType::UInt64 => 8,
+    }
+}
+
+/// Offsets of this type as cells.
+pub fn number_cells(
+    alloc: Global,
+    index_data_type: IndexDataType,
+    numbers: &[u64],
+) -> Result<Vec<Cell>, AllocError>
+    ensures { IfOk result (λ v. cells_of v.items ≡ number_cells (width_of index_data_type) numbers.now) }
+{
+    let count = offset_size(index_data_type);
     let mut cells = Vec::new(alloc);
     for n in numbers {
         let cell = number_cell(alloc, count, *n)?;
@@ -91,11 +106,14 @@ pub fn last_number(n: u64, numbers: &[u64]) -> u64
     last
 }
 
-/// Whether so many bits can tell a number.
-pub fn is_below_power(n: u64, width: usize) -> bool
-    ensures { result ≡ nat_lt n (2 ^ width) }
+/// Whether the bits of an offset can tell a number.
+pub fn is_below_power(n: u64, index_data_type: IndexDataType) -> bool
+    ensures { result ≡ nat_lt n (2 ^ width_of index_data_type) }
 {
-    width >= 64 || n < 1 << width
+    match index_data_type {
+        IndexDataType::UInt32 => n < 1 << 32,
+        IndexDataType::UInt64 => true,
+    }
 }
 
 /// The bytes of three texts, one after another.

@@ -7,5 +7,3 @@ mod encode_elements;
 mod encode_options;
 mod encode_shards;
 mod encode_texts;
-#[cfg(test)]
-mod tests;

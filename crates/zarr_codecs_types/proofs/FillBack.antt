@@ -2,11 +2,11 @@
 use Rattle.std.proofs.Common.{◌≡◌, ℕ, zero, suc, ◌+◌, ◌*◌, ◌/◌, ◌%◌, ◌<◌, ℤ, pos, negsuc, List, [], ◌∷◌, length, Bool, true, not, if◌then◌else◌, Some, None, option_map, option_and_then, ap, ◌∙◌, sym, refl, arith}
 use Rattle.std.specs.Prelude.{bytes_eq}
 use Rattle.std.specs.Str.{is_utf8}
-use Rattle.std.proofs.lemmas.Bool.{lt-ltb}
+use Rattle.std.proofs.lemmas.Bool.{lt-ltb, and_parts}
 use Rattle.serde_json.specs.Data.{unsigned as natural, Data, number as numeral, string as text, array, item, no_items}
 use Rattle.serde_json.specs.Find.{as_integer, of_integer}
 use Rattle.zarr_codecs_meaning.specs.Types.{Sign, unsigned, DataType, bool, integer, custom, string, variable_bytes, optional_of, Cell, of_bytes, absent, present, are_bytes, is_value_in_bytes}
-use Rattle.zarr_codecs_meaning.proofs.Lists.{Each, both_true, map_some, if_some, some_same}
+use Rattle.zarr_codecs_meaning.proofs.Lists.{Each, map_some, if_some, some_same}
 use Rattle.zarr_codecs_meaning.proofs.Digits.{bytes_below}
 use Rattle.zarr_codecs_types.specs.Integers.{integer_bytes}
 use Rattle.zarr_codecs_types.specs.FillMetadata.{integer_fits, integer_in, integer_from, bool_bytes, byte_in, byte_list, byte_items, bytes_data, cell_data, cell_in}
@@ -58,7 +58,7 @@ bytes_back (integer sign width) bytes d h is = ap (cell_in (integer sign width))
 bytes_back (custom parts) bytes d h is = absurd (cc)
 bytes_back string bytes d h is = let kept = if_some (is_utf8 bytes) (Some (text bytes)) d is in ap (cell_in string) (sym (some_same kept.1))
 bytes_back variable_bytes bytes d h is =
-    let below = bytes_below bytes (both_true (are_bytes bytes) true h).0 in
+    let below = bytes_below bytes (and_parts (are_bytes bytes) true h).0 in
     ap (cell_in variable_bytes) (sym (some_same is)) ∙ ap (option_map of_bytes) (items_back bytes below)
 bytes_back (optional_of inner) bytes d h is = absurd (cc)
 

@@ -1,13 +1,13 @@
 -- Bytes that are values of a type of integers, and the integers that they are.
 use Rattle.std.proofs.Common.{◌≡◌, ℕ, zero, suc, ◌+◌, ◌-◌, ◌*◌, ◌/◌, ◌%◌, ◌^◌, ◌<◌, ◌≤◌, pos, negsuc, List, [], ◌∷◌, length, take, drop, get_or, Bool, true, false, ◌&&◌, ◌==◌, if◌then◌else◌, ap, ◌∙◌, sym, refl, subst, arith, pow-suc, lt_of_lt_of_le}
 use Rattle.std.specs.Prelude.{nat_lt}
-use Rattle.std.proofs.lemmas.Bool.{ltb-true, ltb-false, lt-ltb, eqb-true}
+use Rattle.std.proofs.lemmas.Bool.{ltb-true, ltb-false, lt-ltb, eqb-true, and_parts}
 use Rattle.std.proofs.lemmas.List.{take_all}
 use Rattle.std.proofs.lemmas.Nat.{pow_pos, mod_below}
 use native.Mathlib.Nat.{pow-zero}
 use Rattle.zarr_codecs_meaning.specs.Numbers.{digits, number}
 use Rattle.zarr_codecs_meaning.specs.Types.{Sign, Component, unsigned, signed, integer, extended, are_bytes, is_component, is_value_in_bytes}
-use Rattle.zarr_codecs_meaning.proofs.Lists.{Each, both_true}
+use Rattle.zarr_codecs_meaning.proofs.Lists.{Each}
 use Rattle.zarr_codecs_meaning.proofs.Digits.{bytes_below, digits_number}
 use Rattle.zarr_codecs_types.specs.Integers.{integer_bytes}
 use Rattle.zarr_codecs_types.specs.FillMetadata.{integer_from, integer_fits}
@@ -46,9 +46,9 @@ pub integer_value : (sign : Sign) (width : ℕ) (bytes : List ℕ) → is_value_
 integer_value sign width bytes h =
     let count = (width + 7) / 8 in
     let part : Component = record { width = width; byte_count = count; sign = sign } in
-    let one = both_true (are_bytes bytes) ((length bytes == count + 0) && (is_component part (take count bytes) && true)) h in
-    let two = both_true (length bytes == count + 0) (is_component part (take count bytes) && true) one.1 in
-    let three = both_true (is_component part (take count bytes)) true two.1 in
+    let one = and_parts (are_bytes bytes) ((length bytes == count + 0) && (is_component part (take count bytes) && true)) h in
+    let two = and_parts (length bytes == count + 0) (is_component part (take count bytes) && true) one.1 in
+    let three = and_parts (is_component part (take count bytes)) true two.1 in
     let long : length bytes ≡ count = eqb-true (length bytes) (count + 0) two.0 ∙ omega arith in
     let all : take count bytes ≡ bytes = take_all count bytes (omega (arith, long)) in
     let fine : is_component part bytes ≡ true = ap (is_component part) (sym all) ∙ three.0 in

@@ -10,8 +10,6 @@ pub mod fill_value;
 mod fill_writing;
 pub mod laws;
 mod metadata;
-#[cfg(test)]
-mod tests;
 pub mod values;
 
 pub use cell::Cell;

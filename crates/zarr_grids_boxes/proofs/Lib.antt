@@ -4,5 +4,6 @@ pub mod InBox
 pub mod Lawful
 pub mod Numbers
 pub mod Places
+pub mod Sharing
 pub mod Steps
 pub mod Walking

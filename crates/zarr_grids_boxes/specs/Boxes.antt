@@ -1,5 +1,5 @@
 -- Boxes of places: a start and a length in each dimension.
-use Rattle.std.specs.Prelude.{◌≡◌, ℕ, ◌+◌, ◌*◌, ◌/◌, ◌%◌, ◌^◌, ◌<◌, List, [], ◌∷◌, map, length, slice_index, Bool, true, false, ◌&&◌, nat_le, nat_lt, min, max}
+use Rattle.std.specs.Prelude.{◌≡◌, ℕ, ◌+◌, ◌-◌, ◌*◌, ◌/◌, ◌%◌, ◌^◌, ◌<◌, List, [], ◌∷◌, map, length, slice_index, Bool, true, false, ◌&&◌, nat_le, nat_lt, min, max}
 use Rattle.std.specs.List.{range_with_len, flat_map}
 
 -- a box: where it starts and how long it is in each dimension
@@ -64,6 +64,10 @@ abbrev pub each2 : (ℕ → ℕ → ℕ) → List ℕ → List ℕ → List ℕ
 each2 f (x ∷ xs) (y ∷ ys) = f x y ∷ each2 f xs ys
 each2 f [] ys = []
 each2 f (x ∷ xs) [] = []
+
+-- the last index of a box that is not empty
+abbrev pub last_index : List ℕ → List ℕ → List ℕ
+last_index start shape = each2 (λ s x. s + (x - 1)) start shape
 
 -- the box ends below 2^64 in each dimension
 abbrev pub EndsFit : List ℕ → List ℕ → Type 0

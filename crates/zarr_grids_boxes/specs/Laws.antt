@@ -1,6 +1,6 @@
 -- The laws of boxes and of numbers of indices.
 use Rattle.std.specs.Prelude.{◌≡◌, ◌↔◌, ℕ, ◌<◌, Bool, true, false, ◌&&◌, List, length, map, slice_get, Some}
-use Rattle.zarr_grids_boxes.specs.Boxes.{Region, product, places, is_in_box, ravel, IsIndex}
+use Rattle.zarr_grids_boxes.specs.Boxes.{Region, product, places, is_in_box, share_place, ravel, IsIndex}
 use Rattle.zarr_grids_boxes.specs.Cuts.{overlapped, bounded}
 use Rattle.zarr_grids_boxes.specs.Walks.{unravel, number_in}
 
@@ -27,6 +27,12 @@ OverlapIsShared = (a b : Region) (place : List ℕ) → IsBox a → IsBox b → 
 -- the places of a bounded box are those of the box that lie below the end
 abbrev pub BoundIsBelow : Type 0
 BoundIsBelow = (box : Region) (end place : List ℕ) → IsBox box → length end ≡ length box.start → has (bounded box end) place ≡ (has box place && has (record { start = map (λ _. 0) end; shape = end }) place)
+
+-- two boxes share a place exactly where a place lies in both
+abbrev pub SharedPlaces : Type 0
+SharedPlaces = (start shape other_start other_shape : List ℕ)
+    → (share_place start shape other_start other_shape ≡ true → (place : List ℕ) × (is_in_box start shape place ≡ true) × (is_in_box other_start other_shape place ≡ true))
+    × ((place : List ℕ) → is_in_box start shape place ≡ true → is_in_box other_start other_shape place ≡ true → share_place start shape other_start other_shape ≡ true)
 
 -- a box has no place exactly where its product is 0
 abbrev pub EmptyHasNoPlace : Type 0

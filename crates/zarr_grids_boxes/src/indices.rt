@@ -67,7 +67,7 @@ impl<'a> Indices<'a> {
 }
 
 /// Goes to the next place of a box, or tells that there is none.
-fn step(start: &[u64], shape: &[u64], place: &mut Vec<u64>) -> bool
+pub fn step(start: &[u64], shape: &[u64], place: &mut Vec<u64>) -> bool
     requires fit { EndsFit start.now shape.now }
     requires within { is_in_box start.now shape.now place.old.items ≡ true }
     ensures within { is_in_box start.now shape.now place.new.items ≡ true }

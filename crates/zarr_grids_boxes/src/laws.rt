@@ -1,5 +1,5 @@
 //! Laws of boxes and of numbers of indices. Each function does nothing: its contract is the law.
-ghost use Rattle.zarr_grids_boxes.specs.Laws.{NumberTellsIndex, NumberHasIndex, OverlapIsShared, BoundIsBelow, EmptyHasNoPlace, PlacesByNumber};
+ghost use Rattle.zarr_grids_boxes.specs.Laws.{NumberTellsIndex, NumberHasIndex, OverlapIsShared, BoundIsBelow, SharedPlaces, EmptyHasNoPlace, PlacesByNumber};
 
 /// An index below a shape has a number below the shape's product, and that number tells it.
 pub fn number_tells_index()
@@ -19,6 +19,11 @@ pub fn overlap_is_shared()
 /// A bounded box has exactly the places of the box that lie below the end.
 pub fn bound_is_below()
     ensures { BoundIsBelow }
+{}
+
+/// Two boxes share a place exactly where some place lies in both.
+pub fn shared_places()
+    ensures { SharedPlaces }
 {}
 
 /// A box has no place exactly where its product is 0.

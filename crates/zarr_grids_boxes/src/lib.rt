@@ -10,8 +10,6 @@ pub mod making;
 pub mod ravel;
 pub mod shapes;
 pub mod subset;
-#[cfg(test)]
-mod tests;
 pub mod walk;
 
 pub use indices::Indices;

@@ -2,6 +2,7 @@
 use Rattle.std.proofs.Common.{◌≡◌, ◌∙◌, ℕ, zero, suc, ◌+◌, ◌<◌, ◌≤◌, Bool, true, false, cond, ◌&&◌, ◌||◌, List, [], ◌∷◌, ◌++◌, map, sym, ap, refl, arith, ◌⊎◌, inl, inr, ⊎_elim, bytes_eq}
 use Rattle.std.specs.List.{range_with_len, flat_map, filter, list_any}
 use Rattle.std.proofs.lemmas.Slice.Eq.{bytes_eq-Decides}
+use Rattle.std.proofs.Math.Bool.{or-true}
 
 -- a test, with what it tells
 pub told : (b : Bool) → (b ≡ true) ⊎ (b ≡ false)
@@ -57,12 +58,8 @@ any-filter p c (x ∷ xs) h t = ⊎_elim
     ap (λ b. list_any (bytes_eq c) (cond b (x ∷ filter p xs) (filter p xs))) (sym (ap p s) ∙ t) ∙ ap (λ b. b || list_any (bytes_eq c) (filter p xs)) e)
     (λ e. later (p x) (any-filter p c xs (sym (ap (λ b. b || list_any (bytes_eq c) xs) e) ∙ h) t))
     (told (bytes_eq c x)) where
-      or_right : (b : Bool) → (b || true) ≡ true
-      or_right true = refl
-      or_right false = refl
-
       later : (b : Bool) → list_any (bytes_eq c) (filter p xs) ≡ true → list_any (bytes_eq c) (cond b (x ∷ filter p xs) (filter p xs)) ≡ true
-      later true i = ap (λ d. bytes_eq c x || d) i ∙ or_right (bytes_eq c x)
+      later true i = ap (λ d. bytes_eq c x || d) i ∙ or-true (bytes_eq c x)
       later false i = i
 
 pub filter-any : (p : List ℕ → Bool) (c : List ℕ) (xs : List (List ℕ)) → list_any (bytes_eq c) (filter p xs) ≡ true → p c ≡ true

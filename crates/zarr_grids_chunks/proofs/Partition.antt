@@ -6,13 +6,14 @@ use Rattle.std.proofs.lemmas.Slice.Eq.{bytes_eq-Decides}
 use Rattle.std.proofs.lemmas.Bool.{false≢true}
 use Rattle.std.proofs.lemmas.List.Folds.{list_any_at}
 use Rattle.std.proofs.lemmas.List.FromFn.{get_or-map-range_with_len, length-map-range_with_len}
+use Rattle.std.proofs.Math.Bool.{or-true}
 use Rattle.zarr_grids_boxes.specs.Boxes.{Region, product, places, place_at, ravel, each2, is_in_box, share_place}
 use Rattle.zarr_grids_boxes.proofs.Dimensions.{ravel_below}
 use Rattle.zarr_grids_boxes.proofs.Places.{places_by_number, in_box_below}
 use Rattle.zarr_grids_boxes.proofs.InBox.{place_at-number}
 use Rattle.zarr_grids_chunks.specs.Grids.{Grid, IsCovered, chunk_box, lies_in_chunk, is_met, met, chunk_indices, grid_shape}
 use Rattle.zarr_grids_chunks.proofs.Filters.{told, any-filter}
-use Rattle.zarr_grids_chunks.proofs.Sharing.{share_place-of}
+use Rattle.zarr_grids_boxes.proofs.Sharing.{share_place-of}
 
 -- where a place of a chunk lies
 pub lies_here : (grid : Grid) (chunk p : List ℕ) (box : Region) → chunk_box grid chunk ≡ Some box → lies_in_chunk grid p chunk ≡ is_in_box box.start box.shape p
@@ -28,14 +29,10 @@ lies_has grid chunk p h = go (chunk_box grid chunk) refl h where
 pub any_at : (p : List ℕ → Bool) (c : List ℕ) (xs : List (List ℕ)) → list_any (bytes_eq c) xs ≡ true → p c ≡ true → list_any p xs ≡ true
 any_at p c [] h t = absurd (false≢true h)
 any_at p c (x ∷ xs) h t = go (any_at p c xs) where
-  or_right : (b : Bool) → (b || true) ≡ true
-  or_right true = refl
-  or_right false = refl
-
   go : (list_any (bytes_eq c) xs ≡ true → p c ≡ true → list_any p xs ≡ true) → list_any p (x ∷ xs) ≡ true
   go i = ⊎_elim
       (λ e. ap (λ b. b || list_any p xs) (ap p (sym ((bytes_eq-Decides c x).0 e)) ∙ t))
-      (λ e. ap (λ b. p x || b) (i (sym (ap (λ b. b || list_any (bytes_eq c) xs) e) ∙ h) t) ∙ or_right (p x))
+      (λ e. ap (λ b. p x || b) (i (sym (ap (λ b. b || list_any (bytes_eq c) xs) e) ∙ h) t) ∙ or-true (p x))
       (told (bytes_eq c x))
 
 -- each index of a box of indices stands in its list

@@ -83,9 +83,3 @@ is_met grid region chunk = option_map_or (λ box. share_place box.start box.shap
 -- the chunks below the grid that share a place with a box, row-major
 abbrev pub met : Grid → Region → List (List ℕ)
 met grid region = filter (is_met grid region) (chunk_indices grid)
-
--- the regular grid of an array's shape and its chunks' shape
-abbrev pub regular_grid : List ℕ → List ℕ → Grid
-regular_grid (n ∷ ns) (e ∷ es) = regular n e ∷ regular_grid ns es
-regular_grid [] es = []
-regular_grid (n ∷ ns) [] = []

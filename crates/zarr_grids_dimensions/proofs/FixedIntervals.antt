@@ -4,12 +4,18 @@ use Rattle.std.specs.Option.{option_map_or}
 use Rattle.std.proofs.Math.Dec.{ltb}
 use Rattle.std.proofs.Math.Nat.{div-mul-le_self, lt-div-mul-add, add-mul-div_left, div-eq_of_lt}
 use Rattle.std.proofs.lemmas.Bool.{le-ltb, lt-ltb, leb-true, ltb-true, false≢true}
-use Rattle.std.proofs.lemmas.Nat.{le-div}
+use Rattle.std.proofs.lemmas.Nat.{le-div, div_below}
 use Rattle.zarr_grids_boxes.proofs.Places.{both}
-use Rattle.zarr_grids_chunks.proofs.RegularChunks.{number_of_interval}
 use Rattle.zarr_grids_chunks.specs.Grids.{Interval, regular, clipped, interval}
 use Rattle.zarr_grids_dimensions.specs.Lookups.{has_place, in_interval}
 use Rattle.zarr_grids_dimensions.proofs.VaryingIntervals.{has_place-of}
+
+-- a number lies in one interval alone
+number_of_interval : (k e p : ℕ) → 0 < e → k * e ≤ p → p < k * e + e → k ≡ p / e
+number_of_interval k e p pos from below =
+    let a = le-div k p e pos from in
+    let b : p / e < k + 1 = div_below p e (k + 1) pos (grind arith) in
+    omega arith
 
 -- a place lies between a chunk's first place and the next chunk's
 pub record InFixed (e k p : ℕ) : Type 0 where

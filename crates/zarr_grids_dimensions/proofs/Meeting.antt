@@ -2,11 +2,10 @@
 use Rattle.std.proofs.Common.{◌≡◌, ℕ, zero, suc, ◌+◌, ◌-◌, ◌<◌, ◌≤◌, ◌^◌, Bool, true, false, List, [], ◌∷◌, length, get_or, refl, ap, subst, arith}
 use Rattle.std.proofs.Math.Dec.{ltb}
 use Rattle.std.proofs.lemmas.Bool.{le-leb, lt-ltb, leb-true, ltb-true, ltb-false, false≢true}
-use Rattle.zarr_grids_boxes.specs.Boxes.{product, is_in_box, EndsFit}
+use Rattle.zarr_grids_boxes.specs.Boxes.{product, is_in_box, EndsFit, last_index}
 use Rattle.zarr_grids_boxes.proofs.Dimensions.{positive-drop, ravel_below}
 use Rattle.zarr_grids_boxes.proofs.Places.{both, in_box_below}
 use Rattle.zarr_grids_chunks.specs.Grids.{Dimension, Grid}
-use Rattle.zarr_grids_chunks.specs.Regular.{last_index}
 use Rattle.zarr_grids_dimensions.specs.Lookups.{is_dimension, in_interval, lies_in, are_dimensions}
 use Rattle.zarr_grids_dimensions.specs.Chunks.{Meets, counts_to}
 use Rattle.zarr_grids_dimensions.proofs.Monotone.{monotone, first_place, number_least}

@@ -2,11 +2,10 @@
 use Rattle.std.proofs.Common.{◌≡◌, ℕ, zero, suc, ◌+◌, ◌-◌, ◌<◌, ◌≤◌, ◌^◌, Bool, true, false, if◌then◌else◌, List, [], ◌∷◌, length, get_or, refl, sym, ap, subst, arith, Option, Some, None, option_map, option_and_then}
 use Rattle.std.proofs.Math.Dec.{ltb}
 use Rattle.std.proofs.lemmas.Bool.{le-leb, lt-ltb, leb-true, ltb-true, false≢true}
-use Rattle.zarr_grids_boxes.specs.Boxes.{Region, product, is_in_box, EndsFit}
+use Rattle.zarr_grids_boxes.specs.Boxes.{Region, product, is_in_box, EndsFit, last_index}
 use Rattle.zarr_grids_boxes.proofs.Dimensions.{positive-drop}
 use Rattle.zarr_grids_boxes.proofs.Places.{both}
 use Rattle.zarr_grids_chunks.specs.Grids.{Dimension, Grid, Interval, interval, bounded, onto_box, chunk_box}
-use Rattle.zarr_grids_chunks.specs.Regular.{last_index}
 use Rattle.zarr_grids_dimensions.specs.Lookups.{lies_in, are_dimensions}
 use Rattle.zarr_grids_dimensions.specs.Chunks.{LiesAmong, lengths_to}
 use Rattle.zarr_grids_dimensions.proofs.Union.{Ends, ends-order, among-of, of-among}

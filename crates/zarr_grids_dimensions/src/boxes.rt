@@ -1,9 +1,8 @@
 //! Boxes of places and boxes of chunks.
 ghost use Rattle.std.specs.Prelude.{◌≡◌, ℕ, List, ◌↔◌, ◌⊎◌, ◌+◌, ◌<◌, ◌≤◌, ◌^◌, IsTrue, length, slice_index, IfOk, IfErr, MatchOption};
-ghost use Rattle.zarr_grids_boxes.specs.Boxes.{product, is_in_box, EndsFit};
+ghost use Rattle.zarr_grids_boxes.specs.Boxes.{product, is_in_box, EndsFit, last_index};
 ghost use Rattle.zarr_grids_boxes.specs.Subsets.{region_of};
 ghost use Rattle.zarr_grids_chunks.specs.Grids.{chunk_box};
-ghost use Rattle.zarr_grids_chunks.specs.Regular.{last_index};
 ghost use Rattle.zarr_grids_dimensions.specs.Chunks.{Meets, LiesNowhere, LiesAmong, counts_to, lengths_to};
 ghost use Rattle.zarr_grids_dimensions.specs.Dimensions.{grid_of};
 ghost use Rattle.zarr_grids_dimensions.specs.Errors.{Tells};

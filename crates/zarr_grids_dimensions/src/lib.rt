@@ -10,8 +10,6 @@ pub mod laws;
 pub mod lookups;
 pub mod run;
 pub mod search;
-#[cfg(test)]
-mod tests;
 pub mod varying;
 
 pub use dimension::Dimension;

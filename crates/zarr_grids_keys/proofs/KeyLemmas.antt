@@ -1,10 +1,9 @@
 -- The key of a chunk determines the chunk, that of a document the document.
-use Rattle.std.proofs.Common.{◌≡◌, ◌∙◌, ℕ, zero, suc, ◌+◌, ◌/◌, ◌%◌, ◌^◌, ◌<◌, true, false, cond, IsTrue, nat_lt, ◌||◌, ◌==◌, List, [], ◌∷◌, ◌++◌, drop, refl, sym, ap, ap₂, arith, mod-lt, codes}
-use Rattle.std.specs.List.{flat_map}
-use Rattle.std.specs.Fmt.{decimal, digits, digits_onto, digit_glyph}
+use Rattle.std.proofs.Common.{◌≡◌, ◌∙◌, ℕ, suc, ◌^◌, ◌<◌, true, false, cond, IsTrue, ◌==◌, List, [], ◌∷◌, ◌++◌, length, drop, inl, inr, ◌⊎◌, refl, sym, ap, ap₂, arith, codes}
+use Rattle.std.specs.Fmt.{decimal}
 use Rattle.std.specs.Str.{bytes_eq}
 use Rattle.std.specs.Str.Parse.{AllDigits}
-use Rattle.std.proofs.lemmas.Bool.{eqb-true}
+use Rattle.std.proofs.lemmas.Bool.{eqb-true, or_cases}
 use Rattle.std.proofs.lemmas.Fmt.{decimal_injective, decimal_is_IsNumeral}
 use Rattle.std.proofs.lemmas.List.{append_cancel_left, append_cancel_right}
 use Rattle.std.proofs.lemmas.Str.Parse.{digit_at}
@@ -12,8 +11,7 @@ use Rattle.zarr_grids_boxes.specs.Boxes.{IsSmall}
 use Rattle.zarr_grids_keys.specs.declared.document_name.DocumentName.{DocumentName}
 use Rattle.zarr_grids_keys.specs.declared.document_name.DocumentName.TheVariants.{ZarrJson, ZArray, ZAttrs}
 use Rattle.zarr_grids_keys.specs.Documents.{document_name, document_key}
-use Rattle.zarr_grids_keys.specs.Keys.{KeyEncoding, default, encoded_key, key_below, chunk_key}
-use Rattle.zarr_grids_keys.specs.Laws.{has_separator}
+use Rattle.zarr_grids_keys.specs.Keys.{KeyEncoding, default, v2, suffixed, numbers_after, default_key, encoded_key, key_below, chunk_key, is_separator, has_separator}
 use Rattle.zarr_grids_keys.specs.Paths.{is_node_path}
 use Rattle.zarr_grids_keys.proofs.RelatedLemmas.{stem, stem-injective, key_below-stem}
 
@@ -36,39 +34,44 @@ split_same (a ∷ as') (b ∷ bs) x y p q r s e =
     let i = split_same as' bs x y p.1 q.1 r s g in
     (ap₂ (λ z zs. z ∷ zs) f i.0, i.1)
 
--- the numbers of a chunk, each after the separator
-abbrev pub numbers : ℕ → List ℕ → List ℕ
-numbers separator chunk = flat_map (λ index. separator ∷ decimal index) chunk
-
-numbers-IsRest : (separator : ℕ) (chunk : List ℕ) → separator < 48 → IsRest (numbers separator chunk)
+-- the numbers of a chunk
+numbers_after-IsRest : (separator : ℕ) (chunk : List ℕ) → separator < 48 → IsRest (numbers_after separator chunk)
 unfolding IsRest
-numbers-IsRest separator [] low = tt
-numbers-IsRest separator (n ∷ ns) low = low
+numbers_after-IsRest separator [] low = tt
+numbers_after-IsRest separator (n ∷ ns) low = low
 
-numbers-injective : (separator : ℕ) (c d : List ℕ) → separator < 48 → IsSmall c → IsSmall d → numbers separator c ≡ numbers separator d → c ≡ d
-numbers-injective separator [] [] low p q e = refl
-numbers-injective separator [] (d ∷ ds) low p q e = absurd (cc)
-numbers-injective separator (c ∷ cs) [] low p q e = absurd (cc)
-numbers-injective separator (c ∷ cs) (d ∷ ds) low p q e =
+numbers_after-injective : (separator : ℕ) (c d : List ℕ) → separator < 48 → IsSmall c → IsSmall d → numbers_after separator c ≡ numbers_after separator d → c ≡ d
+numbers_after-injective separator [] [] low p q e = refl
+numbers_after-injective separator [] (d ∷ ds) low p q e = absurd (cc)
+numbers_after-injective separator (c ∷ cs) [] low p q e = absurd (cc)
+numbers_after-injective separator (c ∷ cs) (d ∷ ds) low p q e =
     let l : c < 2 ^ 64 = p 0 (omega arith) in
     let m : d < 2 ^ 64 = q 0 (omega arith) in
-    let f : decimal c ++ numbers separator cs ≡ decimal d ++ numbers separator ds = cc in
-    let s = split_same (decimal c) (decimal d) (numbers separator cs) (numbers separator ds) (decimal_is_IsNumeral c l).0.1 (decimal_is_IsNumeral d m).0.1 (numbers-IsRest separator cs low) (numbers-IsRest separator ds low) f in
-    let i = numbers-injective separator cs ds low (λ k h. p (suc k) (omega arith)) (λ k h. q (suc k) (omega arith)) s.1 in
+    let f : decimal c ++ numbers_after separator cs ≡ decimal d ++ numbers_after separator ds = cc in
+    let s = split_same (decimal c) (decimal d) (numbers_after separator cs) (numbers_after separator ds) (decimal_is_IsNumeral c l).0.1 (decimal_is_IsNumeral d m).0.1 (numbers_after-IsRest separator cs low) (numbers_after-IsRest separator ds low) f in
+    let i = numbers_after-injective separator cs ds low (λ k h. p (suc k) (omega arith)) (λ k h. q (suc k) (omega arith)) s.1 in
     ap₂ (λ z zs. z ∷ zs) (decimal_injective c d l m s.0) i
 
-separator_below_digits : (separator : ℕ) → IsTrue (separator == 47 || separator == 46) → separator < 48
-separator_below_digits separator h =
-    elim (separator == 47) as (λ b. (separator == 47) ≡ b → IsTrue (b || separator == 46) → separator < 48) [
-      | true ↦ λ e _. omega (arith, eqb-true separator 47 e)
-      | false ↦ λ _ e. omega (arith, eqb-true separator 46 e)
-    ] refl h
+-- a separator is one of two bytes
+pub is_separator-cases : (separator : ℕ) → IsTrue (is_separator separator) → (separator ≡ 47) ⊎ (separator ≡ 46)
+is_separator-cases separator h = elim (or_cases (separator == 47) (separator == 46) h) [ inl e ↦ inl (eqb-true separator 47 e) | inr e ↦ inr (eqb-true separator 46 e) ]
+
+separator_below_digits : (separator : ℕ) → IsTrue (is_separator separator) → separator < 48
+separator_below_digits separator h = elim (is_separator-cases separator h) [ inl e ↦ omega (arith, e) | inr e ↦ omega (arith, e) ]
+
+default_key-injective : (separator : ℕ) (c d : List ℕ) → IsTrue (is_separator separator) → IsSmall c → IsSmall d → default_key separator c ≡ default_key separator d → c ≡ d
+default_key-injective separator c d h p q e =
+    let f : numbers_after separator c ≡ numbers_after separator d = cc in
+    numbers_after-injective separator c d (separator_below_digits separator h) p q f
 
 -- chunks with one encoded key are one
-pub encoded_key-injective : (keys : KeyEncoding) (c d : List ℕ) → IsTrue (has_separator keys) → IsSmall c → IsSmall d → encoded_key keys c ≡ encoded_key keys d → c ≡ d
-encoded_key-injective (default separator) c d h p q e =
-    let f : numbers separator c ≡ numbers separator d = cc in
-    numbers-injective separator c d (separator_below_digits separator h) p q f
+pub encoded_key-injective : (keys : KeyEncoding) (c d : List ℕ) → IsTrue (has_separator keys) → length c ≡ length d → IsSmall c → IsSmall d → encoded_key keys c ≡ encoded_key keys d → c ≡ d
+encoded_key-injective (default separator) c d h l p q e = default_key-injective separator c d h p q e
+encoded_key-injective (v2 separator) [] [] h l p q e = refl
+encoded_key-injective (v2 separator) [] (d ∷ ds) h l p q e = absurd (omega arith)
+encoded_key-injective (v2 separator) (c ∷ cs) [] h l p q e = absurd (omega arith)
+encoded_key-injective (v2 separator) (c ∷ cs) (d ∷ ds) h l p q e = numbers_after-injective separator (c ∷ cs) (d ∷ ds) (separator_below_digits separator h) p q (ap (λ z. separator ∷ z) e)
+encoded_key-injective (suffixed separator suffix) c d h l p q e = default_key-injective separator c d h p q (append_cancel_right (default_key separator c) (default_key separator d) suffix e)
 
 -- names with one key below a path are one
 pub key_below-injective : (path x y : List ℕ) → key_below path x ≡ key_below path y → x ≡ y
@@ -79,8 +82,8 @@ key_below-injective path x y e =
     ] e
 
 -- chunks with one key are one
-pub chunk_key-injective : (path : List ℕ) (keys : KeyEncoding) (c d : List ℕ) → IsTrue (has_separator keys) → IsSmall c → IsSmall d → chunk_key path keys c ≡ chunk_key path keys d → c ≡ d
-chunk_key-injective path keys c d h p q e = encoded_key-injective keys c d h p q (key_below-injective path (encoded_key keys c) (encoded_key keys d) e)
+pub chunk_key-injective : (path : List ℕ) (keys : KeyEncoding) (c d : List ℕ) → IsTrue (has_separator keys) → length c ≡ length d → IsSmall c → IsSmall d → chunk_key path keys c ≡ chunk_key path keys d → c ≡ d
+chunk_key-injective path keys c d h l p q e = encoded_key-injective keys c d h l p q (key_below-injective path (encoded_key keys c) (encoded_key keys d) e)
 
 -- the last byte of a text, or the given number if the text is empty
 abbrev pub last_byte : ℕ → List ℕ → ℕ
@@ -99,59 +102,9 @@ last_byte-key_below path name =
       | false ↦ last_byte-append 47 (drop 1 path) (47 ∷ name)
     ]
 
--- more digits in front leave the last one as it is
-last_byte-digits_onto : (k n z x : ℕ) (xs : List ℕ) → last_byte z (digits_onto k 10 false n (x ∷ xs)) ≡ last_byte x xs
-last_byte-digits_onto zero n z x xs = refl
-last_byte-digits_onto (suc k) n z x xs =
-    elim (n / 10 == 0) as (λ b. last_byte z (cond b (digit_glyph false (n % 10) ∷ x ∷ xs) (digits_onto k 10 false (n / 10) (digit_glyph false (n % 10) ∷ x ∷ xs))) ≡ last_byte x xs) [
-      | true ↦ refl
-      | false ↦ last_byte-digits_onto k (n / 10) z (digit_glyph false (n % 10)) (x ∷ xs)
-    ]
-
-digit_glyph-low : (d : ℕ) → d < 10 → digit_glyph false d < 100
-digit_glyph-low d low =
-    elim (nat_lt d 10) as (λ b. cond b (48 + d) (87 + d) < 100) [
-      | true ↦ omega (arith, low)
-      | false ↦ omega (arith, low)
-    ]
-
-last_byte-digits : (k n z : ℕ) → 0 < k → last_byte z (digits_onto k 10 false n []) < 100
-last_byte-digits zero n z some = absurd (omega arith)
-last_byte-digits (suc k) n z some =
-    let low : digit_glyph false (n % 10) < 100 = digit_glyph-low (n % 10) (mod-lt n (omega arith)) in
-    elim (n / 10 == 0) as (λ b. last_byte z (cond b (digit_glyph false (n % 10) ∷ []) (digits_onto k 10 false (n / 10) (digit_glyph false (n % 10) ∷ []))) < 100) [
-      | true ↦ low
-      | false ↦ omega (arith, low, last_byte-digits_onto k (n / 10) z (digit_glyph false (n % 10)) [])
-    ]
-
--- no number ends past c, however large it is
-last_byte-decimal : (n z : ℕ) → last_byte z (decimal n) < 100
-unfolding digits
-last_byte-decimal n z = last_byte-digits 64 n z (omega arith)
-
-last_byte-numbers : (separator z : ℕ) (chunk : List ℕ) → z < 100 → last_byte z (numbers separator chunk) < 100
-last_byte-numbers separator z [] low = low
-last_byte-numbers separator z (n ∷ ns) low =
-    let i = last_byte-numbers separator (last_byte separator (decimal n)) ns (last_byte-decimal n separator) in
-    omega (arith, i, last_byte-append separator (decimal n) (numbers separator ns))
-
--- an encoded key ends in c or a digit
-last_byte-encoded_key : (keys : KeyEncoding) (chunk : List ℕ) → last_byte 47 (encoded_key keys chunk) < 100
-last_byte-encoded_key (default separator) chunk = last_byte-numbers separator 99 chunk (omega arith)
-
--- the name of a document ends past c
-last_byte-document_name : (name : DocumentName) → 100 < last_byte 47 (document_name name)
-last_byte-document_name ZarrJson = omega arith
-last_byte-document_name ZArray = omega arith
-last_byte-document_name ZAttrs = omega arith
-
 -- keys that are one have names with one last byte
 same_last_byte : (p q x y : List ℕ) → key_below p x ≡ key_below q y → last_byte 47 x ≡ last_byte 47 y
 same_last_byte p q x y e = sym (last_byte-key_below p x) ∙ ap (last_byte 47) e ∙ last_byte-key_below q y
-
--- no chunk's key is that of a document
-pub chunk_key-no_document : (p q : List ℕ) (keys : KeyEncoding) (chunk : List ℕ) (name : DocumentName) → chunk_key p keys chunk ≡ document_key q name → ⊥
-chunk_key-no_document p q keys chunk name e = omega (arith, same_last_byte p q (encoded_key keys chunk) (document_name name) e, last_byte-encoded_key keys chunk, last_byte-document_name name)
 
 -- names of documents with one last byte are one
 document_name-by_last : (name other : DocumentName) → last_byte 47 (document_name name) ≡ last_byte 47 (document_name other) → name ≡ other

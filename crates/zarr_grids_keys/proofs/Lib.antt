@@ -1,4 +1,6 @@
+pub mod HeadLemmas
 pub mod KeyLemmas
+pub mod LowerDocuments
 pub mod ParentLemmas
 pub mod PathLemmas
 pub mod RangeLemmas

@@ -1,5 +1,5 @@
 -- Laws of store keys and of related paths.
-use Rattle.std.specs.Prelude.{◌≡◌, ◌≢◌, ◌↔◌, ℕ, List, ◌∷◌, ◌++◌, take, codes, bytes_eq, Bool, false, ◌||◌, ◌==◌, IsTrue, MatchOption}
+use Rattle.std.specs.Prelude.{◌≡◌, ◌≢◌, ◌↔◌, ℕ, List, ◌∷◌, ◌++◌, length, codes, bytes_eq, false, ◌||◌, IsTrue, MatchOption}
 use Rattle.std.specs.BTreeMap.Range.{IsInRange}
 use Rattle.std.specs.Cmp.Lexicographic.{slice_cmp}
 use Rattle.std.specs.declared.ops.Bound.TheVariants.{Included, Excluded}
@@ -7,29 +7,30 @@ use Rattle.std.specs.Ordering.{nat_cmp}
 use Rattle.zarr_grids_boxes.specs.Boxes.{IsSmall}
 use Rattle.zarr_grids_keys.specs.declared.document_name.DocumentName.{DocumentName}
 use Rattle.zarr_grids_keys.specs.Documents.{document_key}
-use Rattle.zarr_grids_keys.specs.Keys.{KeyEncoding, default, encoded_key, key_below, chunk_key}
+use Rattle.zarr_grids_keys.specs.Keys.{KeyEncoding, key_below, chunk_key, has_separator, has_plain_suffix}
 use Rattle.zarr_grids_keys.specs.Paths.{is_node_path}
 use Rattle.zarr_grids_keys.specs.Related.{is_under, is_related, parent_path, IsReached}
 
--- whether the separator is a slash or a dot
-abbrev pub has_separator : KeyEncoding → Bool
-has_separator (default separator) = separator == 47 || separator == 46
-
--- chunks of one array whose keys are equal are equal
+-- chunks of one array whose keys are equal are equal, where they have as many dimensions
 abbrev pub KeysDiffer : Type 0
-KeysDiffer = (path : List ℕ) (keys : KeyEncoding) (c d : List ℕ) → IsTrue (has_separator keys) → IsSmall c → IsSmall d → chunk_key path keys c ≡ chunk_key path keys d → c ≡ d
-
--- the first byte of an encoded key is c
-abbrev pub KeysBeginWithC : Type 0
-KeysBeginWithC = (keys : KeyEncoding) (chunk : List ℕ) → take 1 (encoded_key keys chunk) ≡ codes "c"
+KeysDiffer = (path : List ℕ) (keys : KeyEncoding) (c d : List ℕ) → IsTrue (has_separator keys) → length c ≡ length d → IsSmall c → IsSmall d → chunk_key path keys c ≡ chunk_key path keys d → c ≡ d
 
 -- no matter what the names are, the store keys below two unrelated node paths differ
 abbrev pub UnrelatedKeysDiffer : Type 0
 UnrelatedKeysDiffer = (p q x y : List ℕ) → IsTrue (is_node_path p) → IsTrue (is_node_path q) → is_related p q ≡ false → key_below p x ≡ key_below q y → ⊥
 
--- no key of a chunk of an array is the key of a document of any node
+-- no key of a chunk of an array is the key of a document of any node, where the suffix of the keys holds no slash
 abbrev pub ChunksAreNoDocuments : Type 0
-ChunksAreNoDocuments = (p q : List ℕ) (keys : KeyEncoding) (chunk : List ℕ) (name : DocumentName) → chunk_key p keys chunk ≡ document_key q name → ⊥
+ChunksAreNoDocuments = (p q : List ℕ) (keys : KeyEncoding) (chunk : List ℕ) (name : DocumentName) → IsTrue (has_plain_suffix keys) → IsTrue (has_separator keys) → chunk_key p keys chunk ≡ document_key q name → ⊥
+
+-- a key of a chunk that is the key of a document has a suffix with a slash, and the node of the document lies below the array
+abbrev pub OnlyLowerDocuments : Type 0
+OnlyLowerDocuments = (p q : List ℕ) (keys : KeyEncoding) (chunk : List ℕ) (name : DocumentName) → IsTrue (is_node_path p) → IsTrue (is_node_path q) → IsTrue (has_separator keys) → chunk_key p keys chunk ≡ document_key q name
+    → IsTrue (is_under p q) × (has_plain_suffix keys ≡ false)
+
+-- whatever the suffix is, no key of a chunk of an array is the key of a document of that array
+abbrev pub NoChunkIsOwnDocument : Type 0
+NoChunkIsOwnDocument = (path : List ℕ) (keys : KeyEncoding) (chunk : List ℕ) (name : DocumentName) → chunk_key path keys chunk ≡ document_key path name → ⊥
 
 -- documents whose keys are equal are the same document of one node
 abbrev pub DocumentKeysDiffer : Type 0

@@ -1,75 +1,143 @@
-//! The chunk key encoding `default`.
+//! The encodings of chunk keys.
 ghost use Rattle.std.specs.Prelude.{◌≡◌, ◌++◌, OnOk, IfOk};
 ghost use Rattle.std.specs.String.{string_bytes};
-ghost use Rattle.zarr_grids_keys.specs.declared.separator.ChunkKeySeparator.TheVariants.{Slash};
-ghost use Rattle.zarr_grids_keys.specs.Keys.{encoded_key};
-ghost use Rattle.zarr_grids_keys.specs.Encodings.{keys_of};
+ghost use Rattle.zarr_grids_keys.specs.declared.encoding.ChunkKeyEncoding.TheVariants.{Default, V2, DefaultSuffix};
+ghost use Rattle.zarr_grids_keys.specs.Encodings.{default_keys, v2_keys, suffixed_keys, keys_of};
+ghost use Rattle.zarr_grids_keys.specs.Keys.{KeyEncoding, encoded_key, has_plain_suffix};
 
-use crate::separator::ChunkKeySeparator;
-use itoa::Buffer;
+use crate::default_encoding::DefaultChunkKeyEncoding;
+use crate::default_suffix_encoding::DefaultSuffixChunkKeyEncoding;
+use crate::numbers::longest_key;
+use crate::v2_encoding::V2ChunkKeyEncoding;
 use std::alloc::{AllocError, Global};
 
-/// The chunk key encoding `default`: `c`, then each index after the separator.
-#[derive(Clone, Copy, Debug, PartialEq, Eq)]
-pub struct DefaultChunkKeyEncoding {
-    pub separator: ChunkKeySeparator,
+/// What each encoding of chunk keys does, for code that takes any of them.
+pub trait ChunkKeyEncodingTraits {
+    ghost keys: { Self → KeyEncoding };
+
+    /// The encoded key of a chunk.
+    fn encode(&self, alloc: Global, chunk: &[u64]) -> Result<String, AllocError>
+        ensures { IfOk result (λ key. string_bytes key ≡ encoded_key (keys self.now) chunk.now) };
 }
 
-impl DefaultChunkKeyEncoding {
-    /// The encoding with this separator.
-    pub fn new(separator: ChunkKeySeparator) -> Self
-        ensures { result ≡ record { separator = separator } }
-    {
-        DefaultChunkKeyEncoding { separator }
-    }
+/// How the index of a chunk becomes a key (Zarr core specification, "Chunk key encoding").
+#[derive(Debug, PartialEq, Eq, Drop)]
+pub enum ChunkKeyEncoding {
+    Default(DefaultChunkKeyEncoding),
+    V2(V2ChunkKeyEncoding),
+    DefaultSuffix(DefaultSuffixChunkKeyEncoding),
+}
 
-    /// The encoding with dots, as `c.1.2`.
-    pub fn new_dot() -> Self
-        ensures { result ≡ record { separator = ChunkKeySeparator.Dot } }
-    {
-        DefaultChunkKeyEncoding::new(ChunkKeySeparator::Dot)
-    }
-
-    /// The encoding with slashes, as `c/1/2`.
-    pub fn new_slash() -> Self
-        ensures { result ≡ record { separator = ChunkKeySeparator.Slash } }
-    {
-        DefaultChunkKeyEncoding::new(ChunkKeySeparator::Slash)
-    }
-
+impl ChunkKeyEncoding {
     /// The encoded key of a chunk.
     pub fn encode(&self, alloc: Global, chunk: &[u64]) -> Result<String, AllocError>
         ensures { IfOk result (λ key. string_bytes key ≡ encoded_key (keys_of self.now) chunk.now) }
     {
-        let mut key = String::with_capacity(alloc, self.longest_key(chunk))?;
-        self.push_encoded(&mut key, chunk)?;
-        Ok(key)
+        match self {
+            ChunkKeyEncoding::Default(encoding) => encoding.encode(alloc, chunk),
+            ChunkKeyEncoding::V2(encoding) => encoding.encode(alloc, chunk),
+            ChunkKeyEncoding::DefaultSuffix(encoding) => encoding.encode(alloc, chunk),
+        }
     }
 
     /// Writes the encoded key of a chunk after what a text has. An `Err` leaves a part of the key there.
     pub fn push_encoded(&self, key: &mut String, chunk: &[u64]) -> Result<(), AllocError>
         ensures { OnOk result (string_bytes key.new ≡ string_bytes key.old ++ encoded_key (keys_of self.now) chunk.now) }
     {
-        key.push_str("c")?;
-        let separator = self.separator.as_str();
-        let mut digits = Buffer::new();
-        for index in chunk {
-            key.push_str(separator)?;
-            key.push_str(digits.format(*index))?;
+        match self {
+            ChunkKeyEncoding::Default(encoding) => encoding.push_encoded(key, chunk),
+            ChunkKeyEncoding::V2(encoding) => encoding.push_encoded(key, chunk),
+            ChunkKeyEncoding::DefaultSuffix(encoding) => encoding.push_encoded(key, chunk),
         }
-        Ok(())
     }
 
-    /// A bound on the bytes of an encoded key of a chunk: an index has at most 20 digits.
+    /// An equal encoding, in memory of its own.
+    pub fn try_clone(&self, alloc: Global) -> Result<Self, AllocError>
+        ensures { IfOk result (λ copy. keys_of copy ≡ keys_of self.now) }
+    {
+        match self {
+            ChunkKeyEncoding::Default(encoding) => Ok(ChunkKeyEncoding::Default(*encoding)),
+            ChunkKeyEncoding::V2(encoding) => Ok(ChunkKeyEncoding::V2(*encoding)),
+            ChunkKeyEncoding::DefaultSuffix(encoding) => {
+                let copy = encoding.try_clone(alloc)?;
+                Ok(ChunkKeyEncoding::DefaultSuffix(copy))
+            }
+        }
+    }
+
+    /// Whether the suffix, if there is one, holds no slash. Where it holds one, a chunk's key may be that of the document of
+    /// a lower node.
+    pub fn has_plain_suffix(&self) -> bool
+        ensures { result ≡ has_plain_suffix (keys_of self.now) }
+    {
+        match self {
+            ChunkKeyEncoding::DefaultSuffix(encoding) => encoding.has_plain_suffix(),
+            _ => true,
+        }
+    }
+
+    /// A bound on the bytes of an encoded key of a chunk.
     pub(crate) fn longest_key(&self, chunk: &[u64]) -> usize {
-        chunk.len().saturating_mul(21).saturating_add(1)
+        let suffix = match self {
+            ChunkKeyEncoding::DefaultSuffix(encoding) => encoding.suffix().len(),
+            _ => 0,
+        };
+        longest_key(chunk).saturating_add(suffix)
     }
 }
 
-impl Default for DefaultChunkKeyEncoding {
-    ghost is_default = { λ encoding. encoding ≡ record { separator = Slash } };
+impl From<DefaultChunkKeyEncoding> for ChunkKeyEncoding {
+    ghost from_gives = { λ encoding keys. keys ≡ Default encoding };
 
-    fn default() -> Self {
-        DefaultChunkKeyEncoding::new_slash()
+    fn from(encoding: DefaultChunkKeyEncoding) -> Self {
+        Self::Default(encoding)
+    }
+}
+
+impl From<V2ChunkKeyEncoding> for ChunkKeyEncoding {
+    ghost from_gives = { λ encoding keys. keys ≡ V2 encoding };
+
+    fn from(encoding: V2ChunkKeyEncoding) -> Self {
+        Self::V2(encoding)
+    }
+}
+
+impl From<DefaultSuffixChunkKeyEncoding> for ChunkKeyEncoding {
+    ghost from_gives = { λ encoding keys. keys ≡ DefaultSuffix encoding };
+
+    fn from(encoding: DefaultSuffixChunkKeyEncoding) -> Self {
+        Self::DefaultSuffix(encoding)
+    }
+}
+
+impl ChunkKeyEncodingTraits for ChunkKeyEncoding {
+    ghost keys = { keys_of };
+
+    fn encode(&self, alloc: Global, chunk: &[u64]) -> Result<String, AllocError> {
+        ChunkKeyEncoding::encode(self, alloc, chunk)
+    }
+}
+
+impl ChunkKeyEncodingTraits for DefaultChunkKeyEncoding {
+    ghost keys = { default_keys };
+
+    fn encode(&self, alloc: Global, chunk: &[u64]) -> Result<String, AllocError> {
+        DefaultChunkKeyEncoding::encode(self, alloc, chunk)
+    }
+}
+
+impl ChunkKeyEncodingTraits for V2ChunkKeyEncoding {
+    ghost keys = { v2_keys };
+
+    fn encode(&self, alloc: Global, chunk: &[u64]) -> Result<String, AllocError> {
+        V2ChunkKeyEncoding::encode(self, alloc, chunk)
+    }
+}
+
+impl ChunkKeyEncodingTraits for DefaultSuffixChunkKeyEncoding {
+    ghost keys = { suffixed_keys };
+
+    fn encode(&self, alloc: Global, chunk: &[u64]) -> Result<String, AllocError> {
+        DefaultSuffixChunkKeyEncoding::encode(self, alloc, chunk)
     }
 }

@@ -1,15 +1,10 @@
 //! Laws of store keys and of related paths. Each function does nothing: its contract is the law.
-ghost use Rattle.zarr_grids_keys.specs.Laws.{KeysDiffer, KeysBeginWithC, UnrelatedKeysDiffer, ChunksAreNoDocuments, DocumentKeysDiffer};
+ghost use Rattle.zarr_grids_keys.specs.Laws.{KeysDiffer, UnrelatedKeysDiffer, ChunksAreNoDocuments, OnlyLowerDocuments, NoChunkIsOwnDocument, DocumentKeysDiffer};
 ghost use Rattle.zarr_grids_keys.specs.Laws.{RelatedIsSymmetric, RelatedIsReflexive, RelatedAbove, UnderIsTransitive, UnderIsStrict, UnderBeginsWithPath, UnderIsRange, AboveByParent, AboveIsReached};
 
 /// The chunks of an array have different keys.
 pub fn keys_differ()
     ensures { KeysDiffer }
-{}
-
-/// The encoded key of a chunk begins with `c`, so it is not empty.
-pub fn keys_begin_with_c()
-    ensures { KeysBeginWithC }
 {}
 
 /// The store keys below two unrelated node paths differ, so no chunk or document of one array has
@@ -18,9 +13,21 @@ pub fn unrelated_keys_differ()
     ensures { UnrelatedKeysDiffer }
 {}
 
-/// The keys of chunks are not those of documents, whatever the nodes are.
+/// The keys of chunks are not those of documents, whatever the nodes are, where no suffix holds a
+/// slash. With the suffix `/zarr.json` the chunks of an array at `/a` stand where the nodes below it,
+/// as `/a/c/1`, have their documents.
 pub fn chunks_are_no_documents()
     ensures { ChunksAreNoDocuments }
+{}
+
+/// Where the key of a chunk is that of a document, the suffix holds a slash and the document's node lies below the array.
+pub fn only_lower_documents()
+    ensures { OnlyLowerDocuments }
+{}
+
+/// The keys of the chunks of an array are not those of its own documents.
+pub fn no_chunk_is_own_document()
+    ensures { NoChunkIsOwnDocument }
 {}
 
 /// The documents of nodes have different keys.

@@ -1,6 +1,52 @@
 //! Node paths.
-ghost use Rattle.std.specs.Prelude.{◌≡◌};
+ghost use Rattle.std.specs.Prelude.{◌≡◌, ◌↔◌, IsTrue, false, IfOk, IsErr};
+ghost use Rattle.std.specs.String.{string_bytes};
 ghost use Rattle.zarr_grids_keys.specs.Paths.{begins_with_slash, ends_with_slash, has_double_slash, is_node_path};
+
+use std::alloc::{AllocError, Global};
+use thiserror::Error;
+
+/// The path of a node: `/`, or a slash and names between single slashes (Zarr core specification,
+/// "Node paths").
+#[derive(Debug, PartialEq, Eq, Drop)]
+pub struct NodePath {
+    text: String,
+    pub ghost path: { IsTrue (is_node_path (string_bytes text)) },
+}
+
+/// A text is no node path.
+#[derive(Clone, Copy, Debug, PartialEq, Eq, Error)]
+#[error("not a path of a node")]
+pub struct NodePathError;
+
+impl NodePath {
+    /// The node path that a text is.
+    pub fn new(text: String) -> Result<Self, NodePathError>
+        ensures text { IfOk result (λ path. path.text ≡ text) }
+        ensures refused { IsErr result ↔ (is_node_path (string_bytes text) ≡ false) }
+    {
+        if !is_node_path(text.as_str()) {
+            return Err(NodePathError);
+        }
+        Ok(NodePath { text })
+    }
+
+    /// The path as a text.
+    pub fn as_str(&self) -> &str
+        ensures text { result.now ≡ string_bytes self.now.text }
+        ensures node_path { IsTrue (is_node_path result.now) }
+    {
+        self.text.as_str()
+    }
+
+    /// An equal path, in memory of its own.
+    pub fn try_clone(&self, alloc: Global) -> Result<Self, AllocError>
+        ensures { IfOk result (λ copy. string_bytes copy.text ≡ string_bytes self.now.text) }
+    {
+        let text = String::from_str(alloc, self.text.as_str())?;
+        Ok(NodePath { text })
+    }
+}
 
 /// Whether a text is a node path: `/`, or a slash and names between single slashes.
 pub fn is_node_path(path: &str) -> bool
@@ -16,7 +62,8 @@ pub(crate) fn begins_with_slash(bytes: &[u8]) -> bool
     matches!(bytes.first(), Some(b'/'))
 }
 
-fn ends_with_slash(bytes: &[u8]) -> bool
+/// Whether a text ends with `/`.
+pub fn ends_with_slash(bytes: &[u8]) -> bool
     ensures { result ≡ ends_with_slash bytes.now }
 {
     match bytes.last() {

@@ -1,20 +1,64 @@
-//! The store keys of the chunks and of the documents of an array.
-ghost use Rattle.std.specs.Prelude.{◌≡◌, ◌++◌, [], IsTrue, OnOk, IfOk};
+//! Store keys: of the chunks and of the documents of an array, and any other.
+ghost use Rattle.std.specs.Prelude.{◌≡◌, ◌↔◌, ◌++◌, [], IsTrue, false, OnOk, IfOk, IsErr};
 ghost use Rattle.std.specs.String.{string_bytes};
 ghost use Rattle.zarr_grids_keys.specs.Documents.{document_key};
 ghost use Rattle.zarr_grids_keys.specs.Encodings.{keys_of};
 ghost use Rattle.zarr_grids_keys.specs.Keys.{chunk_key, key_below};
-ghost use Rattle.zarr_grids_keys.specs.Paths.{is_node_path};
+ghost use Rattle.zarr_grids_keys.specs.Paths.{ends_with_slash, is_node_path};
 
 use crate::document_name::DocumentName;
-use crate::encoding::DefaultChunkKeyEncoding;
+use crate::encoding::ChunkKeyEncoding;
+use crate::node_path::ends_with_slash;
 use std::alloc::{AllocError, Global};
+use thiserror::Error;
+
+/// A key of a store: a text that does not end with `/` (Zarr core specification, "Abstract store
+/// interface").
+#[derive(Debug, PartialEq, Eq, Drop)]
+pub struct StoreKey {
+    text: String,
+    pub ghost key: { ends_with_slash (string_bytes text) ≡ false },
+}
+
+/// A text ends with `/`, so it is no store key.
+#[derive(Clone, Copy, Debug, PartialEq, Eq, Error)]
+#[error("a store key ends with /")]
+pub struct StoreKeyError;
+
+impl StoreKey {
+    /// The store key that a text is.
+    pub fn new(text: String) -> Result<Self, StoreKeyError>
+        ensures text { IfOk result (λ key. key.text ≡ text) }
+        ensures refused { IsErr result ↔ IsTrue (ends_with_slash (string_bytes text)) }
+    {
+        if ends_with_slash(text.as_bytes()) {
+            return Err(StoreKeyError);
+        }
+        Ok(StoreKey { text })
+    }
+
+    /// The key as a text.
+    pub fn as_str(&self) -> &str
+        ensures text { result.now ≡ string_bytes self.now.text }
+        ensures store_key { ends_with_slash result.now ≡ false }
+    {
+        self.text.as_str()
+    }
+
+    /// An equal key, in memory of its own.
+    pub fn try_clone(&self, alloc: Global) -> Result<Self, AllocError>
+        ensures { IfOk result (λ copy. string_bytes copy.text ≡ string_bytes self.now.text) }
+    {
+        let text = String::from_str(alloc, self.text.as_str())?;
+        Ok(StoreKey { text })
+    }
+}
 
 /// The store key of a chunk of the array at a path.
 pub fn chunk_key(
     alloc: Global,
     path: &str,
-    keys: &DefaultChunkKeyEncoding,
+    keys: &ChunkKeyEncoding,
     chunk: &[u64],
 ) -> Result<String, AllocError>
     requires { IsTrue (is_node_path path.now) }
@@ -31,7 +75,7 @@ pub fn chunk_key(
 pub fn write_chunk_key(
     key: &mut String,
     path: &str,
-    keys: &DefaultChunkKeyEncoding,
+    keys: &ChunkKeyEncoding,
     chunk: &[u64],
 ) -> Result<(), AllocError>
     requires { IsTrue (is_node_path path.now) }

@@ -9,6 +9,18 @@ pub record ExtensionPoint : Type 0 where
   pub configuration : Option Members
   pub must_understand : Bool
 
+-- an extension point of a name alone
+abbrev pub named : List ℕ → ExtensionPoint
+named name = record { name = name; configuration = None; must_understand = true }
+
+-- an extension point of a name and a configuration
+abbrev pub configured : List ℕ → Members → ExtensionPoint
+configured name configuration = record { name = name; configuration = Some configuration; must_understand = true }
+
+-- the extension point with another name
+abbrev pub renamed : List ℕ → ExtensionPoint → ExtensionPoint
+renamed name point = record point { name = name }
+
 -- the configuration that a member gives: none where the member is absent, else an object
 abbrev pub configuration_in : Option Data → Option (Option Members)
 configuration_in None = Some None
@@ -34,7 +46,7 @@ abbrev pub extension_point : Data → Option ExtensionPoint
 extension_point null = None
 extension_point (boolean b) = None
 extension_point (number n) = None
-extension_point (string s) = Some (record { name = s; configuration = None; must_understand = true })
+extension_point (string s) = Some (named s)
 extension_point (array ds) = None
 extension_point (object ms) = point_of_members ms
 

@@ -1,8 +1,9 @@
 -- Laws of extension points and of trees that are the same.
-use Rattle.std.specs.Prelude.{◌≡◌, false, Some, Float}
+use Rattle.std.specs.Prelude.{◌≡◌, false, Some, Float, Decides}
 use Rattle.serde_json.specs.Data.{Data, number, float}
-use Rattle.serde_json.specs.Written.{has_float}
-use Rattle.zarr_grids_metadata.specs.ExtensionPoints.{ExtensionPoint, extension_point, written_point, written_point_in}
+use Rattle.serde_json.specs.Written.{has_float, members_have_float}
+use Rattle.zarr_grids_metadata.specs.ExtensionPoints.{ExtensionPoint, extension_point, configuration_members, written_point, written_point_in}
+use Rattle.zarr_grids_metadata.specs.Equal.{equal_points}
 use Rattle.zarr_grids_metadata.specs.Trees.{SameTree}
 
 -- ---- extension points
@@ -18,6 +19,10 @@ WrittenPointOnce = (d : Data) → written_point_in (written_point_in d) ≡ writ
 -- a tree and what is written for it read as the same extension point, or neither is one
 abbrev pub WrittenPointReads : Type 0
 WrittenPointReads = (d : Data) → extension_point (written_point_in d) ≡ extension_point d
+
+-- an extension point without floats is equal to itself alone
+abbrev pub EqualWithoutFloat : Type 0
+EqualWithoutFloat = (p q : ExtensionPoint) → members_have_float (configuration_members p.configuration) ≡ false → Decides (equal_points p q) (p ≡ q)
 
 -- ---- trees
 

@@ -1,5 +1,8 @@
+pub mod Equal
+pub mod EqualEquivalence
 pub mod ExtensionPoints
 pub mod Laws
 pub mod Members
+pub mod Texts
 pub mod Trees
 pub mod Views

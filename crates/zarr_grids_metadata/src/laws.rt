@@ -1,5 +1,5 @@
 //! Laws of extension points and of trees. Each function does nothing: its contract is the law.
-ghost use Rattle.zarr_grids_metadata.specs.Laws.{PointReadsBack, WrittenPointOnce, WrittenPointReads};
+ghost use Rattle.zarr_grids_metadata.specs.Laws.{PointReadsBack, WrittenPointOnce, WrittenPointReads, EqualWithoutFloat};
 ghost use Rattle.zarr_grids_metadata.specs.Laws.{SameTreeReflexive, SameTreeSymmetric, SameTreeTransitive, SameWithoutFloat, SameAsWithoutFloat, SameFloats, FloatsAreSame};
 
 /// What is written for an extension point reads as that extension point.
@@ -15,6 +15,11 @@ pub fn written_point_once()
 /// Every reader answers alike for a JSON value and for what is written for it.
 pub fn written_point_reads()
     ensures { WrittenPointReads }
+{}
+
+/// An extension point without floats is equal to itself alone.
+pub fn equal_without_float()
+    ensures { EqualWithoutFloat }
 {}
 
 /// Each tree is the same as itself.

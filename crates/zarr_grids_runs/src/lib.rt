@@ -8,5 +8,3 @@ pub mod runs;
 pub use fill::is_all;
 pub use runs::overlay;
 
-#[cfg(test)]
-mod tests;

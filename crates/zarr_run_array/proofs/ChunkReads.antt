@@ -17,7 +17,7 @@ use Rattle.zarr_run_model.specs.Worlds.{StoreStands}
 use Rattle.zarr_run_array.specs.Contents.{AreValues, read_so_far}
 use Rattle.zarr_run_array.proofs.Standing.{values_width, encoded-laid, laid-in_box, laid-fill, all_in_box, length-laid}
 use Rattle.zarr_run_array.proofs.Listed.{list_any-append}
-use Rattle.zarr_run_array.proofs.ChunkWrites.{regular_box}
+use Rattle.zarr_run_array.proofs.ChunkBoxes.{box_of_chunk}
 
 -- what is stored for a chunk
 pub value_laid : (x : ℕ) (stored : Option (List ℕ)) (cells : List ℕ → Cell) (value : List ℕ) (box : Region)
@@ -38,7 +38,7 @@ absent_fill x stored cells box p l st none t =
 pub wrong_length : (path : List ℕ) (document : ArrayDocument) (store : StoreMap) (cells : List ℕ → Cell) (chunk value : List ℕ) (box : Region)
     → StoreStands path (meaning_of document) store cells → AreValues uint8 cells → IsBelow (meaning_of document).grid chunk box → get store (chunk_key path (meaning_of document).keys chunk) ≡ Some value → length value ≡ product box.shape * 1
 wrong_length path document store cells chunk value box st v below found =
-    ap length (value_laid document.fill_value _ cells value box (st chunk box below) found) ∙ length-laid cells 1 box.start box.shape (regular_box document chunk box below.has_box).rank (values_width cells v)
+    ap length (value_laid document.fill_value _ cells value box (st chunk box below) found) ∙ length-laid cells 1 box.start box.shape (box_of_chunk document chunk box below.has_box).rank (values_width cells v)
 
 -- ---- one chunk read
 pub read_present : (grid : Grid) (cs : List (List ℕ)) (c : List ℕ) (cells : List ℕ → Cell) (fill : Cell) (box : Region) (p : List ℕ) → chunk_box grid c ≡ Some box

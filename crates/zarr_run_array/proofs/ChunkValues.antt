@@ -7,7 +7,6 @@ use Rattle.zarr_grids_boxes.specs.Boxes.{Region, product, places, is_in_box}
 use Rattle.zarr_grids_boxes.specs.Laid.{laid, overlaid}
 use Rattle.zarr_grids_boxes.proofs.Places.{both}
 use Rattle.zarr_grids_chunks.specs.Grids.{IsBelow}
-use Rattle.zarr_grids_chunks.specs.Regular.{origin_of}
 use Rattle.zarr_grids_chunks.proofs.Filters.{told}
 use Rattle.zarr_grids_keys.specs.Keys.{chunk_key}
 use Rattle.zarr_codecs_cells.specs.Cells.{uint8, Cell}
@@ -16,7 +15,7 @@ use Rattle.zarr_array_documents.specs.Meanings.{meaning_of}
 use Rattle.zarr_array_documents.specs.declared.document.ArrayDocument.{ArrayDocument}
 use Rattle.zarr_array_stores.specs.StoreMaps.{StoreMap}
 use Rattle.zarr_run_array.specs.Contents.{AreValues, WroteChunks, IsPutOver, ChangedValue, contains_box, put}
-use Rattle.zarr_run_array.proofs.ChunkWrites.{regular_box}
+use Rattle.zarr_run_array.proofs.ChunkBoxes.{box_of_chunk}
 use Rattle.zarr_run_array.proofs.ChunksWritten.{wrote_one}
 use Rattle.zarr_run_array.proofs.ChunkReads.{value_laid, absent_fill}
 use Rattle.zarr_run_array.proofs.Standing.{values_width, laid-fill, laid-in_box}
@@ -77,29 +76,22 @@ free_laid region box given cells x n bs value stored r m l vg is e put free st =
     (told (contains_box region.start region.shape box.start box.shape))
 
 -- ---- one chunk written
-pub wrote_changed : (path : List ℕ) (document : ArrayDocument) (region : Region) (bs : List ℕ) (s : Bool) (chunk : List ℕ) (count : ℕ) (old new : StoreMap)
-    → IsBelow (meaning_of document).grid chunk (record { start = origin_of document.chunk_shape.items chunk; shape = document.chunk_shape.items })
-    → ChangedValue region (record { start = origin_of document.chunk_shape.items chunk; shape = document.chunk_shape.items }) bs s document.fill_value count (chunk_key path (meaning_of document).keys chunk) old new
-    → WroteChunks path (meaning_of document) region bs s (chunk ∷ []) old new
-wrote_changed path document region bs s chunk count old new below changed =
-    let box : Region = record { start = origin_of document.chunk_shape.items chunk; shape = document.chunk_shape.items } in
+pub wrote_changed : (path : List ℕ) (document : ArrayDocument) (region : Region) (bs : List ℕ) (s : Bool) (chunk : List ℕ) (box : Region) (count : ℕ) (old new : StoreMap) → IsBelow (meaning_of document).grid chunk box
+    → ChangedValue region box bs s document.fill_value count (chunk_key path (meaning_of document).keys chunk) old new → WroteChunks path (meaning_of document) region bs s (chunk ∷ []) old new
+wrote_changed path document region bs s chunk box count old new below changed =
     let P : StoreMap → Type 0 = λ m. WroteChunks path (meaning_of document) region bs s (chunk ∷ []) old m in
     subst P (sym changed.is) (wrote_one path document region bs s chunk box old changed.after below
     (λ given cells vg vc is st. changed_laid region box given cells document.fill_value bs changed.before changed.after _ vg vc is changed.changes changed.found (st chunk box below)))
 
-pub wrote_new : (path : List ℕ) (document : ArrayDocument) (region : Region) (bs : List ℕ) (s : Bool) (chunk value : List ℕ) (count : ℕ) (old new : StoreMap)
-    → length region.shape ≡ length region.start → length region.start ≡ length document.chunk_shape.items → count ≡ product document.chunk_shape.items
-    → IsBelow (meaning_of document).grid chunk (record { start = origin_of document.chunk_shape.items chunk; shape = document.chunk_shape.items })
-    → (contains_box region.start region.shape (origin_of document.chunk_shape.items chunk) document.chunk_shape.items ≡ false → get old (chunk_key path (meaning_of document).keys chunk) ≡ None)
-    → IsPutOver region (record { start = origin_of document.chunk_shape.items chunk; shape = document.chunk_shape.items }) bs (replicate count document.fill_value) value
-    → new ≡ put s document.fill_value old (chunk_key path (meaning_of document).keys chunk) value
+pub wrote_new : (path : List ℕ) (document : ArrayDocument) (region : Region) (bs : List ℕ) (s : Bool) (chunk value : List ℕ) (box : Region) (count : ℕ) (old new : StoreMap)
+    → length region.shape ≡ length region.start → length box.start ≡ length region.start → count ≡ product box.shape → IsBelow (meaning_of document).grid chunk box
+    → (contains_box region.start region.shape box.start box.shape ≡ false → get old (chunk_key path (meaning_of document).keys chunk) ≡ None)
+    → IsPutOver region box bs (replicate count document.fill_value) value → new ≡ put s document.fill_value old (chunk_key path (meaning_of document).keys chunk) value
     → WroteChunks path (meaning_of document) region bs s (chunk ∷ []) old new
-wrote_new path document region bs s chunk value count old new same rank size below free over is =
-    let box : Region = record { start = origin_of document.chunk_shape.items chunk; shape = document.chunk_shape.items } in
-    let r = (regular_box document chunk box below.has_box).rank in
+wrote_new path document region bs s chunk value box count old new same rank size below free over is =
     let P : StoreMap → Type 0 = λ m. WroteChunks path (meaning_of document) region bs s (chunk ∷ []) old m in
     subst P (sym is) (wrote_one path document region bs s chunk box old value below
-    (λ given cells vg vc eq st. free_laid region box given cells document.fill_value count bs value _ same (r ∙ sym rank) r vg eq size over free (st chunk box below)))
+    (λ given cells vg vc eq st. free_laid region box given cells document.fill_value count bs value _ same rank (box_of_chunk document chunk box below.has_box).rank vg eq size over free (st chunk box below)))
 
 pub on_ok : {T E P Q : Type 0} (r : Result T E) → (P → Q) → OnOk r P → OnOk r Q
 on_ok (Ok x) f h = f h

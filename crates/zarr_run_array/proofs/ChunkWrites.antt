@@ -1,26 +1,17 @@
 -- A write of a box, chunk by chunk.
-use Rattle.std.proofs.Common.{◌≡◌, ◌∙◌, ℕ, zero, suc, ◌*◌, ◌<◌, Bool, true, false, if◌then◌else◌, ◌&&◌, ◌||◌, List, [], ◌∷◌, ◌++◌, length, map, get_or, refl, sym, ap, subst, ⊎_elim, arith, Option, Some, IsTrue, bytes_eq}
+use Rattle.std.proofs.Common.{◌≡◌, ◌∙◌, ℕ, Bool, true, false, if◌then◌else◌, ◌&&◌, ◌||◌, List, [], ◌∷◌, ◌++◌, length, map, refl, sym, ap, subst, ⊎_elim, Option, Some, bytes_eq}
 use Rattle.std.specs.List.{flat_map, list_any}
 use Rattle.std.specs.FinMap.{get}
 use Rattle.std.proofs.Math.Bool.{and-true, and-false}
-use Rattle.std.proofs.Math.Nat.{le-mul_of_pos_right}
 use Rattle.std.proofs.lemmas.Slice.Eq.{bytes_eq-Decides}
 use Rattle.std.proofs.lemmas.Bool.{false≢true}
-use Rattle.zarr_grids_boxes.specs.Boxes.{Region, product, places, each2, is_in_box, EndsFit, IsSmall}
+use Rattle.zarr_grids_boxes.specs.Boxes.{Region, places, is_in_box}
 use Rattle.zarr_grids_boxes.specs.Laid.{laid, HasWidth, overlaid}
-use Rattle.zarr_grids_boxes.proofs.Dimensions.{positive_at}
-use Rattle.zarr_grids_boxes.proofs.Places.{length-each2}
 use Rattle.zarr_grids_chunks.specs.Grids.{Grid, IsBelow, IsCovered, chunk_box, lies_in_chunk, met}
-use Rattle.zarr_grids_chunks.specs.Regular.{origin_of}
 use Rattle.zarr_grids_chunks.proofs.Filters.{told}
-use Rattle.zarr_grids_chunks.proofs.Partition.{lies_here, lies_has, met-any}
-use Rattle.zarr_grids_chunks.proofs.RegularChunks.{chunk_box-regular, chunks_apart}
-use Rattle.zarr_grids_keys.specs.Keys.{chunk_key, default}
-use Rattle.zarr_grids_keys.specs.Laws.{has_separator}
-use Rattle.zarr_grids_keys.specs.Separators.{separator_byte}
-use Rattle.zarr_grids_keys.specs.declared.separator.ChunkKeySeparator.{ChunkKeySeparator}
-use Rattle.zarr_grids_keys.specs.declared.separator.ChunkKeySeparator.TheVariants.{Slash, Dot}
-use Rattle.zarr_grids_keys.proofs.KeyLemmas.{chunk_key-injective}
+use Rattle.zarr_grids_chunks.proofs.Partition.{lies_here, met-any}
+use Rattle.zarr_grids_cover.proofs.ChunkLaws.{chunks_apart}
+use Rattle.zarr_grids_keys.specs.Keys.{chunk_key}
 use Rattle.zarr_codecs_cells.specs.Cells.{uint8, Cell, is_value}
 use Rattle.zarr_codecs_chain.specs.Chain.{bytes, ChunkStands}
 use Rattle.zarr_array_documents.specs.Documents.{Document}
@@ -30,52 +21,11 @@ use Rattle.zarr_array_stores.specs.StoreMaps.{StoreMap}
 use Rattle.zarr_run_model.specs.Changes.{with_chunks}
 use Rattle.zarr_run_model.specs.Worlds.{StoreStands}
 use Rattle.zarr_run_array.specs.Contents.{AreValues, put}
+use Rattle.zarr_run_array.proofs.ChunkBoxes.{box_of_chunk, key_apart}
 use Rattle.zarr_run_array.proofs.Listed.{list_any-append}
 use Rattle.zarr_run_array.proofs.Standing.{values_width, map-in_box, put_same, put_other, put_stands}
 
--- ---- a chunk's numbers are small
-get_or-each2 : (f : ℕ → ℕ → ℕ) (xs ys : List ℕ) (k : ℕ) → k < length xs → length xs ≡ length ys → get_or (each2 f xs ys) k 0 ≡ f (get_or xs k 0) (get_or ys k 0)
-get_or-each2 f [] ys k h l = absurd (omega arith)
-get_or-each2 f (x ∷ xs) [] k h l = absurd (omega arith)
-get_or-each2 f (x ∷ xs) (y ∷ ys) zero h l = refl
-get_or-each2 f (x ∷ xs) (y ∷ ys) (suc k) h l = get_or-each2 f xs ys k (omega arith) (omega arith)
-
-pub chunk_small : (es chunk : List ℕ) → 0 < product es → length chunk ≡ length es → EndsFit (origin_of es chunk) es → IsSmall chunk
-chunk_small es chunk pos l f k h =
-    let g : k < length es = omega arith in
-    let o = length-each2 (λ k e. k * e) chunk es l in
-    let e = get_or-each2 (λ k e. k * e) chunk es k h l in
-    let b = f k (omega arith) in
-    let m = le-mul_of_pos_right (get_or chunk k 0) (positive_at es k g pos) in
-    omega arith
-
--- ---- a chunk of a document's grid
-pub record IsRegularBox (document : ArrayDocument) (chunk : List ℕ) (box : Region) : Type 0 where
-  pub is : box ≡ record { start = origin_of document.chunk_shape.items chunk; shape = document.chunk_shape.items }
-  pub rank : length box.start ≡ length box.shape
-  pub chunk_rank : length chunk ≡ length document.chunk_shape.items
-  pub fits : EndsFit (origin_of document.chunk_shape.items chunk) document.chunk_shape.items
-  pub small : IsSmall chunk
-
-pub regular_box : (document : ArrayDocument) (chunk : List ℕ) (box : Region) → chunk_box (meaning_of document).grid chunk ≡ Some box → IsRegularBox document chunk box
-regular_box document chunk box h =
-    let r = chunk_box-regular document.shape.items document.chunk_shape.items chunk box document.same h in
-    let n = length-each2 (λ k e. k * e) chunk document.chunk_shape.items r.1 in
-    record {
-      is = r.0;
-      rank = ap (λ (b : Region). length b.start) r.0 ∙ (n ∙ r.1) ∙ sym (ap (λ (b : Region). length b.shape) r.0);
-      chunk_rank = r.1;
-      fits = r.2;
-      small = chunk_small document.chunk_shape.items chunk document.positive r.1 r.2;
-    }
-
 -- ---- one chunk written
-
--- a document's keys have a slash or a dot
-pub separated : (separator : ChunkKeySeparator) → IsTrue (has_separator (default (separator_byte separator)))
-separated Slash = refl
-separated Dot = refl
-
 pub one_chunk : (path : List ℕ) (document : ArrayDocument) (region : Region) (given cells : List ℕ → Cell) (chunk : List ℕ) (box : Region) (s : Bool) (old : StoreMap) (value : List ℕ)
     → AreValues uint8 given → AreValues uint8 cells → IsBelow (meaning_of document).grid chunk box
     → value ≡ laid (overlaid region.start region.shape given cells) box.start box.shape
@@ -102,7 +52,7 @@ one_chunk path document region given cells chunk box s old value vg vc below is 
       let q : box ≡ other = cc in
       let v : value ≡ flat_map (overlaid region.start region.shape given cells) (places other.start other.shape) = is ∙ ap (λ (r : Region). laid (overlaid region.start region.shape given cells) r.start r.shape) q in
       let stands = put_stands s document.fill_value value (overlaid region.start region.shape given cells) (places other.start other.shape) overlay_width v in
-      let rank = (regular_box document d other b.has_box).rank in
+      let rank = (box_of_chunk document d other b.has_box).rank in
       let P : List Cell → Type 0 = λ cs. ChunkStands bytes (document.fill_value ∷ []) (get (put s document.fill_value old (chunk_key path (meaning_of document).keys chunk) value) (chunk_key path (meaning_of document).keys d)) cs in
       let Q : Option (List ℕ) → Type 0 = λ r. ChunkStands bytes (document.fill_value ∷ []) r (map (overlaid region.start region.shape given cells) (places other.start other.shape)) in
       subst P (map-in_box _ _ other.start other.shape rank (λ p t. here p t e))
@@ -110,17 +60,15 @@ one_chunk path document region given cells chunk box s old value vg vc below is 
 
   apart : (d ≡ chunk → ⊥) → ChunkStands bytes (document.fill_value ∷ []) (get (put s document.fill_value old (chunk_key path (meaning_of document).keys chunk) value) (chunk_key path (meaning_of document).keys d)) (map (with_chunks (meaning_of document).grid region (chunk ∷ []) given cells) (places other.start other.shape))
   apart ne =
-      let rd = regular_box document d other b.has_box in
-      let rc = regular_box document chunk box below.has_box in
-      let key : chunk_key path (meaning_of document).keys d ≡ chunk_key path (meaning_of document).keys chunk → ⊥ = λ e. ne (chunk_key-injective path (meaning_of document).keys d chunk (separated document.separator) rd.small rc.small e) in
+      let rank = (box_of_chunk document d other b.has_box).rank in
+      let key : chunk_key path (meaning_of document).keys d ≡ chunk_key path (meaning_of document).keys chunk → ⊥ = key_apart path document chunk d box other below b ne in
       let unmet : (p : List ℕ) → is_in_box other.start other.shape p ≡ true → cells p ≡ with_chunks (meaning_of document).grid region (chunk ∷ []) given cells p = λ p t. ⊎_elim
-      (λ l. let h = lies_has (meaning_of document).grid chunk p l in
-      absurd (ne (chunks_apart document.shape.items document.chunk_shape.items d chunk p other h.0 document.same document.positive b.has_box h.1 t h.2)))
+      (λ l. absurd (ne (chunks_apart (meaning_of document).grid d chunk p (lies_here (meaning_of document).grid d p other b.has_box ∙ t) l)))
       (λ l. sym (ap (λ a. if is_in_box region.start region.shape p && (a || false) then given p else cells p) l ∙ ap (λ a. if a then given p else cells p) (and-false (is_in_box region.start region.shape p))))
       (told (lies_in_chunk (meaning_of document).grid p chunk)) in
       let P : List Cell → Type 0 = λ cs. ChunkStands bytes (document.fill_value ∷ []) (get (put s document.fill_value old (chunk_key path (meaning_of document).keys chunk) value) (chunk_key path (meaning_of document).keys d)) cs in
       let Q : Option (List ℕ) → Type 0 = λ r. ChunkStands bytes (document.fill_value ∷ []) r (map cells (places other.start other.shape)) in
-      subst P (map-in_box _ _ other.start other.shape rd.rank unmet) (subst Q (sym (put_other s document.fill_value old _ value _ key)) (st d other b))
+      subst P (map-in_box _ _ other.start other.shape rank unmet) (subst Q (sym (put_other s document.fill_value old _ value _ key)) (st d other b))
 
 -- ---- several chunks written
 pub stands_same : (path : List ℕ) (document : Document) (store : StoreMap) (f g : List ℕ → Cell) → ((p : List ℕ) → f p ≡ g p) → StoreStands path document store f → StoreStands path document store g

@@ -6,7 +6,6 @@ use Rattle.zarr_grids_boxes.specs.Boxes.{Region, product}
 use Rattle.zarr_grids_boxes.specs.Laid.{laid, overlaid}
 use Rattle.zarr_grids_chunks.specs.Grids.{IsBelow}
 use Rattle.zarr_grids_keys.specs.Keys.{chunk_key}
-use Rattle.zarr_grids_keys.proofs.KeyLemmas.{chunk_key-injective}
 use Rattle.zarr_codecs_cells.specs.Cells.{uint8, Cell}
 use Rattle.zarr_array_documents.specs.Documents.{Document}
 use Rattle.zarr_array_documents.specs.Meanings.{meaning_of}
@@ -17,12 +16,8 @@ use Rattle.zarr_run_model.specs.Worlds.{StoreStands}
 use Rattle.zarr_run_array.specs.Contents.{AreValues, HasKeys, WroteChunks, is_listed, put}
 use Rattle.zarr_run_array.proofs.Listed.{listed_one, one_listed, listed_more, before_listed, last_listed}
 use Rattle.zarr_run_array.proofs.Standing.{found_put, put_same, put_other, stored_put, erased_put}
-use Rattle.zarr_run_array.proofs.ChunkWrites.{regular_box, separated, one_chunk, stands_same, with_chunks-none, with_chunks-more, with_chunks-values}
-
--- two chunks have two keys
-pub key_apart : (path : List ℕ) (document : ArrayDocument) (c d : List ℕ) (box other : Region) → IsBelow (meaning_of document).grid c box → IsBelow (meaning_of document).grid d other → (d ≡ c → ⊥)
-    → chunk_key path (meaning_of document).keys d ≡ chunk_key path (meaning_of document).keys c → ⊥
-key_apart path document c d box other below over ne e = ne (chunk_key-injective path (meaning_of document).keys d c (separated document.separator) (regular_box document d other over.has_box).small (regular_box document c box below.has_box).small e)
+use Rattle.zarr_run_array.proofs.ChunkBoxes.{key_apart}
+use Rattle.zarr_run_array.proofs.ChunkWrites.{one_chunk, stands_same, with_chunks-none, with_chunks-more, with_chunks-values}
 
 -- ---- one chunk
 put_keys : (path : List ℕ) (document : ArrayDocument) (s : Bool) (chunk : List ℕ) (old : StoreMap) (value : List ℕ)

@@ -13,7 +13,6 @@ use Rattle.zarr_grids_boxes.proofs.InBox.{in_box-place_at}
 use Rattle.zarr_grids_chunks.specs.Grids.{Grid, IsBelow, AreBelow, chunk_box, lies_in_chunk}
 use Rattle.zarr_grids_chunks.proofs.Filters.{told}
 use Rattle.zarr_grids_chunks.proofs.Partition.{lies_here}
-use Rattle.zarr_grids_chunks.proofs.RegularChunks.{length-regular_grid}
 use Rattle.zarr_grids_keys.specs.Keys.{chunk_key}
 use Rattle.zarr_codecs_cells.specs.Cells.{uint8, Cell, is_value}
 use Rattle.zarr_array_documents.specs.Documents.{Document}
@@ -26,7 +25,8 @@ use Rattle.zarr_run_array.specs.Contents.{AreValues, put}
 use Rattle.zarr_run_array.specs.Erasures.{without_chunks, ErasedChunks}
 use Rattle.zarr_run_array.proofs.Listed.{list_any-append, listed_more, before_listed, last_listed}
 use Rattle.zarr_run_array.proofs.Standing.{laid-fill, laid-in_box}
-use Rattle.zarr_run_array.proofs.ChunkWrites.{regular_box, one_chunk, stands_same}
+use Rattle.zarr_run_array.proofs.ChunkBoxes.{box_of_chunk}
+use Rattle.zarr_run_array.proofs.ChunkWrites.{one_chunk, stands_same}
 use Rattle.zarr_run_array.proofs.MetChunks.{first_chunks, first_chunks-more}
 
 -- ---- one key taken out
@@ -96,7 +96,7 @@ erased_stands path document cs c box mid cells small below v st =
     let m : List ℕ → Cell = without_chunks grid cs fill cells in
     let n = product box.shape in
     let is_fill : is_value uint8 fill ≡ true = lt-ltb document.fill_value 256 small in
-    let l = (regular_box document c box below.has_box).rank in
+    let l = (box_of_chunk document c box below.has_box).rank in
     let one = one_chunk path document box (λ p. fill) m c box false mid (replicate n document.fill_value) (λ p. is_fill) (without_chunks-values grid cs fill cells is_fill v) below (fill_laid document.fill_value m box l) st in
     let P : StoreMap → Type 0 = λ store. StoreStands path (meaning_of document) store (with_chunks grid box (c ∷ []) (λ p. fill) m) in
     stands_same path (meaning_of document) (remove mid key) (with_chunks grid box (c ∷ []) (λ p. fill) m) (without_chunks grid (cs ++ c ∷ []) fill cells) (λ p. without_chunks-more grid cs c box fill cells p below.has_box)
@@ -119,10 +119,6 @@ first_chunks-places chunks n l e = ap (first_chunks chunks) e ∙ sym (places_by
 
 pub first_chunks-taken : (chunks : Region) (n : ℕ) → length chunks.start ≡ length chunks.shape → n ≤ product chunks.shape → first_chunks chunks n ≡ take n (places chunks.start chunks.shape)
 first_chunks-taken chunks n l h = sym (take_places chunks.start chunks.shape n l h)
-
--- chunks below the grid have the document's dimensions
-pub rank_below : (document : ArrayDocument) (chunks : Region) → AreBelow (meaning_of document).grid chunks → length chunks.start ≡ length document.chunk_shape.items
-rank_below document chunks below = below.rank ∙ length-regular_grid document.shape.items document.chunk_shape.items document.same ∙ sym document.same
 
 -- the next chunk
 pub erased_next : (path : List ℕ) (document : ArrayDocument) (chunks : Region) (n : ℕ) (chunk : List ℕ) (old mid new : StoreMap) → length chunks.start ≡ length chunks.shape → AreBelow (meaning_of document).grid chunks

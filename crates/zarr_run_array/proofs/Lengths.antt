@@ -2,20 +2,20 @@
 use Rattle.std.proofs.Common.{◌≡◌, ◌∙◌, ℕ, ◌*◌, ◌<◌, ◌≤◌, Bool, true, false, List, [], ◌∷◌, ◌++◌, length, refl, sym, ap, ⊎_elim, arith, Some}
 use Rattle.std.specs.FinMap.{get}
 use Rattle.std.proofs.lemmas.Bool.{false≢true}
-use Rattle.zarr_grids_boxes.specs.Boxes.{Region, product, place_at}
+use Rattle.zarr_grids_boxes.specs.Boxes.{Region, product}
 use Rattle.zarr_grids_chunks.specs.Grids.{IsBelow, chunk_box, met}
-use Rattle.zarr_grids_chunks.specs.Regular.{origin_of}
 use Rattle.zarr_grids_chunks.proofs.Filters.{told}
+use Rattle.zarr_grids_cover.specs.Met.{AreMet}
 use Rattle.zarr_grids_keys.specs.Keys.{chunk_key}
 use Rattle.zarr_codecs_cells.specs.Cells.{byte_width}
 use Rattle.zarr_array_documents.specs.Documents.{Document}
 use Rattle.zarr_array_documents.specs.Meanings.{meaning_of}
 use Rattle.zarr_array_documents.specs.declared.document.ArrayDocument.{ArrayDocument}
 use Rattle.zarr_array_stores.specs.StoreMaps.{StoreMap}
-use Rattle.zarr_run_array.specs.Contents.{AreMet, HasDamage, HasPartDamage, HasLength, WroteChunks, contains_box, is_listed}
+use Rattle.zarr_run_array.specs.Contents.{HasDamage, HasPartDamage, HasLength, WroteChunks, contains_box, is_listed}
 use Rattle.zarr_run_array.proofs.Listed.{listed_more, met_listed}
-use Rattle.zarr_run_array.proofs.MetChunks.{first_chunks, first_chunks-below, met_here}
-use Rattle.zarr_run_array.proofs.ChunksWritten.{key_apart}
+use Rattle.zarr_run_array.proofs.ChunkBoxes.{key_apart}
+use Rattle.zarr_run_array.proofs.MetChunks.{first_chunks, first_chunks-below}
 
 -- what is stored for these chunks has the right length, but for boxes that were passed over
 pub record AreSized (passed : Region → Bool) (path : List ℕ) (document : Document) (chunks : List (List ℕ)) (store : StoreMap) : Type 0 where
@@ -39,28 +39,26 @@ sized_more passed path document cs c box store below here first = record {
 }
 
 -- the next chunk met
-pub sized_next : (passed : Region → Bool) (path : List ℕ) (document : ArrayDocument) (region chunks : Region) (n count : ℕ) (chunk : List ℕ) (store : StoreMap) → length chunks.start ≡ length chunks.shape
-    → AreMet (meaning_of document).grid document.chunk_shape.items region chunks → n < product chunks.shape → chunk ≡ place_at chunks.start chunks.shape n → count ≡ product document.chunk_shape.items
-    → (passed (record { start = origin_of document.chunk_shape.items chunk; shape = document.chunk_shape.items }) ≡ false → HasLength path (meaning_of document) chunk count store)
-    → AreSized passed path (meaning_of document) (first_chunks chunks n) store → AreSized passed path (meaning_of document) (first_chunks chunks n ++ chunk ∷ []) store
-sized_next passed path document region chunks n count chunk store l m h e k here first =
-    let one : product document.chunk_shape.items * 1 ≡ product document.chunk_shape.items = omega arith in
-    sized_more passed path document (first_chunks chunks n) chunk _ store (met_here (meaning_of document).grid document.chunk_shape.items region chunks n chunk l m h e) (λ p value found. here p value found ∙ k ∙ sym one) first
+pub sized_next : (passed : Region → Bool) (path : List ℕ) (document : ArrayDocument) (cs : List (List ℕ)) (count : ℕ) (chunk : List ℕ) (box : Region) (store : StoreMap) → IsBelow (meaning_of document).grid chunk box → count ≡ product box.shape
+    → (passed box ≡ false → HasLength path (meaning_of document) chunk count store)
+    → AreSized passed path (meaning_of document) cs store → AreSized passed path (meaning_of document) (cs ++ chunk ∷ []) store
+sized_next passed path document cs count chunk box store below k here first =
+    let one : product box.shape * 1 ≡ product box.shape = omega arith in
+    sized_more passed path document cs chunk box store below (λ p value found. here p value found ∙ k ∙ sym one) first
 
 -- the length that a chunk has once others were written is the one that it had, if not that of one of them
-pub length_before : (passed : Region → Bool) (path : List ℕ) (document : ArrayDocument) (region chunks : Region) (bs : List ℕ) (s : Bool) (n count : ℕ) (chunk : List ℕ) (old mid : StoreMap) → length chunks.start ≡ length chunks.shape
-    → AreMet (meaning_of document).grid document.chunk_shape.items region chunks → n < product chunks.shape → chunk ≡ place_at chunks.start chunks.shape n → count ≡ product document.chunk_shape.items
+pub length_before : (passed : Region → Bool) (path : List ℕ) (document : ArrayDocument) (region chunks : Region) (bs : List ℕ) (s : Bool) (n count : ℕ) (chunk : List ℕ) (box : Region) (old mid : StoreMap) → length chunks.start ≡ length chunks.shape
+    → AreMet (meaning_of document).grid region chunks → n < product chunks.shape → IsBelow (meaning_of document).grid chunk box → count ≡ product box.shape
     → WroteChunks path (meaning_of document) region bs s (first_chunks chunks n) old mid → AreSized passed path (meaning_of document) (first_chunks chunks n) old
-    → (passed (record { start = origin_of document.chunk_shape.items chunk; shape = document.chunk_shape.items }) ≡ false → HasLength path (meaning_of document) chunk count mid)
-    → passed (record { start = origin_of document.chunk_shape.items chunk; shape = document.chunk_shape.items }) ≡ false → HasLength path (meaning_of document) chunk count old
-length_before passed path document region chunks bs s n count chunk old mid l m h e k wrote first later p value found =
-    let below = met_here (meaning_of document).grid document.chunk_shape.items region chunks n chunk l m h e in
-    let one : product document.chunk_shape.items * 1 ≡ product document.chunk_shape.items = omega arith in
+    → (passed box ≡ false → HasLength path (meaning_of document) chunk count mid) → passed box ≡ false → HasLength path (meaning_of document) chunk count old
+length_before passed path document region chunks bs s n count chunk box old mid l m h below k wrote first later p value found =
+    let one : product box.shape * 1 ≡ product box.shape = omega arith in
     let within : n ≤ product chunks.shape = omega arith in
     ⊎_elim
-    (λ t. first.sized chunk _ value below t p found ∙ one ∙ sym k)
+    (λ t. first.sized chunk box value below t p found ∙ one ∙ sym k)
     (λ t. later p value (wrote.others _ (λ d t2 same.
-    key_apart path document d chunk _ _ (first_chunks-below (meaning_of document).grid document.chunk_shape.items region chunks n d l m within t2) below (λ q. false≢true (sym t ∙ ap (is_listed (first_chunks chunks n)) q ∙ t2)) same) ∙ found))
+    let other = first_chunks-below (meaning_of document).grid region chunks n d l m within t2 in
+    key_apart path document d chunk other.0 box other.1 below (λ q. false≢true (sym t ∙ ap (is_listed (first_chunks chunks n)) q ∙ t2)) same) ∙ found))
     (told (is_listed (first_chunks chunks n) chunk))
 
 -- all chunks met

@@ -1,5 +1,6 @@
 pub mod Standing
 pub mod Listed
+pub mod ChunkBoxes
 pub mod ChunkWrites
 pub mod ChunksWritten
 pub mod ChunkReads

@@ -1,11 +1,10 @@
 -- What reading and writing a box of an array's cells do.
-use Rattle.std.specs.Prelude.{◌≡◌, ◌≢◌, ℕ, ◌+◌, ◌*◌, ◌≤◌, List, [], ◌∷◌, length, map, replicate, true, false, Bool, ◌==◌, ◌&&◌, not, nat_le, bytes_eq, if◌then◌else◌, Some, is_some}
+use Rattle.std.specs.Prelude.{◌≡◌, ◌≢◌, ℕ, ◌+◌, ◌*◌, ◌^◌, ◌<◌, List, [], ◌∷◌, length, map, replicate, true, false, Bool, ◌==◌, ◌&&◌, not, nat_le, bytes_eq, if◌then◌else◌, Some, is_some}
 use Rattle.std.specs.List.{list_all, list_any}
 use Rattle.std.specs.FinMap.{get, insert, remove}
-use Rattle.zarr_grids_boxes.specs.Boxes.{Region, product, places, is_in_box}
+use Rattle.zarr_grids_boxes.specs.Boxes.{Region, product, places}
 use Rattle.zarr_grids_boxes.specs.Laid.{laid, HasWidth, overlaid}
-use Rattle.zarr_grids_chunks.specs.Grids.{Grid, IsBelow, is_met, met, lies_in_chunk}
-use Rattle.zarr_grids_chunks.specs.Regular.{origin_of}
+use Rattle.zarr_grids_chunks.specs.Grids.{Grid, IsBelow, is_met, lies_in_chunk}
 use Rattle.zarr_grids_keys.specs.Keys.{chunk_key}
 use Rattle.zarr_codecs_cells.specs.Cells.{DataType, Cell, is_value, byte_width}
 use Rattle.zarr_codecs_chain.specs.Chain.{ChunkStands, Stands}
@@ -101,12 +100,9 @@ pub record IsDamaged (path : List ℕ) (document : Document) (chunk : List ℕ) 
   pub found : get store (chunk_key path document.keys chunk) ≡ Some value
   pub wrong : length value ≢ count
 
--- a box of chunk indices lists the chunks that a box of places meets; each lies below the grid shape and has its box
-pub record AreMet (grid : Grid) (edges : List ℕ) (region chunks : Region) : Type 0 where
-  pub listed : places chunks.start chunks.shape ≡ met grid region
-  pub below : (chunk : List ℕ) → is_in_box chunks.start chunks.shape chunk ≡ true → IsBelow grid chunk (record { start = origin_of edges chunk; shape = edges })
-  pub rank : length chunks.start ≡ length region.start
-  pub few : product chunks.shape ≤ product region.shape
+-- each chunk that shares a place with a box has fewer than 2^63 places
+abbrev pub HasSmallChunks : Grid → Region → Type 0
+HasSmallChunks grid region = (chunk : List ℕ) (box : Region) → IsBelow grid chunk box → is_met grid region chunk ≡ true → product box.shape < 2 ^ 63
 
 -- what is stored for a chunk has this length
 abbrev pub HasLength : List ℕ → Document → List ℕ → ℕ → StoreMap → Type 0

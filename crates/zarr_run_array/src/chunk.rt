@@ -6,10 +6,8 @@ ghost use Rattle.zarr_grids_boxes.specs.Boxes.{product, places, EndsFit};
 ghost use Rattle.zarr_grids_boxes.specs.Laid.{laid, overlaid, HasWidth};
 ghost use Rattle.zarr_grids_boxes.specs.Subsets.{region_of};
 ghost use Rattle.zarr_grids_chunks.specs.Grids.{IsBelow};
-ghost use Rattle.zarr_grids_chunks.specs.Regular.{origin_of};
-ghost use Rattle.zarr_grids_keys.specs.Keys.{chunk_key, default};
+ghost use Rattle.zarr_grids_keys.specs.Keys.{chunk_key};
 ghost use Rattle.zarr_grids_keys.specs.Paths.{is_node_path};
-ghost use Rattle.zarr_grids_keys.specs.Separators.{separator_byte};
 ghost use Rattle.zarr_codecs_cells.specs.Cells.{Cell};
 ghost use Rattle.zarr_codecs_chain.specs.Chain.{ChunkStands};
 ghost use Rattle.zarr_array_documents.specs.Meanings.{meaning_of};
@@ -19,8 +17,7 @@ use std::alloc::{AllocError, Global};
 use zarr_array_documents::ArrayDocument;
 use zarr_array_stores::MemoryStore;
 use zarr_grids_boxes::ArraySubset;
-use zarr_grids_chunks::regular::write_chunk_origin;
-use zarr_grids_keys::{ChunkKeySeparator, DefaultChunkKeyEncoding, write_chunk_key};
+use zarr_grids_keys::write_chunk_key;
 use zarr_grids_runs::{is_all, overlay};
 
 /// Why a chunk is not read or written.
@@ -38,60 +35,57 @@ pub(crate) fn read_chunk(
     region: &ArraySubset,
     store: &MemoryStore,
     chunk: &[u64],
+    origin: &[u64],
+    chunk_shape: &[u64],
     count: u64,
-    origin: &mut [u64],
     key: &mut String,
     target: &mut [u8],
 ) -> Result<(), ChunkFault>
     requires path { IsTrue (is_node_path path.now) }
-    requires below { IsBelow (meaning_of document.now).grid chunk.now (record { start = origin_of document.now.chunk_shape.items chunk.now; shape = document.now.chunk_shape.items }) }
-    requires rank { length region.now.start.items ≡ length document.now.chunk_shape.items }
-    requires room { length origin.old ≡ length document.now.chunk_shape.items }
-    requires count { count ≡ product document.now.chunk_shape.items }
+    requires below { IsBelow (meaning_of document.now).grid chunk.now (record { start = origin.now; shape = chunk_shape.now }) }
+    requires origin { length origin.now ≡ length region.now.start.items }
+    requires chunk_shape { length chunk_shape.now ≡ length region.now.start.items }
+    requires count { count ≡ product chunk_shape.now }
     requires target { length target.old ≡ product region.now.shape.items * 1 }
     ensures ok { OnOk result ((cells : List ℕ → Cell) (chunks : List (List ℕ)) → AreValues (meaning_of document.now).type cells
-        → ChunkStands (meaning_of document.now).chain (meaning_of document.now).fill (get store.now (chunk_key path.now (meaning_of document.now).keys chunk.now)) (map cells (places (origin_of document.now.chunk_shape.items chunk.now) document.now.chunk_shape.items))
+        → ChunkStands (meaning_of document.now).chain (meaning_of document.now).fill (get store.now (chunk_key path.now (meaning_of document.now).keys chunk.now)) (map cells (places origin.now chunk_shape.now))
         → target.old ≡ laid (read_so_far (meaning_of document.now).grid chunks cells (meaning_of document.now).fill) region.now.start.items region.now.shape.items
         → target.new ≡ laid (read_so_far (meaning_of document.now).grid (chunks ++ chunk.now ∷ []) cells (meaning_of document.now).fill) region.now.start.items region.now.shape.items) }
     ensures damage { result ≡ Err ChunkFault.Damage → IsDamaged path.now (meaning_of document.now) chunk.now count store.now }
     ensures seen { OnOk result (HasLength path.now (meaning_of document.now) chunk.now count store.now) }
 {
-    write_key(key, path, document.separator, chunk)?;
+    write_key(key, path, document, chunk)?;
     match store.get(key) {
         None => Ok(()),
-        Some(value) => place_value(document, region, chunk, count, value, origin, target),
+        Some(value) => place_value(region, origin, chunk_shape, count, value, target),
     }
 }
 
 /// Puts those cells of a chunk's value that lie in a region into the region's bytes.
 fn place_value(
-    document: &ArrayDocument,
     region: &ArraySubset,
-    chunk: &[u64],
+    origin: &[u64],
+    chunk_shape: &[u64],
     count: u64,
     value: &[u8],
-    origin: &mut [u64],
     target: &mut [u8],
 ) -> Result<(), ChunkFault>
-    requires chunk { length chunk.now ≡ length document.now.chunk_shape.items }
-    requires rank { length region.now.start.items ≡ length document.now.chunk_shape.items }
-    requires room { length origin.old ≡ length document.now.chunk_shape.items }
-    requires fit { EndsFit (origin_of document.now.chunk_shape.items chunk.now) document.now.chunk_shape.items }
-    requires count { count ≡ product document.now.chunk_shape.items }
+    requires origin { length origin.now ≡ length region.now.start.items }
+    requires chunk_shape { length chunk_shape.now ≡ length region.now.start.items }
+    requires fit { EndsFit origin.now chunk_shape.now }
+    requires count { count ≡ product chunk_shape.now }
     requires target { length target.old ≡ product region.now.shape.items * 1 }
     ensures ok { OnOk result ((old new : List ℕ → Cell) → HasWidth 1 old → HasWidth 1 new → target.old ≡ laid old region.now.start.items region.now.shape.items
-        → value.now ≡ laid new (origin_of document.now.chunk_shape.items chunk.now) document.now.chunk_shape.items
-        → target.new ≡ laid (overlaid (origin_of document.now.chunk_shape.items chunk.now) document.now.chunk_shape.items new old) region.now.start.items region.now.shape.items) }
+        → value.now ≡ laid new origin.now chunk_shape.now
+        → target.new ≡ laid (overlaid origin.now chunk_shape.now new old) region.now.start.items region.now.shape.items) }
     ensures damage { IfErr result (λ e. (e ≡ ChunkFault.Damage) × (length value.now ≢ count)) }
     ensures seen { OnOk result (length value.now ≡ count) }
 {
     if value.len() as u64 != count {
         return Err(ChunkFault::Damage);
     }
-    let chunk_shape = document.chunk_shape.as_slice();
     let start = region.start.as_slice();
     let shape = region.shape.as_slice();
-    write_chunk_origin(chunk, chunk_shape, origin);
     overlay(target, start, shape, value, origin, chunk_shape, 1);
     Ok(())
 }
@@ -100,14 +94,14 @@ fn place_value(
 pub(crate) fn write_key(
     key: &mut String,
     path: &str,
-    separator: ChunkKeySeparator,
+    document: &ArrayDocument,
     chunk: &[u64],
 ) -> Result<(), ChunkFault>
     requires { IsTrue (is_node_path path.now) }
-    ensures ok { OnOk result (string_bytes key.new ≡ chunk_key path.now (default (separator_byte separator)) chunk.now) }
+    ensures ok { OnOk result (string_bytes key.new ≡ chunk_key path.now (meaning_of document.now).keys chunk.now) }
     ensures err { IfErr result (λ e. e ≡ ChunkFault.Memory) }
 {
-    match write_chunk_key(key, path, &DefaultChunkKeyEncoding::new(separator), chunk) {
+    match write_chunk_key(key, path, &document.keys, chunk) {
         Ok(()) => Ok(()),
         Err(_) => Err(ChunkFault::Memory),
     }
@@ -124,25 +118,24 @@ pub(crate) fn write_chunk(
     store_empty: bool,
     store: &mut MemoryStore,
     chunk: &[u64],
+    origin: &[u64],
+    chunk_shape: &[u64],
     count: u64,
-    origin: &mut [u64],
     key: &mut String,
 ) -> Result<(), ChunkFault>
     requires path { IsTrue (is_node_path path.now) }
-    requires below { IsBelow (meaning_of document.now).grid chunk.now (record { start = origin_of document.now.chunk_shape.items chunk.now; shape = document.now.chunk_shape.items }) }
-    requires rank { length region.now.start.items ≡ length document.now.chunk_shape.items }
-    requires room { length origin.old ≡ length document.now.chunk_shape.items }
-    requires count { count ≡ product document.now.chunk_shape.items }
+    requires below { IsBelow (meaning_of document.now).grid chunk.now (record { start = origin.now; shape = chunk_shape.now }) }
+    requires origin { length origin.now ≡ length region.now.start.items }
+    requires chunk_shape { length chunk_shape.now ≡ length region.now.start.items }
+    requires count { count ≡ product chunk_shape.now }
     requires bytes { length bytes.now ≡ product region.now.shape.items * 1 }
     ensures ok { OnOk result (WroteChunks path.now (meaning_of document.now) (region_of region.now) bytes.now store_empty (chunk.now ∷ []) store.old store.new) }
     ensures err { OnErr result (store.new ≡ store.old) }
     ensures damage { result ≡ Err ChunkFault.Damage → IsDamaged path.now (meaning_of document.now) chunk.now count store.old }
-    ensures seen { OnOk result (contains_box region.now.start.items region.now.shape.items (origin_of document.now.chunk_shape.items chunk.now) document.now.chunk_shape.items ≡ false
+    ensures seen { OnOk result (contains_box region.now.start.items region.now.shape.items origin.now chunk_shape.now ≡ false
         → HasLength path.now (meaning_of document.now) chunk.now count store.old) }
 {
-    write_key(key, path, document.separator, chunk)?;
-    let chunk_shape = document.chunk_shape.as_slice();
-    write_chunk_origin(chunk, chunk_shape, origin);
+    write_key(key, path, document, chunk)?;
     if change_value(
         store,
         key,
@@ -151,6 +144,7 @@ pub(crate) fn write_chunk(
         bytes,
         store_empty,
         origin,
+        chunk_shape,
         count,
     )? {
         return Ok(());
@@ -164,6 +158,7 @@ pub(crate) fn write_chunk(
         bytes,
         store_empty,
         origin,
+        chunk_shape,
         count,
     )
 }
@@ -178,21 +173,31 @@ fn change_value(
     bytes: &[u8],
     store_empty: bool,
     origin: &[u64],
+    chunk_shape: &[u64],
     count: u64,
 ) -> Result<bool, ChunkFault>
-    requires rank { length region.now.start.items ≡ length document.now.chunk_shape.items }
-    requires room { length origin.now ≡ length document.now.chunk_shape.items }
-    requires fit { EndsFit origin.now document.now.chunk_shape.items }
-    requires count { count ≡ product document.now.chunk_shape.items }
+    requires origin { length origin.now ≡ length region.now.start.items }
+    requires chunk_shape { length chunk_shape.now ≡ length region.now.start.items }
+    requires fit { EndsFit origin.now chunk_shape.now }
+    requires count { count ≡ product chunk_shape.now }
     requires bytes { length bytes.now ≡ product region.now.shape.items * 1 }
-    ensures changed { result ≡ Ok true → ChangedValue (region_of region.now) (record { start = origin.now; shape = document.now.chunk_shape.items }) bytes.now store_empty document.now.fill_value count key.now store.old store.new }
-    ensures free { result ≡ Ok false → contains_box region.now.start.items region.now.shape.items origin.now document.now.chunk_shape.items ≡ false → get store.old key.now ≡ None }
+    ensures changed { result ≡ Ok true → ChangedValue (region_of region.now) (record { start = origin.now; shape = chunk_shape.now }) bytes.now store_empty document.now.fill_value count key.now store.old store.new }
+    ensures free { result ≡ Ok false → contains_box region.now.start.items region.now.shape.items origin.now chunk_shape.now ≡ false → get store.old key.now ≡ None }
     ensures kept { result ≡ Ok false → store.new ≡ store.old }
     ensures err { OnErr result (store.new ≡ store.old) }
     ensures damage { IfErr result (λ e. (value : List ℕ) × (get store.old key.now ≡ Some value) × (length value ≢ count)) }
 {
     let Some(outcome) = store.change(key, |value| {
-        put_cells(value, document, region, bytes, store_empty, origin, count)
+        put_cells(
+            value,
+            document,
+            region,
+            bytes,
+            store_empty,
+            origin,
+            chunk_shape,
+            count,
+        )
     }) else {
         return Ok(false);
     };
@@ -203,7 +208,6 @@ fn change_value(
             Ok(true)
         }
         None => {
-            let chunk_shape = document.chunk_shape.as_slice();
             let start = region.start.as_slice();
             let shape = region.shape.as_slice();
             if contains_box(start, shape, origin, chunk_shape) {
@@ -224,23 +228,23 @@ fn put_cells(
     bytes: &[u8],
     store_empty: bool,
     origin: &[u64],
+    chunk_shape: &[u64],
     count: u64,
 ) -> Option<bool>
-    requires rank { length region.now.start.items ≡ length document.now.chunk_shape.items }
-    requires room { length origin.now ≡ length document.now.chunk_shape.items }
-    requires fit { EndsFit origin.now document.now.chunk_shape.items }
-    requires count { count ≡ product document.now.chunk_shape.items }
+    requires origin { length origin.now ≡ length region.now.start.items }
+    requires chunk_shape { length chunk_shape.now ≡ length region.now.start.items }
+    requires fit { EndsFit origin.now chunk_shape.now }
+    requires count { count ≡ product chunk_shape.now }
     requires bytes { length bytes.now ≡ product region.now.shape.items * 1 }
     ensures damage { IfNone result ((length value.old ≢ count) × (value.new ≡ value.old)) }
     ensures length { IfSome result (λ _. length value.old ≡ count) }
-    ensures over { IfSome result (λ _. IsPutOver (region_of region.now) (record { start = origin.now; shape = document.now.chunk_shape.items }) bytes.now value.old value.new) }
+    ensures over { IfSome result (λ _. IsPutOver (region_of region.now) (record { start = origin.now; shape = chunk_shape.now }) bytes.now value.old value.new) }
     ensures empty { result ≡ Some true → (not store_empty && list_all (λ b. b == document.now.fill_value) value.new) ≡ true }
     ensures stays { result ≡ Some false → (not store_empty && list_all (λ b. b == document.now.fill_value) value.new) ≡ false }
 {
     if value.len() as u64 != count {
         return None;
     }
-    let chunk_shape = document.chunk_shape.as_slice();
     let start = region.start.as_slice();
     let shape = region.shape.as_slice();
     overlay(value, origin, chunk_shape, bytes, start, shape, 1);
@@ -257,19 +261,19 @@ fn put_new_value(
     bytes: &[u8],
     store_empty: bool,
     origin: &[u64],
+    chunk_shape: &[u64],
     count: u64,
 ) -> Result<(), ChunkFault>
-    requires rank { length region.now.start.items ≡ length document.now.chunk_shape.items }
-    requires room { length origin.now ≡ length document.now.chunk_shape.items }
-    requires fit { EndsFit origin.now document.now.chunk_shape.items }
-    requires count { count ≡ product document.now.chunk_shape.items }
+    requires origin { length origin.now ≡ length region.now.start.items }
+    requires chunk_shape { length chunk_shape.now ≡ length region.now.start.items }
+    requires fit { EndsFit origin.now chunk_shape.now }
+    requires count { count ≡ product chunk_shape.now }
     requires bytes { length bytes.now ≡ product region.now.shape.items * 1 }
-    ensures ok { OnOk result ((value : List ℕ) × IsPutOver (region_of region.now) (record { start = origin.now; shape = document.now.chunk_shape.items }) bytes.now (replicate count document.now.fill_value) value
+    ensures ok { OnOk result ((value : List ℕ) × IsPutOver (region_of region.now) (record { start = origin.now; shape = chunk_shape.now }) bytes.now (replicate count document.now.fill_value) value
         × (store.new ≡ put store_empty document.now.fill_value store.old key.now value)) }
     ensures kept { OnErr result (store.new ≡ store.old) }
     ensures err { IfErr result (λ e. e ≡ ChunkFault.Memory) }
 {
-    let chunk_shape = document.chunk_shape.as_slice();
     let start = region.start.as_slice();
     let shape = region.shape.as_slice();
     let mut value = fill_value_bytes(alloc, document.fill_value, count)?;

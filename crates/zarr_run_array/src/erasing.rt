@@ -4,9 +4,8 @@ ghost use Rattle.std.specs.FinMap.{remove};
 ghost use Rattle.zarr_grids_boxes.specs.Boxes.{product, places};
 ghost use Rattle.zarr_grids_boxes.specs.Subsets.{region_of};
 ghost use Rattle.zarr_grids_chunks.specs.Grids.{AreBelow};
-ghost use Rattle.zarr_grids_keys.specs.Keys.{chunk_key, default};
+ghost use Rattle.zarr_grids_keys.specs.Keys.{chunk_key};
 ghost use Rattle.zarr_grids_keys.specs.Paths.{is_node_path};
-ghost use Rattle.zarr_grids_keys.specs.Separators.{separator_byte};
 ghost use Rattle.zarr_array_documents.specs.Meanings.{meaning_of};
 ghost use Rattle.zarr_run_array.specs.Erasures.{ErasedChunks};
 
@@ -17,7 +16,6 @@ use zarr_array_documents::ArrayDocument;
 use zarr_array_stores::MemoryStore;
 use zarr_grids_boxes::ArraySubset;
 use zarr_grids_boxes::walk::write_place;
-use zarr_grids_keys::ChunkKeySeparator;
 
 /// Memory was wanting for an erasure; `applied` of its chunks had been erased before.
 #[derive(Clone, Copy, Debug, PartialEq, Eq)]
@@ -46,7 +44,7 @@ pub fn erase_chunks(
     if count == 0 {
         return Ok(());
     }
-    let rank = document.chunk_shape.len();
+    let rank = document.grid.len();
     let Ok(mut room) = Room::new(alloc, rank) else {
         return Err(EraseFault { applied: 0 });
     };
@@ -55,7 +53,7 @@ pub fn erase_chunks(
     let shape = chunks.shape.as_slice();
     for n in 0..count {
         write_place(first, shape, count, n, chunk);
-        match erase_chunk(path, document.separator, chunk, &mut room.key, store) {
+        match erase_chunk(path, document, chunk, &mut room.key, store) {
             Ok(()) => {}
             Err(_) => return Err(EraseFault { applied: n }),
         }
@@ -66,17 +64,17 @@ pub fn erase_chunks(
 /// Takes the key of a chunk out.
 fn erase_chunk(
     path: &str,
-    separator: ChunkKeySeparator,
+    document: &ArrayDocument,
     chunk: &[u64],
     key: &mut String,
     store: &mut MemoryStore,
 ) -> Result<(), ChunkFault>
     requires { IsTrue (is_node_path path.now) }
-    ensures ok { OnOk result (store.new ≡ remove store.old (chunk_key path.now (default (separator_byte separator)) chunk.now)) }
+    ensures ok { OnOk result (store.new ≡ remove store.old (chunk_key path.now (meaning_of document.now).keys chunk.now)) }
     ensures kept { OnErr result (store.new ≡ store.old) }
     ensures err { IfErr result (λ e. e ≡ ChunkFault.Memory) }
 {
-    write_key(key, path, separator, chunk)?;
+    write_key(key, path, document, chunk)?;
     store.erase(key);
     Ok(())
 }

@@ -5,8 +5,6 @@ mod chunk;
 pub mod erasing;
 pub mod reading;
 mod room;
-#[cfg(test)]
-mod tests;
 pub mod writing;
 
 pub use chunk::ChunkFault;

@@ -3,17 +3,19 @@ ghost use Rattle.std.specs.Prelude.{◌≡◌, ◌<◌, ◌*◌, ◌^◌, length
 ghost use Rattle.zarr_grids_boxes.specs.Boxes.{product};
 ghost use Rattle.zarr_grids_boxes.specs.Subsets.{region_of};
 ghost use Rattle.zarr_grids_chunks.specs.Grids.{IsCovered, met};
+ghost use Rattle.zarr_grids_cover.specs.Met.{AreMet};
 ghost use Rattle.zarr_grids_keys.specs.Paths.{is_node_path};
 ghost use Rattle.zarr_array_documents.specs.Meanings.{meaning_of};
-ghost use Rattle.zarr_run_array.specs.Contents.{WroteChunks, HasDamage, HasPartDamage, AreMet};
+ghost use Rattle.zarr_run_array.specs.Contents.{WroteChunks, HasDamage, HasPartDamage, HasSmallChunks};
 
 use crate::chunk::{ChunkFault, write_chunk};
-use crate::room::{Room, chunks_met};
+use crate::room::Room;
 use std::alloc::Global;
 use zarr_array_documents::ArrayDocument;
 use zarr_array_stores::MemoryStore;
 use zarr_grids_boxes::ArraySubset;
 use zarr_grids_boxes::walk::{count_places, write_place};
+use zarr_grids_cover::chunk::write_chunk_box;
 
 /// Why a write stopped, and how many of the chunks met had been written before.
 #[derive(Clone, Copy, Debug, PartialEq, Eq)]
@@ -22,7 +24,7 @@ pub struct WriteFault {
     pub applied: u64,
 }
 
-/// Writes the cells of a region that is not empty, row-major. `chunk_count` is the number of a chunk's cells. Unless empty
+/// Writes the cells of a region that is not empty, row-major. `chunks` is the box of the chunks that it meets. Unless empty
 /// chunks are stored, a chunk that becomes all fill loses its key.
 pub fn write_region(
     alloc: Global,
@@ -31,7 +33,7 @@ pub fn write_region(
     region: &ArraySubset,
     bytes: &[u8],
     store_empty: bool,
-    chunk_count: u64,
+    chunks: &ArraySubset,
     store: &mut MemoryStore,
 ) -> Result<(), WriteFault>
     requires path { IsTrue (is_node_path path.now) }
@@ -39,27 +41,23 @@ pub fn write_region(
     requires bytes { length bytes.now ≡ product region.now.shape.items * 1 }
     requires some { 0 < product region.now.shape.items }
     requires small { product region.now.shape.items < 2 ^ 63 }
-    requires chunk_count { chunk_count ≡ product document.now.chunk_shape.items }
+    requires met { AreMet (meaning_of document.now).grid (region_of region.now) (region_of chunks.now) }
+    requires small_chunks { HasSmallChunks (meaning_of document.now).grid (region_of region.now) }
     ensures ok { OnOk result (WroteChunks path.now (meaning_of document.now) (region_of region.now) bytes.now store_empty (met (meaning_of document.now).grid (region_of region.now)) store.old store.new) }
     ensures wrote { IfErr result (λ fault. WroteChunks path.now (meaning_of document.now) (region_of region.now) bytes.now store_empty (take fault.applied (met (meaning_of document.now).grid (region_of region.now))) store.old store.new) }
     ensures fewer { IfErr result (λ fault. fault.applied < length (met (meaning_of document.now).grid (region_of region.now))) }
     ensures damage { IfErr result (λ fault. fault.cause ≡ ChunkFault.Damage → HasDamage path.now (meaning_of document.now) (region_of region.now) store.new) }
     ensures seen { OnOk result (¬ HasPartDamage path.now (meaning_of document.now) (region_of region.now) store.old) }
 {
-    let Ok(chunks) = chunks_met(alloc, document, region) else {
-        return Err(WriteFault {
-            cause: ChunkFault::Memory,
-            applied: 0,
-        });
-    };
-    let rank = document.chunk_shape.len();
+    let rank = document.grid.len();
     let Ok(mut room) = Room::new(alloc, rank) else {
         return Err(WriteFault {
             cause: ChunkFault::Memory,
             applied: 0,
         });
     };
-    let (chunk, origin) = room.places.split_at_mut(rank);
+    let (chunk, scratch) = room.places.split_at_mut(rank);
+    let (origin, chunk_shape) = scratch.split_at_mut(rank);
     write_chunks(
         alloc,
         path,
@@ -67,11 +65,11 @@ pub fn write_region(
         region,
         bytes,
         store_empty,
-        &chunks,
-        chunk_count,
+        chunks,
         store,
         chunk,
         origin,
+        chunk_shape,
         &mut room.key,
     )
 }
@@ -85,19 +83,20 @@ fn write_chunks(
     bytes: &[u8],
     store_empty: bool,
     chunks: &ArraySubset,
-    chunk_count: u64,
     store: &mut MemoryStore,
     chunk: &mut [u64],
     origin: &mut [u64],
+    chunk_shape: &mut [u64],
     key: &mut String,
 ) -> Result<(), WriteFault>
     requires path { IsTrue (is_node_path path.now) }
-    requires rank { length region.now.start.items ≡ length document.now.chunk_shape.items }
+    requires rank { length region.now.start.items ≡ length document.now.grid.items }
     requires small { product region.now.shape.items < 2 ^ 63 }
-    requires met { AreMet (meaning_of document.now).grid document.now.chunk_shape.items (region_of region.now) (region_of chunks.now) }
-    requires chunk { length chunk.old ≡ length document.now.chunk_shape.items }
-    requires origin { length origin.old ≡ length document.now.chunk_shape.items }
-    requires chunk_count { chunk_count ≡ product document.now.chunk_shape.items }
+    requires met { AreMet (meaning_of document.now).grid (region_of region.now) (region_of chunks.now) }
+    requires small_chunks { HasSmallChunks (meaning_of document.now).grid (region_of region.now) }
+    requires chunk { length chunk.old ≡ length document.now.grid.items }
+    requires origin { length origin.old ≡ length document.now.grid.items }
+    requires chunk_shape { length chunk_shape.old ≡ length document.now.grid.items }
     requires bytes { length bytes.now ≡ product region.now.shape.items * 1 }
     ensures ok { OnOk result (WroteChunks path.now (meaning_of document.now) (region_of region.now) bytes.now store_empty (met (meaning_of document.now).grid (region_of region.now)) store.old store.new) }
     ensures wrote { IfErr result (λ fault. WroteChunks path.now (meaning_of document.now) (region_of region.now) bytes.now store_empty (take fault.applied (met (meaning_of document.now).grid (region_of region.now))) store.old store.new) }
@@ -105,11 +104,14 @@ fn write_chunks(
     ensures damage { IfErr result (λ fault. fault.cause ≡ ChunkFault.Damage → HasDamage path.now (meaning_of document.now) (region_of region.now) store.new) }
     ensures seen { OnOk result (¬ HasPartDamage path.now (meaning_of document.now) (region_of region.now) store.old) }
 {
+    let grid = document.grid.as_slice();
     let first = chunks.start.as_slice();
     let shape = chunks.shape.as_slice();
     let met_count = count_places(shape).unwrap();
     for n in 0..met_count {
         write_place(first, shape, met_count, n, chunk);
+        write_chunk_box(grid, chunk, origin, chunk_shape);
+        let count = count_places(chunk_shape).unwrap();
         match write_chunk(
             alloc,
             path,
@@ -119,8 +121,9 @@ fn write_chunks(
             store_empty,
             store,
             chunk,
-            chunk_count,
             origin,
+            chunk_shape,
+            count,
             key,
         ) {
             Ok(()) => {}

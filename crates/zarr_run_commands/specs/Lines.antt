@@ -9,7 +9,7 @@ use Rattle.zarr_codecs_cells.specs.declared.options.CodecOptions.{CodecOptions}
 use Rattle.zarr_codecs_chain.specs.declared.order.SubchunkWriteOrder.{SubchunkWriteOrder}
 use Rattle.zarr_codecs_chain.specs.declared.order.SubchunkWriteOrder.TheVariants.{Random, C, Unordered}
 use Rattle.zarr_grids_metadata.specs.Members.{has_only}
-use Rattle.zarr_array_documents.specs.Parts.{sizes_in}
+use Rattle.zarr_grids_configurations.specs.Numbers.{sizes_in}
 use Rattle.zarr_run_model.specs.Requests.{Target, in_box, in_chunk, Request, create, reopen, write, read, erase}
 use Rattle.zarr_run_commands.specs.declared.operation.Operation.{Operation}
 use Rattle.zarr_run_commands.specs.declared.operation.Operation.TheVariants.{Create, Reopen, WriteBox, WriteChunk, ReadBox, ReadChunk, EraseChunks}

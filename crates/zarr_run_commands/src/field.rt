@@ -2,7 +2,7 @@
 ghost use Rattle.std.specs.Prelude.{◌≡◌, ◌+◌, ◌^◌, ◌<◌, IfOk, IfSome, option_map};
 ghost use Rattle.serde_json.specs.View.{view, items_view, members_view};
 ghost use Rattle.zarr_grids_boxes.specs.Subsets.{region_of};
-ghost use Rattle.zarr_array_documents.specs.Parts.{sizes_of};
+ghost use Rattle.zarr_grids_configurations.specs.Numbers.{sizes_of};
 ghost use Rattle.zarr_run_commands.specs.Lines.{order_named, order_of, flag, options_of, line_options_of, interval_of, interval_in, region_of_pairs, box_of, chunk_of};
 
 use serde_json::{Map, Value};

@@ -7,8 +7,6 @@ mod field;
 pub mod line;
 mod members;
 mod operation;
-#[cfg(test)]
-mod tests;
 
 pub use answer::write_answer;
 pub use command::{Command, CommandCells, Reply};

@@ -390,7 +390,9 @@ fn refuses_documents_created_or_stored(rt: HostRuntime) -> Result<(), Fail> {
         assert!(rt; is_refused_document(alloc, fields)?, "{codecs}");
     }
     for key_encoding in [
-        r#""v2""#,
+        r#""v3""#,
+        r#"{"name":"v2","configuration":{"separator":"-"}}"#,
+        r#"{"name":"default_suffix","configuration":{"suffix":"a/"}}"#,
         r#"{"name":"default","configuration":{"separator":"-"}}"#,
         r#"{"name":"default","configuration":{"separator":""}}"#,
         r#"{"name":"default","configuration":{"separator":null}}"#,

@@ -4,7 +4,5 @@
 mod answers;
 mod input;
 pub mod lines;
-#[cfg(test)]
-mod tests;
 
 pub use lines::{LinesFault, run_lines};

@@ -1,28 +1,35 @@
 -- Boxes of a held array.
-use Rattle.std.proofs.Common.{◌≡◌, ◌∙◌, ℕ, ◌*◌, ◌<◌, ◌≤◌, ◌^◌, Bool, true, false, if◌then◌else◌, List, [], ◌∷◌, length, refl, sym, ap, subst, arith, inl, inr, ⊎_elim}
+use Rattle.std.proofs.Common.{◌≡◌, ◌∙◌, ℕ, ◌+◌, bytes_eq, ◌*◌, ◌<◌, ◌≤◌, ◌^◌, Bool, true, false, if◌then◌else◌, List, [], ◌∷◌, length, refl, sym, ap, subst, arith, inl, inr, ⊎_elim}
 use Rattle.std.specs.Option.{option_map_or}
-use Rattle.std.specs.List.{flat_map}
+use Rattle.std.specs.List.{flat_map, list_any}
 use Rattle.std.proofs.lemmas.Bool.{cases_lt}
-use Rattle.zarr_grids_boxes.specs.Boxes.{Region, product, places, is_in_box, share_place}
+use Rattle.zarr_grids_boxes.specs.Boxes.{Region, product, places, place_at, is_in_box, share_place}
 use Rattle.zarr_grids_boxes.specs.Laid.{laid, overlaid}
-use Rattle.zarr_grids_boxes.proofs.InBox.{length-places}
-use Rattle.zarr_grids_chunks.specs.Grids.{IsBelow, IsCovered, is_met, met, chunk_indices}
+use Rattle.zarr_grids_boxes.proofs.InBox.{in_box-place_at, length-places}
+use Rattle.zarr_grids_boxes.proofs.Places.{places_by_number}
+use Rattle.zarr_grids_chunks.specs.Grids.{Grid, IsBelow, IsCovered, is_met, met, chunk_indices}
 use Rattle.zarr_grids_chunks.proofs.Filters.{told, filter-any}
-use Rattle.zarr_grids_chunks.proofs.Sharing.{share_place-of, share_place-has}
-use Rattle.zarr_grids_chunks.specs.Regular.{origin_of}
-use Rattle.zarr_grids_chunks.proofs.ChunksBelow.{IsBelow-covered, IsBelow-met}
-use Rattle.zarr_grids_chunks.proofs.Covers.{last_place, last_place-in_box, empty_box}
+use Rattle.zarr_grids_boxes.proofs.Sharing.{share_place-of, share_place-has}
+use Rattle.zarr_grids_chunks.proofs.Partition.{any_places}
+use Rattle.zarr_grids_dimensions.proofs.Declared.{always_dimensions}
+use Rattle.zarr_grids_dimensions.proofs.Meeting.{has_place_some}
+use Rattle.zarr_grids_cover.specs.Met.{AreMet}
+use Rattle.zarr_grids_cover.specs.Sizes.{HasChunkOf}
+use Rattle.zarr_grids_cover.proofs.ChunkLaws.{IsBelow-covered, IsBelow-met}
 use Rattle.zarr_codecs_cells.specs.Cells.{Cell}
 use Rattle.zarr_array_documents.specs.Documents.{Document}
 use Rattle.zarr_array_documents.specs.Meanings.{meaning_of}
 use Rattle.zarr_array_documents.specs.declared.document.ArrayDocument.{ArrayDocument}
 use Rattle.zarr_array_stores.specs.StoreMaps.{StoreMap}
-use Rattle.zarr_run_array.specs.Contents.{ReadsBox, WroteChunks, is_listed}
-use Rattle.zarr_run_array.proofs.ChunkWrites.{regular_box, stands_same, with_chunks-met}
+use Rattle.zarr_run_array.specs.Contents.{ReadsBox, WroteChunks, HasSmallChunks, is_listed}
+use Rattle.zarr_run_array.proofs.ChunkWrites.{stands_same, with_chunks-met}
 use Rattle.zarr_run_array.proofs.ChunksWritten.{wrote_none}
+use Rattle.zarr_run_array.proofs.Listed.{met_listed, listed_number}
 use Rattle.zarr_run_model.specs.Steps.{HasTooLarge}
 use Rattle.zarr_run_model.specs.Changes.{with_chunks}
-use Rattle.zarr_run_session.specs.Boxes.{WroteBox, WroteFirst}
+use Rattle.zarr_run_model.specs.declared.cause.Cause.{Cause}
+use Rattle.zarr_run_model.specs.declared.cause.Cause.TheVariants as cause
+use Rattle.zarr_run_session.specs.Boxes.{WroteBox, WroteFirst, BytesRefused, ReadRefused, ChunksRefused}
 
 -- ---- boxes with no place
 no_items : {X : Type 0} (xs : List X) → length xs ≡ 0 → xs ≡ []
@@ -37,7 +44,10 @@ laid_empty cells ss es l z = ap (λ ps. let f : List (List ℕ) → List ℕ = �
 pub reads_empty : (path : List ℕ) (document : Document) (region : Region) (store : StoreMap) (bytes : List ℕ) → length region.shape ≡ length region.start → product region.shape ≡ 0 → bytes ≡ [] → ReadsBox path document region store bytes
 reads_empty path document region store bytes l z e = record { lists = λ cells v st. e ∙ sym (laid_empty cells region.start region.shape (sym l) z) }
 
--- an empty box meets no chunk
+-- an empty box has no place, and meets no chunk
+pub empty_box : (ss es p : List ℕ) → product es ≡ 0 → is_in_box ss es p ≡ true → ⊥
+empty_box ss es p z h = let some = has_place_some ss es p h in absurd (omega arith)
+
 shares_none : (region box : Region) → product region.shape ≡ 0 → share_place box.start box.shape region.start region.shape ≡ true → ⊥
 shares_none region box z s = let p = share_place-has box.start box.shape region.start region.shape s in empty_box region.start region.shape p.0 z p.2
 
@@ -62,21 +72,64 @@ wrote_empty path document region bytes s store z = record {
 pub large : (n : ℕ) → (n < 2 ^ 63 → ⊥) → 2 ^ 63 ≤ n
 large n h = ⊎_elim (λ l. absurd (h l)) (λ g. g) (cases_lt n (2 ^ 63))
 
-pub too_large : (n : ℕ) → (n < 2 ^ 63 → ⊥) → 2 ^ 63 ≤ n * 1
-too_large n h = let g = large n h in let o : n * 1 ≡ n = omega arith in omega arith
+-- cells of one byte
+pub one_byte : (n : ℕ) → 2 ^ 63 ≤ n → 2 ^ 63 ≤ n * 1
+one_byte n g = let o : n * 1 ≡ n = omega arith in omega arith
 
 pub region_too_large : (document : ArrayDocument) (region : Region) → (product region.shape < 2 ^ 63 → ⊥) → HasTooLarge (meaning_of document) region
-region_too_large document region h = inl (too_large (product region.shape) h)
+region_too_large document region h = inl (one_byte (product region.shape) (large (product region.shape) h))
 
--- a region that is not empty meets a chunk
-pub chunk_too_large : (document : ArrayDocument) (region : Region) → length region.shape ≡ length region.start → 0 < product region.shape → IsCovered (meaning_of document).grid region → (product document.chunk_shape.items < 2 ^ 63 → ⊥) → HasTooLarge (meaning_of document) region
-chunk_too_large document region l some covered h =
-    let p = last_place region.start region.shape in
-    let t = last_place-in_box region.start region.shape l some in
-    let c = covered.covered p t in
-    let shares : is_met (meaning_of document).grid region c.0 ≡ true = ap (λ o. option_map_or (λ (b : Region). share_place b.start b.shape region.start region.shape) o false) c.2.has_box ∙ share_place-of c.1.start c.1.shape region.start region.shape p c.3 t in
-    let e : product c.1.shape ≡ product document.chunk_shape.items = ap (λ (b : Region). product b.shape) (regular_box document c.0 c.1 c.2.has_box).is in
-    inr (c.0, c.1, c.2, shares, too_large (product c.1.shape) (λ g. h (omega arith)))
+-- ---- the chunks met
+-- a chunk that is met lies in the box of the chunks met
+met_in_box : (grid : Grid) (region chunks : Region) (chunk : List ℕ) (box : Region) → length chunks.start ≡ length chunks.shape → AreMet grid region chunks → IsBelow grid chunk box → is_met grid region chunk ≡ true → is_in_box chunks.start chunks.shape chunk ≡ true
+met_in_box grid region chunks chunk box l m below shares =
+    let numbered = sym (places_by_number chunks.start chunks.shape l) ∙ m.listed in
+    let listed = ap (λ (cs : List (List ℕ)). is_listed cs chunk) numbered ∙ met_listed grid region chunk box below shares in
+    let n = listed_number (place_at chunks.start chunks.shape) 0 (product chunks.shape) chunk listed in
+    let b = n.1 in
+    let i : n.0 < product chunks.shape = omega arith in
+    ap (is_in_box chunks.start chunks.shape) n.2 ∙ in_box-place_at chunks.start chunks.shape n.0 l i
+
+-- and a chunk of that box is met
+box_meets : (grid : Grid) (region chunks : Region) (chunk : List ℕ) → length chunks.start ≡ length chunks.shape → AreMet grid region chunks → is_in_box chunks.start chunks.shape chunk ≡ true → is_met grid region chunk ≡ true
+box_meets grid region chunks chunk l m h = filter-any (is_met grid region) chunk (chunk_indices grid) (ap (list_any (bytes_eq chunk)) (sym m.listed) ∙ any_places chunks.start chunks.shape chunk l h)
+
+pub no_large_chunk : (grid : Grid) (region chunks : Region) → length chunks.start ≡ length chunks.shape → AreMet grid region chunks → (HasChunkOf grid chunks (2 ^ 63) → ⊥) → HasSmallChunks grid region
+no_large_chunk grid region chunks l m none = λ chunk box below shares. ⊎_elim (λ h. h) (λ h. absurd (none (chunk, box, below, met_in_box grid region chunks chunk box l m below shares, h))) (cases_lt (product box.shape) (2 ^ 63))
+
+pub large_chunk : (document : ArrayDocument) (region chunks : Region) → length chunks.start ≡ length chunks.shape → AreMet (meaning_of document).grid region chunks → HasChunkOf (meaning_of document).grid chunks (2 ^ 63) → HasTooLarge (meaning_of document) region
+large_chunk document region chunks l m (chunk, box, below, among, count) = inr (chunk, box, below, box_meets (meaning_of document).grid region chunks chunk l m among, one_byte (product box.shape) count)
+
+-- why the chunks met are not taken is why a box is not read, and why it is not written
+pub read_refused : (path : List ℕ) (document : Document) (region : Region) (store : StoreMap) (c : Cause) → ChunksRefused document region c → ReadRefused path document region store c
+read_refused path document region store cause.Size why = why
+read_refused path document region store cause.Memory why = tt
+read_refused path document region store cause.Path why = absurd why
+read_refused path document region store cause.PathTaken why = absurd why
+read_refused path document region store cause.NoArray why = absurd why
+read_refused path document region store cause.Document why = absurd why
+read_refused path document region store cause.DocumentChanged why = absurd why
+read_refused path document region store cause.Region why = absurd why
+read_refused path document region store cause.Data why = absurd why
+read_refused path document region store cause.Fit why = absurd why
+read_refused path document region store cause.Codec why = absurd why
+read_refused path document region store cause.Store why = absurd why
+read_refused path document region store cause.Damage why = absurd why
+
+pub write_refused : (path : List ℕ) (document : Document) (region : Region) (bytes : List ℕ) (store : StoreMap) (c : Cause) → length bytes ≡ product region.shape → ChunksRefused document region c → BytesRefused path document region bytes store c
+write_refused path document region bytes store cause.Size sized why = (sized, why)
+write_refused path document region bytes store cause.Memory sized why = tt
+write_refused path document region bytes store cause.Path sized why = absurd why
+write_refused path document region bytes store cause.PathTaken sized why = absurd why
+write_refused path document region bytes store cause.NoArray sized why = absurd why
+write_refused path document region bytes store cause.Document sized why = absurd why
+write_refused path document region bytes store cause.DocumentChanged sized why = absurd why
+write_refused path document region bytes store cause.Region sized why = absurd why
+write_refused path document region bytes store cause.Data sized why = absurd why
+write_refused path document region bytes store cause.Fit sized why = absurd why
+write_refused path document region bytes store cause.Codec sized why = absurd why
+write_refused path document region bytes store cause.Store sized why = absurd why
+write_refused path document region bytes store cause.Damage sized why = absurd why
 
 -- ---- writes
 pub wrote_no_chunk : (path : List ℕ) (document : Document) (region : Region) (bytes : List ℕ) (s : Bool) (store : StoreMap) → WroteFirst path document region bytes s 0 store store
@@ -91,14 +144,12 @@ wrote_whole path document region bytes s old new covered h = record {
 }
 
 -- ---- not too large
-not_large : (n : ℕ) → n < 2 ^ 63 → 2 ^ 63 ≤ n * 1 → ⊥
+pub not_large : (n : ℕ) → n < 2 ^ 63 → 2 ^ 63 ≤ n * 1 → ⊥
 not_large n h g = let o : n * 1 ≡ n = omega arith in omega arith
 
-pub fits_small : (document : ArrayDocument) (region : Region) → product region.shape < 2 ^ 63 → product document.chunk_shape.items < 2 ^ 63 → HasTooLarge (meaning_of document) region → ⊥
-fits_small document region a b (inl h) = not_large (product region.shape) a h
-fits_small document region a b (inr (chunk, box, below, shares, large)) =
-    let e : product box.shape ≡ product document.chunk_shape.items = ap (λ (b : Region). product b.shape) (regular_box document chunk box below.has_box).is in
-    not_large (product box.shape) (omega arith) large
+pub fits_small : (document : ArrayDocument) (region : Region) → product region.shape < 2 ^ 63 → HasSmallChunks (meaning_of document).grid region → HasTooLarge (meaning_of document) region → ⊥
+fits_small document region a small (inl h) = not_large (product region.shape) a h
+fits_small document region a small (inr (chunk, box, below, shares, large)) = not_large (product box.shape) (small chunk box below shares) large
 
 pub fits_empty : (document : ArrayDocument) (region : Region) → product region.shape ≡ 0 → HasTooLarge (meaning_of document) region → ⊥
 fits_empty document region z (inl h) = not_large (product region.shape) (omega arith) h
@@ -106,15 +157,7 @@ fits_empty document region z (inr (chunk, box, below, shares, large)) = meets_no
 
 -- ---- the box of one chunk
 pub chunk_covered : (document : ArrayDocument) (chunk : List ℕ) (box : Region) → IsBelow (meaning_of document).grid chunk box → IsCovered (meaning_of document).grid box
-chunk_covered document chunk box below = IsBelow-covered document.shape.items document.chunk_shape.items chunk box below
+chunk_covered document chunk box below = IsBelow-covered (meaning_of document).grid chunk box below
 
 pub chunk_met : (document : ArrayDocument) (chunk : List ℕ) (box : Region) → IsBelow (meaning_of document).grid chunk box → met (meaning_of document).grid box ≡ chunk ∷ []
-chunk_met document chunk box below = IsBelow-met document.shape.items document.chunk_shape.items chunk box document.same document.positive below
-
--- a box that is made of a chunk's origin and the chunk shape
-pub chunk_box_is : (document : ArrayDocument) (chunk : List ℕ) (box made : Region) → IsBelow (meaning_of document).grid chunk box → made.start ≡ origin_of document.chunk_shape.items chunk → made.shape ≡ document.chunk_shape.items
-    → IsBelow (meaning_of document).grid chunk made
-chunk_box_is document chunk box made below at sized =
-    let P : Region → Type 0 = λ b. IsBelow (meaning_of document).grid chunk b in
-    let e : box ≡ made = (regular_box document chunk box below.has_box).is ∙ (λ i. record { start = sym at i; shape = sym sized i }) in
-    subst P e below
+chunk_met document chunk box below = IsBelow-met (meaning_of document).grid chunk box (always_dimensions document.grid.items) below

@@ -9,12 +9,14 @@ use Rattle.std.proofs.lemmas.List.Elements.{All-nil, All-cons}
 use Rattle.std.proofs.lemmas.Slice.Eq.{bytes_eq-Decides}
 use Rattle.serde_json.specs.Data.{Data, depth}
 use Rattle.zarr_grids_boxes.specs.Boxes.{places}
-use Rattle.zarr_grids_keys.specs.Documents.{document_key}
-use Rattle.zarr_grids_keys.specs.Keys.{chunk_key}
+use Rattle.zarr_grids_keys.specs.Documents.{document_key, document_name}
+use Rattle.zarr_grids_keys.specs.Keys.{chunk_key, encoded_key}
 use Rattle.zarr_grids_keys.specs.Paths.{is_node_path}
+use Rattle.zarr_grids_keys.specs.Related.{is_related}
 use Rattle.zarr_grids_keys.specs.declared.document_name.DocumentName.TheVariants.{ZarrJson, ZArray}
-use Rattle.zarr_grids_keys.proofs.KeyLemmas.{chunk_key-no_document, document_key-injective}
-use Rattle.zarr_grids_keys.proofs.RelatedLemmas.{is_related-refl}
+use Rattle.zarr_grids_keys.proofs.HeadLemmas.{chunk_key-no_own_document}
+use Rattle.zarr_grids_keys.proofs.KeyLemmas.{document_key-injective}
+use Rattle.zarr_grids_keys.proofs.RelatedLemmas.{is_related-comm, is_related-refl, key_below-unrelated}
 use Rattle.zarr_codecs_cells.specs.Cells.{Cell, uint8, is_value}
 use Rattle.zarr_codecs_chain.specs.Chain.{bytes, ChunkStands}
 use Rattle.zarr_codecs_chain.specs.declared.order.SubchunkWriteOrder.{SubchunkWriteOrder}
@@ -40,7 +42,7 @@ use Rattle.zarr_run_session.specs.Replies.{answer_of}
 use Rattle.zarr_run_session.specs.Sessions.{Arrays, array_at, IsHeld, Agrees, IsKeyOf, Holds}
 use Rattle.zarr_run_session.specs.declared.held.HeldArray.{HeldArray}
 use Rattle.zarr_run_session.proofs.ArrayLemmas.{placed_same, placed_at}
-use Rattle.zarr_run_session.proofs.HoldsLemmas.{agreed_none, agrees_some, agrees_kept, held_kept, holds_same, taken_in_world, free_in_world, node_in_world, no_document, no_chunk, put_here, put_other, none_from}
+use Rattle.zarr_run_session.proofs.HoldsLemmas.{agreed_none, agrees_some, agrees_kept, held_kept, holds_same, taken_in_world, free_in_world, node_in_world, unrelated_held, nothing_below, put_here, put_other, none_from}
 use Rattle.zarr_run_session.proofs.WorldLemmas.{held_at-before, held_at-new, held_at-others, held_at-path, apart_more}
 
 -- no array is held at a free path
@@ -72,8 +74,8 @@ module _ (path : List ℕ) (d : Data) (order : SubchunkWriteOrder) (old new : Ar
   chunk_none : (chunk : List ℕ) → get store' (chunk_key path (meaning_of c.prepared.array.document).keys chunk) ≡ None
   chunk_none chunk =
       let key = chunk_key path (meaning_of c.prepared.array.document).keys chunk in
-      get_other key (chunk_key-no_document path path (meaning_of c.prepared.array.document).keys chunk ZarrJson)
-      ∙ none_from (get store key) (no_chunk old store w path k c.node c.free (meaning_of c.prepared.array.document).keys chunk)
+      get_other key (chunk_key-no_own_document path (meaning_of c.prepared.array.document).keys chunk ZarrJson)
+      ∙ none_from (get store key) (nothing_below old store w path k c.node c.free (encoded_key (meaning_of c.prepared.array.document).keys chunk))
 
   held_next : IsHeld c.prepared.array store' (begun path (meaning_of c.prepared.array.document) order)
   held_next = record {
@@ -88,6 +90,9 @@ module _ (path : List ℕ) (d : Data) (order : SubchunkWriteOrder) (old new : Ar
     stored = record { text = c.prepared.text.items; found = get_here; utf8 = c.is.utf8; reads = c.is.reads ∙ ap Some (sym c.is.opened.tree_is) };
   }
 
+  unrelated : (q : List ℕ) (h : Held) → held_at q w ≡ Some h → is_related h.path path ≡ false
+  unrelated q h e = is_related-comm h.path path ∙ ap (is_related path) (sym (held_at-path q w h e)) ∙ unrelated_held old store w path k c.free q h e
+
   agree_next : (q : List ℕ) (b : Bool) → bytes_eq q path ≡ b → Agrees store' (array_at new q) (held_at q (w ++ begun path (meaning_of c.prepared.array.document) order ∷ []))
   agree_next q true t =
       let same : q ≡ path = (bytes_eq-Decides q path).0 t in
@@ -98,7 +103,7 @@ module _ (path : List ℕ) (d : Data) (order : SubchunkWriteOrder) (old new : Ar
       let ne : q ≢ path = λ e. false≢true (sym t ∙ (bytes_eq-Decides q path).1 e) in
       agrees_kept store store' (array_at old q) (array_at new q) (held_at q w) (held_at q (w ++ begun path (meaning_of c.prepared.array.document) order ∷ [])) (c.others q ne) (held_at-others q w (begun path (meaning_of c.prepared.array.document) order) ne) (k.agree q)
       (λ a h e held. held_kept a store store' h held
-      (λ chunk. get_other (chunk_key h.path h.document.keys chunk) (chunk_key-no_document h.path path h.document.keys chunk ZarrJson))
+      (λ chunk. get_other (chunk_key h.path h.document.keys chunk) (key_below-unrelated h.path path (encoded_key h.document.keys chunk) (document_name ZarrJson) (node_in_world old store w q h k e) c.node (unrelated q h e)))
       (get_other (document_key h.path ZarrJson) (λ f. ne (held_at-path q w h e ∙ (document_key-injective h.path path ZarrJson ZarrJson (node_in_world old store w q h k e) c.node f).0))))
 
   key_next : (key value : List ℕ) → get store' key ≡ Some value → (b : Bool) → bytes_eq key (document_key path ZarrJson) ≡ b
@@ -127,11 +132,9 @@ create_refused : (path : List ℕ) (d : Data) (order : SubchunkWriteOrder) (old 
 create_refused path d order old store cause.Path why w k = (why, refl, refl)
 create_refused path d order old store cause.PathTaken why w k = ⊎_elim
     (λ t. ((why.0, taken_in_world old store w path k t), refl, refl))
-    (λ f.
-    let free = agreed_none store (array_at old path) (held_at path w) (k.agree path) (none_at old path why.0 f.0) in
-    ⊎_elim
-    (λ here. let value = some_of (get store (document_key path ZarrJson)) here in absurd (no_document old store w path k why.0 free ZarrJson value.0 value.1))
-    (λ here. let value = some_of (get store (document_key path ZArray)) here in absurd (no_document old store w path k why.0 free ZArray value.0 value.1))
+    (λ f. ⊎_elim
+    (λ here. let value = some_of (get store (document_key path ZarrJson)) here in absurd (nothing_below old store w path k why.0 f.0 (document_name ZarrJson) value.0 value.1))
+    (λ here. let value = some_of (get store (document_key path ZArray)) here in absurd (nothing_below old store w path k why.0 f.0 (document_name ZArray) value.0 value.1))
     f.1)
     why.1
 create_refused path d order old store cause.Document why w k = ((why.0, free_in_world old store w path k why.1, why.2), refl, refl)
@@ -189,7 +192,7 @@ create_fresh path d order old new store store' (Ok x) c e = c.ok.fresh
 create_fresh path d order old new store store' (Err e') c e = absurd (cc)
 
 -- ---- documents
-why_err : (d : Data) (e : DocumentError) → read_document d ≡ Err e → IsErr (read_document d)
+pub why_err : (d : Data) (e : DocumentError) → read_document d ≡ Err e → IsErr (read_document d)
 why_err d e h = let P : Result Document DocumentError → Type 0 = λ r. IsErr r in subst P (sym h) refl
 
 -- a document that is refused

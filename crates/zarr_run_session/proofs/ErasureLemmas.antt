@@ -6,14 +6,15 @@ use Rattle.std.proofs.lemmas.Bool.{lt-ltb}
 use Rattle.zarr_grids_boxes.specs.Boxes.{Region, product, places, is_in_box}
 use Rattle.zarr_grids_boxes.proofs.InBox.{length-places}
 use Rattle.zarr_grids_chunks.specs.Grids.{AreBelow, chunk_box, lies_in_chunk}
-use Rattle.zarr_grids_chunks.proofs.Covers.{last_place, last_place-in_box, empty_box}
+use Rattle.zarr_grids_cover.specs.Sizes.{HasChunkOf}
 use Rattle.zarr_grids_keys.specs.Paths.{is_node_path}
 use Rattle.zarr_codecs_cells.specs.Cells.{Cell, uint8, is_value}
 use Rattle.zarr_array_documents.specs.Meanings.{meaning_of}
 use Rattle.zarr_array_documents.specs.declared.document.ArrayDocument.{ArrayDocument}
 use Rattle.zarr_array_stores.specs.StoreMaps.{StoreMap}
 use Rattle.zarr_run_array.specs.Erasures.{without_chunks, ErasedChunks}
-use Rattle.zarr_run_array.proofs.ChunkWrites.{regular_box, stands_same}
+use Rattle.zarr_run_array.proofs.ChunkBoxes.{box_of_chunk}
+use Rattle.zarr_run_array.proofs.ChunkWrites.{stands_same}
 use Rattle.zarr_run_model.specs.Tables.{Table, cell, updated, fills}
 use Rattle.zarr_run_model.specs.Requests.{erase, done, refused}
 use Rattle.zarr_run_model.specs.Worlds.{Held, World, held_at}
@@ -22,7 +23,7 @@ use Rattle.zarr_run_model.specs.declared.cause.Cause.TheVariants as cause
 use Rattle.zarr_run_model.proofs.TableLemmas.{last_at, cell-updated, last_at-changes}
 use Rattle.zarr_run_session.specs.Sessions.{held_with, IsTableOf}
 use Rattle.zarr_run_session.specs.declared.held.HeldArray.{HeldArray}
-use Rattle.zarr_run_session.proofs.BoxLemmas.{large, too_large}
+use Rattle.zarr_run_session.proofs.BoxLemmas.{empty_box, large, not_large, one_byte}
 use Rattle.zarr_run_session.proofs.StepLemmas.{held_at-here, with_table-here}
 
 -- ---- the fill value at the places of one chunk
@@ -58,7 +59,7 @@ chunk_fills document fill chunk q d = go (chunk_box (meaning_of document).grid c
   go : (o : Option Region) → chunk_box (meaning_of document).grid chunk ≡ o
       → last_at q (option_map_or (λ (box : Region). map (λ p. (p, fill)) (places box.start box.shape)) o []) d ≡ (if option_map_or (λ (box : Region). is_in_box box.start box.shape q) o false then fill else d)
   go None e = refl
-  go (Some box) e = last_at-box fill box q d (regular_box document chunk box e).rank
+  go (Some box) e = last_at-box fill box q d (box_of_chunk document chunk box e).rank
 
 last_at-fills : (document : ArrayDocument) (fill : Cell) (chunks : List (List ℕ)) (q : List ℕ) (d : Cell)
     → last_at q (fills (meaning_of document).grid fill chunks) d ≡ (if list_any (lies_in_chunk (meaning_of document).grid q) chunks then fill else d)
@@ -151,21 +152,12 @@ no_array_erase w path chunks node none = let P : Option Held → Type 0 = λ o. 
 pub chunks_too_many : (document : ArrayDocument) (chunks : Region) → (product chunks.shape < 2 ^ 63 → ⊥) → HasTooLargeChunk (meaning_of document) chunks
 chunks_too_many document chunks h = inl (large (product chunks.shape) h)
 
-pub a_chunk_too_large : (document : ArrayDocument) (chunks : Region) → length chunks.shape ≡ length chunks.start → 0 < product chunks.shape → AreBelow (meaning_of document).grid chunks → (product document.chunk_shape.items < 2 ^ 63 → ⊥)
-    → HasTooLargeChunk (meaning_of document) chunks
-a_chunk_too_large document chunks l some below h =
-    let c = last_place chunks.start chunks.shape in
-    let t = last_place-in_box chunks.start chunks.shape l some in
-    let b = below.below c t in
-    let e : product b.0.shape ≡ product document.chunk_shape.items = ap (λ (b : Region). product b.shape) (regular_box document c b.0 b.1.has_box).is in
-    inr (c, b.0, b.1, t, too_large (product b.0.shape) (λ g. h (omega arith)))
+pub a_chunk_too_large : (document : ArrayDocument) (chunks : Region) → HasChunkOf (meaning_of document).grid chunks (2 ^ 63) → HasTooLargeChunk (meaning_of document) chunks
+a_chunk_too_large document chunks (chunk, box, below, among, count) = inr (chunk, box, below, among, one_byte (product box.shape) count)
 
-pub chunks_fit : (document : ArrayDocument) (chunks : Region) → product chunks.shape < 2 ^ 63 → product document.chunk_shape.items < 2 ^ 63 → HasTooLargeChunk (meaning_of document) chunks → ⊥
-chunks_fit document chunks a b (inl h) = absurd (omega arith)
-chunks_fit document chunks a b (inr (chunk, box, below, among, large)) =
-    let e : product box.shape ≡ product document.chunk_shape.items = ap (λ (b : Region). product b.shape) (regular_box document chunk box below.has_box).is in
-    let o : product box.shape * 1 ≡ product box.shape = omega arith in
-    absurd (omega arith)
+pub chunks_fit : (document : ArrayDocument) (chunks : Region) → product chunks.shape < 2 ^ 63 → (HasChunkOf (meaning_of document).grid chunks (2 ^ 63) → ⊥) → HasTooLargeChunk (meaning_of document) chunks → ⊥
+chunks_fit document chunks few none (inl h) = absurd (omega arith)
+chunks_fit document chunks few none (inr (chunk, box, below, among, size)) = none (chunk, box, below, among, large (product box.shape) (λ h. not_large (product box.shape) h size))
 
 pub no_chunk_fits : (document : ArrayDocument) (chunks : Region) → product chunks.shape ≡ 0 → HasTooLargeChunk (meaning_of document) chunks → ⊥
 no_chunk_fits document chunks z (inl h) = absurd (omega arith)

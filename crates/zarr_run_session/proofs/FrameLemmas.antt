@@ -5,12 +5,12 @@ use Rattle.std.proofs.lemmas.Bool.{both_ways, false≢true, or_cases}
 use Rattle.std.proofs.lemmas.Slice.Eq.{bytes_eq-Decides}
 use Rattle.serde_json.specs.View.{view}
 use Rattle.zarr_grids_boxes.specs.Boxes.{places}
-use Rattle.zarr_grids_keys.specs.Documents.{document_key}
+use Rattle.zarr_grids_keys.specs.Documents.{document_key, document_name}
 use Rattle.zarr_grids_keys.specs.Keys.{KeyEncoding, encoded_key, key_below, chunk_key}
 use Rattle.zarr_grids_keys.specs.Paths.{is_node_path}
 use Rattle.zarr_grids_keys.specs.Related.{is_related}
 use Rattle.zarr_grids_keys.specs.declared.document_name.DocumentName.TheVariants.{ZarrJson}
-use Rattle.zarr_grids_keys.proofs.KeyLemmas.{chunk_key-no_document}
+use Rattle.zarr_grids_keys.proofs.HeadLemmas.{chunk_key-no_own_document}
 use Rattle.zarr_grids_keys.proofs.RelatedLemmas.{key_below-unrelated}
 use Rattle.zarr_codecs_cells.specs.Cells.{is_value}
 use Rattle.zarr_codecs_chain.specs.Chain.{ChunkStands}
@@ -57,14 +57,14 @@ kept_below : (array : HeldArray) (old new : StoreMap) (q name : List ℕ) → To
 kept_below array old new q name touches node apart =
     ⊎_elim (λ s. absurd (key_below-unrelated (string_bytes array.path) q (encoded_key (meaning_of array.document).keys s.0) name array.node node apart (sym s.1))) (λ e. e) (touches.key (key_below q name))
 
--- documents stay
-document_kept : (array : HeldArray) (old new : StoreMap) (q : List ℕ) → Touches array old new → get new (document_key q ZarrJson) ≡ get old (document_key q ZarrJson)
-document_kept array old new q touches =
-    ⊎_elim (λ s. absurd (chunk_key-no_document (string_bytes array.path) q (meaning_of array.document).keys s.0 ZarrJson (sym s.1))) (λ e. e) (touches.key (document_key q ZarrJson))
+-- the array's own document stays
+document_kept : (array : HeldArray) (old new : StoreMap) → Touches array old new → get new (document_key (string_bytes array.path) ZarrJson) ≡ get old (document_key (string_bytes array.path) ZarrJson)
+document_kept array old new touches =
+    ⊎_elim (λ s. absurd (chunk_key-no_own_document (string_bytes array.path) (meaning_of array.document).keys s.0 ZarrJson (sym s.1))) (λ e. e) (touches.key (document_key (string_bytes array.path) ZarrJson))
 
 -- ---- an array that is held
-stored_after : (array a : HeldArray) (old new : StoreMap) (q : List ℕ) → Touches array old new → HasDocument q (view a.tree) old → HasDocument q (view a.tree) new
-stored_after array a old new q touches d = record { text = d.text; found = document_kept array old new q touches ∙ d.found; utf8 = d.utf8; reads = d.reads }
+stored_after : (a : HeldArray) (old new : StoreMap) (q : List ℕ) → get new (document_key q ZarrJson) ≡ get old (document_key q ZarrJson) → HasDocument q (view a.tree) old → HasDocument q (view a.tree) new
+stored_after a old new q same d = record { text = d.text; found = same ∙ d.found; utf8 = d.utf8; reads = d.reads }
 
 -- one at an unrelated path
 other_held : (array a : HeldArray) (old new : StoreMap) (h : Held) → Touches array old new → is_related (string_bytes array.path) h.path ≡ false → IsHeld a old h → IsHeld a new h
@@ -79,7 +79,7 @@ other_held array a old new h touches apart k =
           let P : Option (List ℕ) → Type 0 = λ o. ChunkStands h.document.chain h.document.fill o (map (cell h.document.fill h.table) (places box.start box.shape)) in
           subst P (sym (kept_below array old new h.path (encoded_key h.document.keys chunk) touches node apart)) (k.stands chunk box below);
       says = k.says;
-      stored = stored_after array a old new h.path touches k.stored;
+      stored = stored_after a old new h.path (kept_below array old new h.path (document_name ZarrJson) touches node apart) k.stored;
     }
 
 same_held : (array : HeldArray) (store : StoreMap) (h : Held) (t : Table) → IsHeld array store h → record h { table = t } ≡ held_with array t
@@ -96,6 +96,7 @@ next_held : (array : HeldArray) (old new : StoreMap) (h : Held) (t : Table) → 
 next_held array old new h t touches k n =
     let T : Document → Type 0 = λ d. (p : List ℕ) → is_value d.type (cell d.fill t p) ≡ true in
     let S : Held → Type 0 = λ x. StoreStands x.path x.document new (cell x.document.fill t) in
+    let K : List ℕ → Type 0 = λ q. get new (document_key q ZarrJson) ≡ get old (document_key q ZarrJson) in
     record {
       path = k.path;
       document = k.document;
@@ -103,7 +104,7 @@ next_held array old new h t touches k n =
       values = subst T (sym k.document) n.values;
       stands = subst S (sym (same_held array old h t k)) n.stands;
       says = k.says;
-      stored = stored_after array array old new h.path touches k.stored;
+      stored = stored_after array old new h.path (subst K (sym k.path) (document_kept array old new touches)) k.stored;
     }
 
 -- ---- what stands at a path

@@ -18,13 +18,16 @@ use Rattle.std.proofs.lemmas.Bool.{false≢true, or_left, or_right, or_cases, or
 use Rattle.std.proofs.lemmas.Bool.Decides.{nat_tests}
 use Rattle.std.proofs.lemmas.Map.Text.{is_eq-slice_cmp}
 use Rattle.std.proofs.lemmas.Slice.Eq.{bytes_eq-Decides}
+use Rattle.zarr_grids_keys.specs.Encodings.{keys_of}
+use Rattle.zarr_grids_keys.specs.Keys.{has_plain_suffix}
 use Rattle.zarr_grids_keys.specs.Paths.{is_node_path}
 use Rattle.zarr_grids_keys.specs.Related.{is_under, is_related, parent_path}
 use Rattle.zarr_grids_keys.proofs.ParentLemmas.{is_under-parent, is_under-by_parent}
 use Rattle.zarr_grids_keys.proofs.RangeLemmas.{is_under-range}
-use Rattle.zarr_run_session.specs.Related.{IsTakenIn, IsFreeIn, IsFreeAbove, IsFreeBelow}
+use Rattle.zarr_run_session.specs.Related.{IsTakenIn, IsFreeIn, IsFreeAbove, IsFreeBelow, IsSlashedAt, IsBelowSlashed}
 use Rattle.zarr_run_session.specs.Sessions.{Arrays, array_at}
 use Rattle.zarr_run_session.specs.declared.held.HeldArray.{HeldArray}
+use Rattle.zarr_run_session.proofs.ArrayLemmas.{some_same}
 
 same_bytes : (p : List ℕ) → bytes_eq p p ≡ true
 same_bytes p = (bytes_eq-Decides p p).1 refl
@@ -62,35 +65,69 @@ free_of arrays path none above below = λ other array node found.
     (above other array node found)
 
 -- ---- above
--- the paths above the lower one lie above the path, and of those above the path that hold an array none is missed
-pub record IsReachedFrom (arrays : Arrays) (path lower : List ℕ) : Type 0 where
+-- the paths above the lower one lie above the path, and of those above the path where what is looked for stands none is missed
+pub record IsReachedFrom (Stands : List ℕ → Type 0) (path lower : List ℕ) : Type 0 where
   pub node : IsTrue (is_node_path lower)
   pub reach : (q : List ℕ) → IsTrue (is_node_path q) → IsTrue (is_under q lower) → IsTrue (is_under q path)
-  pub rest : (q : List ℕ) (array : HeldArray) → IsTrue (is_node_path q) → array_at arrays q ≡ Some array → IsTrue (is_under q path) → IsTrue (is_under q lower)
+  pub rest : (q : List ℕ) → IsTrue (is_node_path q) → Stands q → IsTrue (is_under q path) → IsTrue (is_under q lower)
 
-pub reached_first : (arrays : Arrays) (path : List ℕ) → IsTrue (is_node_path path) → IsReachedFrom arrays path path
-reached_first arrays path node = record { node = node; reach = λ q n u. u; rest = λ q array n found u. u }
+pub reached_first : (Stands : List ℕ → Type 0) (path : List ℕ) → IsTrue (is_node_path path) → IsReachedFrom Stands path path
+reached_first Stands path node = record { node = node; reach = λ q n u. u; rest = λ q n s u. u }
 
-pub reached_parent : (arrays : Arrays) (path lower parent : List ℕ) → IsReachedFrom arrays path lower → parent_path lower ≡ Some parent → IsTrue (is_node_path parent) → is_some (array_at arrays parent) ≡ false → IsReachedFrom arrays path parent
-reached_parent arrays path lower parent r e node none = record {
+pub reached_parent : (Stands : List ℕ → Type 0) (path lower parent : List ℕ) → IsReachedFrom Stands path lower → parent_path lower ≡ Some parent → IsTrue (is_node_path parent) → (Stands parent → ⊥) → IsReachedFrom Stands path parent
+reached_parent Stands path lower parent r e node none = record {
   node = node;
   reach = λ q n u. r.reach q n (is_under-by_parent lower q parent r.node n e ∙ or_right (bytes_eq q parent) (is_under q parent) u);
-  rest = λ q array n found u. ⊎_elim
-      (λ t. absurd (none_of (array_at arrays parent) none array (ap (array_at arrays) (sym ((bytes_eq-Decides q parent).0 t)) ∙ found)))
+  rest = λ q n s u. ⊎_elim
+      (λ t. absurd (none (subst Stands ((bytes_eq-Decides q parent).0 t) s)))
       (λ t. t)
-      (or_cases (bytes_eq q parent) (is_under q parent) (sym (is_under-by_parent lower q parent r.node n e) ∙ r.rest q array n found u));
+      (or_cases (bytes_eq q parent) (is_under q parent) (sym (is_under-by_parent lower q parent r.node n e) ∙ r.rest q n s u));
 }
 
-pub taken_parent : (arrays : Arrays) (path lower parent : List ℕ) → IsReachedFrom arrays path lower → parent_path lower ≡ Some parent → IsTrue (is_node_path parent) → is_some (array_at arrays parent) ≡ true → IsTakenIn arrays path
-taken_parent arrays path lower parent r e node some =
-    taken_at arrays path parent some (related_above path parent (r.reach parent node (is_under-by_parent lower parent parent r.node node e ∙ or_left (bytes_eq parent parent) (is_under parent parent) (same_bytes parent))))
+-- the parent lies above the path
+pub parent_above : (Stands : List ℕ → Type 0) (path lower parent : List ℕ) → IsReachedFrom Stands path lower → parent_path lower ≡ Some parent → IsTrue (is_node_path parent) → IsTrue (is_under parent path)
+parent_above Stands path lower parent r e node = r.reach parent node (is_under-by_parent lower parent parent r.node node e ∙ or_left (bytes_eq parent parent) (is_under parent parent) (same_bytes parent))
 
-pub free_above : (arrays : Arrays) (path lower : List ℕ) → IsReachedFrom arrays path lower → parent_path lower ≡ None → IsFreeAbove arrays path
-free_above arrays path lower r e = λ other array node found. false_from_ne_true (is_under other path) (λ u. both_ways (is_under other lower) (no_parent other node) (r.rest other array node found u)) where
-  no_parent : (other : List ℕ) → IsTrue (is_node_path other) → is_under other lower ≡ false
-  no_parent other node =
-      let P : Option (List ℕ) → Type 0 = λ o. MatchOption o (is_under other lower ≡ false) (λ parent. is_under other lower ≡ (bytes_eq other parent || is_under other parent)) in
-      subst P e (is_under-parent lower other r.node node)
+-- where no parent is left, nothing that is looked for stands above the path
+pub none_above : (Stands : List ℕ → Type 0) (path lower : List ℕ) → IsReachedFrom Stands path lower → parent_path lower ≡ None → (q : List ℕ) → IsTrue (is_node_path q) → Stands q → is_under q path ≡ false
+none_above Stands path lower r e q node s = false_from_ne_true (is_under q path) (λ u. both_ways (is_under q lower) no_parent (r.rest q node s u)) where
+  no_parent : is_under q lower ≡ false
+  no_parent =
+      let P : Option (List ℕ) → Type 0 = λ o. MatchOption o (is_under q lower ≡ false) (λ parent. is_under q lower ≡ (bytes_eq q parent || is_under q parent)) in
+      subst P e (is_under-parent lower q r.node node)
+
+-- ---- an array above
+abbrev pub IsHeldAt : Arrays → List ℕ → Type 0
+IsHeldAt arrays path = (array : HeldArray) × (array_at arrays path ≡ Some array)
+
+pub not_held : (arrays : Arrays) (path : List ℕ) → is_some (array_at arrays path) ≡ false → IsHeldAt arrays path → ⊥
+not_held arrays path none h = none_of (array_at arrays path) none h.0 h.1
+
+pub taken_parent : (arrays : Arrays) (path lower parent : List ℕ) → IsReachedFrom (IsHeldAt arrays) path lower → parent_path lower ≡ Some parent → IsTrue (is_node_path parent) → is_some (array_at arrays parent) ≡ true → IsTakenIn arrays path
+taken_parent arrays path lower parent r e node some = taken_at arrays path parent some (related_above path parent (parent_above (IsHeldAt arrays) path lower parent r e node))
+
+pub free_above : (arrays : Arrays) (path lower : List ℕ) → IsReachedFrom (IsHeldAt arrays) path lower → parent_path lower ≡ None → IsFreeAbove arrays path
+free_above arrays path lower r e = λ other array node found. none_above (IsHeldAt arrays) path lower r e other node (array, found)
+
+-- ---- an array above whose keys have a suffix with a slash
+pub slashed_parent : (arrays : Arrays) (path lower parent : List ℕ) → IsReachedFrom (IsSlashedAt arrays) path lower → parent_path lower ≡ Some parent → IsTrue (is_node_path parent) → IsSlashedAt arrays parent → IsBelowSlashed arrays path
+slashed_parent arrays path lower parent r e node s = record { other = parent; array = s.0; node = node; found = s.1; under = parent_above (IsSlashedAt arrays) path lower parent r e node; slashed = s.2 }
+
+pub none_slashed : (arrays : Arrays) (path lower : List ℕ) → IsReachedFrom (IsSlashedAt arrays) path lower → parent_path lower ≡ None → IsBelowSlashed arrays path → ⊥
+none_slashed arrays path lower r e b = both_ways (is_under b.other path) (none_above (IsSlashedAt arrays) path lower r e b.other b.node (b.array, b.found, b.slashed)) b.under
+
+not_true : (b : Bool) → IsTrue (not b) → b ≡ false
+not_true true t = absurd (false≢true t)
+not_true false t = refl
+
+pub slashed_some : (arrays : Arrays) (path : List ℕ) (array : HeldArray) (plain : Bool) → array_at arrays path ≡ Some array → plain ≡ has_plain_suffix (keys_of array.document.keys) → IsTrue (not plain) ↔ IsSlashedAt arrays path
+slashed_some arrays path array plain found e = (
+  λ t. (array, found, sym e ∙ not_true plain t),
+  λ s. ap not (e ∙ ap (λ (x : HeldArray). has_plain_suffix (keys_of x.document.keys)) (some_same array s.0 (sym found ∙ s.1)) ∙ s.2),
+)
+
+pub slashed_none : (arrays : Arrays) (path : List ℕ) → array_at arrays path ≡ None → IsTrue false ↔ IsSlashedAt arrays path
+slashed_none arrays path none = (λ t. absurd (false≢true t), λ s. absurd (none_some (array_at arrays path) s.0 none s.1))
 
 -- ---- below
 -- a path where an array is held is the text of a key

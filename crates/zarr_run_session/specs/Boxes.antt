@@ -46,3 +46,9 @@ ReadRefused path document region store cause.Size = HasTooLarge document region
 ReadRefused path document region store cause.Damage = HasDamage path document region store
 ReadRefused path document region store cause.Memory = Unit {0}
 ReadRefused path document region store c = ⊥
+
+-- why the chunks that a covered box meets are not taken: one of them is too large, or memory is short
+abbrev pub ChunksRefused : Document → Region → Cause → Type 0
+ChunksRefused document region cause.Size = HasTooLarge document region
+ChunksRefused document region cause.Memory = Unit {0}
+ChunksRefused document region c = ⊥

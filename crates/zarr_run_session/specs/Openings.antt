@@ -16,7 +16,7 @@ use Rattle.zarr_array_stores.specs.StoreMaps.{StoreMap}
 use Rattle.zarr_run_model.specs.Requests.{Request, create, reopen, Answer, done, refused}
 use Rattle.zarr_run_model.specs.declared.cause.Cause.{Cause}
 use Rattle.zarr_run_model.specs.declared.cause.Cause.TheVariants as cause
-use Rattle.zarr_run_session.specs.Related.{IsTakenIn, IsFreeIn}
+use Rattle.zarr_run_session.specs.Related.{IsTakenIn, IsFreeIn, IsBelowSlashed}
 use Rattle.zarr_run_session.specs.Sessions.{Arrays, array_at, HasDocument}
 use Rattle.zarr_run_session.specs.declared.held.HeldArray.{HeldArray}
 
@@ -51,22 +51,22 @@ CreationRefused arrays store path document c = ⊥
 abbrev pub IsNoDocument : List ℕ → StoreMap → Type 0
 IsNoDocument path store = (text : List ℕ) × (get store (document_key path ZarrJson) ≡ Some text) × ((tree : Data) → IsUtf8 text → read text ≡ Some tree → IsErr (read_document tree))
 
--- what a reopening answers, and the array that is held then. Where one was held, the tree that is stored has to be the one that was written; where none was, the document that is stored is opened
-abbrev pub Reopened : Option HeldArray → List ℕ → SubchunkWriteOrder → StoreMap → Answer → Arrays → Type 0
-Reopened (Some array) path order store done new = ((tree : Data) × HasDocument path tree store × SameTree tree (view array.tree)) × (array_at new path ≡ Some (record array { order = order }))
-Reopened (Some array) path order store (refused cause.DocumentChanged n) new = (tree : Data) → HasDocument path tree store → ¬ SameTree tree (view array.tree)
-Reopened None path order store done new = (tree : Data) × HasDocument path tree store × (array : HeldArray) × (array_at new path ≡ Some array) × IsOpened tree order array
-Reopened None path order store (refused cause.NoArray n) new = get store (document_key path ZarrJson) ≡ None
-Reopened None path order store (refused cause.Document n) new = IsNoDocument path store
-Reopened found path order store (refused cause.Path n) new = is_node_path path ≡ false
-Reopened found path order store (refused cause.Memory n) new = Unit {0}
-Reopened found path order store answer new = ⊥
+-- what a reopening answers, and the array that is held then. Where one was held, the tree that is stored has to be the one that was written; where none was, the document that is stored is opened, unless an array is held above whose keys have a suffix with a slash: what is stored may be a chunk of that array
+abbrev pub Reopened : Option HeldArray → List ℕ → SubchunkWriteOrder → Arrays → StoreMap → Answer → Arrays → Type 0
+Reopened (Some array) path order old store done new = ((tree : Data) × HasDocument path tree store × SameTree tree (view array.tree)) × (array_at new path ≡ Some (record array { order = order }))
+Reopened (Some array) path order old store (refused cause.DocumentChanged n) new = (tree : Data) → HasDocument path tree store → ¬ SameTree tree (view array.tree)
+Reopened None path order old store done new = (¬ IsBelowSlashed old path) × (tree : Data) × HasDocument path tree store × (array : HeldArray) × (array_at new path ≡ Some array) × IsOpened tree order array
+Reopened None path order old store (refused cause.NoArray n) new = (get store (document_key path ZarrJson) ≡ None) ⊎ IsBelowSlashed old path
+Reopened None path order old store (refused cause.Document n) new = (¬ IsBelowSlashed old path) × IsNoDocument path store
+Reopened found path order old store (refused cause.Path n) new = is_node_path path ≡ false
+Reopened found path order old store (refused cause.Memory n) new = Unit {0}
+Reopened found path order old store answer new = ⊥
 
 -- what a create or a reopening finds and opens
 abbrev pub Opens : Arrays → Request → StoreMap → Answer → Arrays → Type 0
 Opens old (create path document order) store done new = IsFreeIn old path × IsFreshIn store path × Created path document order new
 Opens old (create path document order) store (refused cause n) new = CreationRefused old store path document cause
-Opens old (reopen path order) store answer new = Reopened (array_at old path) path order store answer new
+Opens old (reopen path order) store answer new = Reopened (array_at old path) path order old store answer new
 Opens old request store answer new = Unit {0}
 
 -- the arrays at all paths but one stay

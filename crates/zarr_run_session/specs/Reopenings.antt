@@ -1,5 +1,5 @@
 -- What a reopening finds.
-use Rattle.std.specs.Prelude.{◌≡◌, ℕ, List, Some, None, IsUtf8}
+use Rattle.std.specs.Prelude.{◌≡◌, ◌⊎◌, ℕ, List, Some, None, IsUtf8}
 use Rattle.std.specs.FinMap.{get}
 use Rattle.serde_json.specs.Data.{Data}
 use Rattle.serde_json.specs.Read.{read}
@@ -10,8 +10,9 @@ use Rattle.zarr_grids_metadata.specs.Trees.{SameTree}
 use Rattle.zarr_array_stores.specs.StoreMaps.{StoreMap}
 use Rattle.zarr_run_model.specs.declared.cause.Cause.{Cause}
 use Rattle.zarr_run_model.specs.declared.cause.Cause.TheVariants as cause
-use Rattle.zarr_run_session.specs.Sessions.{HasDocument}
 use Rattle.zarr_run_session.specs.Openings.{IsNoDocument}
+use Rattle.zarr_run_session.specs.Related.{IsBelowSlashed}
+use Rattle.zarr_run_session.specs.Sessions.{Arrays, HasDocument}
 use Rattle.zarr_run_session.specs.declared.held.HeldArray.{HeldArray}
 use Rattle.zarr_run_session.specs.declared.reopening.StoredDocument.{StoredDocument}
 use Rattle.zarr_run_session.specs.declared.reopening.StoredDocument.TheVariants.{Nothing, NoTree, Tree}
@@ -39,8 +40,8 @@ ComparisonRefused path array store cause.Memory = Unit {0}
 ComparisonRefused path array store c = ⊥
 
 -- why what is stored isn't opened
-abbrev pub OpeningRefused : List ℕ → StoreMap → Cause → Type 0
-OpeningRefused path store cause.NoArray = get store (document_key path ZarrJson) ≡ None
-OpeningRefused path store cause.Document = IsNoDocument path store
-OpeningRefused path store cause.Memory = Unit {0}
-OpeningRefused path store c = ⊥
+abbrev pub OpeningRefused : Arrays → List ℕ → StoreMap → Cause → Type 0
+OpeningRefused arrays path store cause.NoArray = (get store (document_key path ZarrJson) ≡ None) ⊎ IsBelowSlashed arrays path
+OpeningRefused arrays path store cause.Document = (¬ IsBelowSlashed arrays path) × IsNoDocument path store
+OpeningRefused arrays path store cause.Memory = Unit {0}
+OpeningRefused arrays path store c = ⊥

@@ -1,8 +1,8 @@
 //! The arrays that are held, by their paths.
-ghost use Rattle.std.specs.Prelude.{◌≡◌, ◌++◌, false, IsTrue, Some, None, IfOk, OnOk, OnErr, codes, option_copied, string_bytes};
+ghost use Rattle.std.specs.Prelude.{◌≡◌, ◌↔◌, ◌++◌, false, IsTrue, Some, None, IfOk, OnOk, OnErr, codes, option_copied, string_bytes};
 ghost use Rattle.zarr_grids_keys.specs.Paths.{is_node_path};
 ghost use Rattle.zarr_run_session.specs.Openings.{KeepsArrays, KeepsOtherArrays};
-ghost use Rattle.zarr_run_session.specs.Related.{IsTakenIn, IsFreeIn, IsFreeAbove, IsFreeBelow};
+ghost use Rattle.zarr_run_session.specs.Related.{IsTakenIn, IsFreeIn, IsFreeAbove, IsFreeBelow, IsSlashedAt, IsBelowSlashed};
 ghost use Rattle.zarr_run_session.specs.Sessions.{array_at};
 ghost use Rattle.zarr_run_session.specs.declared.held.HeldArray.{HeldArray};
 
@@ -53,6 +53,33 @@ fn is_taken_above(arrays: &BTreeMap<String, HeldArray>, path: &str) -> bool
         lower = parent;
     }
     false
+}
+
+/// Whether an array is held above a path whose keys have a suffix with a slash. What is stored under the key of a document
+/// of the path may then be a chunk of that array.
+pub(crate) fn is_below_slashed(arrays: &BTreeMap<String, HeldArray>, path: &str) -> bool
+    requires { IsTrue (is_node_path path.now) }
+    ensures below { IsTrue result → IsBelowSlashed arrays.now path.now }
+    ensures free { result ≡ false → ¬ IsBelowSlashed arrays.now path.now }
+{
+    let mut lower = path;
+    while let Some(parent) = parent_path(lower) {
+        if is_slashed_at(arrays, parent) {
+            return true;
+        }
+        lower = parent;
+    }
+    false
+}
+
+/// Whether an array is held at a path whose keys have a suffix with a slash.
+fn is_slashed_at(arrays: &BTreeMap<String, HeldArray>, path: &str) -> bool
+    ensures { IsTrue result ↔ IsSlashedAt arrays.now path.now }
+{
+    match find(arrays, path) {
+        Some(array) => !array.document.keys.has_plain_suffix(),
+        None => false,
+    }
 }
 
 /// Whether an array is held below a path. Below `/` each array counts, also one that is held there.

@@ -1,12 +1,13 @@
 //! Boxes of a held array.
-ghost use Rattle.std.specs.Prelude.{◌≡◌, ◌↔◌, IsTrue, length, IfOk, OnOk, IfErr, string_bytes};
+ghost use Rattle.std.specs.Prelude.{◌≡◌, ◌↔◌, ◌<◌, IsTrue, length, IfOk, OnOk, IfErr, string_bytes};
 ghost use Rattle.zarr_grids_boxes.specs.Boxes.{product};
 ghost use Rattle.zarr_grids_boxes.specs.Subsets.{region_of};
 ghost use Rattle.zarr_grids_chunks.specs.Grids.{IsBelow, IsCovered};
+ghost use Rattle.zarr_grids_cover.specs.Met.{AreMet};
 ghost use Rattle.zarr_array_documents.specs.Meanings.{meaning_of};
-ghost use Rattle.zarr_run_array.specs.Contents.{ReadsBox};
+ghost use Rattle.zarr_run_array.specs.Contents.{ReadsBox, HasSmallChunks};
 ghost use Rattle.zarr_run_model.specs.Steps.{HasTooLarge};
-ghost use Rattle.zarr_run_session.specs.Boxes.{WroteBox, WroteFirst, BytesRefused, ChunkRefused, ReadRefused};
+ghost use Rattle.zarr_run_session.specs.Boxes.{WroteBox, WroteFirst, BytesRefused, ChunkRefused, ReadRefused, ChunksRefused};
 
 use crate::cause::cause_of_chunk;
 use crate::held::HeldArray;
@@ -14,10 +15,12 @@ use std::alloc::Global;
 use zarr_array_stores::MemoryStore;
 use zarr_grids_boxes::ArraySubset;
 use zarr_grids_boxes::walk::count_places;
-use zarr_grids_chunks::below::is_below;
-use zarr_grids_chunks::regular::{chunk_subset, covers};
+use zarr_grids_cover::{chunks_met, covers, has_chunk_of, is_below};
 use zarr_run_array::{read_region, write_region};
 use zarr_run_model::Cause;
+
+/// A chunk with this many cells is too large.
+pub(crate) const TOO_MANY_CELLS: u64 = 1 << 63;
 
 /// Why a write was refused, and after how many of the chunks met.
 #[derive(Clone, Copy)]
@@ -30,11 +33,7 @@ pub(crate) struct Refusal {
 pub(crate) fn is_covered(array: &HeldArray, region: &ArraySubset) -> bool
     ensures { IsTrue result ↔ IsCovered (meaning_of array.now.document).grid (region_of region.now) }
 {
-    let array_shape = array.document.shape.as_slice();
-    let chunk_shape = array.document.chunk_shape.as_slice();
-    let start = region.start.as_slice();
-    let shape = region.shape.as_slice();
-    covers(array_shape, chunk_shape, start, shape)
+    covers(&array.document.grid, region)
 }
 
 /// The box of a chunk that lies below the grid shape.
@@ -46,15 +45,34 @@ pub(crate) fn chunk_region(
     ensures ok { IfOk result (λ region. IsBelow (meaning_of array.now.document).grid chunk.now (region_of region)) }
     ensures err { IfErr result (λ cause. ChunkRefused (meaning_of array.now.document) chunk.now cause) }
 {
-    let array_shape = array.document.shape.as_slice();
-    let chunk_shape = array.document.chunk_shape.as_slice();
-    if !is_below(array_shape, chunk_shape, chunk) {
+    if !is_below(&array.document.grid, chunk) {
         return Err(Cause::Region);
     }
-    match chunk_subset(alloc, chunk_shape, chunk) {
+    match zarr_grids_cover::chunk_region(alloc, &array.document.grid, chunk) {
         Ok(region) => Ok(region),
         Err(_) => Err(Cause::Memory),
     }
+}
+
+/// The chunks that a region with some place meets, as a box of chunk indices, where none of them is too large.
+fn small_chunks_met(
+    alloc: Global,
+    array: &HeldArray,
+    region: &ArraySubset,
+) -> Result<ArraySubset, Cause>
+    requires covered { IsCovered (meaning_of array.now.document).grid (region_of region.now) }
+    requires some { 0 < product region.now.shape.items }
+    ensures met { IfOk result (λ chunks. AreMet (meaning_of array.now.document).grid (region_of region.now) (region_of chunks)) }
+    ensures small { OnOk result (HasSmallChunks (meaning_of array.now.document).grid (region_of region.now)) }
+    ensures err { IfErr result (ChunksRefused (meaning_of array.now.document) (region_of region.now)) }
+{
+    let Ok(chunks) = chunks_met(alloc, &array.document.grid, region) else {
+        return Err(Cause::Memory);
+    };
+    if has_chunk_of(&array.document.grid, &chunks, TOO_MANY_CELLS) {
+        return Err(Cause::Size);
+    }
+    Ok(chunks)
 }
 
 /// Reads the cells of a region that is covered.
@@ -76,20 +94,9 @@ pub(crate) fn read_cells(
     if count == 0 {
         return Ok(Vec::new(alloc));
     }
-    let chunk_shape = array.document.chunk_shape.as_slice();
-    let Some(chunk_count) = count_places(chunk_shape) else {
-        return Err(Cause::Size);
-    };
+    let chunks = small_chunks_met(alloc, array, region)?;
     let path = array.path.as_str();
-    match read_region(
-        alloc,
-        path,
-        &array.document,
-        region,
-        count,
-        chunk_count,
-        store,
-    ) {
+    match read_region(alloc, path, &array.document, region, count, &chunks, store) {
         Ok(bytes) => Ok(bytes),
         Err(fault) => Err(cause_of_chunk(fault)),
     }
@@ -127,12 +134,9 @@ pub(crate) fn write_cells(
     if count == 0 {
         return Ok(());
     }
-    let chunk_shape = array.document.chunk_shape.as_slice();
-    let Some(chunk_count) = count_places(chunk_shape) else {
-        return Err(Refusal {
-            cause: Cause::Size,
-            applied: 0,
-        });
+    let chunks = match small_chunks_met(alloc, array, region) {
+        Ok(chunks) => chunks,
+        Err(cause) => return Err(Refusal { cause, applied: 0 }),
     };
     let path = array.path.as_str();
     match write_region(
@@ -142,7 +146,7 @@ pub(crate) fn write_cells(
         region,
         bytes,
         store_empty,
-        chunk_count,
+        &chunks,
         store,
     ) {
         Ok(()) => Ok(()),

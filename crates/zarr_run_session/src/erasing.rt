@@ -11,12 +11,13 @@ ghost use Rattle.zarr_run_session.specs.Keys.{ErasedKeys};
 ghost use Rattle.zarr_run_session.specs.Sessions.{StepsHeld};
 
 use crate::answering::refused;
+use crate::boxes::TOO_MANY_CELLS;
 use crate::held::HeldArray;
 use std::alloc::Global;
 use zarr_array_stores::MemoryStore;
 use zarr_grids_boxes::ArraySubset;
 use zarr_grids_boxes::walk::count_places;
-use zarr_grids_chunks::below::are_below;
+use zarr_grids_cover::{are_below, has_chunk_of};
 use zarr_run_array::erase_chunks;
 use zarr_run_commands::Reply;
 use zarr_run_model::Cause;
@@ -52,11 +53,7 @@ pub(crate) fn erase_box(
 fn has_chunks(array: &HeldArray, chunks: &ArraySubset) -> bool
     ensures { IsTrue result ↔ AreBelow (meaning_of array.now.document).grid (region_of chunks.now) }
 {
-    let array_shape = array.document.shape.as_slice();
-    let chunk_shape = array.document.chunk_shape.as_slice();
-    let start = chunks.start.as_slice();
-    let shape = chunks.shape.as_slice();
-    are_below(array_shape, chunk_shape, start, shape)
+    are_below(&array.document.grid, chunks)
 }
 
 /// The number of chunks of a box of chunk indices, where neither it nor the size of one of these chunks is too large.
@@ -73,9 +70,8 @@ fn count_chunks(array: &HeldArray, chunks: &ArraySubset) -> Option<u64>
     if count == 0 {
         return Some(0);
     }
-    let chunk_shape = array.document.chunk_shape.as_slice();
-    let Some(_) = count_places(chunk_shape) else {
+    if has_chunk_of(&array.document.grid, chunks, TOO_MANY_CELLS) {
         return None;
-    };
+    }
     Some(count)
 }

@@ -1,16 +1,16 @@
 -- A box of new cells put over an array, seen from a subchunk.
-use Rattle.std.proofs.Common.{◌≡◌, ℕ, ◌+◌, ◌<◌, min, max, List, [], ◌∷◌, length, map, get_or, ap, ◌∙◌, sym, refl, arith, Bool, true, false, ◌&&◌, if◌then◌else◌, nat_le, nat_lt, inl, inr}
+use Rattle.std.proofs.Common.{◌≡◌, ℕ, ◌+◌, ◌<◌, List, length, map, get_or, ap, ◌∙◌, sym, arith, Bool, true, false, if◌then◌else◌, inl, inr}
 use Rattle.std.specs.List.{range_with_len}
-use Rattle.std.proofs.lemmas.Bool.{cases_Bool, leb-true, ltb-true, lt-ltb}
+use Rattle.std.proofs.lemmas.Bool.{cases_Bool}
 use Rattle.std.proofs.lemmas.List.FromFn.{get_or-map-range_with_len, fill_by_all}
 use Rattle.std.proofs.lemmas.Simd.{map-map}
 use Rattle.zarr_grids_boxes.specs.Boxes.{Region, product, is_in_box, share_place, place_at, ravel, IsIndex}
 use Rattle.zarr_grids_boxes.proofs.Dimensions.{ravel_below}
 use Rattle.zarr_grids_boxes.proofs.Places.{places_by_number, map-range_shift}
 use Rattle.zarr_grids_boxes.proofs.InBox.{in_box-place_at, ravel-place_at}
+use Rattle.zarr_grids_boxes.proofs.Sharing.{share_place-of}
 use Rattle.zarr_codecs_meaning.specs.Types.{Cell}
 use Rattle.zarr_codecs_meaning.specs.Places.{gather, place_numbers, part_of}
-use Rattle.zarr_codecs_meaning.proofs.Lists.{both_true}
 use Rattle.zarr_codecs_meaning.proofs.Covers.{zeros, place_ravel}
 use Rattle.zarr_sharding_changes.specs.Regions.{IsInside, whole, cell_after, overlaid}
 use Rattle.zarr_sharding_changes.proofs.Subchunks.{place_within}
@@ -57,34 +57,10 @@ part_overlaid fill shape box region new cells within =
 
 -- ---- a subchunk that the region doesn't meet
 
--- boxes that have a place in common share it
-pub common_place : (ss es ts us ps : List ℕ) → is_in_box ss es ps ≡ true → is_in_box ts us ps ≡ true → share_place ss es ts us ≡ true
-common_place (s ∷ ss) (e ∷ es) (t ∷ ts) (u ∷ us) (p ∷ ps) one two =
-    let first = both_true (nat_le s p && nat_lt p (s + e)) (is_in_box ss es ps) one in
-    let second = both_true (nat_le t p && nat_lt p (t + u)) (is_in_box ts us ps) two in
-    let from = both_true (nat_le s p) (nat_lt p (s + e)) first.0 in
-    let other = both_true (nat_le t p) (nat_lt p (t + u)) second.0 in
-    let a = leb-true s p from.0 in
-    let b = ltb-true p (s + e) from.1 in
-    let c = leb-true t p other.0 in
-    let d = ltb-true p (t + u) other.1 in
-    ap (λ (b : Bool). b && share_place ss es ts us) (lt-ltb (max s t) (min (s + e) (t + u)) (omega arith)) ∙ common_place ss es ts us ps first.1 second.1
-common_place [] [] [] [] ps one two = refl
-common_place [] [] [] (u ∷ us) ps one two = cc
-common_place [] [] (t ∷ ts) [] ps one two = cc
-common_place [] [] (t ∷ ts) (u ∷ us) [] one two = cc
-common_place [] [] (t ∷ ts) (u ∷ us) (p ∷ ps) one two = cc
-common_place [] (e ∷ es) ts us ps one two = cc
-common_place (s ∷ ss) [] ts us ps one two = cc
-common_place (s ∷ ss) (e ∷ es) ts us [] one two = cc
-common_place (s ∷ ss) (e ∷ es) [] [] (p ∷ ps) one two = cc
-common_place (s ∷ ss) (e ∷ es) [] (u ∷ us) (p ∷ ps) one two = cc
-common_place (s ∷ ss) (e ∷ es) (t ∷ ts) [] (p ∷ ps) one two = cc
-
 -- no place of a box lies in one that it shares no place with
 pub apart : (ss es ts us : List ℕ) (n : ℕ) → length ss ≡ length es → share_place ss es ts us ≡ false → n < product es → is_in_box ts us (place_at ss es n) ≡ false
 apart ss es ts us n same h below = elim (cases_Bool (is_in_box ts us (place_at ss es n))) [
-  | inl met ↦ let shared : true ≡ false = sym (common_place ss es ts us (place_at ss es n) (in_box-place_at ss es n same below) met) ∙ h in cc
+  | inl met ↦ let shared : true ≡ false = sym (share_place-of ss es ts us (place_at ss es n) (in_box-place_at ss es n same below) met) ∙ h in cc
   | inr missed ↦ missed
 ]
 

@@ -7,9 +7,10 @@ use Rattle.zarr_codecs_meaning.specs.Types.{Cell}
 use Rattle.zarr_codecs_meaning.specs.Chains.{Location}
 use Rattle.zarr_codecs_meaning.specs.Chains.Location.{at_start, at_end}
 use Rattle.zarr_codecs_meaning.specs.Encoding.{Pair, Piece, base_of, joined}
-use Rattle.zarr_codecs_meaning.specs.Decoding.{pairs_of_cells, index_text, pairs_in}
-use Rattle.zarr_codecs_meaning.specs.Standing.{HasSlice, PieceStands, PiecesStand, ShardStands}
-use Rattle.zarr_codecs_meaning.proofs.Shards.{TextStands, TextsStand, words_of, pairs_back, index_read, is_present}
+use Rattle.zarr_codecs_meaning.specs.Decoding.{pairs_in}
+use Rattle.zarr_codecs_meaning.specs.Standing.{HasSlice, PieceStands, TextStands, PiecesStand, ShardStands}
+use Rattle.zarr_codecs_meaning.proofs.Shards.{TextsStand, is_present}
+use Rattle.zarr_codecs_meaning.proofs.KeptShards.{pairs_found}
 use Rattle.zarr_sharding_changes.specs.Compaction.{data_in, slice_in, stored_at, slices_of}
 
 -- the bytes of a pair are the slice that it has
@@ -61,16 +62,6 @@ data_read at_end size index text value long is =
     let kept : length value - size ≡ length text = omega (arith, count, long) in
     ap (λ n. take n value) kept ∙ (ap (take (length text)) is ∙ take-append_seam text index)
 
--- the pairs that are read of what stands, whatever its slices are to be
-pairs_read : (index : List ℕ → Option (List Cell)) (inner : List ℕ → List ℕ → List Cell → Type 0) (location : Location) (size : ℕ) (fill : Cell) (pieces : List Piece) (value : List ℕ) (h : ShardStands index inner location size fill pieces value)
-    → pairs_in index location size value ≡ Some h.0
-pairs_read index inner location size fill pieces value h =
-    let laid = h.2 in
-    let place = index_read location size laid.text h.1 value laid.long laid.is in
-    ap (λ (t : Bool). if t then option_map pairs_of_cells (index (index_text location size value)) else None) (le-leb size (length value) place.0)
-    ∙ (ap (λ (text : List ℕ). option_map pairs_of_cells (index text)) place.1
-    ∙ (ap (option_map pairs_of_cells) laid.read ∙ ap Some (pairs_back h.0 (words_of inner fill (base_of location size) h.1 pieces h.0 h.3))))
-
 -- the slices of what stands are there, and stand for the pieces
 pub shard_read : (index : List ℕ → Option (List Cell)) (inner : List ℕ → List ℕ → List Cell → Type 0) (location : Location) (size : ℕ) (fill : Cell) (pieces : List Piece) (value : List ℕ) → ShardStands index inner location size fill pieces value
     → (stored : List (Option (List ℕ))) × (option_and_then (slices_of (base_of location size) (data_in location size value)) (pairs_in index location size value) ≡ Some stored) × TextsStand inner fill pieces stored
@@ -79,6 +70,6 @@ shard_read index inner location size fill pieces value h =
     let base = base_of location size in
     let all = slices_read inner fill base h.1 pieces h.0 h.3 in
     let read : option_and_then (slices_of base (data_in location size value)) (pairs_in index location size value) ≡ Some all.0 =
-    ap (option_and_then (slices_of base (data_in location size value))) (pairs_read index inner location size fill pieces value h)
+    ap (option_and_then (slices_of base (data_in location size value))) (pairs_found index inner location size fill pieces value h)
     ∙ (ap (λ (text : List ℕ). slices_of base text h.0) (data_read location size laid.text h.1 value laid.long laid.is) ∙ all.1) in
     (all.0, read, all.2)

@@ -2,8 +2,8 @@
 use Rattle.std.proofs.Common.{◌≡◌, ℕ, zero, suc, ◌+◌, ◌-◌, ◌<◌, ◌^◌, List, [], ◌∷◌, ◌++◌, length, get_or, set, ap, ◌∙◌, sym, refl, arith, inl, inr, subst, Option, Some, None, append_assoc, append-nil, length-append}
 use Rattle.zarr_codecs_meaning.specs.Types.{Cell}
 use Rattle.zarr_codecs_meaning.specs.Encoding.{Pair, Piece, text_of, pair_at}
-use Rattle.zarr_codecs_meaning.specs.Standing.{HasSlice, PieceStands, PiecesStand}
-use Rattle.zarr_sharding_changes.specs.Changes.{Change, appended, pairs_after, no_piece, pieces_after, TextStands, ChangesStand}
+use Rattle.zarr_codecs_meaning.specs.Standing.{HasSlice, PieceStands, TextStands, PiecesStand}
+use Rattle.zarr_sharding_changes.specs.Changes.{Change, appended, pairs_after, no_piece, pieces_after, ChangesStand}
 
 -- a slice stays where it is when the data part grows
 pub slice_grown : (base : ℕ) («data» more : List ℕ) (pair : Pair) (slice : List ℕ) → HasSlice base «data» pair slice → HasSlice base («data» ++ more) pair slice

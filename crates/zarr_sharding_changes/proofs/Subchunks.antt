@@ -1,13 +1,12 @@
 -- The box of a subchunk lies in the array that is cut.
 use Rattle.std.proofs.Common.{◌≡◌, ℕ, zero, suc, ◌+◌, ◌-◌, ◌*◌, ◌/◌, ◌<◌, ◌≤◌, min, List, [], ◌∷◌, length, slice_index, ap, ◌∙◌, refl, arith, true, nat_lt}
 use Rattle.std.proofs.Math.Nat.{le-div_iff_mul-le}
-use Rattle.std.proofs.lemmas.Bool.{ltb-true}
+use Rattle.std.proofs.lemmas.Bool.{ltb-true, and_parts}
 use Rattle.zarr_grids_boxes.specs.Boxes.{product, place_at, IsIndex}
 use Rattle.zarr_grids_boxes.proofs.Dimensions.{IsIndex-tail}
 use Rattle.zarr_grids_boxes.proofs.Places.{place_at_below, length-place_at}
 use Rattle.zarr_codecs_meaning.specs.Places.{grid_of, box_of}
 use Rattle.zarr_codecs_meaning.specs.Fits.{can_cut}
-use Rattle.zarr_codecs_meaning.proofs.Lists.{both_true}
 use Rattle.zarr_sharding_changes.specs.Regions.{IsInside}
 
 within-nil : IsInside [] [] []
@@ -33,7 +32,7 @@ box_within [] (edge ∷ edges) index cuts h = cc
 box_within (size ∷ sizes) [] index cuts h = cc
 box_within (size ∷ sizes) (edge ∷ edges) [] cuts h = let l = h.same in absurd (omega arith)
 box_within (size ∷ sizes) (edge ∷ edges) (i ∷ is) cuts h =
-    let both = both_true (nat_lt 0 edge) (can_cut sizes edges) cuts in
+    let both = and_parts (nat_lt 0 edge) (can_cut sizes edges) cuts in
     let begins = begins_inside i size edge (ltb-true 0 edge both.0) (h.below 0 (omega arith)) in
     let box = box_of sizes edges is in
     within-cons (i * edge) (min edge (size - i * edge)) size box.start box.shape sizes (omega arith) (box_within sizes edges is both.1 (IsIndex-tail i ((size + (edge - 1)) / edge) is (grid_of sizes edges) h))

@@ -1,9 +1,9 @@
 -- What a write of some subchunks makes of a shard's pairs and its data part: texts are appended, and pairs replaced.
-use Rattle.std.specs.Prelude.{◌≡◌, ℕ, ◌+◌, ◌<◌, List, [], ◌∷◌, ◌++◌, length, get_or, slice_set, Option, Some, None, true, false}
-use Rattle.zarr_codecs_meaning.specs.Types.{Cell, is_fill, Elements}
+use Rattle.std.specs.Prelude.{ℕ, ◌+◌, ◌<◌, List, [], ◌∷◌, ◌++◌, length, get_or, slice_set, Option}
+use Rattle.zarr_codecs_meaning.specs.Types.{Cell, Elements}
 use Rattle.zarr_codecs_meaning.specs.Chains.{Chain}
 use Rattle.zarr_codecs_meaning.specs.Encoding.{Pair, Piece, text_of, pair_at}
-use Rattle.zarr_codecs_meaning.specs.Standing.{Slices, IsEncoding, StandsBy}
+use Rattle.zarr_codecs_meaning.specs.Standing.{TextStands, Slices, IsEncoding, StandsBy}
 use Rattle.zarr_codecs_meaning.specs.Standing.Slices.{standing_slices, encoded_slices}
 
 -- the number of a subchunk, and the text that it is encoded as, or None where it became all fill
@@ -32,11 +32,6 @@ pieces_after wanted (change ∷ changes) pieces = pieces_after wanted changes (s
 -- a slice of a shard is to stand for its subchunk's cells, or it is to be what encoding writes
 abbrev pub SliceStands : Slices → Chain → Elements → List ℕ → List ℕ → List Cell → Type 0
 SliceStands slices inner elements = elim slices [ standing_slices ↦ StandsBy standing_slices inner elements | encoded_slices ↦ IsEncoding inner elements ]
-
--- there is no text for a subchunk that is all fill; any other text stands for the subchunk's cells
-abbrev pub TextStands : (List ℕ → List ℕ → List Cell → Type 0) → Cell → Piece → Option (List ℕ) → Type 0
-TextStands inner fill piece None = is_fill fill piece.1 ≡ true
-TextStands inner fill piece (Some text) = (is_fill fill piece.1 ≡ false) × inner piece.0 text piece.1
 
 -- each change is of a subchunk that is there, and its text stands for what is wanted
 abbrev pub ChangesStand : (List ℕ → List ℕ → List Cell → Type 0) → Cell → List Piece → List Change → Type 0

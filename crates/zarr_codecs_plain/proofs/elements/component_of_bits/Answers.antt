@@ -27,7 +27,7 @@ returns c =
     let bits = bits_of c.args.bits.now in
     let n = number 2 (take (end - first) bits) * 2 ^ first in
     let kept = is_kept first end bits (bits_small c.args.bits.now) in
-    let many : c.in_ok-count.count ≡ 8 * size = c.in_ok-count.ensures in
+    let many : c.in_ok-count.count ≡ 8 * size = c.in_ok-count.ensures.ok in
     let count : c.loop-place.place ≡ 8 * size = omega (arith, many) in
     let read : bits_of c.deref.result.now ≡ digits 2 (8 * size) (extended sign end size n) =
     ap bits_of c.deref.ensures.value ∙ (c.loop-place.invariant ∙ (ap (λ k. map (stored_bit sign first end bits) (range_with_len 0 k)) count ∙ sym (extended_bits sign first end size n bits kept))) in

@@ -8,4 +8,4 @@ loop-n-preserved c =
     let inner = map (λ (place : Vec ℕ Global). place.items) c.args.inner.now in
     let row = λ (i : ℕ). map (λ (place : List ℕ). i ∷ place) inner in
     c.in_ok-push_longer.ensures ∙ (ap (λ (places : List (List ℕ)). places ++ row c.in_ok-i.i) c.loop-n.invariant
-    ∙ (ap (λ (i : ℕ). flat_map row (range_with_len c.args.begin c.loop-n.n) ++ row i) c.in_ok-i.ensures ∙ sym (flat_map_range_more row c.args.begin c.loop-n.n)))
+    ∙ (ap (λ (i : ℕ). flat_map row (range_with_len c.args.begin c.loop-n.n) ++ row i) c.in_ok-i.ensures.ok ∙ sym (flat_map_range_more row c.args.begin c.loop-n.n)))

@@ -11,5 +11,5 @@ returns c =
     unpacked_is c.args.first c.args.last (type_of c.args.data_type.now) (components_of c.in_ok-parts.parts.items) c.args.bits.now c.cut.result.now c.args.place c.in_ok-start.start c.in_ok-width.width c.in_ok-element.element.items
     c.in_ok-parts.ensures
     (c.in_ok-width.ensures ∙ ap (λ parts. bits_in c.args.first c.args.last (components_of parts)) c.deref.ensures.value)
-    c.in_ok-start.ensures c.cut.ensures
+    c.in_ok-start.ensures.ok c.cut.ensures
     (c.in_ok-element.ensures ∙ ap (λ parts. element_of_bits c.args.first c.args.last (components_of parts) (bits_of c.cut.result.now)) c.deref-2.ensures.value)

@@ -1,8 +1,7 @@
 use Rattle.std.proofs.Common.{◌≡◌, ◌∙◌, ◌+◌, ◌-◌, ◌<◌, ◌≤◌, ◌^◌, ℕ, true, List, length, get_or, sym, ap, subst}
 use Rattle.std.proofs.lemmas.List.{length-map}
-use Rattle.zarr_grids_boxes.specs.Boxes.{is_in_box, EndsFit}
+use Rattle.zarr_grids_boxes.specs.Boxes.{is_in_box, EndsFit, last_index}
 use Rattle.zarr_grids_boxes.proofs.Places.{length-each2}
-use Rattle.zarr_grids_chunks.specs.Regular.{last_index}
 use Rattle.zarr_grids_dimensions.specs.Dimensions.{dimension_of, grid_of}
 use Rattle.zarr_grids_dimensions.specs.Lookups.{lies_in}
 use Rattle.zarr_grids_dimensions.specs.Chunks.{numbers, counts_to}

@@ -1,9 +1,8 @@
 use Rattle.std.proofs.Common.{◌≡◌, ◌∙◌, ◌+◌, ◌-◌, ◌<◌, ◌≤◌, ℕ, List, length, get_or, sym, ap, subst, Some, option_map}
-use Rattle.zarr_grids_boxes.specs.Boxes.{is_in_box, EndsFit}
+use Rattle.zarr_grids_boxes.specs.Boxes.{is_in_box, EndsFit, last_index}
 use Rattle.zarr_grids_boxes.specs.Subsets.{region_of}
 use Rattle.zarr_grids_boxes.proofs.Places.{length-each2}
 use Rattle.zarr_grids_chunks.specs.Grids.{chunk_box}
-use Rattle.zarr_grids_chunks.specs.Regular.{last_index}
 use Rattle.zarr_grids_dimensions.specs.Dimensions.{dimension_of, grid_of}
 use Rattle.zarr_grids_dimensions.specs.Chunks.{lengths_to}
 use Rattle.std.proofs.lemmas.List.{length-map}

@@ -1,5 +1,5 @@
 use Rattle.std.proofs.Common.{◌≡◌, ◌++◌, drop}
-use Rattle.zarr_grids_chunks.specs.Regular.{last_index}
+use Rattle.zarr_grids_boxes.specs.Boxes.{last_index}
 use Rattle.zarr_grids_dimensions.proofs.boxes.last_place.Given as goal
 
 -- what is left goes on from what was found

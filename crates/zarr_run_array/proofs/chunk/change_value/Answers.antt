@@ -10,7 +10,7 @@ use Rattle.zarr_run_array.proofs.chunk.change_value.Goals as goal
 pub returns-in-Some-true-clause-changed : goal.returns-in-Some-true-clause-changed
 returns-in-Some-true-clause-changed c = λ _.
     let done = c.in-Some.ensures.some in
-    let box : Region = record { start = c.args.origin.now; shape = c.args.document.now.chunk_shape.items } in
+    let box : Region = record { start = c.args.origin.now; shape = c.args.chunk_shape.now } in
     let sized : length done.before ≡ c.args.count = search rules in
     let over : IsPutOver (region_of c.args.region.now) box c.args.bytes.now done.before done.after = search rules in
     let empty : (not c.args.store_empty && list_all (λ b. b == c.args.document.now.fill_value) done.after) ≡ true = search rules in

@@ -2,7 +2,8 @@ use Rattle.std.proofs.Common.{◌≡◌, ◌∙◌, ◌<◌, ◌≤◌, sym, len
 use Rattle.zarr_grids_boxes.specs.Boxes.{Region, product}
 use Rattle.zarr_grids_boxes.specs.Subsets.{region_of}
 use Rattle.zarr_array_documents.specs.Meanings.{meaning_of}
-use Rattle.zarr_run_array.proofs.Erased.{erased_none, erased_next, first_chunks-places, first_chunks-taken, rank_below}
+use Rattle.zarr_run_array.proofs.ChunkBoxes.{below_rank}
+use Rattle.zarr_run_array.proofs.Erased.{erased_none, erased_next, first_chunks-places, first_chunks-taken}
 use Rattle.zarr_run_array.proofs.erasing.erase_chunks.Goals as goal
 
 pub returns-then-count-eq0-clause-ok : goal.returns-then-count-eq0-clause-ok
@@ -13,8 +14,8 @@ returns-then-count-eq0-clause-ok c =
 
 pub write_place-requires-clause-room : goal.write_place-requires-clause-room
 write_place-requires-clause-room c =
-    let rank = rank_below c.args.document.now (region_of c.args.chunks.now) c.requires.below in
-    let front : length c.loop-n.chunk ≡ length c.args.document.now.chunk_shape.items = search rules in
+    let rank = below_rank c.args.document.now (region_of c.args.chunks.now) c.requires.below in
+    let front : length c.loop-n.chunk ≡ length c.args.document.now.grid.items = search rules in
     rw c.as_slice-first.ensures.value (front ∙ sym rank)
 
 pub returns-in-Err-clause-erased : goal.returns-in-Err-clause-erased

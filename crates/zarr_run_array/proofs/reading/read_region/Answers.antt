@@ -2,13 +2,13 @@ use Rattle.std.proofs.Common.{◌≡◌, ◌∙◌, sym, ap, length, rules, repl
 use Rattle.zarr_grids_boxes.specs.Boxes.{Region}
 use Rattle.zarr_grids_boxes.specs.Subsets.{region_of}
 use Rattle.zarr_array_documents.specs.Meanings.{meaning_of}
+use Rattle.zarr_run_array.proofs.ChunkBoxes.{covered_rank}
 use Rattle.zarr_run_array.proofs.ChunkValues.{written_over}
 use Rattle.zarr_run_array.proofs.ChunkReads.{laid_start, laid_all}
-use Rattle.zarr_run_array.proofs.MetChunks.{rank_of}
 use Rattle.zarr_run_array.proofs.reading.read_region.Goals as goal
 
 pub read_chunks-requires-clause-rank : goal.read_chunks-requires-clause-rank
-read_chunks-requires-clause-rank c = rank_of c.args.document.now (region_of c.args.region.now) c.requires.covered
+read_chunks-requires-clause-rank c = covered_rank c.args.document.now (region_of c.args.region.now) c.requires.covered
 
 pub returns-in-Ok-read_chunks-clause-ok : goal.returns-in-Ok-read_chunks-clause-ok
 returns-in-Ok-read_chunks-clause-ok c =

@@ -1,6 +1,6 @@
 use Rattle.std.proofs.Common.{◌≡◌, ◌++◌, drop, option_map}
 use Rattle.serde_json.specs.View.{items_view}
-use Rattle.zarr_array_documents.specs.Parts.{sizes_of}
+use Rattle.zarr_grids_configurations.specs.Numbers.{sizes_of}
 use Rattle.zarr_run_commands.proofs.field.read_indices.Given as goal
 
 -- what is left goes on from the indices so far

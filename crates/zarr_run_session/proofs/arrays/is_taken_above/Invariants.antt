@@ -1,12 +1,12 @@
 use Rattle.std.proofs.Common.{length}
 use denote.Text.{Utf8}
 use denote.Shadow.{shadow}
-use Rattle.zarr_run_session.proofs.TakenLemmas.{IsReachedFrom}
+use Rattle.zarr_run_session.proofs.TakenLemmas.{IsReachedFrom, IsHeldAt}
 use Rattle.zarr_run_session.proofs.arrays.is_taken_above.Given as goal
 
 -- the paths above the lower one are those above the path where an array may still be held
 abbrev pub invariant-loop-parent : goal.invariant-loop-parent
-invariant-loop-parent l = shadow (Utf8 l.lower) × IsReachedFrom l.arrays l.path l.lower
+invariant-loop-parent l = shadow (Utf8 l.lower) × IsReachedFrom (IsHeldAt l.arrays) l.path l.lower
 
 abbrev pub decreases-loop-parent : goal.decreases-loop-parent
 decreases-loop-parent l = length l.lower

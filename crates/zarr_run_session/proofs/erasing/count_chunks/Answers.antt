@@ -1,4 +1,5 @@
 use Rattle.std.proofs.Common.{◌∙◌, ◌<◌, sym, arith}
+use Rattle.std.proofs.lemmas.Bool.{false≢true}
 use Rattle.zarr_grids_boxes.specs.Boxes.{product}
 use Rattle.zarr_grids_boxes.specs.Subsets.{region_of}
 use Rattle.zarr_run_session.proofs.ErasureLemmas.{a_chunk_too_large, chunks_fit, no_chunk_fits}
@@ -9,17 +10,13 @@ returns-then-count-eq0-clause-fits c =
     let count = rw c.as_slice-shape.ensures.value at c.in-Some.ensures in
     no_chunk_fits c.args.array.now.document (region_of c.args.chunks.now) (sym count.1 ∙ c.if-count-eq0.true)
 
-pub returns-in_default-count_places-clause-large : goal.returns-in_default-count_places-clause-large
-returns-in_default-count_places-clause-large c =
-    let count = rw c.as_slice-shape.ensures.value at c.in-Some.ensures in
-    let large = rw c.as_slice-chunk_shape.ensures.value at c.in_default-count_places.ensures in
-    let is = count.1 in
-    let not_zero = c.if-count-eq0.false in
-    let some : 0 < product c.args.chunks.now.shape.items = omega arith in
-    a_chunk_too_large c.args.array.now.document (region_of c.args.chunks.now) c.args.chunks.now.same some c.requires large
+pub returns-then-has_chunk_of-clause-large : goal.returns-then-has_chunk_of-clause-large
+returns-then-has_chunk_of-clause-large c =
+    let has = rw c.deref.ensures.value at c.has_chunk_of.ensures in
+    a_chunk_too_large c.args.array.now.document (region_of c.args.chunks.now) (has.0 c.if-has_chunk_of.true)
 
 pub returns-clause-fits : goal.returns-clause-fits
 returns-clause-fits c =
     let count = rw c.as_slice-shape.ensures.value at c.in-Some.ensures in
-    let chunk_count = rw c.as_slice-chunk_shape.ensures.value at c.in-Some-count_places.ensures in
-    chunks_fit c.args.array.now.document (region_of c.args.chunks.now) count.0 chunk_count.0
+    let has = rw c.deref.ensures.value at c.has_chunk_of.ensures in
+    chunks_fit c.args.array.now.document (region_of c.args.chunks.now) count.0 (λ h. false≢true (sym c.if-has_chunk_of.false ∙ has.1 h))

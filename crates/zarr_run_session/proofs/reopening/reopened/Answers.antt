@@ -13,8 +13,8 @@ returns-in-Some-clause-placed c = λ placed.
 
 pub returns-in-Ok-hold-clause-opens : goal.returns-in-Ok-hold-clause-opens
 returns-in-Ok-hold-clause-opens c =
-    let P : Option HeldArray → Type 0 = λ o. Reopened o c.args.path.now c.args.order c.args.store.now done c.hold.new.arrays in
-    subst P c.in_default.ensures (c.in_ok-array.ensures.ok.0, c.in_ok-array.ensures.ok.1, c.in_ok-array.array, ap (array_at c.hold.new.arrays) (sym c.in-Ok.ensures.ok) ∙ c.in-Ok-hold.ensures.held, c.in_ok-array.ensures.ok.2)
+    let P : Option HeldArray → Type 0 = λ o. Reopened o c.args.path.now c.args.order c.args.arrays.now c.args.store.now done c.hold.new.arrays in
+    subst P c.in_default.ensures (c.in_ok-array.ensures.free, c.in_ok-array.ensures.ok.0, c.in_ok-array.ensures.ok.1, c.in_ok-array.array, ap (array_at c.hold.new.arrays) (sym c.in-Ok.ensures.ok) ∙ c.in-Ok-hold.ensures.held, c.in_ok-array.ensures.ok.2)
 
 pub returns-in-Ok-hold-clause-placed : goal.returns-in-Ok-hold-clause-placed
 returns-in-Ok-hold-clause-placed c =

@@ -1,2 +1,0 @@
-//! Worked values of the definitions, by their literal bytes.
-mod decode;

@@ -1,0 +1,5 @@
+//! Tests of data types, fill values and cells.
+#![tactic(auto)]
+
+#[cfg(test)]
+mod types;

@@ -1,0 +1,5 @@
+pub mod Items
+pub mod MakingWalk
+pub mod Positive
+pub mod ReadsBack
+pub mod Singles

@@ -1,0 +1,9 @@
+use Rattle.std.proofs.Common.{◌≡◌, ◌++◌, drop, map, option_map}
+use Rattle.serde_json.specs.View.{items_view}
+use Rattle.zarr_grids_configurations.specs.Configurations.{in_each_item, rectangular_edges}
+use Rattle.zarr_grids_configurations.specs.Views.{rectangular_view}
+use Rattle.zarr_grids_configurations.proofs.reading.rectangular_items.Given as goal
+
+-- what is left goes on from the edges so far
+abbrev pub invariant-loop-item : goal.invariant-loop-item
+invariant-loop-item l = in_each_item rectangular_edges (items_view l.items) ≡ option_map (λ rest. map rectangular_view l.found.items ++ rest) (in_each_item rectangular_edges (items_view (drop l.item-index l.items)))

@@ -1,0 +1,6 @@
+pub mod ChunkBoxes
+pub mod ChunkLaws
+pub mod ChunksMet
+pub mod LargestEdges
+pub mod NumbersBelow
+pub mod PlacesKept

@@ -1,0 +1,4 @@
+pub mod Below
+pub mod Laws
+pub mod Met
+pub mod Sizes

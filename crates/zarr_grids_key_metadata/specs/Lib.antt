@@ -1,0 +1,2 @@
+pub mod KeyMetadata
+pub mod Laws

@@ -1,0 +1,4 @@
+//! Grids with values worked out by hand.
+
+mod below;
+mod met;
