@@ -1,4 +1,5 @@
 pub mod Loops
+pub mod Large
 pub mod DigitLists
 pub mod SizeSums
 pub mod BitLists

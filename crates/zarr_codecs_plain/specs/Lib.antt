@@ -1,4 +1,5 @@
 pub mod Sizes
+pub mod Largest
 pub mod Views
 pub mod Subchunks
 pub mod Bits

@@ -1,7 +1,9 @@
 //! Chains of codecs as data.
-ghost use Rattle.std.specs.Prelude.{◌≡◌, IfOk, option_map};
+ghost use Rattle.std.specs.Prelude.{◌≡◌, IfOk, option_map, unwrap_or};
 ghost use Rattle.zarr_codecs_meaning.specs.Chains.{ByteCodec};
+ghost use Rattle.zarr_codecs_meaning.specs.Fits.{bound_of};
 ghost use Rattle.zarr_codecs_plain.specs.Sizes.{size_known};
+ghost use Rattle.zarr_codecs_plain.specs.Largest.{OkOrLarge};
 
 use crate::error::PlainError;
 use crate::representation::BytesRepresentation;
@@ -66,8 +68,10 @@ pub trait PlainByteCodec: Drop {
         ensures { IfOk result (λ r. option_map (λ v. v.items) r ≡ (meaning self.now).decode text.now) };
 
     /// What is known of the size of what it makes, by what is known of the size of what it is given.
+    /// `Size` where the size or the bound that it would tell is 2^64 or more.
     fn representation(&self, known: BytesRepresentation) -> Result<BytesRepresentation, PlainError>
-        ensures { IfOk result (λ r. size_known r ≡ (meaning self.now).representation (size_known known)) };
+        ensures { OkOrLarge result (λ r. size_known r ≡ (meaning self.now).representation (size_known known))
+            (unwrap_or (bound_of ((meaning self.now).representation (size_known known))) 0) };
 }
 
 /// A chain of codecs: the array to array codecs in their order, the array to bytes codec, and the bytes to bytes codecs in their order.

@@ -1,11 +1,12 @@
 //! The bytes and the bits of elements.
-ghost use Rattle.std.specs.Prelude.{◌≡◌, ◌+◌, ◌-◌, ◌*◌, ◌/◌, ◌^◌, ◌++◌, take, get_or, option_map, IfOk, OnOk};
+ghost use Rattle.std.specs.Prelude.{◌≡◌, ◌+◌, ◌-◌, ◌*◌, ◌/◌, ◌^◌, ◌++◌, max, take, get_or, option_map, IfOk, OnOk};
 ghost use Rattle.zarr_codecs_meaning.specs.Numbers.{digits, number};
-ghost use Rattle.zarr_codecs_meaning.specs.Types.{extended};
+ghost use Rattle.zarr_codecs_meaning.specs.Types.{extended, bytes_in};
 ghost use Rattle.zarr_codecs_meaning.specs.Encoding.{in_order, ordered, element_bits, element_of_bits};
 ghost use Rattle.zarr_codecs_types.specs.Views.{sign_of, components_of};
 ghost use Rattle.zarr_codecs_plain.specs.Views.{order_of};
 ghost use Rattle.zarr_codecs_plain.specs.Bits.{bit_of, bits_of, bit_from, bit_above, stored_bit};
+ghost use Rattle.zarr_codecs_plain.specs.Largest.{OkOrLarge, largest_end};
 
 use crate::bits::{bits_of, packed};
 use crate::chain::Endianness;
@@ -105,7 +106,8 @@ fn push_element_bits(
     parts: &[Component],
     text: &[u8],
 ) -> Result<(), PlainError>
-    ensures { OnOk result (bits_of out.new.items ≡ bits_of out.old.items ++ element_bits first last (components_of parts.now) text.now) }
+    ensures { OkOrLarge result (λ u. bits_of out.new.items ≡ bits_of out.old.items ++ element_bits first last (components_of parts.now) text.now)
+        (largest_end last (components_of parts.now)) }
 {
     match parts.split_first() {
         None => Ok(()),
@@ -125,7 +127,7 @@ pub fn element_bits(
     parts: &[Component],
     text: &[u8],
 ) -> Result<Vec<bool>, PlainError>
-    ensures { IfOk result (λ v. bits_of v.items ≡ element_bits first last (components_of parts.now) text.now) }
+    ensures { OkOrLarge result (λ v. bits_of v.items ≡ element_bits first last (components_of parts.now) text.now) (largest_end last (components_of parts.now)) }
 {
     let mut out = Vec::new(alloc);
     push_element_bits(alloc, &mut out, first, last, parts, text)?;
@@ -177,8 +179,8 @@ pub fn component_of_bits(
     end: usize,
     bits: &[bool],
 ) -> Result<Vec<u8>, PlainError>
-    ensures { IfOk result (λ v. v.items ≡ digits 256 part.now.byte_count
-        (extended (sign_of part.now.sign) end part.now.byte_count (number 2 (take (end - first) (bits_of bits.now)) * 2 ^ first))) }
+    ensures { OkOrLarge result (λ v. v.items ≡ digits 256 part.now.byte_count
+        (extended (sign_of part.now.sign) end part.now.byte_count (number 2 (take (end - first) (bits_of bits.now)) * 2 ^ first))) (8 * part.now.byte_count) }
 {
     let count = multiply(8, part.byte_count)?;
     let mut all = Vec::new(alloc);
@@ -198,7 +200,8 @@ fn push_element(
     parts: &[Component],
     bits: &[bool],
 ) -> Result<(), PlainError>
-    ensures { OnOk result (out.new.items ≡ out.old.items ++ element_of_bits first last (components_of parts.now) (bits_of bits.now)) }
+    ensures { OkOrLarge result (λ u. out.new.items ≡ out.old.items ++ element_of_bits first last (components_of parts.now) (bits_of bits.now))
+        (max (largest_end last (components_of parts.now)) (8 * bytes_in (components_of parts.now))) }
 {
     match parts.split_first() {
         None => Ok(()),
@@ -222,7 +225,8 @@ pub fn element_of_bits(
     parts: &[Component],
     bits: &[bool],
 ) -> Result<Vec<u8>, PlainError>
-    ensures { IfOk result (λ v. v.items ≡ element_of_bits first last (components_of parts.now) (bits_of bits.now)) }
+    ensures { OkOrLarge result (λ v. v.items ≡ element_of_bits first last (components_of parts.now) (bits_of bits.now))
+        (max (largest_end last (components_of parts.now)) (8 * bytes_in (components_of parts.now))) }
 {
     let mut out = Vec::new(alloc);
     push_element(alloc, &mut out, first, last, parts, bits)?;

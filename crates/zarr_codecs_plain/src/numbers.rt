@@ -1,6 +1,7 @@
 //! Numbers as bytes, the lowest first.
 ghost use Rattle.std.specs.Prelude.{◌≡◌, ◌++◌, IfOk, OnOk};
 ghost use Rattle.zarr_codecs_meaning.specs.Numbers.{digits, number, word};
+ghost use Rattle.zarr_codecs_plain.specs.Sizes.{IsNumber};
 
 use crate::error::PlainError;
 use std::alloc::{AllocError, Global};
@@ -26,8 +27,9 @@ pub fn word(alloc: Global, n: u64) -> Result<Vec<u8>, AllocError>
 }
 
 /// The number that bytes write, of any count of bytes. `Size` where it is 2^64 or more.
+#[tactic(auto, using(crate::proofs::Large::number_behind))]
 pub fn number(bytes: &[u8]) -> Result<u64, PlainError>
-    ensures { IfOk result (λ n. n ≡ number 256 bytes.now) }
+    ensures { IsNumber result (number 256 bytes.now) }
 {
     let mut n: u64 = 0;
     let mut left = bytes.len();

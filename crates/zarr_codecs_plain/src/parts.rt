@@ -1,8 +1,9 @@
 //! The subchunks of a shard.
-ghost use Rattle.std.specs.Prelude.{◌≡◌, ◌++◌, ◌*◌, ◌-◌, map, min, IfOk, OnOk};
+ghost use Rattle.std.specs.Prelude.{◌≡◌, ◌++◌, ◌*◌, ◌-◌, map, min, OnOk};
 ghost use Rattle.zarr_grids_boxes.specs.Boxes.{each2};
 ghost use Rattle.zarr_codecs_meaning.specs.Places.{part_of, parts_of, box_of};
 ghost use Rattle.zarr_codecs_plain.specs.Subchunks.{part_as};
+ghost use Rattle.zarr_codecs_plain.specs.Largest.{OkOrLarge, largest, largest_of_part, largest_of_parts};
 
 use crate::error::PlainError;
 use crate::places::{places, places_of, ravel_each};
@@ -18,7 +19,8 @@ pub struct Part {
 
 /// Where the subchunk with this index begins, behind other numbers.
 fn push_start(start: &mut Vec<usize>, index: &[usize], subchunk: &[usize]) -> Result<(), PlainError>
-    ensures { OnOk result (start.new.items ≡ start.old.items ++ each2 (λ i edge. i * edge) index.now subchunk.now) }
+    ensures { OkOrLarge result (λ u. start.new.items ≡ start.old.items ++ each2 (λ i edge. i * edge) index.now subchunk.now)
+        (largest (each2 (λ i edge. i * edge) index.now subchunk.now)) }
 {
     match (index.split_first(), subchunk.split_first()) {
         (Some((i, inner)), Some((edge, edges))) => {
@@ -66,7 +68,7 @@ fn part_at(
     subchunk: &[usize],
     index: &[usize],
 ) -> Result<Part, PlainError>
-    ensures { IfOk result (λ part. part_as part ≡ part_of shape.now (box_of shape.now subchunk.now index.now)) }
+    ensures { OkOrLarge result (λ part. part_as part ≡ part_of shape.now (box_of shape.now subchunk.now index.now)) (largest_of_part shape.now subchunk.now index.now) }
 {
     let mut start = Vec::new(alloc);
     push_start(&mut start, index, subchunk)?;
@@ -83,8 +85,9 @@ fn part_at(
 }
 
 /// The subchunks of an array, row-major. Those at its ends are clipped to it.
+#[tactic(auto, using(crate::proofs::Large::largest_through))]
 pub fn parts(alloc: Global, shape: &[usize], subchunk: &[usize]) -> Result<Vec<Part>, PlainError>
-    ensures { IfOk result (λ v. map part_as v.items ≡ parts_of shape.now subchunk.now) }
+    ensures { OkOrLarge result (λ v. map part_as v.items ≡ parts_of shape.now subchunk.now) (largest_of_parts shape.now subchunk.now) }
 {
     let grid = grid_of(alloc, shape, subchunk)?;
     let indices = places_of(alloc, &grid)?;

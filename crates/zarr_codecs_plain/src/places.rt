@@ -1,19 +1,21 @@
 //! Places of an array and their numbers, row-major.
-ghost use Rattle.std.specs.Prelude.{◌≡◌, ◌∷◌, ◌++◌, map, flat_map, IfOk, OnOk};
+ghost use Rattle.std.specs.Prelude.{◌≡◌, ◌+◌, ◌∷◌, ◌++◌, map, flat_map, IfOk, OnOk};
 ghost use Rattle.std.specs.List.{range_with_len};
-ghost use Rattle.zarr_grids_boxes.specs.Boxes.{places, ravel};
+ghost use Rattle.zarr_grids_boxes.specs.Boxes.{product, each2, places, ravel};
 ghost use Rattle.zarr_codecs_meaning.specs.Places.{place_numbers, places_of, position_of};
+ghost use Rattle.zarr_codecs_plain.specs.Sizes.{IsNumber};
+ghost use Rattle.zarr_codecs_plain.specs.Largest.{OkOrLarge, largest};
 
 use crate::error::PlainError;
 use crate::shapes::{add, multiply, product};
 use std::alloc::{AllocError, Global};
 
-/// The number of a place in an array of this shape. `Size` where it, or the count of places behind
-/// one of its dimensions, is 2^64 or more.
+/// The number of a place in an array of this shape. `Size` where it is 2^64 or more.
 pub fn ravel(place: &[usize], shape: &[usize]) -> Result<usize, PlainError>
-    ensures { IfOk result (λ n. n ≡ ravel place.now shape.now) }
+    ensures { IsNumber result (ravel place.now shape.now) }
 {
     match (place.split_first(), shape.split_first()) {
+        (Some((0, inner)), Some((_, sizes))) => ravel(inner, sizes),
         (Some((i, inner)), Some((_, sizes))) => {
             let begin = multiply(*i, product(sizes)?)?;
             add(begin, ravel(inner, sizes)?)
@@ -55,8 +57,8 @@ fn rows(
     size: usize,
     inner: &[Vec<usize>],
 ) -> Result<Vec<Vec<usize>>, PlainError>
-    ensures { IfOk result (λ v. map (λ place. place.items) v.items
-        ≡ flat_map (λ i. map (λ place. i ∷ place) (map (λ place. place.items) inner.now)) (range_with_len begin size)) }
+    ensures { OkOrLarge result (λ v. map (λ place. place.items) v.items
+        ≡ flat_map (λ i. map (λ place. i ∷ place) (map (λ place. place.items) inner.now)) (range_with_len begin size)) (begin + size) }
 {
     let mut found = Vec::new(alloc);
     for n in 0..size {
@@ -72,12 +74,14 @@ pub fn places(
     start: &[usize],
     shape: &[usize],
 ) -> Result<Vec<Vec<usize>>, PlainError>
-    ensures { IfOk result (λ v. map (λ place. place.items) v.items ≡ places start.now shape.now) }
+    ensures { OkOrLarge result (λ v. map (λ place. place.items) v.items ≡ places start.now shape.now)
+        (largest (each2 (λ begin size. begin + size) start.now shape.now)) }
 {
     match (start.split_first(), shape.split_first()) {
         (Some((begin, begins)), Some((size, sizes))) => {
             let inner = places(alloc, begins, sizes)?;
-            rows(alloc, *begin, *size, &inner)
+            let found = rows(alloc, *begin, *size, &inner)?;
+            Ok(found)
         }
         _ => {
             let mut found = Vec::new(alloc);
@@ -89,15 +93,16 @@ pub fn places(
 
 /// All places of a shape, row-major.
 pub fn places_of(alloc: Global, shape: &[usize]) -> Result<Vec<Vec<usize>>, PlainError>
-    ensures { IfOk result (λ v. map (λ place. place.items) v.items ≡ places_of shape.now) }
+    ensures { OkOrLarge result (λ v. map (λ place. place.items) v.items ≡ places_of shape.now) (largest shape.now) }
 {
     let zeros: Vec<usize> = shape.iter().map(|_| 0).collect(alloc)?;
-    places(alloc, &zeros, shape)
+    let found = places(alloc, &zeros, shape)?;
+    Ok(found)
 }
 
 /// The numbers of all places of a shape.
 pub fn place_numbers(alloc: Global, shape: &[usize]) -> Result<Vec<usize>, PlainError>
-    ensures { IfOk result (λ v. v.items ≡ place_numbers shape.now) }
+    ensures { OkOrLarge result (λ v. v.items ≡ place_numbers shape.now) (product shape.now) }
 {
     let mut numbers = Vec::new(alloc);
     for n in 0..product(shape)? {
@@ -107,12 +112,14 @@ pub fn place_numbers(alloc: Global, shape: &[usize]) -> Result<Vec<usize>, Plain
 }
 
 /// The numbers of places in an array of this shape.
+#[tactic(auto, using(crate::proofs::Large::largest_through))]
 pub fn ravel_each(
     alloc: Global,
     places: &[Vec<usize>],
     shape: &[usize],
 ) -> Result<Vec<usize>, PlainError>
-    ensures { IfOk result (λ v. v.items ≡ map (λ place. ravel place shape.now) (map (λ place. place.items) places.now)) }
+    ensures { OkOrLarge result (λ v. v.items ≡ map (λ place. ravel place shape.now) (map (λ place. place.items) places.now))
+        (largest (map (λ place. ravel place shape.now) (map (λ place. place.items) places.now))) }
 {
     let mut numbers = Vec::new(alloc);
     for place in places {

@@ -1,10 +1,11 @@
 //! Shapes, and what array codecs and shards make of them.
-ghost use Rattle.std.specs.Prelude.{◌≡◌, ◌≤◌, ◌+◌, ◌-◌, ◌*◌, ◌/◌, ◌^◌, ℕ, ◌++◌, map, slice_index, not, ◌==◌, IfOk, IfErr, OnOk};
+ghost use Rattle.std.specs.Prelude.{◌≡◌, ◌≤◌, ◌+◌, ◌-◌, ◌*◌, ◌/◌, ◌^◌, ℕ, max, ◌++◌, map, slice_index, not, ◌==◌, IfOk, IfErr, OnOk};
 ghost use Rattle.std.specs.List.{filter};
 ghost use Rattle.zarr_grids_boxes.specs.Boxes.{product};
 ghost use Rattle.zarr_codecs_meaning.specs.Places.{known_product, entry_size, squeezed, step_shape, grid_of, index_shape};
 ghost use Rattle.zarr_codecs_plain.specs.Views.{entry_of, step_of};
 ghost use Rattle.zarr_codecs_plain.specs.Sizes.{IsNumber};
+ghost use Rattle.zarr_codecs_plain.specs.Largest.{OkOrLarge, largest};
 ghost use Rattle.zarr_codecs_plain.specs.declared.error.PlainError.TheVariants.{Size};
 
 use crate::chain::{ShapeEntry, Step};
@@ -129,7 +130,8 @@ fn entry_size(
     shape: &[usize],
     entry: &ShapeEntry,
 ) -> Result<usize, PlainError>
-    ensures { IfOk result (λ n. n ≡ entry_size (known_product (map entry_of entries.now) shape.now) shape.now (entry_of entry.now)) }
+    ensures { OkOrLarge result (λ n. n ≡ entry_size (known_product (map entry_of entries.now) shape.now) shape.now (entry_of entry.now))
+        (max (product shape.now) (entry_size (known_product (map entry_of entries.now) shape.now) shape.now (entry_of entry.now))) }
 {
     match entry {
         ShapeEntry::Size(size) => Ok(*size),
@@ -142,12 +144,14 @@ fn entry_size(
 }
 
 /// The sizes that the entries of a new shape stand for.
+#[tactic(auto, using(crate::proofs::Large::largest_through))]
 fn reshaped(
     alloc: Global,
     entries: &[ShapeEntry],
     shape: &[usize],
 ) -> Result<Vec<usize>, PlainError>
-    ensures { IfOk result (λ v. v.items ≡ map (entry_size (known_product (map entry_of entries.now) shape.now) shape.now) (map entry_of entries.now)) }
+    ensures { OkOrLarge result (λ v. v.items ≡ map (entry_size (known_product (map entry_of entries.now) shape.now) shape.now) (map entry_of entries.now))
+        (max (product shape.now) (largest (map (entry_size (known_product (map entry_of entries.now) shape.now) shape.now) (map entry_of entries.now)))) }
 {
     let mut sizes = Vec::new(alloc);
     for entry in entries {
@@ -182,7 +186,8 @@ fn squeezed(alloc: Global, shape: &[usize]) -> Result<Vec<usize>, AllocError>
 /// The shape of what an array codec makes of an array. `Size` where a size of a new shape passes
 /// 2^64 - 1, or where one is left over of an array of 2^64 elements or more.
 pub fn step_shape(alloc: Global, step: &Step, shape: &[usize]) -> Result<Vec<usize>, PlainError>
-    ensures { IfOk result (λ v. v.items ≡ step_shape (step_of step.now) shape.now) }
+    ensures { OkOrLarge result (λ v. v.items ≡ step_shape (step_of step.now) shape.now)
+        (max (product shape.now) (largest (step_shape (step_of step.now) shape.now))) }
 {
     match step {
         Step::Transpose(order) => Ok(sizes_at(alloc, shape, order)?),

@@ -1,27 +1,28 @@
 //! What is known of the size of what a chain writes.
-ghost use Rattle.std.specs.Prelude.{◌≡◌, ◌+◌, ◌*◌, map, IfOk, option_and_then, option_map};
-ghost use Rattle.zarr_codecs_meaning.specs.Types.{components, bytes_in};
+ghost use Rattle.std.specs.Prelude.{◌≡◌, ◌≤◌, ◌+◌, ◌*◌, max, map, option_and_then, option_map, unwrap_or};
+ghost use Rattle.zarr_codecs_meaning.specs.Types.{uint64, components, bytes_in};
 ghost use Rattle.zarr_grids_boxes.specs.Boxes.{product};
 ghost use Rattle.zarr_codecs_meaning.specs.Chains.BytesRepresentation.{fixed_size};
 ghost use Rattle.zarr_codecs_meaning.specs.Fits.{last_kept, kept_bits, bits_in, padding_size, packed_size, fixed_of, bound_of, at_most, sum_of_bounds, representation_of, size_of};
 ghost use Rattle.zarr_codecs_meaning.specs.Encoding.{index_size};
 ghost use Rattle.zarr_codecs_types.specs.Views.{type_of, component_of, components_of};
 ghost use Rattle.zarr_codecs_plain.specs.Views.{padding_of, chain_of};
-ghost use Rattle.zarr_codecs_plain.specs.Sizes.{size_known};
+ghost use Rattle.zarr_codecs_plain.specs.Sizes.{IsNumber, size_known};
+ghost use Rattle.zarr_codecs_plain.specs.Largest.{OkOrLarge, largest, largest_end, largest_of_bits, largest_of_bytes, largest_of_size, sum_of_known};
 ghost use Rattle.zarr_codecs_plain.specs.Subchunks.{part_as};
 
 use crate::chain::{Padding, PlainByteCodec, PlainChain};
 use crate::error::PlainError;
 use crate::parts::{Part, parts};
 use crate::representation::BytesRepresentation;
-use crate::shapes::{add, index_shape, multiply, product, step_shape};
+use crate::shapes::{add, count_edges, index_shape, multiply, product, step_shape};
 use crate::types::{components, present_type};
 use std::alloc::Global;
 use zarr_codecs_types::{Component, DataType};
 
 /// How many bytes components take together.
 pub fn bytes_in(parts: &[Component]) -> Result<usize, PlainError>
-    ensures { IfOk result (λ n. n ≡ bytes_in (components_of parts.now)) }
+    ensures { IsNumber result (bytes_in (components_of parts.now)) }
 {
     match parts.split_first() {
         None => Ok(0),
@@ -31,7 +32,7 @@ pub fn bytes_in(parts: &[Component]) -> Result<usize, PlainError>
 
 /// The number of bits up to the last one that is kept of a component.
 pub fn kept_end(last: Option<usize>, part: &Component) -> Result<usize, PlainError>
-    ensures { IfOk result (λ n. n ≡ last_kept last (component_of part.now) + 1) }
+    ensures { IsNumber result (last_kept last (component_of part.now) + 1) }
 {
     match last {
         Some(bit) => add(bit, 1),
@@ -41,7 +42,7 @@ pub fn kept_end(last: Option<usize>, part: &Component) -> Result<usize, PlainErr
 
 /// How many bits are kept of a component.
 pub fn kept_bits(first: usize, last: Option<usize>, part: &Component) -> Result<usize, PlainError>
-    ensures { IfOk result (λ n. n ≡ kept_bits first last (component_of part.now)) }
+    ensures { OkOrLarge result (λ n. n ≡ kept_bits first last (component_of part.now)) (last_kept last (component_of part.now) + 1) }
 {
     let end = kept_end(last, part)?;
     Ok(end.saturating_sub(first))
@@ -49,7 +50,8 @@ pub fn kept_bits(first: usize, last: Option<usize>, part: &Component) -> Result<
 
 /// How many bits are kept of an element.
 pub fn bits_in(first: usize, last: Option<usize>, parts: &[Component]) -> Result<usize, PlainError>
-    ensures { IfOk result (λ n. n ≡ bits_in first last (components_of parts.now)) }
+    ensures { OkOrLarge result (λ n. n ≡ bits_in first last (components_of parts.now))
+        (max (largest_end last (components_of parts.now)) (bits_in first last (components_of parts.now))) }
 {
     match parts.split_first() {
         None => Ok(0),
@@ -59,7 +61,8 @@ pub fn bits_in(first: usize, last: Option<usize>, parts: &[Component]) -> Result
 
 /// How many bytes tell the padding.
 fn padding_size(padding: Padding) -> usize
-    ensures { result ≡ padding_size (padding_of padding) }
+    ensures value { result ≡ padding_size (padding_of padding) }
+    ensures small { result ≤ 1 }
 {
     match padding {
         Padding::NoPaddingByte => 0,
@@ -76,12 +79,12 @@ pub fn packed_size(
     parts: &[Component],
     count: usize,
 ) -> Result<usize, PlainError>
-    ensures { IfOk result (λ n. n ≡ packed_size (padding_of padding) first last (components_of parts.now) count) }
+    ensures { OkOrLarge result (λ n. n ≡ packed_size (padding_of padding) first last (components_of parts.now) count)
+        (largest_of_bits first last (components_of parts.now) count) }
 {
     let width = bits_in(first, last, parts)?;
     let bits = multiply(width, count)?;
-    let filled = add(bits, 7)?;
-    add(padding_size(padding), filled / 8)
+    Ok(padding_size(padding) + count_edges(bits, 8))
 }
 
 /// The size, where it is fixed.
@@ -118,7 +121,7 @@ fn at_most(bound: Option<usize>) -> BytesRepresentation
 
 /// The sum of two bounds, where both are there.
 fn add_bounds(bound: Option<usize>, other: Option<usize>) -> Result<Option<usize>, PlainError>
-    ensures { IfOk result (λ r. r ≡ option_and_then (λ n. option_map (λ m. n + m) other) bound) }
+    ensures { OkOrLarge result (λ r. r ≡ option_and_then (λ n. option_map (λ m. n + m) other) bound) (unwrap_or bound 0 + unwrap_or other 0) }
 {
     match (bound, other) {
         (Some(n), Some(m)) => Ok(Some(add(n, m)?)),
@@ -134,8 +137,10 @@ fn parts_bound<B: PlainByteCodec>(
     data_type: &DataType,
     subchunks: &[Part],
 ) -> Result<Option<usize>, PlainError>
-    ensures { IfOk result (λ r. r
-        ≡ sum_of_bounds (map (λ part. bound_of (representation_of (chain_of B.meaning chain.now) (type_of data_type.now) part.shape)) (map part_as subchunks.now))) }
+    ensures { OkOrLarge result (λ r. r
+        ≡ sum_of_bounds (map (λ part. bound_of (representation_of (chain_of B.meaning chain.now) (type_of data_type.now) part.shape)) (map part_as subchunks.now)))
+        (max (largest (map (λ part. largest_of_size (chain_of B.meaning chain.now) (type_of data_type.now) part.shape) (map part_as subchunks.now)))
+        (sum_of_known (map (λ part. bound_of (representation_of (chain_of B.meaning chain.now) (type_of data_type.now) part.shape)) (map part_as subchunks.now)))) }
 {
     let mut total = Some(0);
     for part in subchunks {
@@ -151,7 +156,8 @@ fn whole_size(
     data_type: &DataType,
     shape: &[usize],
 ) -> Result<BytesRepresentation, PlainError>
-    ensures { IfOk result (λ r. size_known r ≡ fixed_size (bytes_in (components (type_of data_type.now)) * product shape.now)) }
+    ensures { OkOrLarge result (λ r. size_known r ≡ fixed_size (bytes_in (components (type_of data_type.now)) * product shape.now))
+        (largest_of_bytes (type_of data_type.now) shape.now) }
 {
     let parts = components(alloc, data_type)?;
     let width = bytes_in(&parts)?;
@@ -167,8 +173,9 @@ fn bits_size(
     data_type: &DataType,
     shape: &[usize],
 ) -> Result<BytesRepresentation, PlainError>
-    ensures { IfOk result (λ r. size_known r
-        ≡ fixed_size (packed_size (padding_of padding) first last (components (type_of data_type.now)) (product shape.now))) }
+    ensures { OkOrLarge result (λ r. size_known r
+        ≡ fixed_size (packed_size (padding_of padding) first last (components (type_of data_type.now)) (product shape.now)))
+        (max (product shape.now) (largest_of_bits first last (components (type_of data_type.now)) (product shape.now))) }
 {
     let parts = components(alloc, data_type)?;
     let size = packed_size(padding, first, last, &parts, product(shape)?)?;
@@ -183,7 +190,8 @@ pub fn representation_of<B: PlainByteCodec>(
     data_type: &DataType,
     shape: &[usize],
 ) -> Result<BytesRepresentation, PlainError>
-    ensures { IfOk result (λ r. size_known r ≡ representation_of (chain_of B.meaning chain.now) (type_of data_type.now) shape.now) }
+    ensures { OkOrLarge result (λ r. size_known r ≡ representation_of (chain_of B.meaning chain.now) (type_of data_type.now) shape.now)
+        (largest_of_size (chain_of B.meaning chain.now) (type_of data_type.now) shape.now) }
 {
     match chain {
         PlainChain::Bytes(_) => whole_size(alloc, data_type, shape),
@@ -203,11 +211,14 @@ pub fn representation_of<B: PlainByteCodec>(
         }
         PlainChain::AfterStep(step, inner) => {
             let sizes = step_shape(alloc, step, shape)?;
-            representation_of(alloc, inner, data_type, &sizes)
+            let known = representation_of(alloc, inner, data_type, &sizes)?;
+            Ok(known)
         }
-        PlainChain::ThenBytes(inner, codec) => codec.representation(representation_of(
-            alloc, inner, data_type, shape,
-        )?),
+        PlainChain::ThenBytes(inner, codec) => {
+            let inside = representation_of(alloc, inner, data_type, shape)?;
+            let known = codec.representation(inside)?;
+            Ok(known)
+        }
         PlainChain::Sharded {
             subchunk_shape,
             inner,
@@ -230,7 +241,8 @@ pub fn size_of<B: PlainByteCodec>(
     data_type: &DataType,
     shape: &[usize],
 ) -> Result<Option<usize>, PlainError>
-    ensures { IfOk result (λ n. n ≡ size_of (chain_of B.meaning chain.now) (type_of data_type.now) shape.now) }
+    ensures { OkOrLarge result (λ n. n ≡ size_of (chain_of B.meaning chain.now) (type_of data_type.now) shape.now)
+        (largest_of_size (chain_of B.meaning chain.now) (type_of data_type.now) shape.now) }
 {
     let known = representation_of(alloc, chain, data_type, shape)?;
     Ok(fixed_of(known))
@@ -242,7 +254,7 @@ pub fn index_size<B: PlainByteCodec>(
     index: &PlainChain<B>,
     shape: &[usize],
 ) -> Result<usize, PlainError>
-    ensures { IfOk result (λ n. n ≡ index_size (chain_of B.meaning index.now) shape.now) }
+    ensures { OkOrLarge result (λ n. n ≡ index_size (chain_of B.meaning index.now) shape.now) (largest_of_size (chain_of B.meaning index.now) uint64 shape.now) }
 {
     match size_of(alloc, index, &DataType::UInt64, shape)? {
         Some(size) => Ok(size),

@@ -3,6 +3,7 @@ ghost use Rattle.std.specs.Prelude.{◌≡◌, map, IfOk};
 ghost use Rattle.zarr_grids_boxes.specs.Boxes.{ravel};
 ghost use Rattle.zarr_codecs_meaning.specs.Places.{untransposed, step_places, undone_places};
 ghost use Rattle.zarr_codecs_plain.specs.Views.{step_of};
+ghost use Rattle.zarr_codecs_plain.specs.Largest.{OkOrLarge, largest, largest_of_step};
 
 use crate::chain::Step;
 use crate::error::PlainError;
@@ -22,14 +23,16 @@ fn untransposed(alloc: Global, order: &[usize], place: &[usize]) -> Result<Vec<u
 }
 
 /// The numbers of the places before a transposition of places after it.
+#[tactic(auto, using(crate::proofs::Large::largest_through))]
 fn untransposed_each(
     alloc: Global,
     order: &[usize],
     places: &[Vec<usize>],
     shape: &[usize],
 ) -> Result<Vec<usize>, PlainError>
-    ensures { IfOk result (λ v. v.items
-        ≡ map (λ place. ravel (untransposed order.now place) shape.now) (map (λ place. place.items) places.now)) }
+    ensures { OkOrLarge result (λ v. v.items
+        ≡ map (λ place. ravel (untransposed order.now place) shape.now) (map (λ place. place.items) places.now))
+        (largest (map (λ place. ravel (untransposed order.now place) shape.now) (map (λ place. place.items) places.now))) }
 {
     let mut numbers = Vec::new(alloc);
     for place in places {
@@ -41,7 +44,7 @@ fn untransposed_each(
 
 /// For each place of what an array codec makes, the number of the place that the cell comes from.
 pub fn step_places(alloc: Global, step: &Step, shape: &[usize]) -> Result<Vec<usize>, PlainError>
-    ensures { IfOk result (λ v. v.items ≡ step_places (step_of step.now) shape.now) }
+    ensures { OkOrLarge result (λ v. v.items ≡ step_places (step_of step.now) shape.now) (largest_of_step (step_of step.now) shape.now) }
 {
     match step {
         Step::Transpose(order) => {
@@ -56,7 +59,7 @@ pub fn step_places(alloc: Global, step: &Step, shape: &[usize]) -> Result<Vec<us
 
 /// For each place before an array codec, the number of the place that its cell has afterwards.
 pub fn undone_places(alloc: Global, step: &Step, shape: &[usize]) -> Result<Vec<usize>, PlainError>
-    ensures { IfOk result (λ v. v.items ≡ undone_places (step_of step.now) shape.now) }
+    ensures { OkOrLarge result (λ v. v.items ≡ undone_places (step_of step.now) shape.now) (largest_of_step (step_of step.now) shape.now) }
 {
     let places = step_places(alloc, step, shape)?;
     let mut numbers = Vec::new(alloc);

@@ -1,8 +1,9 @@
 //! What the definitions ask of a data type.
 ghost use Rattle.std.specs.Prelude.{◌≡◌, [], ◌∷◌, replicate, unwrap_or, IfOk};
-ghost use Rattle.zarr_codecs_meaning.specs.Types.{of_bytes, integer, unsigned, components, inner_type, is_fixed, is_variable, zero_cell};
+ghost use Rattle.zarr_codecs_meaning.specs.Types.{of_bytes, integer, unsigned, components, bytes_in, inner_type, is_fixed, is_variable, zero_cell};
 ghost use Rattle.zarr_codecs_types.specs.Views.{sign_of, type_of, cell_of, components_of};
 ghost use Rattle.zarr_codecs_plain.specs.Views.{width_of};
+ghost use Rattle.zarr_codecs_plain.specs.Largest.{OkOrLarge};
 
 use crate::chain::IndexDataType;
 use crate::error::PlainError;
@@ -97,7 +98,7 @@ pub fn offset_type(index_data_type: IndexDataType) -> DataType
 }
 
 /// The cell of so many zero bytes.
-fn zeros(alloc: Global, count: usize) -> Result<Cell, PlainError>
+fn zeros(alloc: Global, count: usize) -> Result<Cell, AllocError>
     ensures { IfOk result (λ c. cell_of c ≡ of_bytes (replicate count 0)) }
 {
     let bytes = vec![in alloc; 0; count]?;
@@ -106,25 +107,25 @@ fn zeros(alloc: Global, count: usize) -> Result<Cell, PlainError>
 
 /// The cell of zero bytes, the empty text, or absent.
 pub fn zero_cell(alloc: Global, data_type: &DataType) -> Result<Cell, PlainError>
-    ensures { IfOk result (λ c. cell_of c ≡ zero_cell (type_of data_type.now)) }
+    ensures { OkOrLarge result (λ c. cell_of c ≡ zero_cell (type_of data_type.now)) (bytes_in (components (type_of data_type.now))) }
 {
     match data_type {
-        DataType::Bool => zeros(alloc, 1),
-        DataType::Int2 => zeros(alloc, 1),
-        DataType::Int4 => zeros(alloc, 1),
-        DataType::Int8 => zeros(alloc, 1),
-        DataType::Int16 => zeros(alloc, 2),
-        DataType::Int32 => zeros(alloc, 4),
-        DataType::Int64 => zeros(alloc, 8),
-        DataType::UInt2 => zeros(alloc, 1),
-        DataType::UInt4 => zeros(alloc, 1),
-        DataType::UInt8 => zeros(alloc, 1),
-        DataType::UInt16 => zeros(alloc, 2),
-        DataType::UInt32 => zeros(alloc, 4),
-        DataType::UInt64 => zeros(alloc, 8),
-        DataType::String => zeros(alloc, 0),
-        DataType::Bytes => zeros(alloc, 0),
+        DataType::Bool => Ok(zeros(alloc, 1)?),
+        DataType::Int2 => Ok(zeros(alloc, 1)?),
+        DataType::Int4 => Ok(zeros(alloc, 1)?),
+        DataType::Int8 => Ok(zeros(alloc, 1)?),
+        DataType::Int16 => Ok(zeros(alloc, 2)?),
+        DataType::Int32 => Ok(zeros(alloc, 4)?),
+        DataType::Int64 => Ok(zeros(alloc, 8)?),
+        DataType::UInt2 => Ok(zeros(alloc, 1)?),
+        DataType::UInt4 => Ok(zeros(alloc, 1)?),
+        DataType::UInt8 => Ok(zeros(alloc, 1)?),
+        DataType::UInt16 => Ok(zeros(alloc, 2)?),
+        DataType::UInt32 => Ok(zeros(alloc, 4)?),
+        DataType::UInt64 => Ok(zeros(alloc, 8)?),
+        DataType::String => Ok(zeros(alloc, 0)?),
+        DataType::Bytes => Ok(zeros(alloc, 0)?),
         DataType::Optional(_) => Ok(Cell::Absent),
-        DataType::Custom(parts) => zeros(alloc, bytes_in(parts)?),
+        DataType::Custom(parts) => Ok(zeros(alloc, bytes_in(parts)?)?),
     }
 }

@@ -1,7 +1,8 @@
 //! Which bytes and cells are values of a data type.
-ghost use Rattle.std.specs.Prelude.{◌≡◌, length, bytes_eq, IfOk};
-ghost use Rattle.zarr_codecs_meaning.specs.Types.{bytes_in, is_component, are_components, is_value_in_bytes};
+ghost use Rattle.std.specs.Prelude.{◌≡◌, ◌*◌, length, bytes_eq};
+ghost use Rattle.zarr_codecs_meaning.specs.Types.{components, bytes_in, is_component, are_components, is_value_in_bytes};
 ghost use Rattle.zarr_codecs_types.specs.Views.{component_of, components_of, type_of};
+ghost use Rattle.zarr_codecs_plain.specs.Largest.{OkOrLarge};
 
 use crate::bits::bits_of;
 use crate::elements::component_of_bits;
@@ -22,7 +23,7 @@ fn same_bytes(text: &[u8], other: &[u8]) -> bool
 /// Whether the bits above a component's own are as its sign rule says, where there are as many bytes
 /// as it takes.
 fn is_component(alloc: Global, part: &Component, bytes: &[u8]) -> Result<bool, PlainError>
-    ensures { IfOk result (λ b. length bytes.now ≡ part.now.byte_count → b ≡ is_component (component_of part.now) bytes.now) }
+    ensures { OkOrLarge result (λ b. length bytes.now ≡ part.now.byte_count → b ≡ is_component (component_of part.now) bytes.now) (8 * part.now.byte_count) }
 {
     let bits = bits_of(alloc, bytes)?;
     let again = component_of_bits(alloc, part, 0, part.width, &bits)?;
@@ -32,7 +33,7 @@ fn is_component(alloc: Global, part: &Component, bytes: &[u8]) -> Result<bool, P
 /// Whether the components that bytes write one after another are as their rules say.
 fn are_components(alloc: Global, parts: &[Component], text: &[u8]) -> Result<bool, PlainError>
     requires { length text.now ≡ bytes_in (components_of parts.now) }
-    ensures { IfOk result (λ b. b ≡ are_components (components_of parts.now) text.now) }
+    ensures { OkOrLarge result (λ b. b ≡ are_components (components_of parts.now) text.now) (8 * bytes_in (components_of parts.now)) }
 {
     match parts.split_first() {
         None => Ok(true),
@@ -50,7 +51,7 @@ pub fn is_value_in_bytes(
     data_type: &DataType,
     text: &[u8],
 ) -> Result<bool, PlainError>
-    ensures { IfOk result (λ b. b ≡ is_value_in_bytes (type_of data_type.now) text.now) }
+    ensures { OkOrLarge result (λ b. b ≡ is_value_in_bytes (type_of data_type.now) text.now) (8 * bytes_in (components (type_of data_type.now))) }
 {
     if !is_fixed(data_type) {
         return Ok(is_variable(data_type));

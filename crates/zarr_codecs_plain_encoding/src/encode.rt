@@ -1,13 +1,16 @@
 //! What a chain makes of the cells of an array.
-ghost use Rattle.std.specs.Prelude.{◌≡◌, ◌+◌, [], ◌∷◌, length, map, option_map, unwrap_or, IfOk};
+ghost use Rattle.std.specs.Prelude.{◌≡◌, ◌+◌, max, [], ◌∷◌, length, map, flat_map, option_map, unwrap_or};
+ghost use Rattle.std.specs.List.{filter_map};
 ghost use Rattle.zarr_grids_boxes.specs.Boxes.{product};
-ghost use Rattle.zarr_codecs_meaning.specs.Types.{bool, integer, unsigned, uint8, uint64, inner_type, zero_filled};
+ghost use Rattle.zarr_codecs_meaning.specs.Types.{bool, integer, unsigned, uint8, uint64, inner_type, zero_filled, cell_bytes};
 ghost use Rattle.zarr_codecs_meaning.specs.Places.{step_shape, step_places, gather, parts_of, index_shape};
 ghost use Rattle.zarr_codecs_meaning.specs.Chains.Chain.{sharded};
-ghost use Rattle.zarr_codecs_meaning.specs.Encoding.{encoded, unless_none, texts_encoded, options_encoded, stored_chunk, stored_pieces, pieces_of, shard_of, index_size, number_cells};
+ghost use Rattle.zarr_codecs_meaning.specs.Encoding.{encoded, unless_none, texts_encoded, options_encoded, stored_chunk, stored_pieces, pieces_of, shard_of, index_size, number_cells, byte_cells, ends_from, mask_cell, present_cell, pair_cells, pairs_from, base_of};
 ghost use Rattle.zarr_codecs_types.specs.Views.{type_of, cell_of, cells_of};
 ghost use Rattle.zarr_codecs_plain.specs.Views.{chain_of, elements_of, step_of, location_of, width_of};
 ghost use Rattle.zarr_codecs_plain.specs.Subchunks.{part_as};
+ghost use Rattle.zarr_codecs_plain.specs.Largest.{OkOrLarge, largest, largest_of_step, largest_of_size};
+ghost use Rattle.zarr_codecs_plain_encoding.specs.Largest.{or_zero, largest_encoded};
 
 use crate::encode_elements::{encode_bytes, encode_packed};
 use crate::encode_options::{mask_cells, present_cells, with_mask};
@@ -38,8 +41,9 @@ pub fn encode<B: PlainByteCodec>(
     shape: &[usize],
     cells: &[Cell],
 ) -> Result<Option<Vec<u8>>, PlainError>
-    ensures { IfOk result (λ r. option_map (λ v. v.items) r
-        ≡ encoded (chain_of B.meaning chain.now) (elements_of data_type.now fill.now) shape.now (cells_of cells.now)) }
+    ensures { OkOrLarge result (λ r. option_map (λ v. v.items) r
+        ≡ encoded (chain_of B.meaning chain.now) (elements_of data_type.now fill.now) shape.now (cells_of cells.now))
+        (largest_encoded (chain_of B.meaning chain.now) (elements_of data_type.now fill.now) shape.now (cells_of cells.now)) }
 {
     match chain {
         PlainChain::Bytes(order) => {
@@ -61,21 +65,19 @@ pub fn encode<B: PlainByteCodec>(
             data,
             index_data_type,
             location,
-        } => encode_texts(
-            alloc,
-            index,
-            data,
-            *index_data_type,
-            *location,
-            shape,
-            cells,
-        ),
-        PlainChain::Optional { mask, data } => encode_options(
-            alloc, mask, data, data_type, shape, cells,
-        ),
-        PlainChain::AfterStep(step, chain) => encode_after_step(
-            alloc, chain, step, data_type, fill, shape, cells,
-        ),
+        } => {
+            let kind = *index_data_type;
+            let text = encode_texts(alloc, index, data, kind, *location, shape, cells)?;
+            Ok(text)
+        }
+        PlainChain::Optional { mask, data } => {
+            let text = encode_options(alloc, mask, data, data_type, shape, cells)?;
+            Ok(text)
+        }
+        PlainChain::AfterStep(step, chain) => {
+            let text = encode_after_step(alloc, chain, step, data_type, fill, shape, cells)?;
+            Ok(text)
+        }
         PlainChain::ThenBytes(chain, codec) => match encode(
             alloc, chain, data_type, fill, shape, cells,
         )? {
@@ -87,17 +89,20 @@ pub fn encode<B: PlainByteCodec>(
             inner,
             index,
             location,
-        } => encode_shard(
-            alloc,
-            inner,
-            index,
-            subchunk_shape,
-            *location,
-            data_type,
-            fill,
-            shape,
-            cells,
-        ),
+        } => {
+            let text = encode_shard(
+                alloc,
+                inner,
+                index,
+                subchunk_shape,
+                *location,
+                data_type,
+                fill,
+                shape,
+                cells,
+            )?;
+            Ok(text)
+        }
     }
 }
 
@@ -110,11 +115,13 @@ fn encode_zero_filled<B: PlainByteCodec>(
     shape: &[usize],
     cells: &[Cell],
 ) -> Result<Option<Vec<u8>>, PlainError>
-    ensures { IfOk result (λ r. option_map (λ v. v.items) r
-        ≡ encoded (chain_of B.meaning chain.now) (zero_filled (type_of data_type.now)) shape.now (cells_of cells.now)) }
+    ensures { OkOrLarge result (λ r. option_map (λ v. v.items) r
+        ≡ encoded (chain_of B.meaning chain.now) (zero_filled (type_of data_type.now)) shape.now (cells_of cells.now))
+        (or_zero (type_of data_type.now) (largest_encoded (chain_of B.meaning chain.now) (zero_filled (type_of data_type.now)) shape.now (cells_of cells.now))) }
 {
     let fill = zero_cell(alloc, data_type)?;
-    encode(alloc, chain, data_type, &fill, shape, cells)
+    let text = encode(alloc, chain, data_type, &fill, shape, cells)?;
+    Ok(text)
 }
 
 /// The bytes that a chain makes of a list of cells whose fill value is zero, and nothing where
@@ -126,13 +133,15 @@ fn encode_unless_none<B: PlainByteCodec>(
     data_type: &DataType,
     cells: &[Cell],
 ) -> Result<Option<Vec<u8>>, PlainError>
-    ensures { IfOk result (λ r. option_map (λ v. v.items) r
-        ≡ unless_none (cells_of cells.now) (encoded (chain_of B.meaning chain.now) (zero_filled (type_of data_type.now)) (length (cells_of cells.now) ∷ []) (cells_of cells.now))) }
+    ensures { OkOrLarge result (λ r. option_map (λ v. v.items) r
+        ≡ unless_none (cells_of cells.now) (encoded (chain_of B.meaning chain.now) (zero_filled (type_of data_type.now)) (length (cells_of cells.now) ∷ []) (cells_of cells.now)))
+        (or_zero (type_of data_type.now) (largest_encoded (chain_of B.meaning chain.now) (zero_filled (type_of data_type.now)) (length (cells_of cells.now) ∷ []) (cells_of cells.now))) }
 {
     if cells.is_empty() {
         return Ok(Some(Vec::new(alloc)));
     }
-    encode_zero_filled(alloc, chain, data_type, &[cells.len()], cells)
+    let text = encode_zero_filled(alloc, chain, data_type, &[cells.len()], cells)?;
+    Ok(text)
 }
 
 /// Offsets by the chain of an index of this type.
@@ -144,13 +153,16 @@ fn encode_offsets<B: PlainByteCodec>(
     shape: &[usize],
     offsets: &[u64],
 ) -> Result<Option<Vec<u8>>, PlainError>
-    ensures { IfOk result (λ r. option_map (λ v. v.items) r
-        ≡ encoded (chain_of B.meaning index.now) (zero_filled (integer unsigned (width_of index_data_type))) ((product shape.now + 1) ∷ []) (number_cells (width_of index_data_type) offsets.now)) }
+    ensures { OkOrLarge result (λ r. option_map (λ v. v.items) r
+        ≡ encoded (chain_of B.meaning index.now) (zero_filled (integer unsigned (width_of index_data_type))) ((product shape.now + 1) ∷ []) (number_cells (width_of index_data_type) offsets.now))
+        (max (product shape.now + 1) (or_zero (integer unsigned (width_of index_data_type))
+        (largest_encoded (chain_of B.meaning index.now) (zero_filled (integer unsigned (width_of index_data_type))) ((product shape.now + 1) ∷ []) (number_cells (width_of index_data_type) offsets.now)))) }
 {
     let data_type = offset_type(index_data_type);
     let count = add(product(shape)?, 1)?;
     let cells = number_cells(alloc, index_data_type, offsets)?;
-    encode_zero_filled(alloc, index, &data_type, &[count], &cells)
+    let text = encode_zero_filled(alloc, index, &data_type, &[count], &cells)?;
+    Ok(text)
 }
 
 /// Texts by the chains of their offsets and of their joined bytes.
@@ -164,11 +176,16 @@ fn encode_texts<B: PlainByteCodec>(
     shape: &[usize],
     cells: &[Cell],
 ) -> Result<Option<Vec<u8>>, PlainError>
-    ensures { IfOk result (λ r. option_map (λ v. v.items) r
+    ensures { OkOrLarge result (λ r. option_map (λ v. v.items) r
         ≡ texts_encoded
         (encoded (chain_of B.meaning index.now) (zero_filled (integer unsigned (width_of index_data_type))) ((product shape.now + 1) ∷ []))
         (λ content. encoded (chain_of B.meaning texts.now) (zero_filled uint8) (length content ∷ []) content)
-        (width_of index_data_type) (location_of location) (cells_of cells.now)) }
+        (width_of index_data_type) (location_of location) (cells_of cells.now))
+        (max (product shape.now + 1) (max (or_zero (integer unsigned (width_of index_data_type))
+        (largest_encoded (chain_of B.meaning index.now) (zero_filled (integer unsigned (width_of index_data_type))) ((product shape.now + 1) ∷ [])
+        (number_cells (width_of index_data_type) (0 ∷ ends_from 0 (map cell_bytes (cells_of cells.now))))))
+        (or_zero uint8 (largest_encoded (chain_of B.meaning texts.now) (zero_filled uint8)
+        (length (byte_cells (flat_map cell_bytes (cells_of cells.now))) ∷ []) (byte_cells (flat_map cell_bytes (cells_of cells.now))))))) }
 {
     let offsets = offsets(alloc, cells)?;
     if !is_below_power(last_number(0, &offsets), index_data_type) {
@@ -198,11 +215,15 @@ fn encode_options<B: PlainByteCodec>(
     shape: &[usize],
     cells: &[Cell],
 ) -> Result<Option<Vec<u8>>, PlainError>
-    ensures { IfOk result (λ r. option_map (λ v. v.items) r
+    ensures { OkOrLarge result (λ r. option_map (λ v. v.items) r
         ≡ options_encoded
         (encoded (chain_of B.meaning mask.now) (zero_filled bool) shape.now)
         (λ found. encoded (chain_of B.meaning values.now) (zero_filled (unwrap_or (inner_type (type_of data_type.now)) (type_of data_type.now))) (length found ∷ []) found)
-        (cells_of cells.now)) }
+        (cells_of cells.now))
+        (max (or_zero bool (largest_encoded (chain_of B.meaning mask.now) (zero_filled bool) shape.now (map mask_cell (cells_of cells.now))))
+        (or_zero (unwrap_or (inner_type (type_of data_type.now)) (type_of data_type.now))
+        (largest_encoded (chain_of B.meaning values.now) (zero_filled (unwrap_or (inner_type (type_of data_type.now)) (type_of data_type.now)))
+        (length (filter_map present_cell (cells_of cells.now)) ∷ []) (filter_map present_cell (cells_of cells.now))))) }
 {
     let flags = mask_cells(alloc, cells)?;
     let Some(front) = encode_zero_filled(alloc, mask, &DataType::Bool, shape, &flags)? else {
@@ -229,14 +250,17 @@ fn encode_after_step<B: PlainByteCodec>(
     shape: &[usize],
     cells: &[Cell],
 ) -> Result<Option<Vec<u8>>, PlainError>
-    ensures { IfOk result (λ r. option_map (λ v. v.items) r
+    ensures { OkOrLarge result (λ r. option_map (λ v. v.items) r
         ≡ encoded (chain_of B.meaning chain.now) (elements_of data_type.now fill.now) (step_shape (step_of step.now) shape.now)
-        (gather (cell_of fill.now) (cells_of cells.now) (step_places (step_of step.now) shape.now))) }
+        (gather (cell_of fill.now) (cells_of cells.now) (step_places (step_of step.now) shape.now)))
+        (max (largest_of_step (step_of step.now) shape.now) (largest_encoded (chain_of B.meaning chain.now) (elements_of data_type.now fill.now)
+        (step_shape (step_of step.now) shape.now) (gather (cell_of fill.now) (cells_of cells.now) (step_places (step_of step.now) shape.now)))) }
 {
     let places = step_places(alloc, step, shape)?;
     let gathered = gather(alloc, fill, cells, &places)?;
     let stepped = step_shape(alloc, step, shape)?;
-    encode(alloc, chain, data_type, fill, &stepped, &gathered)
+    let text = encode(alloc, chain, data_type, fill, &stepped, &gathered)?;
+    Ok(text)
 }
 
 /// What is stored of an array of this shape: nothing where all cells are the fill value, else what
@@ -250,8 +274,9 @@ pub fn stored_chunk<B: PlainByteCodec>(
     shape: &[usize],
     cells: &[Cell],
 ) -> Result<Option<Option<Vec<u8>>>, PlainError>
-    ensures { IfOk result (λ r. option_map (option_map (λ v. v.items)) r
-        ≡ stored_chunk (chain_of B.meaning chain.now) (elements_of data_type.now fill.now) shape.now (cells_of cells.now)) }
+    ensures { OkOrLarge result (λ r. option_map (option_map (λ v. v.items)) r
+        ≡ stored_chunk (chain_of B.meaning chain.now) (elements_of data_type.now fill.now) shape.now (cells_of cells.now))
+        (largest_encoded (chain_of B.meaning chain.now) (elements_of data_type.now fill.now) shape.now (cells_of cells.now)) }
 {
     if is_fill(fill, cells) {
         return Ok(Some(None));
@@ -272,9 +297,11 @@ fn encode_parts<B: PlainByteCodec>(
     cells: &[Cell],
     parts: &[Part],
 ) -> Result<Option<Vec<Option<Vec<u8>>>>, PlainError>
-    ensures { IfOk result (λ r. option_map (λ v. map (option_map (λ t. t.items)) v.items) r
+    ensures { OkOrLarge result (λ r. option_map (λ v. map (option_map (λ t. t.items)) v.items) r
         ≡ stored_pieces (encoded (chain_of B.meaning inner.now) (elements_of data_type.now fill.now)) (cell_of fill.now)
-        (pieces_of (cell_of fill.now) (cells_of cells.now) (map part_as parts.now))) }
+        (pieces_of (cell_of fill.now) (cells_of cells.now) (map part_as parts.now)))
+        (largest (map (λ piece. largest_encoded (chain_of B.meaning inner.now) (elements_of data_type.now fill.now) piece.0 piece.1)
+        (pieces_of (cell_of fill.now) (cells_of cells.now) (map part_as parts.now)))) }
 {
     let mut stored = Vec::new(alloc);
     for part in parts {
@@ -296,9 +323,12 @@ fn encode_stored<B: PlainByteCodec>(
     pairs_shape: &[usize],
     stored: &[Option<Vec<u8>>],
 ) -> Result<Option<Vec<u8>>, PlainError>
-    ensures { IfOk result (λ r. option_map (λ v. v.items) r
+    ensures { OkOrLarge result (λ r. option_map (λ v. v.items) r
         ≡ shard_of (encoded (chain_of B.meaning index.now) (zero_filled uint64) pairs_shape.now) (location_of location)
-        (index_size (chain_of B.meaning index.now) pairs_shape.now) (map (option_map (λ t. t.items)) stored.now)) }
+        (index_size (chain_of B.meaning index.now) pairs_shape.now) (map (option_map (λ t. t.items)) stored.now))
+        (max (largest_of_size (chain_of B.meaning index.now) uint64 pairs_shape.now)
+        (or_zero uint64 (largest_encoded (chain_of B.meaning index.now) (zero_filled uint64) pairs_shape.now
+        (pair_cells (pairs_from (base_of (location_of location) (index_size (chain_of B.meaning index.now) pairs_shape.now)) (map (option_map (λ t. t.items)) stored.now)))))) }
 {
     let size = index_size(alloc, index, pairs_shape)?;
     let base = base_of(location, size);
@@ -330,15 +360,18 @@ fn encode_shard<B: PlainByteCodec>(
     shape: &[usize],
     cells: &[Cell],
 ) -> Result<Option<Vec<u8>>, PlainError>
-    ensures { IfOk result (λ r. option_map (λ v. v.items) r
+    ensures { OkOrLarge result (λ r. option_map (λ v. v.items) r
         ≡ encoded (sharded subchunk_shape.now (chain_of B.meaning inner.now) (chain_of B.meaning index.now) (location_of location))
+        (elements_of data_type.now fill.now) shape.now (cells_of cells.now))
+        (largest_encoded (sharded subchunk_shape.now (chain_of B.meaning inner.now) (chain_of B.meaning index.now) (location_of location))
         (elements_of data_type.now fill.now) shape.now (cells_of cells.now)) }
 {
     let parts = parts(alloc, shape, subchunk_shape)?;
     match encode_parts(alloc, inner, data_type, fill, cells, &parts)? {
         Some(stored) => {
             let pairs_shape = index_shape(alloc, shape, subchunk_shape)?;
-            encode_stored(alloc, index, location, &pairs_shape, &stored)
+            let text = encode_stored(alloc, index, location, &pairs_shape, &stored)?;
+            Ok(text)
         }
         None => Ok(None),
     }

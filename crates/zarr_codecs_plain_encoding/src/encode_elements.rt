@@ -5,6 +5,7 @@ ghost use Rattle.zarr_codecs_meaning.specs.Encoding.{ordered, element_bits, with
 ghost use Rattle.zarr_codecs_types.specs.Views.{cells_of, components_of};
 ghost use Rattle.zarr_codecs_plain.specs.Views.{order_of, padding_of};
 ghost use Rattle.zarr_codecs_plain.specs.Bits.{bits_of};
+ghost use Rattle.zarr_codecs_plain.specs.Largest.{OkOrLarge, largest_end};
 
 use std::alloc::{AllocError, Global};
 use zarr_codecs_plain::PlainError;
@@ -40,8 +41,8 @@ fn kept_bits(
     parts: &[Component],
     cells: &[Cell],
 ) -> Result<Vec<bool>, PlainError>
-    ensures { IfOk result (λ v. bits_of v.items
-        ≡ flat_map (λ cell. element_bits first last (components_of parts.now) (cell_bytes cell)) (cells_of cells.now)) }
+    ensures { OkOrLarge result (λ v. bits_of v.items
+        ≡ flat_map (λ cell. element_bits first last (components_of parts.now) (cell_bytes cell)) (cells_of cells.now)) (largest_end last (components_of parts.now)) }
 {
     let mut bits = Vec::new(alloc);
     for cell in cells {
@@ -60,8 +61,8 @@ pub fn encode_packed(
     parts: &[Component],
     cells: &[Cell],
 ) -> Result<Vec<u8>, PlainError>
-    ensures { IfOk result (λ v. v.items ≡ with_padding (padding_of padding)
-        (flat_map (λ cell. element_bits first last (components_of parts.now) (cell_bytes cell)) (cells_of cells.now))) }
+    ensures { OkOrLarge result (λ v. v.items ≡ with_padding (padding_of padding)
+        (flat_map (λ cell. element_bits first last (components_of parts.now) (cell_bytes cell)) (cells_of cells.now))) (largest_end last (components_of parts.now)) }
 {
     let bits = kept_bits(alloc, first, last, parts, cells)?;
     Ok(with_padding(alloc, padding, &bits)?)

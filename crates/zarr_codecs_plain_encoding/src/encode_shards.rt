@@ -5,6 +5,7 @@ ghost use Rattle.zarr_codecs_meaning.specs.Numbers.{word};
 ghost use Rattle.zarr_codecs_meaning.specs.Encoding.{joined_texts, text_of, pair_at, pairs_from, pair_cells, base_of, joined};
 ghost use Rattle.zarr_codecs_types.specs.Views.{cell_of, cells_of};
 ghost use Rattle.zarr_codecs_plain.specs.Views.{location_of};
+ghost use Rattle.zarr_codecs_plain.specs.Largest.{OkOrLarge};
 
 use crate::encode_texts::number_cell;
 use std::alloc::{AllocError, Global};
@@ -50,7 +51,8 @@ pub fn pairs_from(
     offset: usize,
     stored: &[Option<Vec<u8>>],
 ) -> Result<Vec<(u64, u64)>, PlainError>
-    ensures { IfOk result (λ v. v.items ≡ pairs_from offset (map (option_map (λ t. t.items)) stored.now)) }
+    ensures { OkOrLarge result (λ v. v.items ≡ pairs_from offset (map (option_map (λ t. t.items)) stored.now))
+        (offset + length (joined_texts (map (option_map (λ t. t.items)) stored.now))) }
 {
     let mut pairs = Vec::new(alloc);
     let mut start = offset;

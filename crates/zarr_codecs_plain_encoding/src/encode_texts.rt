@@ -7,23 +7,21 @@ ghost use Rattle.zarr_codecs_types.specs.Views.{cell_of, cells_of};
 ghost use Rattle.zarr_codecs_plain.specs.Views.{location_of, width_of};
 
 use std::alloc::{AllocError, Global};
-use zarr_codecs_plain::PlainError;
 use zarr_codecs_plain::cells::cell_bytes;
 use zarr_codecs_plain::chain::{IndexDataType, Location};
 use zarr_codecs_plain::numbers::{digits, word};
-use zarr_codecs_plain::shapes::add;
 use zarr_codecs_types::Cell;
 
 /// Where the first text begins, and where each text ends.
-pub fn offsets(alloc: Global, cells: &[Cell]) -> Result<Vec<u64>, PlainError>
+pub fn offsets(alloc: Global, cells: &[Cell]) -> Result<Vec<u64>, AllocError>
     ensures { IfOk result (λ v. v.items ≡ 0 ∷ ends_from 0 (map cell_bytes (cells_of cells.now))) }
 {
     let mut offsets = Vec::new(alloc);
     offsets.push(0)?;
-    let mut end = 0;
+    let mut held: Vec<u8> = Vec::new(alloc);
     for cell in cells {
-        end = add(end, cell_bytes(cell).len())?;
-        offsets.push(end as u64)?;
+        held.extend_from_slice(cell_bytes(cell))?;
+        offsets.push(held.len() as u64)?;
     }
     Ok(offsets)
 }

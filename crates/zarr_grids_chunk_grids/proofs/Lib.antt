@@ -1,3 +1,4 @@
+pub mod ByEdges
 pub mod Made
 pub mod PositiveShapes
 pub mod Walking

@@ -36,6 +36,8 @@ impl ChunkGrid {
         ensures edges { IfOk result (λ grid. configuration_of_point (point_of metadata.now) ≡ Some (edges_of_grid grid)) }
         ensures shape { IfOk result (λ grid. sizes_of_grid grid ≡ array_shape.now) }
         ensures name { result ≡ Err PluginCreateError.NameUnsupported → kind_of (point_of metadata.now).name ≡ None }
+        ensures unknown { kind_of (point_of metadata.now).name ≡ None → result ≡ Err PluginCreateError.NameUnsupported }
+        ensures cause { IfErr result (λ e. e ≢ PluginCreateError.Memory → e ≢ PluginCreateError.NameUnsupported → e ≡ PluginCreateError.MetadataInvalid) }
         ensures refused { IfErr result (λ e. e ≢ PluginCreateError.Memory → option_and_then (grid_in array_shape.now) (configuration_of_point (point_of metadata.now)) ≡ None) }
     {
         let Some(kind) = ChunkGridKind::of_name(metadata.name()) else {

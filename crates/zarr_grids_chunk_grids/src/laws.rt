@@ -2,7 +2,7 @@
 ghost use Rattle.std.specs.Prelude.{◌≡◌, map};
 ghost use Rattle.zarr_grids_configurations.specs.Grids.{fixed};
 ghost use Rattle.zarr_grids_configurations.specs.Views.{rectangular_view, rectilinear_view};
-ghost use Rattle.zarr_grids_chunk_grids.specs.Laws.{GridOfConfiguration, EqualEdgesEqualGrids};
+ghost use Rattle.zarr_grids_chunk_grids.specs.Laws.{GridOfConfiguration, EqualEdgesEqualGrids, RectilinearByEdges};
 
 use crate::rectangular::RectangularChunkGrid;
 use crate::rectilinear::RectilinearChunkGrid;
@@ -17,6 +17,12 @@ pub fn grid_of_configuration()
 /// Two chunk grids of any kind, of equal array shapes and equal edges, are equal, so that each lookup answers alike.
 pub fn equal_edges_equal_grids()
     ensures { EqualEdgesEqualGrids }
+{}
+
+/// Two `rectilinear` grids compare as equal exactly where they have equal array shapes and equal edges along each dimension,
+/// whether a run gives the edges or each is given by itself.
+pub fn rectilinear_by_edges()
+    ensures { RectilinearByEdges }
 {}
 
 /// A `rectangular` grid of fixed edges is the `regular` one.

@@ -20,7 +20,7 @@ use zarr_grids_configurations::dimensions::{GivenEdges, dimensions};
 use zarr_grids_configurations::{
     ChunkEdgeLengths, GridError, read_rectilinear, try_clone_rectilinear, write_rectilinear,
 };
-use zarr_grids_dimensions::Dimension;
+use zarr_grids_dimensions::{Dimension, is_same_grid};
 use zarr_grids_metadata::{MetadataV3, PluginCreateError};
 
 /// Why a `rectilinear` grid is not made.
@@ -29,7 +29,7 @@ pub type RectilinearChunkGridCreateError = GridError;
 /// A grid of chunks of one edge or of runs of edges along each dimension. Runs cover at least the array's size (this
 /// project's profile).
 #[derive(Drop)]
-#[derive_where(PartialEq, Eq, Debug)]
+#[derive_where(Debug)]
 pub struct RectilinearChunkGrid {
     array_shape: ArrayShape,
     chunk_shapes: Vec<ChunkEdgeLengths>,
@@ -105,6 +105,32 @@ impl RectilinearChunkGrid {
             Err(_) => Err(AllocError),
         }
     }
+}
+
+/// Two are equal where their array shapes are, and along each dimension the edges, however runs hold them: `[[4, 2]]` is `[4, 4]`.
+/// One edge of all chunks equals no list of edges, since its chunks go on past the array and a list ends. What a grid was made of
+/// is not compared: `configuration` of equal grids may differ. Takes as many steps as both have runs.
+impl PartialEq for RectilinearChunkGrid {
+    ghost use Rattle.std.specs.Cmp.{on_per, partial_equiv_from_equiv};
+    ghost use Rattle.zarr_grids_dimensions.specs.Dimensions.{grid_of};
+    ghost use Rattle.zarr_grids_dimensions.specs.Same.{same_grid};
+    ghost use Rattle.zarr_grids_dimensions.specs.SameEquivalence.{same_grid_equiv};
+
+    ghost eq = { λ a b. same_grid (grid_of a.dimensions.items) (grid_of b.dimensions.items) };
+
+    ghost laws = { on_per (λ grid. grid_of grid.dimensions.items) (partial_equiv_from_equiv same_grid_equiv) };
+
+    fn eq(&self, other: &RectilinearChunkGrid) -> bool {
+        is_same_grid(&self.dimensions, &other.dimensions)
+    }
+}
+
+impl Eq for RectilinearChunkGrid {
+    ghost use Rattle.std.specs.Cmp.{on_equiv};
+    ghost use Rattle.zarr_grids_dimensions.specs.Dimensions.{grid_of};
+    ghost use Rattle.zarr_grids_dimensions.specs.SameEquivalence.{same_grid_equiv};
+
+    ghost laws = { on_equiv (λ grid. grid_of grid.dimensions.items) same_grid_equiv };
 }
 
 impl ChunkGridTraits for RectilinearChunkGrid {

@@ -1,5 +1,5 @@
 -- The configurations of the four chunk grids in JSON (Zarr core specification, "Regular grids", for `regular`; the others are this project's profile).
-use Rattle.std.specs.Prelude.{ℕ, List, [], ◌∷◌, map, codes, bytes_eq, Bool, false, ◌&&◌, ◌||◌, if◌then◌else◌, Option, Some, None, option_map, option_and_then, unwrap_or}
+use Rattle.std.specs.Prelude.{ℕ, List, [], ◌∷◌, map, codes, bytes_eq, Bool, false, ◌&&◌, ◌||◌, if◌then◌else◌, Option, Some, None, is_some, option_map, option_and_then, unwrap_or}
 use Rattle.serde_json.specs.Data.{Data, null, boolean, number, string, array, object, Items, no_items, item, Members}
 use Rattle.serde_json.specs.Find.{get_member, as_u64, as_str, as_array}
 use Rattle.zarr_grids_metadata.specs.Members.{has_only}
@@ -98,9 +98,20 @@ configuration_of_kind regular_bounded ms = option_map (map bounded) (chunk_shape
 configuration_of_kind rectangular ms = option_and_then positive_edges (option_and_then (in_each_item rectangular_edges) (option_and_then as_array (only_chunk_shape ms)))
 configuration_of_kind rectilinear ms = option_and_then positive_edges (option_and_then (in_each_item rectilinear_edges) (option_and_then as_array (only_chunk_shapes ms)))
 
+-- whether a configuration says edges for each dimension, positive or not
+abbrev pub has_form : GridKind → Members → Bool
+has_form regular ms = is_some (option_and_then sizes_in (only_chunk_shape ms))
+has_form regular_bounded ms = is_some (option_and_then sizes_in (only_chunk_shape ms))
+has_form rectangular ms = is_some (option_and_then (in_each_item rectangular_edges) (option_and_then as_array (only_chunk_shape ms)))
+has_form rectilinear ms = is_some (option_and_then (in_each_item rectilinear_edges) (option_and_then as_array (only_chunk_shapes ms)))
+
 -- the chunk grid that an extension point names
 abbrev pub kind_in : Data → Option GridKind
 kind_in d = option_and_then (λ (point : ExtensionPoint). kind_of point.name) (extension_point d)
+
+-- whether an extension point that names a chunk grid says edges for each dimension
+abbrev pub form_in : Data → Option Bool
+form_in d = option_and_then (λ (point : ExtensionPoint). option_map (λ kind. has_form kind (configuration_members point.configuration)) (kind_of point.name)) (extension_point d)
 
 -- the configuration that an extension point gives for the chunk grid that it names
 abbrev pub configuration_of_point : ExtensionPoint → Option (List Edges)

@@ -87,6 +87,8 @@ pub fn dimensions(
     ensures made { IfOk result (λ made. grid_in array_shape.now (given_view given.entry) ≡ Some (grid_of made.items)) }
     ensures none { IfErr result (λ e. e ≢ GridError.Memory → grid_in array_shape.now (given_view given.entry) ≡ None) }
     ensures refused { IfErr result (RefusesGrid array_shape.now (given_view given.entry)) }
+    ensures other { length (given_view given.entry) ≢ length array_shape.now
+        → result ≡ Err (GridError.Dimensionality (record { got = length (given_view given.entry); expected = length array_shape.now })) }
 {
     let got = given.dimensionality();
     let expected = array_shape.len();

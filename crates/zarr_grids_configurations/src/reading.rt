@@ -1,5 +1,5 @@
 //! Configurations read from JSON.
-ghost use Rattle.std.specs.Prelude.{◌≡◌, ◌≢◌, IfOk, IfErr, Some, None, map, option_map, option_and_then};
+ghost use Rattle.std.specs.Prelude.{◌≡◌, ◌≢◌, true, false, IfOk, IfErr, Some, None, is_some, map, option_map, option_and_then};
 ghost use Rattle.serde_json.specs.View.{view, items_view, members_view};
 ghost use Rattle.zarr_grids_metadata.specs.ExtensionPoints.{extension_point, configuration_members};
 ghost use Rattle.zarr_grids_configurations.specs.Grids.{are_positive};
@@ -47,6 +47,9 @@ pub fn read_configuration(
     ensures none { IfErr result (λ e. e ≢ ConfigurationError.Memory → json.configuration_in (view value.now) ≡ None) }
     ensures point { result ≡ Err ConfigurationError.Point → extension_point (view value.now) ≡ None }
     ensures name { result ≡ Err ConfigurationError.Name → json.kind_in (view value.now) ≡ None }
+    ensures unnamed { result ≡ Err ConfigurationError.Name → is_some (extension_point (view value.now)) ≡ true }
+    ensures unformed { result ≡ Err ConfigurationError.Form → json.form_in (view value.now) ≡ Some false }
+    ensures zero { result ≡ Err ConfigurationError.ZeroEdge → json.form_in (view value.now) ≡ Some true }
 {
     let Some(point) = ExtensionPoint::read(value) else {
         return Err(ConfigurationError::Point);
@@ -67,6 +70,8 @@ pub fn read_configuration_of_kind(
     ensures kind { IfOk result (λ c. kind_of_configuration c ≡ kind_view kind) }
     ensures none { IfErr result (λ e. e ≢ ConfigurationError.Memory → json.configuration_of_kind (kind_view kind) (configuration_members (option_map (λ ms. members_view ms.now.entries) configuration.entry)) ≡ None) }
     ensures form { IfErr result (λ e. (e ≢ ConfigurationError.Point) × (e ≢ ConfigurationError.Name)) }
+    ensures unformed { result ≡ Err ConfigurationError.Form → json.has_form (kind_view kind) (configuration_members (option_map (λ ms. members_view ms.now.entries) configuration.entry)) ≡ false }
+    ensures zero { result ≡ Err ConfigurationError.ZeroEdge → json.has_form (kind_view kind) (configuration_members (option_map (λ ms. members_view ms.now.entries) configuration.entry)) ≡ true }
 {
     match kind {
         ChunkGridKind::Regular => match read_chunk_shape(alloc, configuration) {
@@ -136,6 +141,8 @@ pub fn read_chunk_shape(
     ensures read { IfOk result (λ s. json.chunk_shape_of (configuration_members (option_map (λ ms. members_view ms.now.entries) configuration.entry)) ≡ Some s.edges.items) }
     ensures none { IfErr result (λ e. e ≢ ConfigurationError.Memory → json.chunk_shape_of (configuration_members (option_map (λ ms. members_view ms.now.entries) configuration.entry)) ≡ None) }
     ensures form { IfErr result (λ e. (e ≢ ConfigurationError.Point) × (e ≢ ConfigurationError.Name)) }
+    ensures unformed { result ≡ Err ConfigurationError.Form → json.has_form json.regular (configuration_members (option_map (λ ms. members_view ms.now.entries) configuration.entry)) ≡ false }
+    ensures zero { result ≡ Err ConfigurationError.ZeroEdge → json.has_form json.regular (configuration_members (option_map (λ ms. members_view ms.now.entries) configuration.entry)) ≡ true }
 {
     let Some(members) = configuration else {
         return Err(ConfigurationError::Form);
@@ -161,6 +168,8 @@ pub fn read_rectangular(
     ensures read { IfOk result (λ c. json.configuration_of_kind json.rectangular (configuration_members (option_map (λ ms. members_view ms.now.entries) configuration.entry)) ≡ Some (map rectangular_view c.chunk_shape.items)) }
     ensures none { IfErr result (λ e. e ≢ ConfigurationError.Memory → json.configuration_of_kind json.rectangular (configuration_members (option_map (λ ms. members_view ms.now.entries) configuration.entry)) ≡ None) }
     ensures form { IfErr result (λ e. (e ≢ ConfigurationError.Point) × (e ≢ ConfigurationError.Name)) }
+    ensures unformed { result ≡ Err ConfigurationError.Form → json.has_form json.rectangular (configuration_members (option_map (λ ms. members_view ms.now.entries) configuration.entry)) ≡ false }
+    ensures zero { result ≡ Err ConfigurationError.ZeroEdge → json.has_form json.rectangular (configuration_members (option_map (λ ms. members_view ms.now.entries) configuration.entry)) ≡ true }
 {
     let Some(members) = configuration else {
         return Err(ConfigurationError::Form);
@@ -237,6 +246,8 @@ pub fn read_rectilinear(
     ensures read { IfOk result (λ c. json.configuration_of_kind json.rectilinear (configuration_members (option_map (λ ms. members_view ms.now.entries) configuration.entry)) ≡ Some (map rectilinear_view c.chunk_shapes.items)) }
     ensures none { IfErr result (λ e. e ≢ ConfigurationError.Memory → json.configuration_of_kind json.rectilinear (configuration_members (option_map (λ ms. members_view ms.now.entries) configuration.entry)) ≡ None) }
     ensures form { IfErr result (λ e. (e ≢ ConfigurationError.Point) × (e ≢ ConfigurationError.Name)) }
+    ensures unformed { result ≡ Err ConfigurationError.Form → json.has_form json.rectilinear (configuration_members (option_map (λ ms. members_view ms.now.entries) configuration.entry)) ≡ false }
+    ensures zero { result ≡ Err ConfigurationError.ZeroEdge → json.has_form json.rectilinear (configuration_members (option_map (λ ms. members_view ms.now.entries) configuration.entry)) ≡ true }
 {
     let Some(members) = configuration else {
         return Err(ConfigurationError::Form);

@@ -12,4 +12,3 @@ pub use below::{are_below, covers, is_below};
 pub use chunk::{chunk_region, write_chunk_box};
 pub use met::chunks_met;
 pub use sizes::has_chunk_of;
-

@@ -10,6 +10,8 @@ pub mod Monotone
 pub mod OneChunk
 pub mod PlaceWalk
 pub mod Running
+pub mod SameEdges
+pub mod SameGrids
 pub mod Union
 pub mod UnionBox
 pub mod VaryingIntervals

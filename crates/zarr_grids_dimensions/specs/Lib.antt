@@ -5,3 +5,6 @@ pub mod Intervals
 pub mod Laws
 pub mod Lookups
 pub mod Runs
+pub mod RunsLeft
+pub mod Same
+pub mod SameEquivalence

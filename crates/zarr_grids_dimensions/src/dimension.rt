@@ -9,6 +9,7 @@ ghost use Rattle.zarr_grids_dimensions.specs.Intervals.{interval_of, bounded_of}
 use crate::fixed::{FixedEdge, ZeroEdgeError};
 use crate::interval::{BoundedInterval, ChunkInterval};
 use crate::varying::VaryingEdges;
+use std::alloc::{AllocError, Global};
 
 /// One dimension of a chunk grid: the array's size, and how its chunks lie.
 #[derive(Debug, Drop)]
@@ -38,6 +39,20 @@ impl Dimension {
     {
         let fixed = FixedEdge::new(size, edge)?;
         Ok(Dimension::Clipped(fixed))
+    }
+
+    /// An equal dimension, in memory of its own.
+    pub fn try_clone(&self, alloc: Global) -> Result<Dimension, AllocError>
+        ensures { IfOk result (λ copy. dimension_of copy ≡ dimension_of self.now) }
+    {
+        match self {
+            Dimension::Regular(fixed) => Ok(Dimension::Regular(*fixed)),
+            Dimension::Clipped(fixed) => Ok(Dimension::Clipped(*fixed)),
+            Dimension::Varying(edges) => {
+                let copy = edges.try_clone(alloc)?;
+                Ok(Dimension::Varying(copy))
+            }
+        }
     }
 
     /// The array's size in this dimension.

@@ -1,5 +1,5 @@
 //! Laws of chunks and places. Each function does nothing: its contract is the law.
-ghost use Rattle.zarr_grids_dimensions.specs.Laws.{IntervalsApart, PlaceInOneInterval, ChunksApart, PlaceInOneChunk};
+ghost use Rattle.zarr_grids_dimensions.specs.Laws.{IntervalsApart, PlaceInOneInterval, ChunksApart, PlaceInOneChunk, SameDimensionIsEqual, SameGridIsEqual};
 ghost use Rattle.zarr_grids_dimensions.specs.Lookups.{is_dimension};
 ghost use Rattle.zarr_grids_dimensions.specs.Dimensions.{dimension_of};
 ghost use Rattle.std.specs.Prelude.{◌≡◌, true};
@@ -24,6 +24,16 @@ pub fn chunks_apart()
 /// Each place below the array shape lies in exactly one chunk, which is below the grid shape.
 pub fn place_in_one_chunk()
     ensures { PlaceInOneChunk }
+{}
+
+/// Dimensions compare as equal exactly where they are the same.
+pub fn same_dimension_is_equal()
+    ensures { SameDimensionIsEqual }
+{}
+
+/// Grids compare as equal exactly where they are the same, so that each lookup answers alike.
+pub fn same_grid_is_equal()
+    ensures { SameGridIsEqual }
 {}
 
 /// Each dimension that code holds has positive edges that cover its size.

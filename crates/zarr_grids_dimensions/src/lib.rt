@@ -3,16 +3,20 @@
 
 pub mod boxes;
 pub mod dimension;
+pub mod equality;
 pub mod error;
 pub mod fixed;
 pub mod interval;
 pub mod laws;
 pub mod lookups;
 pub mod run;
+mod runs_left;
+mod same_edges;
 pub mod search;
 pub mod varying;
 
 pub use dimension::Dimension;
+pub use equality::is_same_grid;
 pub use error::{IncompatibleDimensionalityError, LookupError};
 pub use fixed::{FixedEdge, ZeroEdgeError};
 pub use interval::{BoundedInterval, ChunkInterval};

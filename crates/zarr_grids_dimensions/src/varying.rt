@@ -84,6 +84,18 @@ impl VaryingEdges {
         })
     }
 
+    /// The same runs and size, in memory of their own.
+    pub fn try_clone(&self, alloc: Global) -> Result<VaryingEdges, AllocError>
+        ensures size { IfOk result (λ copy. copy.size ≡ self.now.size) }
+        ensures runs { IfOk result (λ copy. copy.runs.items ≡ self.now.runs.items) }
+    {
+        let runs = self.runs.to_vec(alloc)?;
+        match VaryingEdges::new(alloc, self.size, runs) {
+            Ok(copy) => Ok(copy),
+            Err(_) => Err(AllocError),
+        }
+    }
+
     /// The array's size in this dimension.
     pub fn size(&self) -> u64
         ensures { result ≡ self.now.size }

@@ -11,7 +11,7 @@ use Rattle.zarr_grids_boxes.specs.Boxes.{IsSmall}
 use Rattle.zarr_grids_keys.specs.declared.document_name.DocumentName.{DocumentName}
 use Rattle.zarr_grids_keys.specs.declared.document_name.DocumentName.TheVariants.{ZarrJson, ZArray, ZAttrs}
 use Rattle.zarr_grids_keys.specs.Documents.{document_name, document_key}
-use Rattle.zarr_grids_keys.specs.Keys.{KeyEncoding, default, v2, suffixed, numbers_after, default_key, encoded_key, key_below, chunk_key, is_separator, has_separator}
+use Rattle.zarr_grids_keys.specs.Keys.{KeyEncoding, default, v2, suffixed, numbers_after, default_key, encoded_key, key_below, chunk_key, is_separator, is_v2, has_separator}
 use Rattle.zarr_grids_keys.specs.Paths.{is_node_path}
 use Rattle.zarr_grids_keys.proofs.RelatedLemmas.{stem, stem-injective, key_below-stem}
 
@@ -84,6 +84,15 @@ key_below-injective path x y e =
 -- chunks with one key are one
 pub chunk_key-injective : (path : List ℕ) (keys : KeyEncoding) (c d : List ℕ) → IsTrue (has_separator keys) → length c ≡ length d → IsSmall c → IsSmall d → chunk_key path keys c ≡ chunk_key path keys d → c ≡ d
 chunk_key-injective path keys c d h l p q e = encoded_key-injective keys c d h l p q (key_below-injective path (encoded_key keys c) (encoded_key keys d) e)
+
+-- chunks with one key of an encoding other than `v2` are one, of as many dimensions or not
+pub encoded_key-default : (keys : KeyEncoding) (c d : List ℕ) → is_v2 keys ≡ false → IsTrue (has_separator keys) → IsSmall c → IsSmall d → encoded_key keys c ≡ encoded_key keys d → c ≡ d
+encoded_key-default (default separator) c d v h p q e = default_key-injective separator c d h p q e
+encoded_key-default (v2 separator) c d v h p q e = absurd (cc)
+encoded_key-default (suffixed separator suffix) c d v h p q e = default_key-injective separator c d h p q (append_cancel_right (default_key separator c) (default_key separator d) suffix e)
+
+pub chunk_key-default : (path : List ℕ) (keys : KeyEncoding) (c d : List ℕ) → is_v2 keys ≡ false → IsTrue (has_separator keys) → IsSmall c → IsSmall d → chunk_key path keys c ≡ chunk_key path keys d → c ≡ d
+chunk_key-default path keys c d v h p q e = encoded_key-default keys c d v h p q (key_below-injective path (encoded_key keys c) (encoded_key keys d) e)
 
 -- the last byte of a text, or the given number if the text is empty
 abbrev pub last_byte : ℕ → List ℕ → ℕ

@@ -1,5 +1,5 @@
 -- The store keys of chunks.
-use Rattle.std.specs.Prelude.{ℕ, List, [], ◌∷◌, ◌++◌, drop, codes, bytes_eq, decimal, if◌then◌else◌, Bool, true, not, ◌||◌, ◌==◌}
+use Rattle.std.specs.Prelude.{ℕ, List, [], ◌∷◌, ◌++◌, drop, codes, bytes_eq, decimal, if◌then◌else◌, Bool, true, false, not, ◌||◌, ◌==◌}
 use Rattle.std.specs.List.{flat_map, list_any}
 
 -- how a chunk's index becomes a key
@@ -40,6 +40,12 @@ abbrev pub has_separator : KeyEncoding → Bool
 has_separator (default separator) = is_separator separator
 has_separator (v2 separator) = is_separator separator
 has_separator (suffixed separator suffix) = is_separator separator
+
+-- whether the numbers of a key begin without a letter, so that a chunk of no dimension shares its key with one of one dimension
+abbrev pub is_v2 : KeyEncoding → Bool
+is_v2 (default separator) = false
+is_v2 (v2 separator) = true
+is_v2 (suffixed separator suffix) = false
 
 -- whether a suffix holds no slash
 abbrev pub has_plain_suffix : KeyEncoding → Bool

@@ -7,13 +7,17 @@ use Rattle.std.specs.Ordering.{nat_cmp}
 use Rattle.zarr_grids_boxes.specs.Boxes.{IsSmall}
 use Rattle.zarr_grids_keys.specs.declared.document_name.DocumentName.{DocumentName}
 use Rattle.zarr_grids_keys.specs.Documents.{document_key}
-use Rattle.zarr_grids_keys.specs.Keys.{KeyEncoding, key_below, chunk_key, has_separator, has_plain_suffix}
+use Rattle.zarr_grids_keys.specs.Keys.{KeyEncoding, key_below, chunk_key, is_v2, has_separator, has_plain_suffix}
 use Rattle.zarr_grids_keys.specs.Paths.{is_node_path}
 use Rattle.zarr_grids_keys.specs.Related.{is_under, is_related, parent_path, IsReached}
 
 -- chunks of one array whose keys are equal are equal, where they have as many dimensions
 abbrev pub KeysDiffer : Type 0
 KeysDiffer = (path : List ℕ) (keys : KeyEncoding) (c d : List ℕ) → IsTrue (has_separator keys) → length c ≡ length d → IsSmall c → IsSmall d → chunk_key path keys c ≡ chunk_key path keys d → c ≡ d
+
+-- chunks whose keys below one path are equal are equal, whatever their numbers of dimensions are, where the encoding is not `v2`
+abbrev pub DefaultKeysDiffer : Type 0
+DefaultKeysDiffer = (path : List ℕ) (keys : KeyEncoding) (c d : List ℕ) → is_v2 keys ≡ false → IsTrue (has_separator keys) → IsSmall c → IsSmall d → chunk_key path keys c ≡ chunk_key path keys d → c ≡ d
 
 -- no matter what the names are, the store keys below two unrelated node paths differ
 abbrev pub UnrelatedKeysDiffer : Type 0

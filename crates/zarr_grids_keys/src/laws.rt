@@ -1,10 +1,16 @@
 //! Laws of store keys and of related paths. Each function does nothing: its contract is the law.
-ghost use Rattle.zarr_grids_keys.specs.Laws.{KeysDiffer, UnrelatedKeysDiffer, ChunksAreNoDocuments, OnlyLowerDocuments, NoChunkIsOwnDocument, DocumentKeysDiffer};
+ghost use Rattle.zarr_grids_keys.specs.Laws.{KeysDiffer, DefaultKeysDiffer, UnrelatedKeysDiffer, ChunksAreNoDocuments, OnlyLowerDocuments, NoChunkIsOwnDocument, DocumentKeysDiffer};
 ghost use Rattle.zarr_grids_keys.specs.Laws.{RelatedIsSymmetric, RelatedIsReflexive, RelatedAbove, UnderIsTransitive, UnderIsStrict, UnderBeginsWithPath, UnderIsRange, AboveByParent, AboveIsReached};
 
 /// The chunks of an array have different keys.
 pub fn keys_differ()
     ensures { KeysDiffer }
+{}
+
+/// Under `default`, with a suffix or without one, chunks have different keys also where their numbers of dimensions differ: the
+/// key of no dimension is `c` and that of chunk 0 of one is `c/0`, where `v2` gives `0` to both.
+pub fn default_keys_differ()
+    ensures { DefaultKeysDiffer }
 {}
 
 /// The store keys below two unrelated node paths differ, so no chunk or document of one array has

@@ -191,6 +191,39 @@ fn refuses(rt: HostRuntime) -> Result<(), Fail> {
     Ok(())
 }
 
+/// Whether `rectilinear` grids of two texts of edges are equal over arrays of one dimension of these sizes.
+fn are_equal(
+    alloc: Global,
+    edges: &str,
+    size: u64,
+    others: &str,
+    other_size: u64,
+) -> Result<bool, Fail> {
+    let head = r#"{"name":"rectilinear","configuration":{"kind":"inline","chunk_shapes":["#;
+    let text = format!(in alloc; "{head}{edges}]}}}}")?;
+    let grid = grid_of(alloc, text.as_str(), &[size])?;
+    let text = format!(in alloc; "{head}{others}]}}}}")?;
+    let other = grid_of(alloc, text.as_str(), &[other_size])?;
+    Ok(grid == other)
+}
+
+#[test]
+fn compares_edges_of_rectilinear(rt: HostRuntime) -> Result<(), Fail> {
+    let alloc = rt.alloc();
+    assert!(rt; are_equal(alloc, "[[4,2]]", 8, "[4,4]", 8)?);
+    assert!(rt; are_equal(alloc, "[4,[4,1]]", 8, "[[4,2]]", 8)?);
+    assert!(rt; are_equal(alloc, "[[3,2],[3,1],2]", 11, "[3,[3,2],2]", 11)?);
+    assert!(rt; are_equal(alloc, "4", 8, "4", 8)?);
+    assert!(rt; !are_equal(alloc, "[[4,2]]", 8, "[4,4]", 7)?);
+    assert!(rt; !are_equal(alloc, "[[4,2]]", 8, "[4,4,4]", 8)?);
+    assert!(rt; !are_equal(alloc, "[[4,3]]", 8, "[4,4]", 8)?);
+    assert!(rt; !are_equal(alloc, "[2,3]", 5, "[3,2]", 5)?);
+    assert!(rt; !are_equal(alloc, "[[2,2],1]", 5, "[2,[1,3]]", 5)?);
+    assert!(rt; !are_equal(alloc, "4", 8, "[4,4]", 8)?);
+    assert!(rt; !are_equal(alloc, "4", 8, "5", 8)?);
+    Ok(())
+}
+
 #[test]
 fn makes_grids_of_edges(rt: HostRuntime) -> Result<(), Fail> {
     let alloc = rt.alloc();

@@ -7,4 +7,3 @@ pub mod runs;
 
 pub use fill::is_all;
 pub use runs::overlay;
-

@@ -1,9 +1,9 @@
 //! Dimensions and lookups with values worked out by hand.
-use crate::boxes::{chunks_in_array_subset, chunks_subset};
 use std::alloc::Global;
 use std::process::Abort;
 use std::test::Fail;
 use zarr_grids_boxes::ArraySubset;
+use zarr_grids_dimensions::boxes::{chunks_in_array_subset, chunks_subset};
 use zarr_grids_dimensions::lookups::{
     array_indices_inbounds, array_shape, chunk_element_indices, chunk_indices,
     chunk_indices_inbounds, chunk_origin, chunk_shape, grid_shape, subset,

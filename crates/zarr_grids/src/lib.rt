@@ -1,0 +1,44 @@
+//! Boxes, chunk grids, chunk keys and the metadata of both, for any program that reads or writes Zarr arrays.
+//!
+//! - Boxes: an `ArraySubset` is a box of places or of chunks, by its start and its shape, and `Indices` and
+//!   `LinearisedIndices` walk over it. `ravel_indices` and `unravel_index` turn a place of a shape into its row-major number
+//!   and back. An `ArrayShape` has any sizes, a `ChunkShape` none of 0.
+//! - Chunk grids: the four grids, each made of an array's shape and edges or of its extension point. `ChunkGridTraits` is what
+//!   all of them answer: which chunks there are, where each lies, which chunk a place lies in, which chunks a box meets, and
+//!   the three walks. `ChunkGrid` is any of them. A `LookupError` tells of a place or a chunk of another dimensionality.
+//! - Configurations of grids: the fields of each grid's configuration, typed. The edges along a dimension are one edge for all
+//!   chunks, a list, or runs of equal edges.
+//! - Chunk keys: the three encodings, each of which gives a chunk's name in a store, with `ChunkKeyEncoding` as any of them and
+//!   `ChunkKeyEncodingTraits` as what they answer. A `StoreKey` is a name in a store, a `NodePath` a node's place in a hierarchy.
+//! - Configurations of encodings: the fields of each encoding's configuration, typed. `ChunkKeyEncodingMetadata` makes an encoding
+//!   of an extension point, and writes it as one.
+//! - Metadata: a `MetadataV3` is an extension point, a name and a configuration in JSON, from which grids and encodings are
+//!   made. A `PluginCreateError` is why one is not made.
+#![tactic(auto)]
+
+pub use zarr_grids_boxes::{
+    ArrayIndices, ArrayShape, ArraySubset, ArraySubsetError, ChunkShape, ChunkShapeError, Indices,
+    LinearisedIndices, chunk_shape_to_array_shape, ravel_indices, unravel_index,
+};
+pub use zarr_grids_chunk_grids::{
+    ChunkGrid, ChunkGridTraits, ChunkIndices, ChunkIndicesAndSubsets, ChunkSubsets,
+    RectangularChunkGrid, RectangularChunkGridCreateError, RectilinearChunkGrid,
+    RectilinearChunkGridCreateError, RegularBoundedChunkGrid, RegularBoundedChunkGridCreateError,
+    RegularChunkGrid, RegularChunkGridCreateError,
+};
+pub use zarr_grids_configurations::{
+    ChunkEdgeLengths, GridError, RectangularChunkGridConfiguration,
+    RectangularChunkGridDimensionConfiguration, RectilinearChunkGridConfiguration,
+    RegularBoundedChunkGridConfiguration, RegularChunkGridConfiguration, RunLengthElement,
+};
+pub use zarr_grids_dimensions::{Dimension, IncompatibleDimensionalityError, LookupError, Run};
+pub use zarr_grids_key_metadata::{
+    ChunkKeyEncodingMetadata, DefaultChunkKeyEncodingConfiguration,
+    DefaultSuffixChunkKeyEncodingConfiguration, V2ChunkKeyEncodingConfiguration,
+};
+pub use zarr_grids_keys::{
+    ChunkKeyEncoding, ChunkKeyEncodingTraits, ChunkKeySeparator, DefaultChunkKeyEncoding,
+    DefaultSuffixChunkKeyEncoding, NodePath, NodePathError, StoreKey, StoreKeyError,
+    SuffixEndsWithSlashError, V2ChunkKeyEncoding,
+};
+pub use zarr_grids_metadata::{MetadataV3, PluginCreateError};
