@@ -1,11 +1,11 @@
 -- Lookups among the running sums of runs.
-use Rattle.std.proofs.Common.{◌≡◌, ◌∙◌, ℕ, ◌+◌, ◌-◌, ◌*◌, ◌/◌, ◌<◌, ◌≤◌, true, List, length, get_or, take, map, refl, sym, ap, subst, arith, add-one, Some, None}
+use Rattle.std.proofs.Common.{◌≡◌, ◌∙◌, ℕ, ◌+◌, ◌-◌, ◌*◌, ◌/◌, ◌^◌, ◌<◌, ◌≤◌, true, List, length, get_or, take, map, min, ⊎_elim, refl, sym, ap, subst, arith, add-one, Some, None}
 use Rattle.std.specs.Prelude.{sum}
 use Rattle.std.proofs.Math.Seq.{take-length}
-use Rattle.std.proofs.lemmas.List.{length-map, get_or-map}
+use Rattle.std.proofs.lemmas.List.{length-map, length-take, get_or-map, get_or-take}
 use Rattle.std.proofs.lemmas.List.Sums.{sum_by_more_le}
 use Rattle.std.proofs.lemmas.Nat.{div_below}
-use Rattle.std.proofs.lemmas.Bool.{le-leb, le-ltb}
+use Rattle.std.proofs.lemmas.Bool.{le-leb, le-ltb, cases_lt}
 use Rattle.std.proofs.Math.Nat.{div-mul-le_self, lt-div-mul-add}
 use Rattle.zarr_grids_chunks.specs.Grids.{varying, interval}
 use Rattle.zarr_grids_dimensions.specs.declared.run.Run.{Run}
@@ -139,6 +139,41 @@ chunk_searched runs chunks places starts j k run c f ci pi si h at cc_ fc from t
     let l = starts-length (λ (r : Run). r.count) runs starts (si ∙ ci) in
     let to' = to (omega arith) in
     chunk_found runs chunks places j k run c f ci pi h (sym at) (sym cc_) (sym fc) (omega arith) (omega arith)
+
+-- ---- from what a search among the starts below 2^64 ensures
+pub near_at : (places near : List ℕ) (j d : ℕ) → near ≡ take (length near) places → j < length near → get_or near j d ≡ get_or places j d
+near_at places near j d is h = ap (λ (ys : List ℕ). get_or ys j d) is ∙ get_or-take (length near) places j d h
+
+near_next : (places near : List ℕ) (j p : ℕ) → near ≡ take (length near) places → (length near < length places → 2 ^ 64 ≤ get_or places (length near) 0) → p < 2 ^ 64 → j < length near
+    → (j + 1 < length near → p < get_or near (j + 1) 0) → j + 1 < length places → p < get_or places (j + 1) 0
+near_next places near j p is far fits h to below = ⊎_elim
+    (λ less. let e = near_at places near (j + 1) 0 is less in let t = to less in omega arith)
+    (λ more.
+    let e : length near ≡ j + 1 = omega arith in
+    let g : get_or places (length near) 0 ≡ get_or places (j + 1) 0 = ap (λ (m : ℕ). get_or places m 0) e in
+    let f = far (omega arith) in
+    omega arith)
+    (cases_lt (j + 1) (length near))
+
+pub record Searched (places : List ℕ) (j p : ℕ) : Type 0 where
+  pub below : j < length places
+  pub from : get_or places j 0 ≤ p
+  pub to : j + 1 < length places → p < get_or places (j + 1) 0
+
+pub near_searched : (places near starts : List ℕ) (j p : ℕ) → near ≡ take (length near) places → (length near < length places → 2 ^ 64 ≤ get_or places (length near) 0) → starts ≡ near → p < 2 ^ 64
+    → j < length starts → get_or starts j 0 ≤ p → (j + 1 < length starts → p < get_or starts (j + 1) 0) → Searched places j p
+near_searched places near starts j p is far si fits h from to =
+    let n : length starts ≡ length near = ap (λ (ys : List ℕ). length ys) si in
+    let m : length near ≡ min (length near) (length places) = ap (λ (ys : List ℕ). length ys) is ∙ length-take (length near) places in
+    let a : get_or starts j 0 ≡ get_or near j 0 = ap (λ (ys : List ℕ). get_or ys j 0) si in
+    let b : get_or starts (j + 1) 0 ≡ get_or near (j + 1) 0 = ap (λ (ys : List ℕ). get_or ys (j + 1) 0) si in
+    let h' : j < length near = omega arith in
+    let e = near_at places near j 0 is h' in
+    record {
+      below = omega arith;
+      from = omega arith;
+      to = near_next places near j p is far fits h' (λ less. let t = to (omega arith) in omega arith);
+    }
 
 -- past the last start
 pub place_past : (runs : List Run) (places starts : List ℕ) (j p : ℕ) → places ≡ running 0 (lengths runs) → starts ≡ places → j ≡ length runs → get_or starts j 0 ≤ p → sum (expanded runs) ≤ p

@@ -1,5 +1,5 @@
 -- Equality of dimensions and of grids, as a test.
-use Rattle.std.specs.Prelude.{◌==◌, ◌&&◌, List, [], ◌∷◌, bytes_eq, Bool, true, false}
+use Rattle.std.specs.Prelude.{◌==◌, ◌&&◌, [], ◌∷◌, bytes_eq, Bool, true, false}
 use Rattle.zarr_grids_chunks.specs.Grids.{Dimension, regular, clipped, varying, Grid}
 
 -- whether two dimensions are equal: of one kind and of equal sizes, with one edge of all chunks or with the same edges one after another

@@ -1,5 +1,5 @@
 -- The tests of equality hold of a thing and itself alone, and so are equivalences.
-use Rattle.std.proofs.Common.{◌≡◌, List, [], ◌∷◌, Bool, ◌&&◌, ◌==◌, ap, sym, refl}
+use Rattle.std.proofs.Common.{◌≡◌, [], ◌∷◌, Bool, ◌&&◌, ◌==◌, ap, sym, refl}
 use Rattle.std.specs.Bool.{Decides}
 use Rattle.std.specs.Prelude.{bytes_eq}
 use Rattle.std.specs.Cmp.{IsEquivalence, both_ways}

@@ -1,5 +1,5 @@
 //! Chunks of varying edges, by runs of equal ones.
-ghost use Rattle.std.specs.Prelude.{◌≡◌, ◌⊎◌, ℕ, ◌↔◌, ◌<◌, ◌≤◌, ◌^◌, IsTrue, true, false, length, sum, map, option_map, IfOk, IfErr};
+ghost use Rattle.std.specs.Prelude.{◌≡◌, ◌⊎◌, ℕ, ◌↔◌, ◌<◌, ◌≤◌, ◌^◌, IsTrue, true, false, length, slice_index, take, sum, map, option_map, IfOk, IfErr};
 ghost use Rattle.std.specs.Option.{SomeIff};
 ghost use Rattle.zarr_grids_chunks.specs.Grids.{varying, interval};
 ghost use Rattle.zarr_grids_dimensions.specs.Runs.{expanded, edges, counts, lengths, running};
@@ -17,10 +17,14 @@ use thiserror::Error;
 pub struct VaryingEdges {
     size: u64,
     runs: Vec<Run>,
-    first_chunks: Vec<u128>,
+    first_chunks: Vec<u64>,
     first_places: Vec<u128>,
+    near_places: Vec<u64>,
     ghost chunks: { first_chunks.items ≡ running 0 (counts runs.items) },
     ghost places: { first_places.items ≡ running 0 (lengths runs.items) },
+    ghost near: { near_places.items ≡ take (length near_places.items) first_places.items },
+    ghost some: { 0 < length near_places.items },
+    ghost far: { length near_places.items < length first_places.items → 2 ^ 64 ≤ slice_index first_places.items (length near_places.items) },
     pub ghost few: { length (expanded runs.items) < 2 ^ 64 },
     pub ghost extent: { sum (expanded runs.items) < 2 ^ 128 },
     pub ghost positive: { all_positive (edges runs.items) ≡ true },
@@ -73,6 +77,7 @@ impl VaryingEdges {
         };
         let first_chunks = first_chunks_of(alloc, &runs)?;
         let first_places = first_places_of(alloc, &runs)?;
+        let near_places = near_places_of(alloc, &first_places)?;
         if first_places[runs.len()] < size as u128 {
             return Err(VaryingEdgesError::TooShort);
         }
@@ -81,6 +86,7 @@ impl VaryingEdges {
             runs,
             first_chunks,
             first_places,
+            near_places,
         })
     }
 
@@ -121,33 +127,33 @@ impl VaryingEdges {
     pub fn chunk_count(&self) -> u64
         ensures { result ≡ length (expanded self.now.runs.items) }
     {
-        self.first_chunks[self.runs.len()] as u64
+        self.first_chunks[self.runs.len()]
     }
 
     /// The chunk that a place lies in, below the size or not.
     pub fn chunk_of(&self, place: u64) -> Option<u64>
         ensures { (chunk : ℕ) → (result ≡ Some chunk) ↔ IsTrue (in_interval (varying self.now.size (expanded self.now.runs.items)) chunk place) }
     {
-        let at = last_at_most(&self.first_places, place as u128);
+        let at = last_at_most(&self.near_places, place);
         if at == self.runs.len() {
             return None;
         }
-        let within = (place as u128 - self.first_places[at]) / self.runs[at].edge as u128;
-        Some((self.first_chunks[at] + within) as u64)
+        let within = (place - self.near_places[at]) / self.runs[at].edge;
+        Some(self.first_chunks[at] + within)
     }
 
     /// Where a chunk lies.
     pub fn interval(&self, chunk: u64) -> Option<ChunkInterval>
         ensures { option_map interval_of result ≡ interval (varying self.now.size (expanded self.now.runs.items)) chunk }
     {
-        let at = last_at_most(&self.first_chunks, chunk as u128);
+        let at = last_at_most(&self.first_chunks, chunk);
         if at == self.runs.len() {
             return None;
         }
         let edge = self.runs[at].edge;
-        let within = chunk as u128 - self.first_chunks[at];
+        let within = chunk - self.first_chunks[at];
         Some(ChunkInterval {
-            first: self.first_places[at] + within * edge as u128,
+            first: self.first_places[at] + within as u128 * edge as u128,
             count: edge,
         })
     }
@@ -184,15 +190,15 @@ fn count_chunks(runs: &[Run]) -> Option<u64>
 }
 
 /// The first chunk number of each run, and after them how many chunks there are.
-fn first_chunks_of(alloc: Global, runs: &[Run]) -> Result<Vec<u128>, AllocError>
+fn first_chunks_of(alloc: Global, runs: &[Run]) -> Result<Vec<u64>, AllocError>
     requires { sum (counts runs.now) < 2 ^ 64 }
     ensures { IfOk result (λ chunks. chunks.items ≡ running 0 (counts runs.now)) }
 {
     let mut chunks = Vec::with_capacity(alloc, runs.len())?;
-    let mut next: u128 = 0;
+    let mut next: u64 = 0;
     for run in runs {
         chunks.push(next)?;
-        next += run.count as u128;
+        next += run.count;
     }
     chunks.push(next)?;
     Ok(chunks)
@@ -211,4 +217,20 @@ fn first_places_of(alloc: Global, runs: &[Run]) -> Result<Vec<u128>, AllocError>
     }
     places.push(next)?;
     Ok(places)
+}
+
+/// The first places up to the first of them that passes 2^64 - 1: a search among them reads half the memory.
+fn near_places_of(alloc: Global, places: &[u128]) -> Result<Vec<u64>, AllocError>
+    ensures near { IfOk result (λ near. near.items ≡ take (length near.items) places.now) }
+    ensures some { IfOk result (λ near. 0 < length places.now → slice_index places.now 0 < 2 ^ 64 → 0 < length near.items) }
+    ensures far { IfOk result (λ near. length near.items < length places.now → 2 ^ 64 ≤ slice_index places.now (length near.items)) }
+{
+    let mut near = Vec::with_capacity(alloc, places.len())?;
+    for place in places {
+        if *place > u64::MAX as u128 {
+            return Ok(near);
+        }
+        near.push(*place as u64)?;
+    }
+    Ok(near)
 }

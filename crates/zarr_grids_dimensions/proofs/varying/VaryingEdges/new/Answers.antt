@@ -4,7 +4,7 @@ use Rattle.zarr_grids_dimensions.specs.declared.run.Run.{Run}
 use Rattle.zarr_grids_dimensions.specs.Runs.{expanded, edges, counts, lengths, running}
 use Rattle.zarr_grids_dimensions.specs.Lookups.{all_positive}
 use Rattle.zarr_grids_dimensions.proofs.Expanded.{length-expanded}
-use Rattle.zarr_grids_dimensions.proofs.VaryingLookups.{starts-length, places-total, covering}
+use Rattle.zarr_grids_dimensions.proofs.VaryingLookups.{starts-length, starts-first, places-total, covering}
 use Rattle.zarr_grids_dimensions.proofs.varying.VaryingEdges.new.Goals as goal
 
 pub returns-in_default-clause-many : goal.returns-in_default-clause-many
@@ -52,3 +52,10 @@ invariant_of-result-clause-dimension c =
     let e : all_positive (edges c.args.runs.items) ≡ true = ap (λ rs. all_positive (edges rs)) (sym c.deref.ensures.value) ∙ c.in_ok-check_runs.ensures.edges in
     let s : c.args.size ≤ sum (expanded c.args.runs.items) = omega arith in
     covering c.args.size c.args.runs.items e s
+
+pub invariant_of-result-clause-some : goal.invariant_of-result-clause-some
+invariant_of-result-clause-some c =
+    let p : c.deref-5.result.now ≡ running 0 (lengths c.args.runs.items) = c.deref-5.ensures.value ∙ c.in_ok-first_places.ensures ∙ ap (λ rs. running 0 (lengths rs)) c.deref-4.ensures.value in
+    let l = starts-length (λ (r : Run). r.count * r.edge) _ _ p in
+    let z = starts-first (λ (r : Run). r.count * r.edge) _ _ p in
+    c.in_ok-near_places.ensures.some (omega arith) (omega arith)
