@@ -1,0 +1,2 @@
+pub mod BoxWalk
+pub mod Finding
