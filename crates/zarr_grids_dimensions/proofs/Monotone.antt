@@ -1,14 +1,13 @@
 -- Chunks of a dimension follow one another as their places do.
-use Rattle.std.proofs.Common.{◌≡◌, ℕ, zero, suc, ◌*◌, ◌<◌, ◌≤◌, Bool, true, false, List, [], ◌∷◌, length, get_or, take, refl, subst, arith}
+use Rattle.std.proofs.Common.{◌≡◌, ℕ, zero, suc, ◌*◌, ◌<◌, ◌≤◌, true, List, [], ◌∷◌, length, get_or, take, refl, arith}
 use Rattle.std.specs.Prelude.{sum}
-use Rattle.std.proofs.Math.Dec.{ltb}
 use Rattle.std.proofs.Math.Nat.{mul-le-mul_right}
-use Rattle.std.proofs.lemmas.Bool.{ltb-true, ltb-false}
+use Rattle.std.proofs.lemmas.Bool.{ltb-true}
 use Rattle.std.proofs.lemmas.Nat.{le-div}
 use Rattle.zarr_grids_boxes.proofs.Places.{both}
 use Rattle.zarr_grids_chunks.specs.Grids.{Dimension, regular, clipped, varying}
 use Rattle.zarr_grids_dimensions.specs.Lookups.{all_positive, is_dimension, in_interval}
-use Rattle.zarr_grids_dimensions.proofs.Running.{sum-cons, sum-later}
+use Rattle.zarr_grids_dimensions.proofs.Running.{sum-cons, sum-later, sum-earlier}
 use Rattle.zarr_grids_dimensions.proofs.Expanded.{positive-at}
 use Rattle.zarr_grids_dimensions.proofs.VaryingIntervals.{InVarying, in_varying, varying_in}
 use Rattle.zarr_grids_dimensions.proofs.FixedIntervals.{InFixed, regular_in, in_regular, clipped_in, in_clipped, fixed_number}
@@ -39,12 +38,6 @@ first_fixed e k m q pos b h =
     let f = b.from in
     (record { from = omega arith; to = omega arith }, omega arith)
 
-sum-earlier : (es : List ℕ) (k m : ℕ) → k ≤ m → m < length es → sum (take k es) ≤ sum (take m es)
-sum-earlier es k m h l = go (ltb k m) refl where
-  go : (b : Bool) → ltb k m ≡ b → sum (take k es) ≤ sum (take m es)
-  go true e = let a = ltb-true k m e in let s = sum-later es k m a (omega arith) in omega arith
-  go false e = let a = ltb-false k m e in let q : k ≡ m = omega arith in subst (λ (n : ℕ). sum (take k es) ≤ sum (take n es)) q (omega arith)
-
 pub first_place : (d : Dimension) (k m q : ℕ) → is_dimension d ≡ true → in_interval d m q ≡ true → k ≤ m → (f : ℕ) × (in_interval d k f ≡ true) × (f ≤ q)
 first_place (regular s e) k m q t b h = let r = first_fixed e k m q (ltb-true 0 e t) (regular_in s e m q b) h in (k * e, in_regular s e k (k * e) r.0, r.1)
 first_place (clipped s e) k m q t b h =
@@ -59,7 +52,7 @@ first_place (varying s es) k m q t b h =
     let x = both _ _ t in
     let below : k < length es = omega arith in
     let pos = positive-at es k below x.0 in
-    let e = sum-earlier es k m h l in
+    let e = sum-earlier es k m h (omega arith) in
     let f = i.from in
     (sum (take k es), in_varying s es k (sum (take k es)) (sum (take k es)) (get_or es k 0) (record { below = below; first_is = refl; edge_is = refl }) (omega arith) (omega arith), omega arith)
 

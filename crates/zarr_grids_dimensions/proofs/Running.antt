@@ -1,6 +1,8 @@
 -- Running sums.
-use Rattle.std.proofs.Common.{◌≡◌, ℕ, zero, suc, ◌+◌, ◌≤◌, ◌<◌, List, [], ◌∷◌, length, get_or, take, refl, arith}
+use Rattle.std.proofs.Common.{◌≡◌, ℕ, zero, suc, ◌+◌, ◌≤◌, ◌<◌, List, [], ◌∷◌, length, get_or, take, ⊎_elim, refl, ap, arith}
 use Rattle.std.specs.Prelude.{sum}
+use Rattle.std.specs.List.Sorted.{IsNonDecreasing}
+use Rattle.std.proofs.lemmas.Bool.{cases_lt}
 use Rattle.std.proofs.lemmas.List.Sums.{sum_by-cons}
 use Rattle.zarr_grids_dimensions.specs.Runs.{running}
 
@@ -33,3 +35,17 @@ sum-later (x ∷ xs) (suc k) (suc m) h l =
     let s = sum-cons x (take k xs) in
     let t = sum-cons x (take m xs) in
     let g : sum (x ∷ take k xs) + get_or xs k 0 ≤ sum (x ∷ take m xs) = omega arith in g
+
+pub sum-earlier : (xs : List ℕ) (k m : ℕ) → k ≤ m → m ≤ length xs → sum (take k xs) ≤ sum (take m xs)
+sum-earlier xs k m h l = ⊎_elim
+    (λ less. let s = sum-later xs k m less (omega arith) in omega arith)
+    (λ more. let q : k ≡ m = omega arith in omega (arith, ap (λ (n : ℕ). sum (take n xs)) q))
+    (cases_lt k m)
+
+pub IsNonDecreasing-running : (n : ℕ) (xs : List ℕ) → IsNonDecreasing (running n xs)
+IsNonDecreasing-running n xs i j d le lt =
+    let l = length-running n xs in
+    let a = running-at n xs i d (omega arith) in
+    let b = running-at n xs j d (omega arith) in
+    let s = sum-earlier xs i j le (omega arith) in
+    omega arith

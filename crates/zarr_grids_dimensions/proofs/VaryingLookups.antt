@@ -1,9 +1,11 @@
 -- Lookups among the running sums of runs.
 use Rattle.std.proofs.Common.{◌≡◌, ◌∙◌, ℕ, ◌+◌, ◌-◌, ◌*◌, ◌/◌, ◌^◌, ◌<◌, ◌≤◌, true, List, length, get_or, take, map, min, ⊎_elim, refl, sym, ap, subst, arith, add-one, Some, None}
 use Rattle.std.specs.Prelude.{sum}
+use Rattle.std.specs.List.Sorted.{IsNonDecreasing}
 use Rattle.std.proofs.Math.Seq.{take-length}
 use Rattle.std.proofs.lemmas.List.{length-map, length-take, get_or-map, get_or-take}
 use Rattle.std.proofs.lemmas.List.Sums.{sum_by_more_le}
+use Rattle.std.proofs.lemmas.List.Sorted.{IsNonDecreasingBy-take}
 use Rattle.std.proofs.lemmas.Nat.{div_below}
 use Rattle.std.proofs.lemmas.Bool.{le-leb, le-ltb, cases_lt}
 use Rattle.std.proofs.Math.Nat.{div-mul-le_self, lt-div-mul-add}
@@ -11,7 +13,7 @@ use Rattle.zarr_grids_chunks.specs.Grids.{varying, interval}
 use Rattle.zarr_grids_dimensions.specs.declared.run.Run.{Run}
 use Rattle.zarr_grids_dimensions.specs.Runs.{expanded, edges, counts, lengths, running}
 use Rattle.zarr_grids_dimensions.specs.Lookups.{all_positive, is_dimension, in_interval}
-use Rattle.zarr_grids_dimensions.proofs.Running.{length-running, running-at}
+use Rattle.zarr_grids_dimensions.proofs.Running.{length-running, running-at, IsNonDecreasing-running}
 use Rattle.zarr_grids_dimensions.proofs.Expanded.{IsChunkAt, in_run, sum-run, length-expanded, sum-expanded, positive-at, positive-expanded}
 use Rattle.zarr_grids_dimensions.proofs.VaryingIntervals.{in_varying, varying_in, varying_apart, varying_within}
 
@@ -54,6 +56,9 @@ run-positive runs j run h at t =
 -- the first start is 0
 pub starts-first : (f : Run → ℕ) (runs : List Run) (xs : List ℕ) → xs ≡ running 0 (map f runs) → get_or xs 0 0 ≡ 0
 starts-first f runs xs is = starts-at f runs xs 0 0 is (omega arith)
+
+starts-ordered : (f : Run → ℕ) (runs : List Run) (xs : List ℕ) → xs ≡ running 0 (map f runs) → IsNonDecreasing xs
+starts-ordered f runs xs is = subst (λ (ys : List ℕ). IsNonDecreasing ys) (sym is) (IsNonDecreasing-running 0 (map f runs))
 
 -- ---- the chunk of a place of run j
 pub record Found (es : List ℕ) (p n first edge : ℕ) : Type 0 where
@@ -132,12 +137,12 @@ place_searched runs chunks places starts j p run c f ci pi si t h at cc_ fc from
 
 pub chunk_searched : (runs : List Run) (chunks places starts : List ℕ) (j k : ℕ) (run : Run) (c f : ℕ) → chunks ≡ running 0 (counts runs) → places ≡ running 0 (lengths runs) → starts ≡ chunks
     → j < length runs → run ≡ get_or runs j run → c ≡ get_or chunks j c → f ≡ get_or places j f
-    → get_or starts j 0 ≤ k → (j + 1 < length starts → k < get_or starts (j + 1) 0) → IsChunkAt (expanded runs) k (f + (k - c) * run.edge) run.edge
+    → get_or starts j 0 ≤ k → (IsNonDecreasing starts → j + 1 < length starts → k < get_or starts (j + 1) 0) → IsChunkAt (expanded runs) k (f + (k - c) * run.edge) run.edge
 chunk_searched runs chunks places starts j k run c f ci pi si h at cc_ fc from to =
     let e : get_or starts j 0 ≡ get_or chunks j c = same_start (λ (r : Run). r.count) runs chunks starts j c 0 ci si (omega arith) in
     let g : get_or starts (j + 1) 0 ≡ get_or chunks (j + 1) 0 = ap (λ (ys : List ℕ). get_or ys (j + 1) 0) si in
     let l = starts-length (λ (r : Run). r.count) runs starts (si ∙ ci) in
-    let to' = to (omega arith) in
+    let to' = to (starts-ordered (λ (r : Run). r.count) runs starts (si ∙ ci)) (omega arith) in
     chunk_found runs chunks places j k run c f ci pi h (sym at) (sym cc_) (sym fc) (omega arith) (omega arith)
 
 -- ---- from what a search among the starts below 2^64 ensures
@@ -160,9 +165,14 @@ pub record Searched (places : List ℕ) (j p : ℕ) : Type 0 where
   pub from : get_or places j 0 ≤ p
   pub to : j + 1 < length places → p < get_or places (j + 1) 0
 
-pub near_searched : (places near starts : List ℕ) (j p : ℕ) → near ≡ take (length near) places → (length near < length places → 2 ^ 64 ≤ get_or places (length near) 0) → starts ≡ near → p < 2 ^ 64
-    → j < length starts → get_or starts j 0 ≤ p → (j + 1 < length starts → p < get_or starts (j + 1) 0) → Searched places j p
-near_searched places near starts j p is far si fits h from to =
+near_ordered : (runs : List Run) (places near : List ℕ) → places ≡ running 0 (lengths runs) → near ≡ take (length near) places → IsNonDecreasing near
+near_ordered runs places near pi is = subst (λ (ys : List ℕ). IsNonDecreasing ys) (sym is) (IsNonDecreasingBy-take (λ (x : ℕ). x) (length near) places (starts-ordered (λ (r : Run). r.count * r.edge) runs places pi))
+
+pub near_searched : (runs : List Run) (places near starts : List ℕ) (j p : ℕ) → places ≡ running 0 (lengths runs) → near ≡ take (length near) places
+    → (length near < length places → 2 ^ 64 ≤ get_or places (length near) 0) → starts ≡ near → p < 2 ^ 64
+    → j < length starts → get_or starts j 0 ≤ p → (IsNonDecreasing starts → j + 1 < length starts → p < get_or starts (j + 1) 0) → Searched places j p
+near_searched runs places near starts j p pi is far si fits h from to =
+    let o = subst (λ (ys : List ℕ). IsNonDecreasing ys) (sym si) (near_ordered runs places near pi is) in
     let n : length starts ≡ length near = ap (λ (ys : List ℕ). length ys) si in
     let m : length near ≡ min (length near) (length places) = ap (λ (ys : List ℕ). length ys) is ∙ length-take (length near) places in
     let a : get_or starts j 0 ≡ get_or near j 0 = ap (λ (ys : List ℕ). get_or ys j 0) si in
@@ -172,7 +182,7 @@ near_searched places near starts j p is far si fits h from to =
     record {
       below = omega arith;
       from = omega arith;
-      to = near_next places near j p is far fits h' (λ less. let t = to (omega arith) in omega arith);
+      to = near_next places near j p is far fits h' (λ less. let t = to o (omega arith) in omega arith);
     }
 
 -- past the last start

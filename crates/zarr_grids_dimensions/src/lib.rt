@@ -12,7 +12,7 @@ pub mod lookups;
 pub mod run;
 mod runs_left;
 mod same_edges;
-pub mod search;
+mod search;
 pub mod varying;
 
 pub use dimension::Dimension;

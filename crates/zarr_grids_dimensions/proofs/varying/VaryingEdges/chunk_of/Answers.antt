@@ -12,21 +12,21 @@ last_at_most-at-requires-clause-first c =
 
 pub returns-then-at-len : goal.returns-then-at-len
 returns-then-at-len c =
-    let s = near_searched _ _ _ _ _ c.args.self.now.near c.args.self.now.far c.deref.ensures.value c.ranges.place.fits c.last_at_most-at.ensures.within c.last_at_most-at.ensures.at_most c.last_at_most-at.ensures.next in
+    let s = near_searched _ _ _ _ _ _ c.args.self.now.places c.args.self.now.near c.args.self.now.far c.deref.ensures.value c.ranges.place.fits c.last_at_most-at.ensures.within c.last_at_most-at.ensures.at_most c.last_at_most-at.ensures.next in
     let n : c.last_at_most-at.result ≡ length c.args.self.now.runs.items = omega arith in
     let past = place_past _ _ _ _ _ c.args.self.now.places refl n s.from in
     λ chunk. answers-past c.args.self.now.size _ c.args.place chunk past
 
 pub index-requires-2 : goal.index-requires-2
 index-requires-2 c =
-    let s = near_searched _ _ _ _ _ c.args.self.now.near c.args.self.now.far c.deref.ensures.value c.ranges.place.fits c.last_at_most-at.ensures.within c.last_at_most-at.ensures.at_most c.last_at_most-at.ensures.next in
+    let s = near_searched _ _ _ _ _ _ c.args.self.now.places c.args.self.now.near c.args.self.now.far c.deref.ensures.value c.ranges.place.fits c.last_at_most-at.ensures.within c.last_at_most-at.ensures.at_most c.last_at_most-at.ensures.next in
     let b = s.below in
     let l = starts-length (λ (r : Run). r.count * r.edge) _ _ c.args.self.now.places in
     omega arith
 
 pub nonzero_div-within : goal.nonzero_div-within
 nonzero_div-within c =
-    let s = near_searched _ _ _ _ _ c.args.self.now.near c.args.self.now.far c.deref.ensures.value c.ranges.place.fits c.last_at_most-at.ensures.within c.last_at_most-at.ensures.at_most c.last_at_most-at.ensures.next in
+    let s = near_searched _ _ _ _ _ _ c.args.self.now.places c.args.self.now.near c.args.self.now.far c.deref.ensures.value c.ranges.place.fits c.last_at_most-at.ensures.within c.last_at_most-at.ensures.at_most c.last_at_most-at.ensures.next in
     let b = s.below in
     let l = starts-length (λ (r : Run). r.count * r.edge) _ _ c.args.self.now.places in
     let h : c.last_at_most-at.result < length c.args.self.now.runs.items = omega arith in
@@ -34,7 +34,7 @@ nonzero_div-within c =
 
 pub index-requires-3 : goal.index-requires-3
 index-requires-3 c =
-    let s = near_searched _ _ _ _ _ c.args.self.now.near c.args.self.now.far c.deref.ensures.value c.ranges.place.fits c.last_at_most-at.ensures.within c.last_at_most-at.ensures.at_most c.last_at_most-at.ensures.next in
+    let s = near_searched _ _ _ _ _ _ c.args.self.now.places c.args.self.now.near c.args.self.now.far c.deref.ensures.value c.ranges.place.fits c.last_at_most-at.ensures.within c.last_at_most-at.ensures.at_most c.last_at_most-at.ensures.next in
     let b = s.below in
     let l = starts-length (λ (r : Run). r.count * r.edge) _ _ c.args.self.now.places in
     let k = starts-length (λ (r : Run). r.count) _ _ c.args.self.now.chunks in
@@ -42,7 +42,7 @@ index-requires-3 c =
 
 pub overflow_add-result : goal.overflow_add-result
 overflow_add-result c =
-    let s = near_searched _ _ _ _ _ c.args.self.now.near c.args.self.now.far c.deref.ensures.value c.ranges.place.fits c.last_at_most-at.ensures.within c.last_at_most-at.ensures.at_most c.last_at_most-at.ensures.next in
+    let s = near_searched _ _ _ _ _ _ c.args.self.now.places c.args.self.now.near c.args.self.now.far c.deref.ensures.value c.ranges.place.fits c.last_at_most-at.ensures.within c.last_at_most-at.ensures.at_most c.last_at_most-at.ensures.next in
     let b = s.below in
     let l = starts-length (λ (r : Run). r.count * r.edge) _ _ c.args.self.now.places in
     let h : c.last_at_most-at.result < length c.args.self.now.runs.items = omega arith in
@@ -54,7 +54,7 @@ overflow_add-result c =
 
 pub returns : goal.returns
 returns c =
-    let s = near_searched _ _ _ _ _ c.args.self.now.near c.args.self.now.far c.deref.ensures.value c.ranges.place.fits c.last_at_most-at.ensures.within c.last_at_most-at.ensures.at_most c.last_at_most-at.ensures.next in
+    let s = near_searched _ _ _ _ _ _ c.args.self.now.places c.args.self.now.near c.args.self.now.far c.deref.ensures.value c.ranges.place.fits c.last_at_most-at.ensures.within c.last_at_most-at.ensures.at_most c.last_at_most-at.ensures.next in
     let b = s.below in
     let l = starts-length (λ (r : Run). r.count * r.edge) _ _ c.args.self.now.places in
     let h : c.last_at_most-at.result < length c.args.self.now.runs.items = omega arith in
