@@ -1,3 +1,4 @@
 pub mod DecodeShards
 pub mod DecodeSections
 pub mod DecodeLists
+pub mod LargeLists

@@ -1,8 +1,8 @@
 //! What stored bytes are decoded to, whole or at places alone.
-ghost use Rattle.std.specs.Prelude.{◌≡◌, ◌+◌, List, ℕ, [], ◌∷◌, map, replicate, option_map, option_and_then, flat_map, if◌then◌else◌, Some, IfOk};
+ghost use Rattle.std.specs.Prelude.{◌≡◌, ◌+◌, max, List, ℕ, [], ◌∷◌, map, replicate, option_map, option_and_then, flat_map, if◌then◌else◌, Some, IfOk};
 ghost use Rattle.zarr_grids_boxes.specs.Boxes.{product};
 ghost use Rattle.zarr_codecs_meaning.specs.Numbers.{number};
-ghost use Rattle.zarr_codecs_meaning.specs.Types.{integer, unsigned, uint8, uint64, of_bytes, cell_bytes, zero_filled};
+ghost use Rattle.zarr_codecs_meaning.specs.Types.{integer, unsigned, uint8, uint64, components, bytes_in, of_bytes, cell_bytes, zero_filled};
 ghost use Rattle.zarr_codecs_meaning.specs.Places.{gather, undone_places, place_numbers};
 ghost use Rattle.zarr_codecs_meaning.specs.Encoding.{index_size};
 ghost use Rattle.zarr_codecs_meaning.specs.Decoding.{decoded, part_decoded, read_unless_none, texts_of, count_present, pairs_in, pieces_decoded, is_absent, slice_at};
@@ -10,6 +10,8 @@ ghost use Rattle.zarr_codecs_meaning.specs.Keeping.{spread, arranged};
 ghost use Rattle.zarr_codecs_types.specs.Views.{type_of, cell_of, cells_of};
 ghost use Rattle.zarr_codecs_plain.specs.Views.{chain_of, location_of, step_of, elements_of, width_of};
 ghost use Rattle.zarr_codecs_plain.specs.Subchunks.{part_as};
+ghost use Rattle.zarr_codecs_plain.specs.Largest.{OkOrLarge, largest, largest_of_step};
+ghost use Rattle.zarr_codecs_plain_decoding.specs.Largest.{largest_of, largest_of_cells, largest_of_texts, largest_unless_none, largest_of_piece, largest_of_pieces, largest_decoded, largest_of_index, largest_opened, largest_at};
 
 use crate::decode_elements::{decode_bytes, decode_packed};
 use crate::decode_places::{cells_at, opens};
@@ -31,7 +33,8 @@ use zarr_codecs_plain::types::{offset_type, present_type, zero_cell};
 use zarr_codecs_types::{Cell, DataType};
 
 /// The cells of an array of this shape that a value is decoded to. `None` is damage. `Size` where a
-/// count of places, of bytes or of bits that the way needs is 2^64 or more.
+/// count of places, of bytes or of bits that the way needs is 2^64 or more, or a number that an
+/// index tells: where a value tells a length of 2^64 or more in front of its bytes, that is damage.
 #[cycle(decode)]
 pub fn decode<B: PlainByteCodec>(
     alloc: Global,
@@ -41,8 +44,9 @@ pub fn decode<B: PlainByteCodec>(
     shape: &[usize],
     value: &[u8],
 ) -> Result<Option<Vec<Cell>>, PlainError>
-    ensures { IfOk result (λ r. option_map (λ v. cells_of v.items) r
-        ≡ decoded (chain_of B.meaning chain.now) (elements_of data_type.now fill.now) shape.now value.now) }
+    ensures { OkOrLarge result (λ r. option_map (λ v. cells_of v.items) r
+        ≡ decoded (chain_of B.meaning chain.now) (elements_of data_type.now fill.now) shape.now value.now)
+        (largest_decoded (chain_of B.meaning chain.now) (elements_of data_type.now fill.now) shape.now value.now) }
 {
     match chain {
         PlainChain::Bytes(order) => decode_bytes(alloc, *order, data_type, fill, shape, value),
@@ -60,14 +64,14 @@ pub fn decode<B: PlainByteCodec>(
             data,
             index_data_type,
             location,
-        } => match sections_of(*location, value)? {
+        } => match sections_of(*location, value) {
             Some((front, text)) => {
                 let offsets = decode_offsets(alloc, index, *index_data_type, shape, front)?;
                 decode_texts(alloc, data, offsets, text)
             }
             None => Ok(None),
         },
-        PlainChain::Optional { mask, data } => match masked_of(value)? {
+        PlainChain::Optional { mask, data } => match masked_of(value) {
             Some((front, text)) => {
                 let masks = decode_zero_filled(alloc, mask, &DataType::Bool, shape, front)?;
                 decode_present(alloc, data, present_type(data_type), masks, text)
@@ -92,7 +96,8 @@ pub fn decode<B: PlainByteCodec>(
             let pairs_shape = index_shape(alloc, shape, subchunk_shape)?;
             let pairs = pairs_in(alloc, index, *location, &pairs_shape, value)?;
             let parts = parts(alloc, shape, subchunk_shape)?;
-            decode_parts(alloc, inner, data_type, fill, shape, value, &parts, pairs)
+            let cells = decode_parts(alloc, inner, data_type, fill, shape, value, &parts, pairs)?;
+            Ok(cells)
         }
     }
 }
@@ -105,8 +110,9 @@ fn undone(
     shape: &[usize],
     cells: Option<Vec<Cell>>,
 ) -> Result<Option<Vec<Cell>>, PlainError>
-    ensures { IfOk result (λ r. option_map (λ v. cells_of v.items) r
-        ≡ option_map (λ cells. gather (cell_of fill.now) cells (undone_places (step_of step.now) shape.now)) (option_map (λ v. cells_of v.items) cells)) }
+    ensures { OkOrLarge result (λ r. option_map (λ v. cells_of v.items) r
+        ≡ option_map (λ cells. gather (cell_of fill.now) cells (undone_places (step_of step.now) shape.now)) (option_map (λ v. cells_of v.items) cells))
+        (largest_of_step (step_of step.now) shape.now) }
 {
     match cells {
         Some(cells) => {
@@ -126,8 +132,9 @@ fn decode_zero_filled<B: PlainByteCodec>(
     shape: &[usize],
     value: &[u8],
 ) -> Result<Option<Vec<Cell>>, PlainError>
-    ensures { IfOk result (λ r. option_map (λ v. cells_of v.items) r
-        ≡ decoded (chain_of B.meaning chain.now) (zero_filled (type_of data_type.now)) shape.now value.now) }
+    ensures { OkOrLarge result (λ r. option_map (λ v. cells_of v.items) r
+        ≡ decoded (chain_of B.meaning chain.now) (zero_filled (type_of data_type.now)) shape.now value.now)
+        (max (bytes_in (components (type_of data_type.now))) (largest_decoded (chain_of B.meaning chain.now) (zero_filled (type_of data_type.now)) shape.now value.now)) }
 {
     let zero = zero_cell(alloc, data_type)?;
     decode(alloc, chain, data_type, &zero, shape, value)
@@ -142,8 +149,9 @@ fn decode_unless_none<B: PlainByteCodec>(
     count: usize,
     text: &[u8],
 ) -> Result<Option<Vec<Cell>>, PlainError>
-    ensures { IfOk result (λ r. option_map (λ v. cells_of v.items) r
-        ≡ read_unless_none count text.now (decoded (chain_of B.meaning chain.now) (zero_filled (type_of data_type.now)) (count ∷ []))) }
+    ensures { OkOrLarge result (λ r. option_map (λ v. cells_of v.items) r
+        ≡ read_unless_none count text.now (decoded (chain_of B.meaning chain.now) (zero_filled (type_of data_type.now)) (count ∷ [])))
+        (largest_unless_none (type_of data_type.now) count (largest_decoded (chain_of B.meaning chain.now) (zero_filled (type_of data_type.now)) (count ∷ []) text.now)) }
 {
     if count > 0 {
         return decode_zero_filled(alloc, chain, data_type, &[count], text);
@@ -164,9 +172,12 @@ fn decode_offsets<B: PlainByteCodec>(
     shape: &[usize],
     text: &[u8],
 ) -> Result<Option<Vec<usize>>, PlainError>
-    ensures { IfOk result (λ r. option_map (λ v. v.items) r
+    ensures { OkOrLarge result (λ r. option_map (λ v. v.items) r
         ≡ option_map (map (λ cell. number 256 (cell_bytes cell)))
-        (decoded (chain_of B.meaning index.now) (zero_filled (integer unsigned (width_of index_data_type))) ((product shape.now + 1) ∷ []) text.now)) }
+        (decoded (chain_of B.meaning index.now) (zero_filled (integer unsigned (width_of index_data_type))) ((product shape.now + 1) ∷ []) text.now))
+        (max (product shape.now + 1) (max (max (bytes_in (components (integer unsigned (width_of index_data_type))))
+        (largest_decoded (chain_of B.meaning index.now) (zero_filled (integer unsigned (width_of index_data_type))) ((product shape.now + 1) ∷ []) text.now))
+        (largest_of largest_of_cells (decoded (chain_of B.meaning index.now) (zero_filled (integer unsigned (width_of index_data_type))) ((product shape.now + 1) ∷ []) text.now)))) }
 {
     let data_type = offset_type(index_data_type);
     let count = add(product(shape)?, 1)?;
@@ -184,9 +195,10 @@ fn texts_of<B: PlainByteCodec>(
     offsets: &[usize],
     text: &[u8],
 ) -> Result<Option<Vec<Cell>>, PlainError>
-    ensures { IfOk result (λ r. option_map (λ v. cells_of v.items) r
+    ensures { OkOrLarge result (λ r. option_map (λ v. cells_of v.items) r
         ≡ option_map (map of_bytes) (texts_of (λ long. option_map (flat_map cell_bytes)
-        (read_unless_none long text.now (decoded (chain_of B.meaning chain.now) (zero_filled uint8) (long ∷ [])))) offsets.now)) }
+        (read_unless_none long text.now (decoded (chain_of B.meaning chain.now) (zero_filled uint8) (long ∷ [])))) offsets.now))
+        (largest_of_texts (λ long. largest_unless_none uint8 long (largest_decoded (chain_of B.meaning chain.now) (zero_filled uint8) (long ∷ []) text.now)) offsets.now) }
 {
     let [first, ends @ ..] = offsets else {
         return Ok(None);
@@ -211,9 +223,10 @@ fn decode_texts<B: PlainByteCodec>(
     offsets: Option<Vec<usize>>,
     text: &[u8],
 ) -> Result<Option<Vec<Cell>>, PlainError>
-    ensures { IfOk result (λ r. option_map (λ v. cells_of v.items) r
+    ensures { OkOrLarge result (λ r. option_map (λ v. cells_of v.items) r
         ≡ option_and_then (λ ns. option_map (map of_bytes) (texts_of (λ long. option_map (flat_map cell_bytes)
-        (read_unless_none long text.now (decoded (chain_of B.meaning chain.now) (zero_filled uint8) (long ∷ [])))) ns)) (option_map (λ v. v.items) offsets)) }
+        (read_unless_none long text.now (decoded (chain_of B.meaning chain.now) (zero_filled uint8) (long ∷ [])))) ns)) (option_map (λ v. v.items) offsets))
+        (largest_of (largest_of_texts (λ long. largest_unless_none uint8 long (largest_decoded (chain_of B.meaning chain.now) (zero_filled uint8) (long ∷ []) text.now))) (option_map (λ v. v.items) offsets)) }
 {
     match offsets {
         Some(offsets) => texts_of(alloc, chain, &offsets, text),
@@ -230,21 +243,23 @@ fn decode_present<B: PlainByteCodec>(
     masks: Option<Vec<Cell>>,
     text: &[u8],
 ) -> Result<Option<Vec<Cell>>, PlainError>
-    ensures { IfOk result (λ r. option_map (λ v. cells_of v.items) r
+    ensures { OkOrLarge result (λ r. option_map (λ v. cells_of v.items) r
         ≡ option_and_then (λ masks. option_map (spread masks) (read_unless_none (count_present masks) text.now
-        (decoded (chain_of B.meaning chain.now) (zero_filled (type_of data_type.now)) (count_present masks ∷ [])))) (option_map (λ v. cells_of v.items) masks)) }
+        (decoded (chain_of B.meaning chain.now) (zero_filled (type_of data_type.now)) (count_present masks ∷ [])))) (option_map (λ v. cells_of v.items) masks))
+        (largest_of (λ masks. largest_unless_none (type_of data_type.now) (count_present masks)
+        (largest_decoded (chain_of B.meaning chain.now) (zero_filled (type_of data_type.now)) (count_present masks ∷ []) text.now)) (option_map (λ v. cells_of v.items) masks)) }
 {
     let Some(masks) = masks else {
         return Ok(None);
     };
-    let count = count_present(&masks)?;
+    let count = count_present(&masks);
     match decode_unless_none(alloc, chain, data_type, count, text)? {
         Some(found) => Ok(Some(spread(alloc, &masks, &found)?)),
         None => Ok(None),
     }
 }
 
-/// The pairs of a shard whose index has this shape.
+/// The pairs of a shard whose index has this shape. `None` is damage, and `Size` as of `decode`.
 #[cycle(decode)]
 pub fn pairs_in<B: PlainByteCodec>(
     alloc: Global,
@@ -253,9 +268,10 @@ pub fn pairs_in<B: PlainByteCodec>(
     shape: &[usize],
     value: &[u8],
 ) -> Result<Option<Vec<(usize, usize)>>, PlainError>
-    ensures { IfOk result (λ r. option_map (λ v. v.items) r
+    ensures { OkOrLarge result (λ r. option_map (λ v. v.items) r
         ≡ pairs_in (decoded (chain_of B.meaning index.now) (zero_filled uint64) shape.now) (location_of location)
-        (index_size (chain_of B.meaning index.now) shape.now) value.now) }
+        (index_size (chain_of B.meaning index.now) shape.now) value.now)
+        (largest_of_index (chain_of B.meaning index.now) (location_of location) shape.now value.now) }
 {
     let size = index_size(alloc, index, shape)?;
     if value.len() < size {
@@ -284,9 +300,10 @@ fn piece_decoded<B: PlainByteCodec>(
     shape: &[usize],
     pair: (usize, usize),
 ) -> Result<Option<Vec<Cell>>, PlainError>
-    ensures { IfOk result (λ r. option_map (λ v. cells_of v.items) r
+    ensures { OkOrLarge result (λ r. option_map (λ v. cells_of v.items) r
         ≡ (if is_absent pair then Some (replicate (product shape.now) (cell_of fill.now))
-        else option_and_then (decoded (chain_of B.meaning inner.now) (elements_of data_type.now fill.now) shape.now) (slice_at value.now pair))) }
+        else option_and_then (decoded (chain_of B.meaning inner.now) (elements_of data_type.now fill.now) shape.now) (slice_at value.now pair)))
+        (largest_of_piece (largest_decoded (chain_of B.meaning inner.now) (elements_of data_type.now fill.now)) value.now shape.now pair) }
 {
     if is_absent(pair) {
         return Ok(Some(repeated(alloc, fill, product(shape)?)?));
@@ -319,9 +336,10 @@ fn pieces_decoded<B: PlainByteCodec>(
     parts: &[Part],
     pairs: &[(usize, usize)],
 ) -> Result<Option<Vec<Vec<Cell>>>, PlainError>
-    ensures { IfOk result (λ r. option_map (λ v. map (λ cells. cells_of cells.items) v.items) r
+    ensures { OkOrLarge result (λ r. option_map (λ v. map (λ cells. cells_of cells.items) v.items) r
         ≡ pieces_decoded (decoded (chain_of B.meaning inner.now) (elements_of data_type.now fill.now)) (cell_of fill.now) value.now
-        (map part_as parts.now) pairs.now) }
+        (map part_as parts.now) pairs.now)
+        (largest_of_pieces (largest_decoded (chain_of B.meaning inner.now) (elements_of data_type.now fill.now)) value.now (map part_as parts.now) pairs.now) }
 {
     let mut pieces = Vec::new(alloc);
     let mut rest = pairs;
@@ -350,10 +368,12 @@ fn decode_parts<B: PlainByteCodec>(
     parts: &[Part],
     pairs: Option<Vec<(usize, usize)>>,
 ) -> Result<Option<Vec<Cell>>, PlainError>
-    ensures { IfOk result (λ r. option_map (λ v. cells_of v.items) r
+    ensures { OkOrLarge result (λ r. option_map (λ v. cells_of v.items) r
         ≡ option_and_then (λ pairs. option_map (λ pieces. map (arranged (cell_of fill.now) (map part_as parts.now) pieces) (place_numbers shape.now))
         (pieces_decoded (decoded (chain_of B.meaning inner.now) (elements_of data_type.now fill.now)) (cell_of fill.now) value.now
-        (map part_as parts.now) pairs)) (option_map (λ v. v.items) pairs)) }
+        (map part_as parts.now) pairs)) (option_map (λ v. v.items) pairs))
+        (max (product shape.now) (largest_of (largest_of_pieces (largest_decoded (chain_of B.meaning inner.now) (elements_of data_type.now fill.now)) value.now
+        (map part_as parts.now)) (option_map (λ v. v.items) pairs))) }
 {
     let Some(pairs) = pairs else {
         return Ok(None);
@@ -376,8 +396,10 @@ pub fn decode_part<B: PlainByteCodec>(
     value: &[u8],
     places: &[usize],
 ) -> Result<Option<Vec<Cell>>, PlainError>
-    ensures { IfOk result (λ r. option_map (λ v. cells_of v.items) r
-        ≡ part_decoded (chain_of B.meaning chain.now) (elements_of data_type.now fill.now) shape.now value.now places.now) }
+    ensures { OkOrLarge result (λ r. option_map (λ v. cells_of v.items) r
+        ≡ part_decoded (chain_of B.meaning chain.now) (elements_of data_type.now fill.now) shape.now value.now places.now)
+        (max (largest_opened (chain_of B.meaning chain.now) (elements_of data_type.now fill.now) shape.now value.now)
+        (largest (map (largest_at (chain_of B.meaning chain.now) (elements_of data_type.now fill.now) shape.now value.now) places.now))) }
 {
     if !opens(alloc, chain, data_type, fill, shape, value)? {
         return Ok(None);

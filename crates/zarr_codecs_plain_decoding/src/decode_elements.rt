@@ -1,11 +1,15 @@
 //! The elements of `bytes` and of `packbits`, each at its place.
-ghost use Rattle.std.specs.Prelude.{◌≡◌, map, take, drop, option_map, IfOk};
+ghost use Rattle.std.specs.Prelude.{◌≡◌, max, map, take, drop, option_map};
+ghost use Rattle.zarr_grids_boxes.specs.Boxes.{product};
 ghost use Rattle.zarr_codecs_meaning.specs.Types.{components};
 ghost use Rattle.zarr_codecs_meaning.specs.Chains.Chain.{bytes, packbits};
+ghost use Rattle.zarr_codecs_meaning.specs.Places.{place_numbers};
 ghost use Rattle.zarr_codecs_meaning.specs.Decoding.{is_whole, element_at, all_there, without_padding, unpacked, decoded};
 ghost use Rattle.zarr_codecs_types.specs.Views.{type_of, cell_of, cells_of};
 ghost use Rattle.zarr_codecs_plain.specs.Views.{order_of, padding_of, elements_of};
 ghost use Rattle.zarr_codecs_plain.specs.Bits.{bits_of};
+ghost use Rattle.zarr_codecs_plain.specs.Largest.{OkOrLarge, largest, largest_of_bits, largest_of_bytes};
+ghost use Rattle.zarr_codecs_plain_decoding.specs.Largest.{largest_of_element, largest_of_unpacked};
 
 use std::alloc::Global;
 use zarr_codecs_plain::PlainError;
@@ -34,7 +38,7 @@ pub fn is_whole(
     shape: &[usize],
     value: &[u8],
 ) -> Result<bool, PlainError>
-    ensures { IfOk result (λ b. b ≡ is_whole (type_of data_type.now) shape.now value.now) }
+    ensures { OkOrLarge result (λ b. b ≡ is_whole (type_of data_type.now) shape.now value.now) (largest_of_bytes (type_of data_type.now) shape.now) }
 {
     let parts = components(alloc, data_type)?;
     let size = multiply(bytes_in(&parts)?, product(shape)?)?;
@@ -49,8 +53,8 @@ pub fn element_at(
     value: &[u8],
     place: usize,
 ) -> Result<Option<Cell>, PlainError>
-    ensures { IfOk result (λ r. option_map cell_of r
-        ≡ element_at (option_map order_of order) (type_of data_type.now) value.now place) }
+    ensures { OkOrLarge result (λ r. option_map cell_of r
+        ≡ element_at (option_map order_of order) (type_of data_type.now) value.now place) (largest_of_element (type_of data_type.now) place) }
 {
     let parts = components(alloc, data_type)?;
     let width = bytes_in(&parts)?;
@@ -64,6 +68,7 @@ pub fn element_at(
 }
 
 /// The elements at these places, where each of them is one.
+#[tactic(auto, using(crate::proofs::LargeLists::largest_in))]
 pub fn elements_at(
     alloc: Global,
     order: Option<Endianness>,
@@ -71,8 +76,9 @@ pub fn elements_at(
     value: &[u8],
     places: &[usize],
 ) -> Result<Option<Vec<Cell>>, PlainError>
-    ensures { IfOk result (λ r. option_map (λ v. cells_of v.items) r
-        ≡ all_there (map (element_at (option_map order_of order) (type_of data_type.now) value.now) places.now)) }
+    ensures { OkOrLarge result (λ r. option_map (λ v. cells_of v.items) r
+        ≡ all_there (map (element_at (option_map order_of order) (type_of data_type.now) value.now) places.now))
+        (largest (map (largest_of_element (type_of data_type.now)) places.now)) }
 {
     let mut cells = Vec::new(alloc);
     for place in places {
@@ -93,8 +99,9 @@ pub fn decode_bytes(
     shape: &[usize],
     value: &[u8],
 ) -> Result<Option<Vec<Cell>>, PlainError>
-    ensures { IfOk result (λ r. option_map (λ v. cells_of v.items) r
-        ≡ decoded (bytes (option_map order_of order)) (elements_of data_type.now fill.now) shape.now value.now) }
+    ensures { OkOrLarge result (λ r. option_map (λ v. cells_of v.items) r
+        ≡ decoded (bytes (option_map order_of order)) (elements_of data_type.now fill.now) shape.now value.now)
+        (max (largest_of_bytes (type_of data_type.now) shape.now) (largest (map (largest_of_element (type_of data_type.now)) (place_numbers shape.now)))) }
 {
     if !is_whole(alloc, data_type, shape, value)? {
         return Ok(None);
@@ -129,7 +136,8 @@ pub fn unpacked(
     bits: &[bool],
     place: usize,
 ) -> Result<Cell, PlainError>
-    ensures { IfOk result (λ c. cell_of c ≡ unpacked first last (type_of data_type.now) (bits_of bits.now) place) }
+    ensures { OkOrLarge result (λ c. cell_of c ≡ unpacked first last (type_of data_type.now) (bits_of bits.now) place)
+        (largest_of_unpacked first last (type_of data_type.now) place) }
 {
     let parts = components(alloc, data_type)?;
     let width = bits_in(first, last, &parts)?;
@@ -139,6 +147,7 @@ pub fn unpacked(
 }
 
 /// The elements at these places of bits.
+#[tactic(auto, using(crate::proofs::LargeLists::largest_in))]
 pub fn unpacked_at(
     alloc: Global,
     first: usize,
@@ -147,8 +156,9 @@ pub fn unpacked_at(
     bits: &[bool],
     places: &[usize],
 ) -> Result<Vec<Cell>, PlainError>
-    ensures { IfOk result (λ v. cells_of v.items
-        ≡ map (unpacked first last (type_of data_type.now) (bits_of bits.now)) places.now) }
+    ensures { OkOrLarge result (λ v. cells_of v.items
+        ≡ map (unpacked first last (type_of data_type.now) (bits_of bits.now)) places.now)
+        (largest (map (largest_of_unpacked first last (type_of data_type.now)) places.now)) }
 {
     let mut cells = Vec::new(alloc);
     for place in places {
@@ -168,8 +178,10 @@ pub fn decode_packed(
     shape: &[usize],
     value: &[u8],
 ) -> Result<Option<Vec<Cell>>, PlainError>
-    ensures { IfOk result (λ r. option_map (λ v. cells_of v.items) r
-        ≡ decoded (packbits (padding_of padding) first last) (elements_of data_type.now fill.now) shape.now value.now) }
+    ensures { OkOrLarge result (λ r. option_map (λ v. cells_of v.items) r
+        ≡ decoded (packbits (padding_of padding) first last) (elements_of data_type.now fill.now) shape.now value.now)
+        (max (product shape.now) (max (largest_of_bits first last (components (type_of data_type.now)) (product shape.now))
+        (largest (map (largest_of_unpacked first last (type_of data_type.now)) (place_numbers shape.now))))) }
 {
     let parts = components(alloc, data_type)?;
     if value.len() != packed_size(padding, first, last, &parts, product(shape)?)? {

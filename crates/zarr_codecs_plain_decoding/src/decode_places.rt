@@ -4,6 +4,8 @@ ghost use Rattle.zarr_codecs_meaning.specs.Decoding.{decoded, all_there, cell_at
 ghost use Rattle.zarr_codecs_types.specs.Views.{cell_of, cells_of};
 ghost use Rattle.zarr_codecs_plain.specs.Views.{chain_of, elements_of};
 ghost use Rattle.zarr_codecs_plain.specs.Subchunks.{part_as};
+ghost use Rattle.zarr_codecs_plain.specs.Largest.{OkOrLarge, largest};
+ghost use Rattle.zarr_codecs_plain_decoding.specs.Largest.{largest_of, largest_in_piece, largest_in_pieces, largest_decoded, largest_opened, largest_at};
 
 use crate::decode::{decode, pairs_in};
 use crate::decode_elements::{element_at, is_whole};
@@ -27,8 +29,9 @@ pub fn opens<B: PlainByteCodec>(
     shape: &[usize],
     value: &[u8],
 ) -> Result<bool, PlainError>
-    ensures { IfOk result (λ b. b
-        ≡ opens (chain_of B.meaning chain.now) (elements_of data_type.now fill.now) shape.now value.now) }
+    ensures { OkOrLarge result (λ b. b
+        ≡ opens (chain_of B.meaning chain.now) (elements_of data_type.now fill.now) shape.now value.now)
+        (largest_opened (chain_of B.meaning chain.now) (elements_of data_type.now fill.now) shape.now value.now) }
 {
     match chain {
         PlainChain::Bytes(_) => is_whole(alloc, data_type, shape, value),
@@ -64,8 +67,9 @@ fn is_decoded<B: PlainByteCodec>(
     shape: &[usize],
     value: &[u8],
 ) -> Result<bool, PlainError>
-    ensures { IfOk result (λ b. b
-        ≡ is_some (decoded (chain_of B.meaning chain.now) (elements_of data_type.now fill.now) shape.now value.now)) }
+    ensures { OkOrLarge result (λ b. b
+        ≡ is_some (decoded (chain_of B.meaning chain.now) (elements_of data_type.now fill.now) shape.now value.now))
+        (largest_decoded (chain_of B.meaning chain.now) (elements_of data_type.now fill.now) shape.now value.now) }
 {
     match decode(alloc, chain, data_type, fill, shape, value)? {
         Some(_) => Ok(true),
@@ -84,8 +88,9 @@ pub fn cell_at<B: PlainByteCodec>(
     value: &[u8],
     place: usize,
 ) -> Result<Option<Cell>, PlainError>
-    ensures { IfOk result (λ r. option_map cell_of r
-        ≡ cell_at (chain_of B.meaning chain.now) (elements_of data_type.now fill.now) shape.now value.now place) }
+    ensures { OkOrLarge result (λ r. option_map cell_of r
+        ≡ cell_at (chain_of B.meaning chain.now) (elements_of data_type.now fill.now) shape.now value.now place)
+        (largest_at (chain_of B.meaning chain.now) (elements_of data_type.now fill.now) shape.now value.now place) }
 {
     match chain {
         PlainChain::Bytes(order) => {
@@ -127,7 +132,8 @@ pub fn cell_at<B: PlainByteCodec>(
             let pairs_shape = index_shape(alloc, shape, subchunk_shape)?;
             let pairs = pairs_in(alloc, index, *location, &pairs_shape, value)?;
             let parts = parts(alloc, shape, subchunk_shape)?;
-            cell_of_parts(alloc, inner, data_type, fill, value, place, &parts, pairs)
+            let cell = cell_of_parts(alloc, inner, data_type, fill, value, place, &parts, pairs)?;
+            Ok(cell)
         }
     }
 }
@@ -142,9 +148,10 @@ fn decoded_at<B: PlainByteCodec>(
     value: &[u8],
     place: usize,
 ) -> Result<Option<Cell>, PlainError>
-    ensures { IfOk result (λ r. option_map cell_of r
+    ensures { OkOrLarge result (λ r. option_map cell_of r
         ≡ option_and_then (λ cells. slice_get cells place)
-        (decoded (chain_of B.meaning chain.now) (elements_of data_type.now fill.now) shape.now value.now)) }
+        (decoded (chain_of B.meaning chain.now) (elements_of data_type.now fill.now) shape.now value.now))
+        (largest_decoded (chain_of B.meaning chain.now) (elements_of data_type.now fill.now) shape.now value.now) }
 {
     match decode(alloc, chain, data_type, fill, shape, value)? {
         Some(cells) => Ok(nth_cell(alloc, &cells, place)?),
@@ -174,8 +181,10 @@ fn cell_of_parts<B: PlainByteCodec>(
     parts: &[Part],
     pairs: Option<Vec<(usize, usize)>>,
 ) -> Result<Option<Cell>, PlainError>
-    ensures { IfOk result (λ r. option_map cell_of r
+    ensures { OkOrLarge result (λ r. option_map cell_of r
         ≡ option_and_then (cell_of_part (cell_at (chain_of B.meaning inner.now) (elements_of data_type.now fill.now)) (cell_of fill.now) value.now place (map part_as parts.now))
+        (option_map (λ v. v.items) pairs))
+        (largest_of (largest_in_pieces (largest_at (chain_of B.meaning inner.now) (elements_of data_type.now fill.now)) value.now place (map part_as parts.now))
         (option_map (λ v. v.items) pairs)) }
 {
     match pairs {
@@ -196,9 +205,10 @@ fn cell_of_part<B: PlainByteCodec>(
     parts: &[Part],
     pairs: &[(usize, usize)],
 ) -> Result<Option<Cell>, PlainError>
-    ensures { IfOk result (λ r. option_map cell_of r
+    ensures { OkOrLarge result (λ r. option_map cell_of r
         ≡ cell_of_part (cell_at (chain_of B.meaning inner.now) (elements_of data_type.now fill.now)) (cell_of fill.now) value.now place
-        (map part_as parts.now) pairs.now) }
+        (map part_as parts.now) pairs.now)
+        (largest_in_pieces (largest_at (chain_of B.meaning inner.now) (elements_of data_type.now fill.now)) value.now place (map part_as parts.now) pairs.now) }
 {
     let mut rest = pairs;
     for part in parts {
@@ -207,7 +217,8 @@ fn cell_of_part<B: PlainByteCodec>(
         };
         let n = position_of(place, &part.places);
         if n < part.places.len() {
-            return cell_of_piece(alloc, inner, data_type, fill, value, &part.shape, *pair, n);
+            let cell = cell_of_piece(alloc, inner, data_type, fill, value, &part.shape, *pair, n)?;
+            return Ok(cell);
         }
         rest = others;
     }
@@ -226,9 +237,10 @@ fn cell_of_piece<B: PlainByteCodec>(
     pair: (usize, usize),
     n: usize,
 ) -> Result<Option<Cell>, PlainError>
-    ensures { IfOk result (λ r. option_map cell_of r
+    ensures { OkOrLarge result (λ r. option_map cell_of r
         ≡ (if is_absent pair then Some (cell_of fill.now)
-        else option_and_then (λ slice. cell_at (chain_of B.meaning inner.now) (elements_of data_type.now fill.now) shape.now slice n) (slice_at value.now pair))) }
+        else option_and_then (λ slice. cell_at (chain_of B.meaning inner.now) (elements_of data_type.now fill.now) shape.now slice n) (slice_at value.now pair)))
+        (largest_in_piece (largest_at (chain_of B.meaning inner.now) (elements_of data_type.now fill.now)) value.now shape.now pair n) }
 {
     if is_absent(pair) {
         return Ok(Some(clone_cell(alloc, fill)?));
@@ -240,6 +252,7 @@ fn cell_of_piece<B: PlainByteCodec>(
 }
 
 /// The cells at these places, where each of them is there.
+#[tactic(auto, using(crate::proofs::LargeLists::largest_in))]
 pub fn cells_at<B: PlainByteCodec>(
     alloc: Global,
     chain: &PlainChain<B>,
@@ -249,8 +262,9 @@ pub fn cells_at<B: PlainByteCodec>(
     value: &[u8],
     places: &[usize],
 ) -> Result<Option<Vec<Cell>>, PlainError>
-    ensures { IfOk result (λ r. option_map (λ v. cells_of v.items) r
-        ≡ all_there (map (cell_at (chain_of B.meaning chain.now) (elements_of data_type.now fill.now) shape.now value.now) places.now)) }
+    ensures { OkOrLarge result (λ r. option_map (λ v. cells_of v.items) r
+        ≡ all_there (map (cell_at (chain_of B.meaning chain.now) (elements_of data_type.now fill.now) shape.now value.now) places.now))
+        (largest (map (largest_at (chain_of B.meaning chain.now) (elements_of data_type.now fill.now) shape.now value.now) places.now)) }
 {
     let mut cells = Vec::new(alloc);
     for place in places {

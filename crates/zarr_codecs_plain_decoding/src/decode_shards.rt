@@ -5,6 +5,8 @@ ghost use Rattle.zarr_codecs_meaning.specs.Keeping.{arranged};
 ghost use Rattle.zarr_codecs_types.specs.Views.{cell_of, cells_of};
 ghost use Rattle.zarr_codecs_plain.specs.Views.{location_of};
 ghost use Rattle.zarr_codecs_plain.specs.Subchunks.{part_as};
+ghost use Rattle.zarr_codecs_plain.specs.Largest.{OkOrLarge};
+ghost use Rattle.zarr_codecs_plain_decoding.specs.Largest.{largest_of_pairs};
 
 use crate::decode_elements::cut;
 use std::alloc::{AllocError, Global};
@@ -48,7 +50,7 @@ pub fn index_text(location: Location, size: usize, value: &[u8]) -> &[u8]
 
 /// The numbers of the cells, in pairs.
 pub fn pairs_of_cells(alloc: Global, cells: &[Cell]) -> Result<Vec<(usize, usize)>, PlainError>
-    ensures { IfOk result (λ v. v.items ≡ pairs_of_cells (cells_of cells.now)) }
+    ensures { OkOrLarge result (λ v. v.items ≡ pairs_of_cells (cells_of cells.now)) (largest_of_pairs (pairs_of_cells (cells_of cells.now))) }
 {
     let mut pairs = Vec::new(alloc);
     let mut rest = cells;

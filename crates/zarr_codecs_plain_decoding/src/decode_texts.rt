@@ -1,5 +1,5 @@
 //! What `vlen` and `optional` decode, by what their chains of the index, the mask and the elements give.
-ghost use Rattle.std.specs.Prelude.{◌≡◌, ◌==◌, map, option_map, flat_map, IfOk};
+ghost use Rattle.std.specs.Prelude.{◌≡◌, ◌≤◌, ◌^◌, ◌==◌, map, option_map, flat_map, IfOk, IfSome, IfNone};
 ghost use Rattle.zarr_codecs_meaning.specs.Numbers.{number};
 ghost use Rattle.zarr_codecs_meaning.specs.Types.{of_bytes, cell_bytes};
 ghost use Rattle.zarr_codecs_meaning.specs.Encoding.{last_number};
@@ -8,6 +8,8 @@ ghost use Rattle.zarr_codecs_meaning.specs.Keeping.{spread};
 ghost use Rattle.zarr_codecs_types.specs.Views.{cell_of, cells_of};
 ghost use Rattle.zarr_codecs_plain.specs.Views.{location_of};
 ghost use Rattle.zarr_codecs_meaning.specs.Chains.Location.{at_start, at_end};
+ghost use Rattle.zarr_codecs_plain.specs.Largest.{OkOrLarge};
+ghost use Rattle.zarr_codecs_plain_decoding.specs.Largest.{largest_of_cells};
 
 use crate::decode_elements::cut;
 use std::alloc::{AllocError, Global};
@@ -17,9 +19,20 @@ use zarr_codecs_plain::chain::Location;
 use zarr_codecs_plain::numbers::number;
 use zarr_codecs_types::Cell;
 
+/// The size that bytes tell, unless it is 2^64 or more, as no value is so long.
+pub fn size_told(bytes: &[u8]) -> Option<usize>
+    ensures some { IfSome result (λ n. n ≡ number 256 bytes.now) }
+    ensures none { IfNone result (2 ^ 64 ≤ number 256 bytes.now) }
+{
+    match number(bytes) {
+        Ok(n) => Some(n as usize),
+        Err(_) => None,
+    }
+}
+
 /// The index and the data of a text that tells the index's length.
-pub fn sections_of(location: Location, text: &[u8]) -> Result<Option<(&[u8], &[u8])>, PlainError>
-    ensures { IfOk result (λ r. option_map (λ p. (p.0.now, p.1.now)) r ≡ sections_of (location_of location) text.now) }
+pub fn sections_of(location: Location, text: &[u8]) -> Option<(&[u8], &[u8])>
+    ensures { option_map (λ p. (p.0.now, p.1.now)) result ≡ sections_of (location_of location) text.now }
 {
     match location {
         Location::Start => sections_behind(text),
@@ -28,47 +41,48 @@ pub fn sections_of(location: Location, text: &[u8]) -> Result<Option<(&[u8], &[u
 }
 
 /// The index and the data behind the index's length.
-pub fn sections_behind(text: &[u8]) -> Result<Option<(&[u8], &[u8])>, PlainError>
-    ensures { IfOk result (λ r. option_map (λ p. (p.0.now, p.1.now)) r ≡ sections_of at_start text.now) }
+pub fn sections_behind(text: &[u8]) -> Option<(&[u8], &[u8])>
+    ensures { option_map (λ p. (p.0.now, p.1.now)) result ≡ sections_of at_start text.now }
 {
-    let long = number(cut(text, 0, 8))? as usize;
+    let long = size_told(cut(text, 0, 8))?;
     if text.len() < 8 || text.len() - 8 < long {
-        return Ok(None);
+        return None;
     }
     let (_, rest) = text.split_at(8);
-    Ok(Some(rest.split_at(long)))
+    Some(rest.split_at(long))
 }
 
 /// The index and the data before the index's length.
-pub fn sections_before(text: &[u8]) -> Result<Option<(&[u8], &[u8])>, PlainError>
-    ensures { IfOk result (λ r. option_map (λ p. (p.0.now, p.1.now)) r ≡ sections_of at_end text.now) }
+pub fn sections_before(text: &[u8]) -> Option<(&[u8], &[u8])>
+    ensures { option_map (λ p. (p.0.now, p.1.now)) result ≡ sections_of at_end text.now }
 {
     let start = text.len().saturating_sub(8);
     let (sections, length) = text.split_at(start);
-    let long = number(length)? as usize;
+    let long = size_told(length)?;
     if text.len() < 8 || start < long {
-        return Ok(None);
+        return None;
     }
     let (front, index) = sections.split_at(start - long);
-    Ok(Some((index, front)))
+    Some((index, front))
 }
 
 /// The mask and the data of a text that tells the length of each.
-pub fn masked_of(text: &[u8]) -> Result<Option<(&[u8], &[u8])>, PlainError>
-    ensures { IfOk result (λ r. option_map (λ p. (p.0.now, p.1.now)) r ≡ masked_of text.now) }
+pub fn masked_of(text: &[u8]) -> Option<(&[u8], &[u8])>
+    ensures { option_map (λ p. (p.0.now, p.1.now)) result ≡ masked_of text.now }
 {
-    let long = number(cut(text, 0, 8))? as usize;
-    let rest = number(cut(text, 8, 8))? as usize;
+    let long = size_told(cut(text, 0, 8))?;
+    let rest = size_told(cut(text, 8, 8))?;
     if text.len() < 16 || text.len() - 16 < long || text.len() - 16 - long != rest {
-        return Ok(None);
+        return None;
     }
     let (_, sections) = text.split_at(16);
-    Ok(Some(sections.split_at(long)))
+    Some(sections.split_at(long))
 }
 
 /// The numbers that cells write.
+#[tactic(auto, using(zarr_codecs_plain::proofs::Large::largest_through))]
 pub fn numbers_of(alloc: Global, cells: &[Cell]) -> Result<Vec<usize>, PlainError>
-    ensures { IfOk result (λ v. v.items ≡ map (λ cell. number 256 (cell_bytes cell)) (cells_of cells.now)) }
+    ensures { OkOrLarge result (λ v. v.items ≡ map (λ cell. number 256 (cell_bytes cell)) (cells_of cells.now)) (largest_of_cells (cells_of cells.now)) }
 {
     let mut numbers = Vec::new(alloc);
     for cell in cells {
@@ -129,33 +143,36 @@ pub fn texts_between(
 }
 
 /// Whether a cell of a mask says that an element is present.
-pub fn is_one(mask: &Cell) -> Result<bool, PlainError>
-    ensures { IfOk result (λ b. b ≡ (number 256 (cell_bytes (cell_of mask.now)) == 1)) }
+pub fn is_one(mask: &Cell) -> bool
+    ensures { result ≡ (number 256 (cell_bytes (cell_of mask.now)) == 1) }
 {
-    Ok(number(cell_bytes(mask))? == 1)
+    match number(cell_bytes(mask)) {
+        Ok(n) => n == 1,
+        Err(_) => false,
+    }
 }
 
 /// How many ones a mask has.
-pub fn count_present(masks: &[Cell]) -> Result<usize, PlainError>
-    ensures { IfOk result (λ n. n ≡ count_present (cells_of masks.now)) }
+pub fn count_present(masks: &[Cell]) -> usize
+    ensures { result ≡ count_present (cells_of masks.now) }
 {
     let mut count = 0;
     for mask in masks {
-        if is_one(mask)? {
+        if is_one(mask) {
             count += 1;
         }
     }
-    Ok(count)
+    count
 }
 
 /// Cells that are present where the mask says one, in their order.
-pub fn spread(alloc: Global, masks: &[Cell], found: &[Cell]) -> Result<Vec<Cell>, PlainError>
+pub fn spread(alloc: Global, masks: &[Cell], found: &[Cell]) -> Result<Vec<Cell>, AllocError>
     ensures { IfOk result (λ v. cells_of v.items ≡ spread (cells_of masks.now) (cells_of found.now)) }
 {
     let mut cells = Vec::new(alloc);
     let mut rest = found;
     for mask in masks {
-        let is_there = is_one(mask)?;
+        let is_there = is_one(mask);
         match rest {
             [cell, others @ ..] if is_there => {
                 cells.push(Cell::Present(Box::new(alloc, clone_cell(alloc, cell)?)?))?;
