@@ -3,7 +3,7 @@ use Rattle.std.proofs.Common.{◌≡◌, ◌∙◌, ℕ, zero, suc, ◌+◌, ◌
 use Rattle.std.specs.Prelude.{sum}
 use Rattle.std.proofs.Math.Seq.{take-append-add}
 use Rattle.std.proofs.Math.ListN.{get_or-append}
-use Rattle.std.proofs.lemmas.List.{length-append, length-replicate, take-append-le, take-replicate, get_or-append-add, get_or-replicate}
+use Rattle.std.proofs.lemmas.List.{length-append, length-map, length-replicate, take-append-le, take-replicate, get_or-append-add, get_or-replicate}
 use Rattle.std.proofs.lemmas.List.Sums.{sum_by-append}
 use Rattle.std.proofs.lemmas.List.Folds.{sum_by-replicate}
 use Rattle.std.proofs.lemmas.Bool.{lt-ltb, ltb-true}
@@ -38,6 +38,44 @@ positive-replicate (suc c) e es h t = rw (lt-ltb 0 e h, positive-replicate c e e
 pub positive-expanded : (runs : List Run) → all_positive (edges runs) ≡ true → all_positive (expanded runs) ≡ true
 positive-expanded [] t = refl
 positive-expanded (r ∷ rs) t = let p = both _ _ t in positive-replicate r.count r.edge (expanded rs) (ltb-true 0 r.edge p.0) (positive-expanded rs p.1)
+
+-- ---- runs of one chunk each
+least : (ns : List ℕ) → all_positive ns ≡ true → length ns ≤ sum ns
+least [] t = omega arith
+least (n ∷ ns) t =
+    let p = both _ _ t in
+    let i = least ns p.1 in
+    let b = ltb-true 0 n p.0 in
+    let s = sum-cons n ns in
+    let g : suc (length ns) ≤ sum (n ∷ ns) = omega arith in g
+
+-- of positive counts whose sum is their number each is 1
+pub sum-single : (ns : List ℕ) (k : ℕ) → all_positive ns ≡ true → sum ns ≡ length ns → k ≤ length ns → sum (take k ns) ≡ k
+sum-single ns zero t n h = refl
+sum-single [] (suc k) t n h = absurd (omega arith)
+sum-single (m ∷ ns) (suc k) t n h =
+    let p = both _ _ t in
+    let b = ltb-true 0 m p.0 in
+    let l = least ns p.1 in
+    let s = sum-cons m ns in
+    let i = sum-single ns k p.1 (omega arith) (omega arith) in
+    let v = sum-cons m (take k ns) in
+    let g : sum (m ∷ take k ns) ≡ suc k = omega arith in g
+
+pub expanded-single : (runs : List Run) → all_positive (counts runs) ≡ true → length (expanded runs) ≡ length runs → expanded runs ≡ lengths runs
+expanded-single [] t n = refl
+expanded-single (r ∷ rs) t n =
+    let p = both _ _ t in
+    let b = ltb-true 0 r.count p.0 in
+    let l = least (counts rs) p.1 in
+    let m = length-map rs (λ (q : Run). q.count) in
+    let k = length-expanded rs in
+    let a = length-append (replicate r.count r.edge) (expanded rs) in
+    let c = length-replicate r.count r.edge in
+    let one : 1 ≡ r.count = omega arith in
+    let i = expanded-single rs p.1 (omega arith) in
+    let e : r.edge ≡ 1 * r.edge = omega arith in
+    subst (λ (w : ℕ). replicate w r.edge ++ expanded rs ≡ w * r.edge ∷ lengths rs) one (ap (λ (x : ℕ). x ∷ expanded rs) e ∙ ap (λ (es : List ℕ). 1 * r.edge ∷ es) i)
 
 -- ---- a chunk of a run
 pub record IsChunkAt (es : List ℕ) (k first edge : ℕ) : Type 0 where

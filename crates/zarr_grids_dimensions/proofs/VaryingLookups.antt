@@ -4,7 +4,7 @@ use Rattle.std.specs.Prelude.{sum}
 use Rattle.std.specs.List.Sorted.{IsNonDecreasing}
 use Rattle.std.proofs.Math.Seq.{take-length}
 use Rattle.std.proofs.lemmas.List.{length-map, length-take, get_or-map, get_or-take}
-use Rattle.std.proofs.lemmas.List.Sums.{sum_by_more_le}
+use Rattle.std.proofs.lemmas.List.Sums.{sum_by_more, sum_by_more_le}
 use Rattle.std.proofs.lemmas.List.Sorted.{IsNonDecreasingBy-take}
 use Rattle.std.proofs.lemmas.Nat.{div_below}
 use Rattle.std.proofs.lemmas.Bool.{le-leb, le-ltb, cases_lt}
@@ -14,7 +14,7 @@ use Rattle.zarr_grids_dimensions.specs.declared.run.Run.{Run}
 use Rattle.zarr_grids_dimensions.specs.Runs.{expanded, edges, counts, lengths, running}
 use Rattle.zarr_grids_dimensions.specs.Lookups.{all_positive, is_dimension, in_interval}
 use Rattle.zarr_grids_dimensions.proofs.Running.{length-running, running-at, IsNonDecreasing-running}
-use Rattle.zarr_grids_dimensions.proofs.Expanded.{IsChunkAt, in_run, sum-run, length-expanded, sum-expanded, positive-at, positive-expanded}
+use Rattle.zarr_grids_dimensions.proofs.Expanded.{IsChunkAt, in_run, sum-run, length-expanded, sum-expanded, positive-at, positive-expanded, sum-single, expanded-single}
 use Rattle.zarr_grids_dimensions.proofs.VaryingIntervals.{in_varying, varying_in, varying_apart, varying_within}
 
 -- ---- the starts of runs
@@ -57,7 +57,7 @@ run-positive runs j run h at t =
 pub starts-first : (f : Run → ℕ) (runs : List Run) (xs : List ℕ) → xs ≡ running 0 (map f runs) → get_or xs 0 0 ≡ 0
 starts-first f runs xs is = starts-at f runs xs 0 0 is (omega arith)
 
-starts-ordered : (f : Run → ℕ) (runs : List Run) (xs : List ℕ) → xs ≡ running 0 (map f runs) → IsNonDecreasing xs
+pub starts-ordered : (f : Run → ℕ) (runs : List Run) (xs : List ℕ) → xs ≡ running 0 (map f runs) → IsNonDecreasing xs
 starts-ordered f runs xs is = subst (λ (ys : List ℕ). IsNonDecreasing ys) (sym is) (IsNonDecreasing-running 0 (map f runs))
 
 -- ---- the chunk of a place of run j
@@ -101,6 +101,28 @@ chunk_within es k first edge i =
     let a = i.first_is in
     let b = i.edge_is in
     omega arith
+
+-- ---- as many chunks as runs: each run is one chunk
+pub place_single : (runs : List Run) (places : List ℕ) (j p : ℕ) → places ≡ running 0 (lengths runs) → all_positive (counts runs) ≡ true → length (expanded runs) ≡ length runs → j < length runs
+    → get_or places j 0 ≤ p → p < get_or places (j + 1) 0 → Found (expanded runs) p j (sum (take j (expanded runs))) (get_or (expanded runs) j 0)
+place_single runs places j p pi t n h from to =
+    let a = starts-at (λ (r : Run). r.count * r.edge) runs places j 0 pi (omega arith) in
+    let b = starts-at (λ (r : Run). r.count * r.edge) runs places (j + 1) 0 pi (omega arith) in
+    let l = length-map runs (λ (r : Run). r.count * r.edge) in
+    let h' : j < length (lengths runs) = omega arith in
+    let m : sum (take (j + 1) (lengths runs)) ≡ sum (take j (lengths runs)) + get_or (lengths runs) j 0 = sum_by_more (λ (x : ℕ). x) (lengths runs) j 0 h' in
+    subst (λ (es : List ℕ). Found es p j (sum (take j es)) (get_or es j 0)) (sym (expanded-single runs t n)) (record {
+      chunk = record { below = h'; first_is = refl; edge_is = refl };
+      from = omega arith;
+      to = omega arith;
+    })
+
+-- the k-th running sum of the counts is k
+pub chunks_single : (runs : List Run) (chunks : List ℕ) (k : ℕ) → chunks ≡ running 0 (counts runs) → all_positive (counts runs) ≡ true → length (expanded runs) ≡ length runs → k ≤ length runs → get_or chunks k 0 ≡ k
+chunks_single runs chunks k ci t n h =
+    let l = length-map runs (λ (r : Run). r.count) in
+    let e = length-expanded runs in
+    starts-at (λ (r : Run). r.count) runs chunks k 0 ci h ∙ sum-single (counts runs) k t (omega arith) (omega arith)
 
 -- ---- what a lookup of a place answers
 pub answers-found : (size : ℕ) (es : List ℕ) (p n first edge chunk : ℕ) → Found es p n first edge

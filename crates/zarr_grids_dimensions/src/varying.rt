@@ -1,5 +1,5 @@
 //! Chunks of varying edges, by runs of equal ones.
-ghost use Rattle.std.specs.Prelude.{◌≡◌, ◌⊎◌, ℕ, ◌↔◌, ◌<◌, ◌≤◌, ◌^◌, IsTrue, true, false, length, slice_index, take, sum, map, option_map, IfOk, IfErr};
+ghost use Rattle.std.specs.Prelude.{◌≡◌, ◌⊎◌, ℕ, ◌+◌, ◌↔◌, ◌<◌, ◌≤◌, ◌^◌, IsTrue, true, false, length, slice_index, take, sum, map, option_map, IfOk, IfErr};
 ghost use Rattle.std.specs.Option.{SomeIff};
 ghost use Rattle.zarr_grids_chunks.specs.Grids.{varying, interval};
 ghost use Rattle.zarr_grids_dimensions.specs.Runs.{expanded, edges, counts, lengths, running};
@@ -138,6 +138,10 @@ impl VaryingEdges {
         if at == self.runs.len() {
             return None;
         }
+        // As many chunks as runs: each run is one chunk.
+        if self.chunk_count() == self.runs.len() as u64 {
+            return Some(at as u64);
+        }
         let within = (place - self.near_places[at]) / self.runs[at].edge;
         Some(self.first_chunks[at] + within)
     }
@@ -146,7 +150,7 @@ impl VaryingEdges {
     pub fn interval(&self, chunk: u64) -> Option<ChunkInterval>
         ensures { option_map interval_of result ≡ interval (varying self.now.size (expanded self.now.runs.items)) chunk }
     {
-        let at = last_at_most(&self.first_chunks, chunk);
+        let at = self.run_of(chunk);
         if at == self.runs.len() {
             return None;
         }
@@ -156,6 +160,19 @@ impl VaryingEdges {
             first: self.first_places[at] + within as u128 * edge as u128,
             count: edge,
         })
+    }
+
+    /// The run of a chunk; past the last chunk the number of runs.
+    fn run_of(&self, chunk: u64) -> usize
+        ensures within { result < length self.now.first_chunks.items }
+        ensures at_most { slice_index self.now.first_chunks.items result ≤ chunk }
+        ensures next { result + 1 < length self.now.first_chunks.items → chunk < slice_index self.now.first_chunks.items (result + 1) }
+    {
+        let runs = self.runs.len() as u64;
+        if self.chunk_count() == runs {
+            return chunk.min(runs) as usize;
+        }
+        last_at_most(&self.first_chunks, chunk)
     }
 }
 

@@ -1,6 +1,7 @@
 use Rattle.std.proofs.Common.{rules, ◌≡◌, ◌∙◌, ◌*◌, ◌<◌, length, get_or, refl, sym, ap, arith}
 use Rattle.zarr_grids_dimensions.specs.declared.run.Run.{Run}
-use Rattle.zarr_grids_dimensions.proofs.VaryingLookups.{starts-length, starts-first, run-positive, near_at, near_searched, place_searched, place_past, answers-found, answers-past}
+use Rattle.zarr_grids_dimensions.specs.Runs.{expanded}
+use Rattle.zarr_grids_dimensions.proofs.VaryingLookups.{starts-length, starts-first, run-positive, near_at, near_searched, place_searched, place_single, place_past, answers-found, answers-past}
 use Rattle.zarr_grids_dimensions.proofs.varying.VaryingEdges.chunk_of.Goals as goal
 
 pub last_at_most-at-requires-clause-first : goal.last_at_most-at-requires-clause-first
@@ -16,6 +17,16 @@ returns-then-at-len c =
     let n : c.last_at_most-at.result ≡ length c.args.self.now.runs.items = omega arith in
     let past = place_past _ _ _ _ _ c.args.self.now.places refl n s.from in
     λ chunk. answers-past c.args.self.now.size _ c.args.place chunk past
+
+pub returns-then-chunk_count-len : goal.returns-then-chunk_count-len
+returns-then-chunk_count-len c =
+    let s = near_searched _ _ _ _ _ _ c.args.self.now.places c.args.self.now.near c.args.self.now.far c.deref.ensures.value c.ranges.place.fits c.last_at_most-at.ensures.within c.last_at_most-at.ensures.at_most c.last_at_most-at.ensures.next in
+    let b = s.below in
+    let l = starts-length (λ (r : Run). r.count * r.edge) _ _ c.args.self.now.places in
+    let h : c.last_at_most-at.result < length c.args.self.now.runs.items = omega arith in
+    let n : length (expanded c.args.self.now.runs.items) ≡ length c.args.self.now.runs.items = omega arith in
+    let f = place_single _ _ _ c.args.place c.args.self.now.places c.args.self.now.counted n h s.from (s.to (omega arith)) in
+    λ chunk. answers-found c.args.self.now.size _ c.args.place _ _ _ chunk f
 
 pub index-requires-2 : goal.index-requires-2
 index-requires-2 c =
