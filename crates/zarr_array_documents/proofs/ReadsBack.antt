@@ -11,7 +11,7 @@ use Rattle.zarr_grids_configurations.specs.Configurations.{configuration_of_poin
 use Rattle.zarr_grids_configurations.specs.Grids.{Edges, grid_in}
 use Rattle.zarr_grids_configurations.specs.Numbers.{sizes_in}
 use Rattle.zarr_grids_keys.specs.Keys.{KeyEncoding}
-use Rattle.zarr_grids_key_metadata.specs.KeyMetadata.{keys_made, keys_in}
+use Rattle.zarr_grids_keys.specs.EncodingMetadata.{keys_made, keys_in}
 use Rattle.zarr_codecs_cells.specs.Cells.{DataType, uint8, Cell}
 use Rattle.zarr_codecs_cells.specs.Json.{cell_in}
 use Rattle.zarr_codecs_chain.specs.Chain.{Chain}

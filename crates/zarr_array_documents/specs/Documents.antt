@@ -10,7 +10,7 @@ use Rattle.zarr_grids_configurations.specs.Configurations.{configuration_in}
 use Rattle.zarr_grids_configurations.specs.Grids.{grid_in}
 use Rattle.zarr_grids_configurations.specs.Numbers.{sizes_in}
 use Rattle.zarr_grids_keys.specs.Keys.{KeyEncoding}
-use Rattle.zarr_grids_key_metadata.specs.KeyMetadata.{keys_in}
+use Rattle.zarr_grids_keys.specs.EncodingMetadata.{keys_in}
 use Rattle.zarr_codecs_cells.specs.Cells.{DataType, Cell}
 use Rattle.zarr_codecs_cells.specs.Json.{cell_in}
 use Rattle.zarr_codecs_chain.specs.Chain.{Chain}
@@ -42,6 +42,7 @@ abbrev pub ◌>>=◌ : {A B E : Type 0} → Result A E → (A → Result B E) �
 (Ok x) >>= f = f x
 (Err e) >>= f = Err e
 
+-- one check after another: the first that refuses decides
 abbrev pub ◌>>◌ : {A E : Type 0} → Result ⊤ E → Result A E → Result A E
 (Ok x) >> r = r
 (Err e) >> r = Err e
@@ -84,18 +85,23 @@ pub record FieldsFound : Type 0 where
   pub codecs : Data
   pub attributes : Members
 
+-- whether a member is this whole number
 abbrev pub is_number : ℕ → Option Data → Bool
 is_number n d = unwrap_or (option_map (λ m. m == n) (option_and_then as_u64 (option_and_then as_number d))) false
 
+-- whether a member is this text
 abbrev pub is_text : List ℕ → Option Data → Bool
 is_text s d = unwrap_or (option_map (λ t. bytes_eq t s) (option_and_then as_str d)) false
 
+-- a member that has to be there
 abbrev pub field : Members → List ℕ → Result Data DocumentError
 field ms name = ok_or (get_member name ms) Fields
 
+-- the sizes that the member `shape` lists
 abbrev pub shape_in : Members → Result (List ℕ) DocumentError
 shape_in ms = ok_or (option_and_then sizes_in (get_member (codes "shape") ms)) Fields
 
+-- the fields of a document: `zarr_format` is 3, `node_type` is "array", `shape` lists sizes, the other required ones are there, and attributes are an object where they are given
 abbrev pub fields_in : Members → Result FieldsFound DocumentError
 fields_in ms = do
   check (is_number 3 (get_member (codes "zarr_format") ms)) Fields

@@ -7,5 +7,6 @@ use Rattle.zarr_codecs_chain.specs.Chain.{bytes}
 use Rattle.zarr_array_documents.specs.Documents.{Document}
 use Rattle.zarr_array_documents.specs.declared.document.ArrayDocument.{ArrayDocument}
 
+-- the document that a value of the type `ArrayDocument` stands for
 abbrev pub meaning_of : ArrayDocument → Document
 meaning_of d = record { shape = d.shape.items; type = uint8; fill = d.fill_value ∷ []; grid = grid_of d.grid.items; keys = keys_of d.keys; chain = bytes }

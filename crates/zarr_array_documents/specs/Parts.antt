@@ -14,14 +14,17 @@ abbrev pub is_endian : Option Data → Bool
 is_endian None = true
 is_endian (Some d) = unwrap_or (option_map (λ s. bytes_eq s (codes "little") || bytes_eq s (codes "big")) (as_str d)) false
 
+-- whether an extension point is the codec `bytes`, with no other configuration than `endian`, which says nothing for cells of one byte
 abbrev pub bytes_codec : Members → Option Chain
 bytes_codec ms = if has_only (codes "endian" ∷ []) ms && is_endian (get_member (codes "endian") ms) then Some bytes else None
 
+-- the chain that a list of codecs is: `bytes` alone so far
 abbrev pub chain_of : Items → Option Chain
 chain_of no_items = None
 chain_of (item d no_items) = option_and_then bytes_codec (configuration_of (codes "bytes") d)
 chain_of (item d (item e ds)) = None
 
+-- the chain that the member `codecs` says
 abbrev pub chain_in : Data → Option Chain
 chain_in d = option_and_then chain_of (as_array d)
 
@@ -29,6 +32,7 @@ chain_in d = option_and_then chain_of (as_array d)
 abbrev pub no_more : {A : Type 0} → A → Members → Option A
 no_more x ms = if has_only [] ms then Some x else None
 
+-- the data type that the member `data_type` says: `uint8` alone so far
 abbrev pub type_in : Data → Option DataType
 type_in d = option_and_then (no_more uint8) (configuration_of (codes "uint8") d)
 

@@ -62,7 +62,8 @@ impl<'v> RequiredFields<'v> {
 fn is_array_of_version_3(members: &Map<String, Value>) -> bool
     ensures { result
         ≡ (is_number 3 (get_member (codes "zarr_format") (members_view members.now.entries))
-        && is_text (codes "array") (get_member (codes "node_type") (members_view members.now.entries))) }
+        && is_text (codes "array")
+        (get_member (codes "node_type") (members_view members.now.entries))) }
 {
     member(members, "zarr_format").and_then(Value::as_u64) == Some(3)
         && member(members, "node_type").and_then(Value::as_str) == Some("array")

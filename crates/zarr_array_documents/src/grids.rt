@@ -23,7 +23,8 @@ pub(crate) fn configuration_in(
     chunk_grid: &Value,
 ) -> Result<GridConfiguration, DocumentError>
     ensures ok { IfOk result (λ configuration.
-        ok_or (configuration_in (view chunk_grid.now)) DocumentError.ChunkGrid ≡ Ok (edges_of configuration)) }
+        ok_or (configuration_in (view chunk_grid.now)) DocumentError.ChunkGrid
+        ≡ Ok (edges_of configuration)) }
     ensures err { IfErr result (λ e. e ≢ DocumentError.Memory
         → ok_or (configuration_in (view chunk_grid.now)) DocumentError.ChunkGrid ≡ Err e) }
 {
@@ -42,7 +43,8 @@ pub(crate) fn grid_in(
     configuration: &GridConfiguration,
 ) -> Result<Vec<Dimension>, DocumentError>
     ensures ok { IfOk result (λ grid.
-        ok_or (grid_in shape.now (edges_of configuration.now)) DocumentError.ChunkGrid ≡ Ok (grid_of grid.items)) }
+        ok_or (grid_in shape.now (edges_of configuration.now)) DocumentError.ChunkGrid
+        ≡ Ok (grid_of grid.items)) }
     ensures sized { IfOk result (λ grid. map size_of (grid_of grid.items) ≡ shape.now) }
     ensures err { IfErr result (λ e. e ≢ DocumentError.Memory
         → ok_or (grid_in shape.now (edges_of configuration.now)) DocumentError.ChunkGrid ≡ Err e) }

@@ -22,7 +22,8 @@ const DEPTH_LIMIT: u64 = 127;
 /// the first that fails is the error. Beside them comes `Memory`, where an allocation failed.
 pub fn read_document(alloc: Global, value: &Value) -> Result<ArrayDocument, DocumentError>
     ensures ok { IfOk result (λ d. read_document (view value.now) ≡ Ok (meaning_of d)) }
-    ensures err { IfErr result (λ e. e ≢ DocumentError.Memory → read_document (view value.now) ≡ Err e) }
+    ensures err { IfErr result (λ e. e ≢ DocumentError.Memory
+        → read_document (view value.now) ≡ Err e) }
 {
     if is_deeper(value, DEPTH_LIMIT) {
         return Err(DocumentError::Depth);

@@ -110,7 +110,8 @@ fn written_codecs(alloc: Global, codecs: &Value) -> Result<Value, AllocError>
 }
 
 fn written_points(alloc: Global, points: &[Value]) -> Result<Vec<Value>, AllocError>
-    ensures { IfOk result (λ written. items_view written.items ≡ written_points (items_view points.now)) }
+    ensures { IfOk result
+        (λ written. items_view written.items ≡ written_points (items_view points.now)) }
 {
     let mut written = Vec::with_capacity(alloc, points.len())?;
     for point in points {
@@ -147,7 +148,8 @@ fn given_attributes(
 
 fn attributes_of(members: &Map<String, Value>) -> Option<&Map<String, Value>>
     ensures { option_map (λ attributes. members_view attributes.now.entries) result
-        ≡ option_and_then as_object (get_member (codes "attributes") (members_view members.now.entries)) }
+        ≡ option_and_then as_object
+        (get_member (codes "attributes") (members_view members.now.entries)) }
 {
     member(members, "attributes").and_then(Value::as_object)
 }

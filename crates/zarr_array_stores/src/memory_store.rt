@@ -108,7 +108,8 @@ impl MemoryStore {
     pub fn change<R, F: FnOnce(&mut [u8]) -> R + Drop>(&mut self, key: &str, change: F) -> Option<R>
         requires { F.IsAlwaysCallable change }
         ensures none { IfNone result ((map.get self.old key.now ≡ None) × (self.new ≡ self.old)) }
-        ensures some { IfSome result (λ given. Changed F.FnOnce change self.old key.now given self.new) }
+        ensures some { IfSome result
+            (λ given. Changed F.FnOnce change self.old key.now given self.new) }
     {
         if let Some(value) = self.values.get_mut(key) {
             return Some(change(value.as_mut_slice()));

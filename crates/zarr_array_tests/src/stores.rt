@@ -1,8 +1,10 @@
+//! Stores with values typed in by hand.
+
 use std::test::Fail;
 use zarr_array_stores::MemoryStore;
 
 #[test]
-fn keeps_values(rt: HostRuntime) -> Result<(), Fail> {
+fn a_store_keeps_values(rt: HostRuntime) -> Result<(), Fail> {
     let alloc = rt.alloc();
     let mut store = MemoryStore::new(alloc);
     assert!(rt; store.is_empty());
@@ -27,7 +29,7 @@ fn keeps_values(rt: HostRuntime) -> Result<(), Fail> {
 }
 
 #[test]
-fn changes_a_value_where_it_stands(rt: HostRuntime) -> Result<(), Fail> {
+fn a_value_is_changed_where_it_stands(rt: HostRuntime) -> Result<(), Fail> {
     let alloc = rt.alloc();
     let mut store = MemoryStore::new(alloc);
     store.set("a", vec![in alloc; 1, 2, 3]?)?;

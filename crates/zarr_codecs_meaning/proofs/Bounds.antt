@@ -7,12 +7,12 @@ use Rattle.zarr_grids_boxes.specs.Boxes.{product}
 use Rattle.zarr_codecs_meaning.specs.Types.{DataType, bool, Cell, components, bytes_in, inner_type}
 use Rattle.zarr_codecs_meaning.specs.Chains.{BytesRepresentation, Chain}
 use Rattle.zarr_codecs_meaning.specs.Chains.BytesRepresentation.{fixed_size, bounded_size, unbounded_size}
-use Rattle.zarr_codecs_meaning.specs.Chains.Chain.{bytes, packbits, vlen, optional, after_step, then_bytes, sharded}
+use Rattle.zarr_codecs_meaning.specs.Chains.Chain.{bytes, packbits, vlen, optional, after_array_codec, then_bytes, sharded}
 use Rattle.zarr_codecs_meaning.specs.Places.{Part}
 use Rattle.zarr_codecs_meaning.specs.Fits.{bits_in, packed_size, padding_size, bound_of, at_most, sum_of_bounds, representation_of, is_size_as, is_bound_within, takes_each_shape}
-use Rattle.zarr_codecs_meaning.specs.Encoding.{joined_texts, pieces_of}
+use Rattle.zarr_codecs_meaning.specs.Encoding.{joined_slices, pieces_of}
 use Rattle.zarr_codecs_meaning.specs.Laws.{IsLawfulChain}
-use Rattle.zarr_codecs_meaning.proofs.Shards.{TextsStand}
+use Rattle.zarr_codecs_meaning.proofs.Shards.{SlicesStand}
 
 -- ---- One bound
 
@@ -61,22 +61,22 @@ options_within mask values size first second h k is =
     let inside = plus_within (Some mask) (Some (values + 0)) first (plus second (Some 0)) h (plus_within (Some values) (Some 0) second (Some 0) k refl) in
     size_at_most bound size (subst (λ n. is_bound_within (Some n) bound ≡ true) (sym is) (plus_within (Some 16) (Some (mask + (values + 0))) (Some 16) (plus first (plus second (Some 0))) refl inside))
 
--- the texts of subchunks, each of which is within a bound, are within the sum of those bounds
-pub texts_within : (bound : List ℕ → Option ℕ) (fill : Cell) (cells : List Cell) (parts : List Part) (stored : List (Option (List ℕ)))
-    → TextsStand (λ shape text found. is_bound_within (Some (length text)) (bound shape) ≡ true) fill (pieces_of fill cells parts) stored
-    → is_bound_within (Some (length (joined_texts stored))) (sum_of_bounds (map (λ (part : Part). bound part.shape) parts)) ≡ true
-texts_within bound fill cells [] [] h = refl
-texts_within bound fill cells [] (o ∷ os) h = elim h [ ]
-texts_within bound fill cells (part ∷ parts) [] h = elim h [ ]
-texts_within bound fill cells (part ∷ parts) (None ∷ os) h =
-    let rest = texts_within bound fill cells parts os h.1 in
-    let same : 0 + length (joined_texts os) ≡ length (joined_texts os) = omega arith in
+-- slices, each of which is within a bound, are within the sum of those bounds
+pub slices_within : (bound : List ℕ → Option ℕ) (fill : Cell) (cells : List Cell) (parts : List Part) (stored : List (Option (List ℕ)))
+    → SlicesStand (λ shape slice found. is_bound_within (Some (length slice)) (bound shape) ≡ true) fill (pieces_of fill cells parts) stored
+    → is_bound_within (Some (length (joined_slices stored))) (sum_of_bounds (map (λ (part : Part). bound part.shape) parts)) ≡ true
+slices_within bound fill cells [] [] h = refl
+slices_within bound fill cells [] (o ∷ os) h = elim h [ ]
+slices_within bound fill cells (part ∷ parts) [] h = elim h [ ]
+slices_within bound fill cells (part ∷ parts) (None ∷ os) h =
+    let rest = slices_within bound fill cells parts os h.1 in
+    let same : 0 + length (joined_slices os) ≡ length (joined_slices os) = omega arith in
     subst (λ n. is_bound_within (Some n) (plus (bound part.shape) (sum_of_bounds (map (λ (part : Part). bound part.shape) parts))) ≡ true) same
-    (plus_within (Some 0) (Some (length (joined_texts os))) (bound part.shape) (sum_of_bounds (map (λ (part : Part). bound part.shape) parts)) (zero_within (bound part.shape)) rest)
-texts_within bound fill cells (part ∷ parts) (Some text ∷ os) h =
-    let rest = texts_within bound fill cells parts os h.1 in
-    subst (λ n. is_bound_within (Some n) (plus (bound part.shape) (sum_of_bounds (map (λ (part : Part). bound part.shape) parts))) ≡ true) (sym (length-append text (joined_texts os)))
-    (plus_within (Some (length text)) (Some (length (joined_texts os))) (bound part.shape) (sum_of_bounds (map (λ (part : Part). bound part.shape) parts)) h.0.1 rest)
+    (plus_within (Some 0) (Some (length (joined_slices os))) (bound part.shape) (sum_of_bounds (map (λ (part : Part). bound part.shape) parts)) (zero_within (bound part.shape)) rest)
+slices_within bound fill cells (part ∷ parts) (Some slice ∷ os) h =
+    let rest = slices_within bound fill cells parts os h.1 in
+    subst (λ n. is_bound_within (Some n) (plus (bound part.shape) (sum_of_bounds (map (λ (part : Part). bound part.shape) parts))) ≡ true) (sym (length-append slice (joined_slices os)))
+    (plus_within (Some (length slice)) (Some (length (joined_slices os))) (bound part.shape) (sum_of_bounds (map (λ (part : Part). bound part.shape) parts)) h.0.1 rest)
 
 -- ---- Chains
 
@@ -91,7 +91,7 @@ bounds_grow (packbits padding first last) type one two lawful takes less =
     le-leb (packed_size padding first last (components type) (product one)) (packed_size padding first last (components type) (product two)) (packed_less (padding_size padding) (bits * product one) (bits * product two) (mul-le-mul_left bits less)) where
       packed_less : (padding one two : ℕ) → one ≤ two → padding + (one + 7) / 8 ≤ padding + (two + 7) / 8
       packed_less padding one two less = omega arith
-bounds_grow (vlen index texts width location) type one two lawful takes less = refl
+bounds_grow (vlen index «data» width location) type one two lawful takes less = refl
 bounds_grow (optional mask values) type one two lawful takes less =
     let t = and_parts (takes_each_shape mask) (takes_each_shape values) takes in
     let inner = unwrap_or (inner_type type) type in
@@ -105,6 +105,6 @@ bounds_grow (optional mask values) type one two lawful takes less =
     let all = plus_within mask_before (plus values_before (Some 0)) mask_after (plus values_after (Some 0)) first data_grows in
     at_most_within (plus (Some 16) (plus mask_before (plus values_before (Some 0)))) (plus (Some 16) (plus mask_after (plus values_after (Some 0))))
     (plus_within (Some 16) (plus mask_before (plus values_before (Some 0))) (Some 16) (plus mask_after (plus values_after (Some 0))) refl all)
-bounds_grow (after_step step chain) type one two lawful takes less = cc
+bounds_grow (after_array_codec codec chain) type one two lawful takes less = cc
 bounds_grow (then_bytes chain codec) type one two lawful takes less = lawful.1.monotone (representation_of chain type one) (representation_of chain type two) (bounds_grow chain type one two lawful.0 takes less)
 bounds_grow (sharded subchunk inner index location) type one two lawful takes less = cc

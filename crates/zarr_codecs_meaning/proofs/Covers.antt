@@ -13,10 +13,10 @@ use Rattle.zarr_grids_boxes.proofs.InBox.{length-places}
 use Rattle.zarr_grids_boxes.proofs.Walking.{get_or-places}
 use Rattle.zarr_grids_boxes.proofs.Dimensions.{ravel_below}
 use Rattle.zarr_grids_boxes.proofs.Numbers.{unravel-index, ravel-unravel, unravel-ravel}
-use Rattle.zarr_codecs_meaning.specs.Chains.{Step}
-use Rattle.zarr_codecs_meaning.specs.Chains.Step.{transpose, reshape, squeeze}
-use Rattle.zarr_codecs_meaning.specs.Places.{places_of, position_of, untransposed, step_places}
-use Rattle.zarr_codecs_meaning.specs.Fits.{step_fits, is_permutation}
+use Rattle.zarr_codecs_meaning.specs.Chains.{ArrayCodec}
+use Rattle.zarr_codecs_meaning.specs.Chains.ArrayCodec.{transpose, reshape, squeeze}
+use Rattle.zarr_codecs_meaning.specs.Places.{places_of, position_of, untransposed, source_places}
+use Rattle.zarr_codecs_meaning.specs.Fits.{array_codec_fits, is_permutation}
 use Rattle.zarr_codecs_meaning.proofs.Lists.{each_passes}
 use Rattle.zarr_codecs_meaning.proofs.Positions.{IsAmong, among_at, among_range, any_among, each_at, position_found, position_read}
 
@@ -97,8 +97,8 @@ untransposed_back order p same covers =
     let found = position_found d order (covers d below) in
     sym (get_or-map (slice_index p) order (position_of d order) 0 0 found ∙ ap (slice_index p) (position_read d 0 order found))))
 
-pub step_covers : (step : Step) (shape : List ℕ) → step_fits step shape ≡ true → (n : ℕ) → n < product shape → IsAmong n (step_places step shape)
-step_covers (transpose order) shape fit n h =
+pub array_codec_covers : (codec : ArrayCodec) (shape : List ℕ) → array_codec_fits codec shape ≡ true → (n : ℕ) → n < product shape → IsAmong n (source_places codec shape)
+array_codec_covers (transpose order) shape fit n h =
     let one = and_parts (length order == length shape) (is_permutation order) fit in
     let same = exact_unsigned_eq (length order) (length shape) one.0 in
     let named = is_order order one.1 in
@@ -107,6 +107,6 @@ step_covers (transpose order) shape fit n h =
     let q = map (slice_index p) order in
     let new_shape = map (slice_index shape) order in
     let moved = places_at (λ place. ravel (untransposed order place) shape) new_shape q 0 (transposed_index order p shape named same is) in
-    among_at (step_places (transpose order) shape) (ravel q new_shape) n moved.0 (moved.1 ∙ (ap (λ place. ravel place shape) (untransposed_back order p (is.same ∙ sym same) named.among) ∙ ravel_place shape n h))
-step_covers (reshape entries) shape fit n h = among_range (product shape) n h
-step_covers squeeze shape fit n h = among_range (product shape) n h
+    among_at (source_places (transpose order) shape) (ravel q new_shape) n moved.0 (moved.1 ∙ (ap (λ place. ravel place shape) (untransposed_back order p (is.same ∙ sym same) named.among) ∙ ravel_place shape n h))
+array_codec_covers (reshape entries) shape fit n h = among_range (product shape) n h
+array_codec_covers squeeze shape fit n h = among_range (product shape) n h

@@ -42,8 +42,8 @@ pub digits_below : (base count n : ℕ) → 0 < base → Each (λ d. d < base) (
 digits_below base zero n h = tt
 digits_below base (suc count) n h = (mod_below n base h, digits_below base count (n / base) h)
 
-pub bytes_below : (text : List ℕ) → are_bytes text ≡ true → Each (λ b. b < 256) text
-bytes_below text h = each_weaker (λ b. nat_lt b 256 ≡ true) (λ b. b < 256) text (λ b e. ltb-true b 256 e) (each_passes (λ b. nat_lt b 256) text h)
+pub bytes_below : (element : List ℕ) → are_bytes element ≡ true → Each (λ b. b < 256) element
+bytes_below element h = each_weaker (λ b. nat_lt b 256 ≡ true) (λ b. b < 256) element (λ b e. ltb-true b 256 e) (each_passes (λ b. nat_lt b 256) element h)
 
 pub each-take : {X : Type 0} (P : X → Type 0) (n : ℕ) (xs : List X) → Each P xs → Each P (take n xs)
 each-take P zero xs h = tt
@@ -106,8 +106,8 @@ unpacked_from bits (suc m) k h few =
     let rest = unpacked_from bits m (k + 1) h (omega arith) in
     let xs = drop (8 * k) bits in
     let next : 8 * (k + 1) ≡ 8 * k + 8 = omega arith in
-    let step : drop (8 * (k + 1)) bits ≡ drop 8 xs = ap (λ n. drop n bits) next ∙ sym (drop-drop 8 (8 * k) bits) in
-    ((8 - length xs) + rest.0, byte_bits xs (flat_map (digits 2 8) (map (byte_of bits) (range_with_len (k + 1) m))) rest.0 (each-drop (λ b. b < 2) (8 * k) bits h) (rest.1 ∙ ap (λ ns. ns ++ replicate rest.0 0) step))
+    let codec : drop (8 * (k + 1)) bits ≡ drop 8 xs = ap (λ n. drop n bits) next ∙ sym (drop-drop 8 (8 * k) bits) in
+    ((8 - length xs) + rest.0, byte_bits xs (flat_map (digits 2 8) (map (byte_of bits) (range_with_len (k + 1) m))) rest.0 (each-drop (λ b. b < 2) (8 * k) bits h) (rest.1 ∙ ap (λ ns. ns ++ replicate rest.0 0) codec))
 
 -- what is unpacked are the bits that were packed, and zeros
 pub unpacked_packed : (bits : List ℕ) → Each (λ b. b < 2) bits → (more : ℕ) × (flat_map (digits 2 8) (packed bits) ≡ bits ++ replicate more 0)

@@ -27,7 +27,7 @@ pub on_true : {X : Type 0} (b : Bool) (x y : X) → b ≡ true → elim b [ true
 on_true true x y h = refl
 on_true false x y h = cc
 
--- the n-th of texts of one width
+-- the n-th of elements of one width
 pub slice_flat : {X : Type 0} (f : X → List ℕ) (width : ℕ) (xs : List X) (n : ℕ) (d : X) → Each (λ x. length (f x) ≡ width) xs → n < length xs → take width (drop (n * width) (flat_map f xs)) ≡ f (get_or xs n d)
 slice_flat f width [] n d h below = absurd (omega arith)
 slice_flat f width (x ∷ xs) zero d h below =
@@ -51,25 +51,25 @@ all_read f (x ∷ xs) a d h =
 
 -- ---- `bytes`
 
-in_order_twice : (order : Option Endianness) (text : List ℕ) → in_order order (in_order order text) ≡ text
-in_order_twice None text = refl
-in_order_twice (Some little) text = refl
-in_order_twice (Some big) text = reverse-reverse text
+in_order_twice : (order : Option Endianness) (element : List ℕ) → in_order order (in_order order element) ≡ element
+in_order_twice None element = refl
+in_order_twice (Some little) element = refl
+in_order_twice (Some big) element = reverse-reverse element
 
-pub ordered_twice : (order : Option Endianness) (parts : List Component) (text : List ℕ) → length text ≡ bytes_in parts → ordered order parts (ordered order parts text) ≡ text
+pub ordered_twice : (order : Option Endianness) (parts : List Component) (element : List ℕ) → length element ≡ bytes_in parts → ordered order parts (ordered order parts element) ≡ element
 ordered_twice order [] [] h = refl
-ordered_twice order [] (b ∷ text) h = absurd (omega arith)
-ordered_twice order (c ∷ cs) text h =
+ordered_twice order [] (b ∷ element) h = absurd (omega arith)
+ordered_twice order (c ∷ cs) element h =
     let n = c.byte_count in
-    let front = in_order order (take n text) in
-    let back = ordered order cs (drop n text) in
-    let long : length front ≡ n = length-in_order order (take n text) ∙ (length-take n text ∙ omega (arith, h)) in
+    let front = in_order order (take n element) in
+    let back = ordered order cs (drop n element) in
+    let long : length front ≡ n = length-in_order order (take n element) ∙ (length-take n element ∙ omega (arith, h)) in
     let one : take n (front ++ back) ≡ front = ap (λ k. take k (front ++ back)) (sym long) ∙ take-append_seam front back in
     let two : drop n (front ++ back) ≡ back = ap (λ k. drop k (front ++ back)) (sym long) ∙ drop-append_seam front back in
     ap (λ ns. in_order order ns ++ ordered order cs (drop n (front ++ back))) one
     ∙ (ap (λ ns. in_order order front ++ ordered order cs ns) two
-    ∙ (ap (λ ns. ns ++ ordered order cs back) (in_order_twice order (take n text))
-    ∙ (ap (λ ns. take n text ++ ns) (ordered_twice order cs (drop n text) (length-drop n text ∙ omega (arith, h))) ∙ take-append-drop n text)))
+    ∙ (ap (λ ns. ns ++ ordered order cs back) (in_order_twice order (take n element))
+    ∙ (ap (λ ns. take n element ++ ns) (ordered_twice order cs (drop n element) (length-drop n element ∙ omega (arith, h))) ∙ take-append-drop n element)))
 
 bytes_open : (order : Option Endianness) (elements : Elements) (shape : List ℕ) (cells : List Cell) → is_fixed elements.type ≡ true → AreCells elements shape cells
     → is_whole elements.type shape (flat_map (λ cell. ordered order (components elements.type) (cell_bytes cell)) cells) ≡ true
@@ -85,18 +85,18 @@ element_read order elements shape cells fixed are i below =
     let type = elements.type in
     let parts = components type in
     let width = bytes_in parts in
-    let text = λ (cell : Cell). ordered order parts (cell_bytes cell) in
-    let value = flat_map text cells in
+    let element = λ (cell : Cell). ordered order parts (cell_bytes cell) in
+    let value = flat_map element cells in
     let fine : Each (λ cell. is_value type cell ≡ true) cells = each_passes (is_value type) cells are.values in
-    let wide : Each (λ cell. length (text cell) ≡ width) cells = each_weaker (λ cell. is_value type cell ≡ true) (λ cell. length (text cell) ≡ width) cells
+    let wide : Each (λ cell. length (element cell) ≡ width) cells = each_weaker (λ cell. is_value type cell ≡ true) (λ cell. length (element cell) ≡ width) cells
     (λ cell h. let v = fixed_value type cell fixed h in length-ordered order parts (cell_bytes cell) (ap (λ (c : Cell). length (cell_bytes c)) v.is ∙ v.long)) fine in
     let cell = get_or cells i elements.fill in
     let is = each_get (λ c. is_value type c ≡ true) cells i elements.fill fine are.fill in
     let v = fixed_value type cell fixed is in
     let same : of_bytes (cell_bytes cell) ≡ cell = ap (λ (c : Cell). of_bytes (cell_bytes c)) v.is ∙ sym v.is in
-    let text_back : ordered order parts (take width (drop (i * width) value)) ≡ cell_bytes cell =
-    ap (ordered order parts) (slice_flat text width cells i elements.fill wide below) ∙ ordered_twice order parts (cell_bytes cell) (ap (λ (c : Cell). length (cell_bytes c)) v.is ∙ v.long) in
-    ap (λ ns. tested type (of_bytes ns)) text_back ∙ (ap (tested type) same ∙ ap (λ (b : Bool). if b then Some cell else None) is)
+    let stored_back : ordered order parts (take width (drop (i * width) value)) ≡ cell_bytes cell =
+    ap (ordered order parts) (slice_flat element width cells i elements.fill wide below) ∙ ordered_twice order parts (cell_bytes cell) (ap (λ (c : Cell). length (cell_bytes c)) v.is ∙ v.long) in
+    ap (λ ns. tested type (of_bytes ns)) stored_back ∙ (ap (tested type) same ∙ ap (λ (b : Bool). if b then Some cell else None) is)
 
 pub bytes_back : (order : Option Endianness) (elements : Elements) (shape : List ℕ) (cells : List Cell) → is_fixed elements.type ≡ true → AreCells elements shape cells
     → decoded (bytes order) elements shape (flat_map (λ cell. ordered order (components elements.type) (cell_bytes cell)) cells) ≡ Some cells
@@ -110,13 +110,13 @@ bytes_back order elements shape cells fixed are =
 
 -- ---- `packbits`
 
-component_back : (sign : Sign) (width byte_count : ℕ) (text : List ℕ) → length text ≡ byte_count → Each (λ b. b < 256) text → (number 256 text == extended sign width byte_count (number 256 text % 2 ^ width)) ≡ true
-    → digits 256 byte_count (extended sign width byte_count (number 2 (digits 2 width (number 256 text)))) ≡ text
-component_back sign width byte_count text long below is =
-    let n = number 256 text in
+component_back : (sign : Sign) (width byte_count : ℕ) (element : List ℕ) → length element ≡ byte_count → Each (λ b. b < 256) element → (number 256 element == extended sign width byte_count (number 256 element % 2 ^ width)) ≡ true
+    → digits 256 byte_count (extended sign width byte_count (number 2 (digits 2 width (number 256 element)))) ≡ element
+component_back sign width byte_count element long below is =
+    let n = number 256 element in
     ap (λ m. digits 256 byte_count (extended sign width byte_count m)) (number_digits 2 width n (omega arith))
     ∙ (ap (digits 256 byte_count) (sym (exact_unsigned_eq n (extended sign width byte_count (n % 2 ^ width)) is))
-    ∙ (ap (λ k. digits 256 k n) (sym long) ∙ digits_number 256 text below))
+    ∙ (ap (λ k. digits 256 k n) (sym long) ∙ digits_number 256 element below))
 
 -- where all bits of a component are kept
 pub record KeepsAll (first : ℕ) (last : Option ℕ) (c : Component) : Type 0 where
@@ -128,39 +128,39 @@ keeps_all first last c h =
     let both = and_parts (first == 0) (last_kept last c + 1 == c.width) h in
     record { from_zero = exact_unsigned_eq first 0 both.0; to_last = exact_unsigned_eq (last_kept last c + 1) c.width both.1 }
 
-pub element_back : (first : ℕ) (last : Option ℕ) (parts : List Component) (text : List ℕ) → Each (KeepsAll first last) parts → length text ≡ bytes_in parts → Each (λ b. b < 256) text → are_components parts text ≡ true
-    → element_of_bits first last parts (element_bits first last parts text) ≡ text
+pub element_back : (first : ℕ) (last : Option ℕ) (parts : List Component) (element : List ℕ) → Each (KeepsAll first last) parts → length element ≡ bytes_in parts → Each (λ b. b < 256) element → are_components parts element ≡ true
+    → element_of_bits first last parts (element_bits first last parts element) ≡ element
 element_back first last [] [] keeps h below fine = refl
-element_back first last [] (b ∷ text) keeps h below fine = absurd (omega arith)
-element_back first last (c ∷ cs) text keeps h below fine =
+element_back first last [] (b ∷ element) keeps h below fine = absurd (omega arith)
+element_back first last (c ∷ cs) element keeps h below fine =
     let n = c.byte_count in
-    let front = take n text in
+    let front = take n element in
     let kept = kept_bits first last c in
     let zero_ = keeps.0.from_zero in
     let to_ = keeps.0.to_last in
     let all : kept ≡ c.width = omega (arith, zero_, to_) in
     let bits = digits 2 kept (number 256 front / 2 ^ first) in
-    let others = element_bits first last cs (drop n text) in
+    let others = element_bits first last cs (drop n element) in
     let long : length bits ≡ kept = length-digits 2 kept (number 256 front / 2 ^ first) in
     let one : take kept (bits ++ others) ≡ bits = ap (λ k. take k (bits ++ others)) (sym long) ∙ take-append_seam bits others in
     let two : drop kept (bits ++ others) ≡ others = ap (λ k. drop k (bits ++ others)) (sym long) ∙ drop-append_seam bits others in
-    let both = and_parts (is_component c front) (are_components cs (drop n text)) fine in
+    let both = and_parts (is_component c front) (are_components cs (drop n element)) fine in
     let whole : number 256 front / 2 ^ first ≡ number 256 front = ap (λ k. number 256 front / 2 ^ k) zero_ ∙ div-one (number 256 front) in
     let same_bits : bits ≡ digits 2 c.width (number 256 front) = ap (λ k. digits 2 k (number 256 front / 2 ^ first)) all ∙ ap (digits 2 c.width) whole in
     let scaled : number 2 bits * 2 ^ first ≡ number 2 (digits 2 c.width (number 256 front)) = ap (λ k. number 2 bits * 2 ^ k) zero_ ∙ (omega arith ∙ ap (number 2) same_bits) in
     let here : digits 256 n (extended c.sign (last_kept last c + 1) n (number 2 bits * 2 ^ first)) ≡ front =
     ap (λ k. digits 256 n (extended c.sign k n (number 2 bits * 2 ^ first))) to_
-    ∙ (ap (λ m. digits 256 n (extended c.sign c.width n m)) scaled ∙ component_back c.sign c.width n front (length-take n text ∙ omega (arith, h)) (each-take (λ b. b < 256) n text below) both.0) in
+    ∙ (ap (λ m. digits 256 n (extended c.sign c.width n m)) scaled ∙ component_back c.sign c.width n front (length-take n element ∙ omega (arith, h)) (each-take (λ b. b < 256) n element below) both.0) in
     ap (λ ns. digits 256 n (extended c.sign (last_kept last c + 1) n (number 2 ns * 2 ^ first)) ++ element_of_bits first last cs (drop kept (bits ++ others))) one
     ∙ (ap (λ ns. digits 256 n (extended c.sign (last_kept last c + 1) n (number 2 bits * 2 ^ first)) ++ element_of_bits first last cs ns) two
     ∙ (ap (λ ns. ns ++ element_of_bits first last cs others) here
-    ∙ (ap (λ ns. front ++ ns) (element_back first last cs (drop n text) keeps.1 (length-drop n text ∙ omega (arith, h)) (each-drop (λ b. b < 256) n text below) both.1) ∙ take-append-drop n text)))
+    ∙ (ap (λ ns. front ++ ns) (element_back first last cs (drop n element) keeps.1 (length-drop n element ∙ omega (arith, h)) (each-drop (λ b. b < 256) n element below) both.1) ∙ take-append-drop n element)))
 
-pub are_bits : (first : ℕ) (last : Option ℕ) (parts : List Component) (text : List ℕ) → Each (λ b. b < 2) (element_bits first last parts text)
-are_bits first last [] text = tt
-are_bits first last (c ∷ cs) text =
-    each_append (λ b. b < 2) (digits 2 (kept_bits first last c) (number 256 (take c.byte_count text) / 2 ^ first)) (element_bits first last cs (drop c.byte_count text))
-    (digits_below 2 (kept_bits first last c) (number 256 (take c.byte_count text) / 2 ^ first) (omega arith)) (are_bits first last cs (drop c.byte_count text))
+pub are_bits : (first : ℕ) (last : Option ℕ) (parts : List Component) (element : List ℕ) → Each (λ b. b < 2) (element_bits first last parts element)
+are_bits first last [] element = tt
+are_bits first last (c ∷ cs) element =
+    each_append (λ b. b < 2) (digits 2 (kept_bits first last c) (number 256 (take c.byte_count element) / 2 ^ first)) (element_bits first last cs (drop c.byte_count element))
+    (digits_below 2 (kept_bits first last c) (number 256 (take c.byte_count element) / 2 ^ first) (omega arith)) (are_bits first last cs (drop c.byte_count element))
 
 each-flat_map : {X : Type 0} (P : ℕ → Type 0) (f : X → List ℕ) (xs : List X) → ((x : X) → Each P (f x)) → Each P (flat_map f xs)
 each-flat_map P f [] law = tt
@@ -170,9 +170,9 @@ without_with : (padding : Padding) (bits : List ℕ) → without_padding padding
 without_with no_padding_byte bits = refl
 without_with first_byte bits = refl
 without_with last_byte bits =
-    let text = packed bits in
-    let count : length (text ++ padding_bits bits ∷ []) - 1 ≡ length text = omega (arith, length-append text (padding_bits bits ∷ [])) in
-    ap (λ n. take n (text ++ padding_bits bits ∷ [])) count ∙ take-append_seam text (padding_bits bits ∷ [])
+    let content = packed bits in
+    let count : length (content ++ padding_bits bits ∷ []) - 1 ≡ length content = omega (arith, length-append content (padding_bits bits ∷ [])) in
+    ap (λ n. take n (content ++ padding_bits bits ∷ [])) count ∙ take-append_seam content (padding_bits bits ∷ [])
 
 -- what is kept of an element's cell
 abbrev pub kept_cell : ℕ → Option ℕ → DataType → Cell → Cell
@@ -185,7 +185,7 @@ packbits_lossless first last type (c ∷ cs) fixed keeps values =
     let v = fixed_value type c fixed values.0 in
     let parts = components type in
     let here : kept_cell first last type c ≡ c =
-    ap (λ (x : Cell). of_bytes (element_of_bits first last parts (element_bits first last parts (cell_bytes x)))) v.is ∙ (ap of_bytes (element_back first last parts v.text keeps v.long (bytes_below v.text v.bytes) v.fine) ∙ sym v.is) in
+    ap (λ (x : Cell). of_bytes (element_of_bits first last parts (element_bits first last parts (cell_bytes x)))) v.is ∙ (ap of_bytes (element_back first last parts v.element keeps v.long (bytes_below v.element v.bytes) v.fine) ∙ sym v.is) in
     ap (λ (x : Cell). x ∷ map (kept_cell first last type) cs) here ∙ ap (λ (xs : List Cell). c ∷ xs) (packbits_lossless first last type cs fixed keeps values.1)
 
 -- what is packed is unpacked to the kept cells

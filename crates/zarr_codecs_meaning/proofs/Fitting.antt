@@ -11,11 +11,11 @@ use Rattle.zarr_codecs_meaning.specs.Chains.Chain.{sharded}
 use Rattle.zarr_codecs_meaning.specs.Chains.Location.{at_start, at_end}
 use Rattle.zarr_codecs_meaning.specs.Places.{Part, parts_of, index_shape}
 use Rattle.zarr_codecs_meaning.specs.Fits.{fits, size_of, is_some_below, can_cut, divides}
-use Rattle.zarr_codecs_meaning.specs.Encoding.{encoded, Pair, Piece, piece_of, pieces_of, stored_pieces, joined_texts, pairs_from, pair_cells, index_size, base_of, joined, shard_of}
+use Rattle.zarr_codecs_meaning.specs.Encoding.{encoded, Pair, Piece, piece_of, pieces_of, stored_pieces, joined_slices, pairs_from, pair_cells, index_size, base_of, joined, shard_of}
 use Rattle.zarr_codecs_meaning.specs.Laws.{AreCells}
 use Rattle.zarr_codecs_meaning.proofs.Lists.{map_some, if_some, Each, each_passes}
-use Rattle.zarr_codecs_meaning.proofs.Steps.{length-gather, values_gathered}
-use Rattle.zarr_codecs_meaning.proofs.Shards.{length-pairs_from, length-stored, length-pair_cells, AreWords, words_from, part_cells, TextsStand, stored_stand}
+use Rattle.zarr_codecs_meaning.proofs.ArrayCodecs.{length-gather, values_gathered}
+use Rattle.zarr_codecs_meaning.proofs.Shards.{length-pairs_from, length-stored, length-pair_cells, AreWords, words_from, part_cells, SlicesStand, stored_stand}
 use Rattle.zarr_codecs_meaning.proofs.Parts.{part_counts, index_product}
 use Rattle.zarr_codecs_meaning.proofs.Words.{pair_cells_are_values}
 
@@ -73,44 +73,44 @@ pub each_piece : (P : Piece → Type 0) (fill : Cell) (cells : List Cell) (parts
 each_piece P fill cells [] h = tt
 each_piece P fill cells (part ∷ parts) h = (h.0, each_piece P fill cells parts h.1)
 
--- what is shown of what encoding writes holds of the texts of a shard's subchunks
-pub texts_stand : (subchunk : List ℕ) (inner index : Chain) (elements : Elements) (shape : List ℕ) (cells : List Cell) (stored : List (Option (List ℕ))) (slice : List ℕ → List ℕ → List Cell → Type 0)
+-- what is shown of what encoding writes holds of a shard's slices
+pub slices_stand : (subchunk : List ℕ) (inner index : Chain) (elements : Elements) (shape : List ℕ) (cells : List Cell) (stored : List (Option (List ℕ))) (slice : List ℕ → List ℕ → List Cell → Type 0)
     → Fitted subchunk inner index elements shape → AreCells elements shape cells
-    → ((part : List ℕ) (text : List ℕ) (found : List Cell) → fits inner elements.type part ≡ true → AreCells elements part found → encoded inner elements part found ≡ Some text → slice part text found)
+    → ((part : List ℕ) (made : List ℕ) (found : List Cell) → fits inner elements.type part ≡ true → AreCells elements part found → encoded inner elements part found ≡ Some made → slice part made found)
     → stored_pieces (encoded inner elements) elements.fill (pieces_of elements.fill cells (parts_of shape subchunk)) ≡ Some stored
-    → TextsStand slice elements.fill (pieces_of elements.fill cells (parts_of shape subchunk)) stored
-texts_stand subchunk inner index elements shape cells stored slice f are law e =
+    → SlicesStand slice elements.fill (pieces_of elements.fill cells (parts_of shape subchunk)) stored
+slices_stand subchunk inner index elements shape cells stored slice f are law e =
     let fill = elements.fill in
     let each = each_piece (λ x. (v : List ℕ) → encoded inner elements x.0 x.1 ≡ Some v → slice x.0 v x.1) fill cells (parts_of shape subchunk)
     (each_part subchunk inner index elements shape cells (λ (part : Part). (v : List ℕ) → encoded inner elements part.shape (part_cells fill cells part) ≡ Some v → slice part.shape v (part_cells fill cells part)) f are
     (λ part one two v h. law part.shape v (part_cells fill cells part) one two h)) in
     stored_stand (encoded inner elements) slice fill (pieces_of fill cells (parts_of shape subchunk)) stored each e
 
--- what is made of the texts of a shard's subchunks: offsets below the mark of an absent one, and the text of the index
+-- what is made of a shard's slices: offsets below the mark of an absent one, and the bytes of the index
 pub record IsShard (subchunk : List ℕ) (index : Chain) (location : Location) (shape value : List ℕ) (stored : List (Option (List ℕ))) : Type 0 where
-  pub short : base_of location (index_size index (index_shape shape subchunk)) + length (joined_texts stored) < 2 ^ 64 - 1
+  pub short : base_of location (index_size index (index_shape shape subchunk)) + length (joined_slices stored) < 2 ^ 64 - 1
   pub pairs_are : AreCells (zero_filled uint64) (index_shape shape subchunk) (pair_cells (pairs_from (base_of location (index_size index (index_shape shape subchunk))) stored))
-  pub text : List ℕ
-  pub is_text : encoded index (zero_filled uint64) (index_shape shape subchunk) (pair_cells (pairs_from (base_of location (index_size index (index_shape shape subchunk))) stored)) ≡ Some text
-  pub is : joined location text (joined_texts stored) ≡ value
+  pub index_bytes : List ℕ
+  pub is_index : encoded index (zero_filled uint64) (index_shape shape subchunk) (pair_cells (pairs_from (base_of location (index_size index (index_shape shape subchunk))) stored)) ≡ Some index_bytes
+  pub is : joined location index_bytes (joined_slices stored) ≡ value
 
 pub shard_made : (subchunk : List ℕ) (index : Chain) (location : Location) (shape value : List ℕ) (stored : List (Option (List ℕ))) → length stored ≡ length (parts_of shape subchunk)
     → shard_of (encoded index (zero_filled uint64) (index_shape shape subchunk)) location (index_size index (index_shape shape subchunk)) stored ≡ Some value → IsShard subchunk index location shape value stored
 shard_made subchunk index location shape value stored count h =
     let pairs_shape = index_shape shape subchunk in
     let base = base_of location (index_size index pairs_shape) in
-    let content = joined_texts stored in
+    let content = joined_slices stored in
     let pairs = pairs_from base stored in
-    let text = encoded index (zero_filled uint64) pairs_shape (pair_cells pairs) in
-    let guarded = if_some (nat_lt (base + length content) (2 ^ 64 - 1)) (option_map (λ (front : List ℕ). joined location front content) text) value h in
+    let index_bytes = encoded index (zero_filled uint64) pairs_shape (pair_cells pairs) in
+    let guarded = if_some (nat_lt (base + length content) (2 ^ 64 - 1)) (option_map (λ (front : List ℕ). joined location front content) index_bytes) value h in
     let short = ltb-true (base + length content) (2 ^ 64 - 1) guarded.0 in
-    let made = map_some (λ (front : List ℕ). joined location front content) text value guarded.1 in
-    record { short = short; pairs_are = pairs_are_cells shape subchunk pairs (words_from stored base short) (length-pairs_from stored base ∙ count); text = made.0; is_text = made.1; is = made.2 }
+    let made = map_some (λ (front : List ℕ). joined location front content) index_bytes value guarded.1 in
+    record { short = short; pairs_are = pairs_are_cells shape subchunk pairs (words_from stored base short) (length-pairs_from stored base ∙ count); index_bytes = made.0; is_index = made.1; is = made.2 }
 
--- as many texts are stored as there are subchunks
+-- as many slices are stored as there are subchunks
 pub stored_count : (encode : List ℕ → List Cell → Option (List ℕ)) (fill : Cell) (cells : List Cell) (parts : List Part) (stored : List (Option (List ℕ))) → stored_pieces encode fill (pieces_of fill cells parts) ≡ Some stored → length stored ≡ length parts
 stored_count encode fill cells parts stored e = length-stored encode fill (pieces_of fill cells parts) stored e ∙ length-map parts (piece_of fill cells)
 
-pub length-joined : (location : Location) (index text : List ℕ) → length (joined location index text) ≡ length index + length text
-length-joined at_start index text = length-append index text
-length-joined at_end index text = length-append text index ∙ omega arith
+pub length-joined : (location : Location) (index «data» : List ℕ) → length (joined location index «data») ≡ length index + length «data»
+length-joined at_start index «data» = length-append index «data»
+length-joined at_end index «data» = length-append «data» index ∙ omega arith

@@ -35,35 +35,35 @@ keeps_bits first last c h =
 keep_bits : (first : ℕ) (last : Option ℕ) (parts : List Component) → list_all (bits_fit first last) parts ≡ true → Each (KeepsBits first last) parts
 keep_bits first last parts h = each_weaker (λ (c : Component). bits_fit first last c ≡ true) (KeepsBits first last) parts (keeps_bits first last) (each_passes (bits_fit first last) parts h)
 
-below_power : (count : ℕ) (text : List ℕ) → Each (λ b. b < 256) text → count ≤ length text → number 256 (take count text) < 256 ^ count
-below_power count text below long =
-    let front = take count text in
-    subst (λ n. number 256 front < 256 ^ n) {x = length front} {y = count} (length-take count text ∙ omega (arith, long)) (number_below 256 front (each-take (λ b. b < 256) count text below))
+below_power : (count : ℕ) (element : List ℕ) → Each (λ b. b < 256) element → count ≤ length element → number 256 (take count element) < 256 ^ count
+below_power count element below long =
+    let front = take count element in
+    subst (λ n. number 256 front < 256 ^ n) {x = length front} {y = count} (length-take count element ∙ omega (arith, long)) (number_below 256 front (each-take (λ b. b < 256) count element below))
 
--- what stands before a seam, of a text of which the length is told
+-- what stands before a seam, of bytes of which the length is told
 front_of : (n : ℕ) (front back : List ℕ) → length front ≡ n → (take n (front ++ back) ≡ front) × (drop n (front ++ back) ≡ back)
 front_of n front back long = (ap (λ k. take k (front ++ back)) (sym long) ∙ take-append_seam front back, ap (λ k. drop k (front ++ back)) (sym long) ∙ drop-append_seam front back)
 
 -- the kept bits of an element of kept bits are those
-element_again : (first : ℕ) (last : Option ℕ) (parts : List Component) (text : List ℕ) → Each (KeepsBits first last) parts → length text ≡ bytes_in parts → Each (λ b. b < 256) text
-    → element_bits first last parts (element_of_bits first last parts (element_bits first last parts text)) ≡ element_bits first last parts text
-element_again first last [] text keeps long below = refl
-element_again first last (c ∷ cs) text keeps long below =
+element_again : (first : ℕ) (last : Option ℕ) (parts : List Component) (element : List ℕ) → Each (KeepsBits first last) parts → length element ≡ bytes_in parts → Each (λ b. b < 256) element
+    → element_bits first last parts (element_of_bits first last parts (element_bits first last parts element)) ≡ element_bits first last parts element
+element_again first last [] element keeps long below = refl
+element_again first last (c ∷ cs) element keeps long below =
     let n = c.byte_count in
     let count = kept_bits first last c in
-    let whole = number 256 (take n text) in
+    let whole = number 256 (take n element) in
     let bits = digits 2 count (whole / 2 ^ first) in
-    let others = element_bits first last cs (drop n text) in
+    let others = element_bits first last cs (drop n element) in
     let cut = front_of count bits others (length-digits 2 count (whole / 2 ^ first)) in
     let field = λ (ns : List ℕ). digits 256 n (extended c.sign (last_kept last c + 1) n (number 2 ns * 2 ^ first)) in
     let rest = element_of_bits first last cs others in
     let made : element_of_bits first last (c ∷ cs) (bits ++ others) ≡ field bits ++ rest = ap (λ ns. field ns ++ element_of_bits first last cs (drop count (bits ++ others))) cut.0 ∙ ap (λ ns. field bits ++ element_of_bits first last cs ns) cut.1 in
     let again = front_of n (field bits) rest (length-digits 256 n (extended c.sign (last_kept last c + 1) n (number 2 bits * 2 ^ first))) in
-    let here : digits 2 count (number 256 (field bits) / 2 ^ first) ≡ bits = field_again c.sign first count (last_kept last c + 1) n whole keeps.0.are (below_power n text below (omega (arith, long))) in
+    let here : digits 2 count (number 256 (field bits) / 2 ^ first) ≡ bits = field_again c.sign first count (last_kept last c + 1) n whole keeps.0.are (below_power n element below (omega (arith, long))) in
     ap (element_bits first last (c ∷ cs)) made
     ∙ (ap (λ ns. digits 2 count (number 256 ns / 2 ^ first) ++ element_bits first last cs (drop n (field bits ++ rest))) again.0
     ∙ (ap (λ ns. digits 2 count (number 256 (field bits) / 2 ^ first) ++ element_bits first last cs ns) again.1
-    ∙ (ap (λ ns. ns ++ element_bits first last cs rest) here ∙ ap (λ ns. bits ++ ns) (element_again first last cs (drop n text) keeps.1 (length-drop n text ∙ omega (arith, long)) (each-drop (λ b. b < 256) n text below)))))
+    ∙ (ap (λ ns. ns ++ element_bits first last cs rest) here ∙ ap (λ ns. bits ++ ns) (element_again first last cs (drop n element) keeps.1 (length-drop n element ∙ omega (arith, long)) (each-drop (λ b. b < 256) n element below)))))
 
 length-made : (first : ℕ) (last : Option ℕ) (parts : List Component) (bits : List ℕ) → length (element_of_bits first last parts bits) ≡ bytes_in parts
 length-made first last [] bits = refl
@@ -106,19 +106,19 @@ components_made first last (c ∷ cs) bits keeps below =
     ∙ (ap (λ ns. is_component c field && are_components cs ns) cut.1
     ∙ (ap (λ (b : Bool). b && are_components cs rest) is ∙ components_made first last cs (drop count bits) keeps.1 (each-drop (λ b. b < 2) count bits below)))
 
-pub are_bytes_of : (text : List ℕ) → Each (λ b. b < 256) text → are_bytes text ≡ true
-are_bytes_of text h = all_pass (λ b. nat_lt b 256) text (each_weaker (λ b. b < 256) (λ b. nat_lt b 256 ≡ true) text (λ b l. lt-ltb b 256 l) h)
+pub are_bytes_of : (element : List ℕ) → Each (λ b. b < 256) element → are_bytes element ≡ true
+are_bytes_of element h = all_pass (λ b. nat_lt b 256) element (each_weaker (λ b. b < 256) (λ b. nat_lt b 256 ≡ true) element (λ b l. lt-ltb b 256 l) h)
 
 -- an element of bits is a value
 made_is_value : (first : ℕ) (last : Option ℕ) (type : DataType) (bits : List ℕ) → is_fixed type ≡ true → Each (KeepsBits first last) (components type) → Each (λ b. b < 2) bits → is_value type (of_bytes (element_of_bits first last (components type) bits)) ≡ true
 made_is_value first last type bits fixed keeps below =
     let parts = components type in
-    let text = element_of_bits first last parts bits in
-    let one = are_bytes_of text (bytes_made first last parts bits) in
-    let two = eq-eqb (length text) (bytes_in parts) (length-made first last parts bits) in
+    let element = element_of_bits first last parts bits in
+    let one = are_bytes_of element (bytes_made first last parts bits) in
+    let two = eq-eqb (length element) (bytes_in parts) (length-made first last parts bits) in
     let three = components_made first last parts bits keeps below in
-    ap (λ (b : Bool). are_bytes text && (if b then (length text == bytes_in parts) && are_components parts text else is_variable type)) fixed
-    ∙ (ap (λ (b : Bool). b && ((length text == bytes_in parts) && are_components parts text)) one ∙ (ap (λ (b : Bool). b && are_components parts text) two ∙ three))
+    ap (λ (b : Bool). are_bytes element && (if b then (length element == bytes_in parts) && are_components parts element else is_variable type)) fixed
+    ∙ (ap (λ (b : Bool). b && ((length element == bytes_in parts) && are_components parts element)) one ∙ (ap (λ (b : Bool). b && are_components parts element) two ∙ three))
 
 kept_cell_value : (first : ℕ) (last : Option ℕ) (type : DataType) (cell : Cell) → is_fixed type ≡ true → Each (KeepsBits first last) (components type) → is_value type (kept_cell first last type cell) ≡ true
 kept_cell_value first last type cell fixed keeps = made_is_value first last type (element_bits first last (components type) (cell_bytes cell)) fixed keeps (are_bits first last (components type) (cell_bytes cell))
@@ -127,8 +127,8 @@ kept_cell_bits : (first : ℕ) (last : Option ℕ) (type : DataType) (cell : Cel
     → element_bits first last (components type) (cell_bytes (kept_cell first last type cell)) ≡ element_bits first last (components type) (cell_bytes cell)
 kept_cell_bits first last type cell fixed keeps is =
     let v = fixed_value type cell fixed is in
-    let text : v.text ≡ cell_bytes cell = sym (ap cell_bytes v.is) in
-    element_again first last (components type) (cell_bytes cell) keeps (sym (ap length text) ∙ v.long) (subst (λ ns. Each (λ b. b < 256) ns) text (bytes_below v.text v.bytes))
+    let element : v.element ≡ cell_bytes cell = sym (ap cell_bytes v.is) in
+    element_again first last (components type) (cell_bytes cell) keeps (sym (ap length element) ∙ v.long) (subst (λ ns. Each (λ b. b < 256) ns) element (bytes_below v.element v.bytes))
 
 -- ---- the cells of an array
 

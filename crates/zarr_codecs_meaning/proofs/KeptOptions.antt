@@ -15,7 +15,7 @@ use Rattle.zarr_codecs_meaning.specs.Laws.{AreCells}
 use Rattle.zarr_codecs_meaning.proofs.Lists.{Each, each_passes, all_pass, each_weaker}
 use Rattle.zarr_codecs_meaning.proofs.Zeros.{zero_is_value, fits_each}
 use Rattle.zarr_codecs_meaning.proofs.Options.{IsOption, absent_first, option_value, masks_are_values, found_are_values}
-use Rattle.zarr_codecs_meaning.proofs.KeptTexts.{of_length, unless_kept}
+use Rattle.zarr_codecs_meaning.proofs.KeptVariable.{of_length, unless_kept}
 
 abbrev pub found_in : List Cell → List Cell
 found_in cells = filter_map present_cell cells
@@ -36,7 +36,7 @@ length-spread (m ∷ ms) (c ∷ cs) = length_step (number 256 (cell_bytes m) == 
 
 masks_alike : (cells found : List Cell) → length found ≡ length (found_in cells) → map mask_cell (spread_by cells found) ≡ map mask_cell cells
 masks_alike [] found h = refl
-masks_alike (of_bytes text ∷ cells) found h = ap (map mask_cell) (absent_first (map mask_cell cells) found) ∙ ap (λ (xs : List Cell). of_bytes (0 ∷ []) ∷ xs) (masks_alike cells found h)
+masks_alike (of_bytes element ∷ cells) found h = ap (map mask_cell) (absent_first (map mask_cell cells) found) ∙ ap (λ (xs : List Cell). of_bytes (0 ∷ []) ∷ xs) (masks_alike cells found h)
 masks_alike (absent ∷ cells) found h = ap (map mask_cell) (absent_first (map mask_cell cells) found) ∙ ap (λ (xs : List Cell). of_bytes (0 ∷ []) ∷ xs) (masks_alike cells found h)
 masks_alike (present cell ∷ cells) [] h = absurd (omega arith)
 masks_alike (present cell ∷ cells) (c ∷ cs) h = ap (λ (xs : List Cell). of_bytes (1 ∷ []) ∷ xs) (masks_alike cells cs (omega arith))
@@ -44,7 +44,7 @@ masks_alike (present cell ∷ cells) (c ∷ cs) h = ap (λ (xs : List Cell). of_
 found_alike : (cells found : List Cell) → length found ≡ length (found_in cells) → found_in (spread_by cells found) ≡ found
 found_alike [] [] h = refl
 found_alike [] (c ∷ cs) h = absurd (omega arith)
-found_alike (of_bytes text ∷ cells) found h = ap found_in (absent_first (map mask_cell cells) found) ∙ found_alike cells found h
+found_alike (of_bytes element ∷ cells) found h = ap found_in (absent_first (map mask_cell cells) found) ∙ found_alike cells found h
 found_alike (absent ∷ cells) found h = ap found_in (absent_first (map mask_cell cells) found) ∙ found_alike cells found h
 found_alike (present cell ∷ cells) [] h = absurd (omega arith)
 found_alike (present cell ∷ cells) (c ∷ cs) h = ap (λ (xs : List Cell). c ∷ xs) (found_alike cells cs (omega arith))
@@ -117,7 +117,7 @@ pub optional_encoded : (mask : List Cell → Option (List ℕ)) (encode : List �
     → encode (length (found_in cells) ∷ []) found ≡ encode (length (found_in cells) ∷ []) (found_in cells)
     → options_encoded mask (λ some. encode (length some ∷ []) some) (spread_by cells found) ≡ options_encoded mask (λ some. encode (length some ∷ []) some) cells
 optional_encoded mask encode cells found many same =
-    let whole : List Cell → Option (List ℕ) → Option (List ℕ) = λ ms text. option_and_then (λ front. option_and_then (with_mask front) text) (mask ms) in
+    let whole : List Cell → Option (List ℕ) → Option (List ℕ) = λ ms made. option_and_then (λ front. option_and_then (with_mask front) made) (mask ms) in
     let data_of = λ (xs : List Cell). unless_none xs (encode (length xs ∷ []) xs) in
     ap (λ (ms : List Cell). whole ms (data_of (found_in (spread_by cells found)))) (masks_alike cells found many)
     ∙ (ap (λ (xs : List Cell). whole (map mask_cell cells) (data_of xs)) (found_alike cells found many)

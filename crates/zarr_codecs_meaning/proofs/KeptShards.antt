@@ -12,7 +12,7 @@ use Rattle.zarr_codecs_meaning.specs.Places.{place_numbers, position_of, Part, p
 use Rattle.zarr_codecs_meaning.specs.Fits.{can_cut}
 use Rattle.zarr_codecs_meaning.specs.Encoding.{Pair, Piece, piece_of, pieces_of, base_of}
 use Rattle.zarr_codecs_meaning.specs.Keeping.{arranged, kept_piece}
-use Rattle.zarr_codecs_meaning.specs.Decoding.{is_absent, slice_at, pairs_of_cells, index_text, pairs_in, pieces_decoded}
+use Rattle.zarr_codecs_meaning.specs.Decoding.{is_absent, slice_at, pairs_of_cells, index_bytes, pairs_in, pieces_decoded}
 use Rattle.zarr_codecs_meaning.specs.Standing.{HasSlice, PieceStands, PiecesStand, ShardStands}
 use Rattle.zarr_codecs_meaning.specs.Laws.{AreCells}
 use Rattle.zarr_codecs_meaning.proofs.Lists.{Each, each_passes, all_pass, each_get, each_map}
@@ -133,9 +133,9 @@ pub pairs_found : (index : List ℕ → Option (List Cell)) (inner : List ℕ �
     → pairs_in index location size value ≡ Some h.0
 pairs_found index inner location size fill pieces value h =
     let laid = h.2 in
-    let at_ = index_read location size laid.text h.1 value laid.long laid.is in
-    ap (λ (t : Bool). if t then option_map pairs_of_cells (index (index_text location size value)) else None) (le-leb size (length value) at_.0)
-    ∙ (ap (λ (text : List ℕ). option_map pairs_of_cells (index text)) at_.1 ∙ (ap (option_map pairs_of_cells) laid.read ∙ ap Some (pairs_back h.0 (words_of inner fill (base_of location size) h.1 pieces h.0 h.3))))
+    let at_ = index_read location size laid.index_bytes h.1 value laid.long laid.is in
+    ap (λ (t : Bool). if t then option_map pairs_of_cells (index (index_bytes location size value)) else None) (le-leb size (length value) at_.0)
+    ∙ (ap (λ (front : List ℕ). option_map pairs_of_cells (index front)) at_.1 ∙ (ap (option_map pairs_of_cells) laid.read ∙ ap Some (pairs_back h.0 (words_of inner fill (base_of location size) h.1 pieces h.0 h.3))))
 
 -- a subchunk that stands is decoded to what is kept of it
 piece_read : (decode : List ℕ → List ℕ → Option (List Cell)) (keep : List ℕ → List Cell → List Cell) (inner : List ℕ → List ℕ → List Cell → Type 0) (fill : Cell) (base : ℕ) (was value : List ℕ) (x : Piece) (p : Pair)
@@ -174,8 +174,8 @@ shard_read index decode keep inner location size fill cells shape subchunk value
     let parts = parts_of shape subchunk in
     let laid = h.2 in
     let base = base_of location size in
-    let begins : base ≡ base_of location (length laid.text) = ap (base_of location) (sym laid.long) in
+    let begins : base ≡ base_of location (length laid.index_bytes) = ap (base_of location) (sym laid.long) in
     let next : List Pair → Option (List Cell) = λ (ps : List Pair). option_map (λ (found : List (List Cell)). map (arranged fill parts found) (place_numbers shape)) (pieces_decoded decode fill value parts ps) in
     ap (option_and_then next) (pairs_found index inner location size fill (pieces_of fill cells parts) value h)
     ∙ ap (option_map (λ (found : List (List Cell)). map (arranged fill parts found) (place_numbers shape)))
-    (parts_read decode keep inner fill cells base h.1 value (λ q s k. slice_found location base laid.text h.1 value q s laid.is begins k) parts h.0 law h.3)
+    (parts_read decode keep inner fill cells base h.1 value (λ q s k. slice_found location base laid.index_bytes h.1 value q s laid.is begins k) parts h.0 law h.3)

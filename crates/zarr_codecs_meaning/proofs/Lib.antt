@@ -1,6 +1,6 @@
 pub mod Lists
 pub mod Values
-pub mod Steps
+pub mod ArrayCodecs
 pub mod Sizes
 pub mod Digits
 pub mod Elements
@@ -10,11 +10,11 @@ pub mod Shards
 pub mod Parts
 pub mod Words
 pub mod Zeros
-pub mod Texts
+pub mod Variable
 pub mod Options
 pub mod KeptBits
 pub mod KeptElements
-pub mod KeptTexts
+pub mod KeptVariable
 pub mod KeptOptions
 pub mod Bounds
 pub mod Fitting

@@ -8,11 +8,11 @@ use Rattle.std.proofs.lemmas.Map.Views.{exact_unsigned_eq}
 use Rattle.zarr_grids_boxes.specs.Boxes.{product, place_at, ravel, IsIndex}
 use Rattle.zarr_grids_boxes.proofs.Dimensions.{ravel_below}
 use Rattle.zarr_codecs_meaning.specs.Types.{Cell}
-use Rattle.zarr_codecs_meaning.specs.Chains.{Step}
-use Rattle.zarr_codecs_meaning.specs.Chains.Step.{transpose, reshape, squeeze}
-use Rattle.zarr_codecs_meaning.specs.Places.{gather, position_of, places_of, untransposed, step_places}
-use Rattle.zarr_codecs_meaning.specs.Fits.{step_fits, is_permutation}
-use Rattle.zarr_codecs_meaning.proofs.Steps.{length-places_of}
+use Rattle.zarr_codecs_meaning.specs.Chains.{ArrayCodec}
+use Rattle.zarr_codecs_meaning.specs.Chains.ArrayCodec.{transpose, reshape, squeeze}
+use Rattle.zarr_codecs_meaning.specs.Places.{gather, position_of, places_of, untransposed, source_places}
+use Rattle.zarr_codecs_meaning.specs.Fits.{array_codec_fits, is_permutation}
+use Rattle.zarr_codecs_meaning.proofs.ArrayCodecs.{length-places_of}
 use Rattle.zarr_codecs_meaning.proofs.Positions.{IsAmong, among_at, position_found, position_read}
 use Rattle.zarr_codecs_meaning.proofs.Covers.{zeros, place_is_index, ravel_place, place_ravel, places_at, IsOrder, is_order}
 
@@ -154,13 +154,13 @@ range_once count =
     }
 
 -- an array codec takes each cell to one place
-pub step_once : (step : Step) (shape : List ℕ) → step_fits step shape ≡ true → IsOnce (product shape) (step_places step shape)
-step_once (transpose order) shape fit =
+pub array_codec_once : (codec : ArrayCodec) (shape : List ℕ) → array_codec_fits codec shape ≡ true → IsOnce (product shape) (source_places codec shape)
+array_codec_once (transpose order) shape fit =
     let one = and_parts (length order == length shape) (is_permutation order) fit in
     let same = exact_unsigned_eq (length order) (length shape) one.0 in
     let is = is_order order one.1 in
     let new_shape = map (slice_index shape) order in
-    let ns = step_places (transpose order) shape in
+    let ns = source_places (transpose order) shape in
     let f = λ (place : List ℕ). ravel (untransposed order place) shape in
     let found : (i : ℕ) → i < length ns → (q : List ℕ) × IsIndex q new_shape × (ravel q new_shape ≡ i) × (get_or ns i 0 ≡ f q) = λ i h.
     let low : i < product new_shape = omega (arith, h, length-map (places_of new_shape) f, length-places_of new_shape) in
@@ -177,5 +177,5 @@ step_once (transpose order) shape fit =
           let wide : length k.0 ≡ length order = k.1.same ∙ length-map order (slice_index shape) in
           ap told k.3 ∙ (ap (λ place. ravel (map (slice_index place) order) new_shape) (place_ravel shape u (untransposed_index order k.0 shape is same k.1)) ∙ (ap (λ place. ravel place new_shape) (transposed_back order k.0 is wide) ∙ k.2)));
     }
-step_once (reshape entries) shape fit = range_once (product shape)
-step_once squeeze shape fit = range_once (product shape)
+array_codec_once (reshape entries) shape fit = range_once (product shape)
+array_codec_once squeeze shape fit = range_once (product shape)

@@ -9,16 +9,16 @@ use Rattle.std.proofs.lemmas.List.FromFn.{length-range_with_len, length-map-rang
 use Rattle.zarr_grids_boxes.specs.Boxes.{product}
 use Rattle.zarr_codecs_meaning.specs.Types.{uint64, Elements, Cell, zero_filled}
 use Rattle.zarr_codecs_meaning.specs.Chains.{Chain}
-use Rattle.zarr_codecs_meaning.specs.Chains.Chain.{bytes, packbits, vlen, optional, after_step, then_bytes, sharded}
-use Rattle.zarr_codecs_meaning.specs.Places.{gather, place_numbers, position_of, step_shape, step_places, undone_places, Part, parts_of, index_shape}
-use Rattle.zarr_codecs_meaning.specs.Fits.{fits, step_fits}
+use Rattle.zarr_codecs_meaning.specs.Chains.Chain.{bytes, packbits, vlen, optional, after_array_codec, then_bytes, sharded}
+use Rattle.zarr_codecs_meaning.specs.Places.{gather, place_numbers, position_of, encoded_shape, source_places, undone_places, Part, parts_of, index_shape}
+use Rattle.zarr_codecs_meaning.specs.Fits.{fits, array_codec_fits}
 use Rattle.zarr_codecs_meaning.specs.Encoding.{Pair, index_size}
 use Rattle.zarr_codecs_meaning.specs.Keeping.{arranged}
 use Rattle.zarr_codecs_meaning.specs.Decoding.{all_there, element_at, is_whole, decoded, cell_at, cell_of_part, opens, part_decoded, is_absent, slice_at, pairs_in, pieces_decoded}
 use Rattle.zarr_codecs_meaning.proofs.Lists.{bind_some, map_some, elim_some, Each, each_passes}
-use Rattle.zarr_codecs_meaning.proofs.Steps.{step_count}
+use Rattle.zarr_codecs_meaning.proofs.ArrayCodecs.{array_codec_count}
 use Rattle.zarr_codecs_meaning.proofs.Positions.{position_found}
-use Rattle.zarr_codecs_meaning.proofs.Covers.{step_covers}
+use Rattle.zarr_codecs_meaning.proofs.Covers.{array_codec_covers}
 use Rattle.zarr_codecs_meaning.proofs.Shards.{IsCovered}
 use Rattle.zarr_codecs_meaning.proofs.Parts.{part_counts, parts_cover}
 use Rattle.zarr_codecs_meaning.proofs.Fitting.{fitted}
@@ -54,15 +54,15 @@ pub record PartLaw (read : List ℕ → List ℕ → ℕ → Option Cell) (decod
 -- the cell of the part that holds the place
 held_cell : (absent : Bool) (read : List ℕ → List ℕ → ℕ → Option Cell) (decode : List ℕ → List ℕ → Option (List Cell)) (fill : Cell) (part : Part) (slice : Option (List ℕ)) (cells : List Cell) (n : ℕ) → PartLaw read decode fill part → n < length part.places
     → (if absent then Some (replicate (product part.shape) fill) else option_and_then (decode part.shape) slice) ≡ Some cells
-    → (if absent then Some fill else option_and_then (λ text. read part.shape text n) slice) ≡ Some (get_or cells n fill)
+    → (if absent then Some fill else option_and_then (λ made. read part.shape made n) slice) ≡ Some (get_or cells n fill)
 held_cell true read decode fill part slice cells n law below h =
     let count = law.count in
     let low : n < product part.shape = omega (arith, below, count) in
     let same : replicate (product part.shape) fill ≡ cells = cc in
     ap Some (sym (get_or-replicate (product part.shape) n fill fill low) ∙ ap (λ xs. get_or xs n fill) same)
 held_cell false read decode fill part slice cells n law below h =
-    let text = bind_some (decode part.shape) slice cells h in
-    ap (option_and_then (λ found. read part.shape found n)) text.1 ∙ law.cell text.0 cells n text.2 below
+    let made = bind_some (decode part.shape) slice cells h in
+    ap (option_and_then (λ found. read part.shape found n)) made.1 ∙ law.cell made.0 cells n made.2 below
 
 -- the first part that holds the place decides in the whole and in the part alike
 meet : (b : Bool) (here there : Option Cell) (one other : Cell) → (b ≡ true → here ≡ Some one) → (b ≡ false → there ≡ Some other) → elim b [ true ↦ here | false ↦ there ] ≡ Some (if b then one else other)
@@ -113,25 +113,25 @@ reads_of (packbits padding first last) elements shape value cells fit h =
       opened = ap is_some h;
       cell = λ n below. selected (decoded (packbits padding first last) elements shape value) cells n elements.fill h (omega (arith, below, many));
     }
-reads_of (vlen index texts width location) elements shape value cells fit h =
-    let many = decoded_count (vlen index texts width location) elements shape value cells h in record {
+reads_of (vlen index «data» width location) elements shape value cells fit h =
+    let many = decoded_count (vlen index «data» width location) elements shape value cells h in record {
       opened = ap is_some h;
-      cell = λ n below. selected (decoded (vlen index texts width location) elements shape value) cells n elements.fill h (omega (arith, below, many));
+      cell = λ n below. selected (decoded (vlen index «data» width location) elements shape value) cells n elements.fill h (omega (arith, below, many));
     }
 reads_of (optional mask values) elements shape value cells fit h =
     let many = decoded_count (optional mask values) elements shape value cells h in record {
       opened = ap is_some h;
       cell = λ n below. selected (decoded (optional mask values) elements shape value) cells n elements.fill h (omega (arith, below, many));
     }
-reads_of (after_step step chain) elements shape value cells fit h =
-    let both = and_parts (step_fits step shape) (fits chain elements.type (step_shape step shape)) fit in
-    let ns = step_places step shape in
-    let made = map_some (λ (found : List Cell). gather elements.fill found (undone_places step shape)) (decoded chain elements (step_shape step shape) value) cells h in
-    let rest = reads_of chain elements (step_shape step shape) value made.0 both.1 made.1 in record {
+reads_of (after_array_codec codec chain) elements shape value cells fit h =
+    let both = and_parts (array_codec_fits codec shape) (fits chain elements.type (encoded_shape codec shape)) fit in
+    let ns = source_places codec shape in
+    let made = map_some (λ (found : List Cell). gather elements.fill found (undone_places codec shape)) (decoded chain elements (encoded_shape codec shape) value) cells h in
+    let rest = reads_of chain elements (encoded_shape codec shape) value made.0 both.1 made.1 in record {
       opened = rest.opened;
       cell = λ n below.
-          let found = position_found n ns (step_covers step shape both.0 n below) in
-          rest.cell (position_of n ns) (omega (arith, found, step_count step shape both.0))
+          let found = position_found n ns (array_codec_covers codec shape both.0 n below) in
+          rest.cell (position_of n ns) (omega (arith, found, array_codec_count codec shape both.0))
           ∙ (ap Some (sym (undone_read elements.fill made.0 ns (product shape) n below)) ∙ ap (λ (xs : List Cell). Some (get_or xs n elements.fill)) made.2);
     } where
       undone_read : (fill : Cell) (cells : List Cell) (ns : List ℕ) (count n : ℕ) → n < count → get_or (gather fill cells (map (λ m. position_of m ns) (range_with_len 0 count))) n fill ≡ get_or cells (position_of n ns) fill
@@ -142,8 +142,8 @@ reads_of (after_step step chain) elements shape value cells fit h =
 reads_of (then_bytes chain codec) elements shape value cells fit h =
     let inside = bind_some (decoded chain elements shape) (codec.decode value) cells h in
     let rest = reads_of chain elements shape inside.0 cells fit inside.2 in record {
-      opened = ap (λ (o : Option (List ℕ)). elim o [ None ↦ false | Some text ↦ opens chain elements shape text ]) inside.1 ∙ rest.opened;
-      cell = λ n below. ap (option_and_then (λ text. cell_at chain elements shape text n)) inside.1 ∙ rest.cell n below;
+      opened = ap (λ (o : Option (List ℕ)). elim o [ None ↦ false | Some found ↦ opens chain elements shape found ]) inside.1 ∙ rest.opened;
+      cell = λ n below. ap (option_and_then (λ found. cell_at chain elements shape found n)) inside.1 ∙ rest.cell n below;
     }
 reads_of (sharded subchunk inner index location) elements shape value cells fit h =
     let pairs_shape = index_shape shape subchunk in

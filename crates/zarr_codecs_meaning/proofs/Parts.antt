@@ -11,7 +11,7 @@ use Rattle.zarr_grids_boxes.proofs.InBox.{length-places}
 use Rattle.zarr_codecs_meaning.specs.Places.{Part, grid_of, box_of, part_of, parts_of, places_of, index_shape}
 use Rattle.zarr_codecs_meaning.specs.Fits.{can_cut}
 use Rattle.zarr_codecs_meaning.proofs.Lists.{Each, each_map}
-use Rattle.zarr_codecs_meaning.proofs.Steps.{length-places_of}
+use Rattle.zarr_codecs_meaning.proofs.ArrayCodecs.{length-places_of}
 use Rattle.zarr_codecs_meaning.proofs.Positions.{IsAmong, among_at}
 use Rattle.zarr_codecs_meaning.proofs.Covers.{zeros, place_is_index, ravel_place, box_places_at, places_at}
 use Rattle.zarr_codecs_meaning.proofs.Shards.{IsCovered}

@@ -10,10 +10,10 @@ use Rattle.zarr_codecs_meaning.specs.Types.{Cell, of_bytes, absent, present, sam
 use Rattle.zarr_codecs_meaning.specs.Chains.{Location}
 use Rattle.zarr_codecs_meaning.specs.Chains.Location.{at_start, at_end}
 use Rattle.zarr_codecs_meaning.specs.Places.{gather, position_of, Part}
-use Rattle.zarr_codecs_meaning.specs.Encoding.{Pair, Piece, stored_of, stored_pieces, text_of, joined_texts, pairs_from, pair_cells, base_of, joined}
+use Rattle.zarr_codecs_meaning.specs.Encoding.{Pair, Piece, stored_of, stored_pieces, slice_bytes, joined_slices, pairs_from, pair_cells, base_of, joined}
 use Rattle.zarr_codecs_meaning.specs.Keeping.{arranged}
-use Rattle.zarr_codecs_meaning.specs.Decoding.{is_absent, slice_at, pairs_of_cells, index_text}
-use Rattle.zarr_codecs_meaning.specs.Standing.{HasSlice, TextStands, PiecesStand}
+use Rattle.zarr_codecs_meaning.specs.Decoding.{is_absent, slice_at, pairs_of_cells, index_bytes}
+use Rattle.zarr_codecs_meaning.specs.Standing.{HasSlice, SliceStands, PiecesStand}
 use Rattle.zarr_codecs_meaning.proofs.Lists.{some_same, bind_some, map_some, Each, every}
 use Rattle.zarr_codecs_meaning.proofs.Digits.{number_digits}
 use Rattle.zarr_codecs_meaning.proofs.Positions.{IsAmong, position_found, gathered_read}
@@ -39,12 +39,12 @@ fill_is_replicate fill (c ∷ cs) h =
 
 -- ---- writing
 
--- each text is what its subchunk is to be stored as, and there are as many of both
-abbrev pub TextsStand : (List ℕ → List ℕ → List Cell → Type 0) → Cell → List Piece → List (Option (List ℕ)) → Type 0
-TextsStand inner fill [] [] = Unit {0}
-TextsStand inner fill [] (o ∷ os) = ⊥
-TextsStand inner fill (x ∷ xs) [] = ⊥
-TextsStand inner fill (x ∷ xs) (o ∷ os) = TextStands inner fill x o × TextsStand inner fill xs os
+-- each slice is what its subchunk is to be stored as, and there are as many of both
+abbrev pub SlicesStand : (List ℕ → List ℕ → List Cell → Type 0) → Cell → List Piece → List (Option (List ℕ)) → Type 0
+SlicesStand inner fill [] [] = Unit {0}
+SlicesStand inner fill [] (o ∷ os) = ⊥
+SlicesStand inner fill (x ∷ xs) [] = ⊥
+SlicesStand inner fill (x ∷ xs) (o ∷ os) = SliceStands inner fill x o × SlicesStand inner fill xs os
 
 stored_cases : (t : Bool) (o : Option (List ℕ)) (first : Option (List ℕ)) → (if t then Some None else option_map Some o) ≡ Some first → ((t ≡ true) × (first ≡ None)) ⊎ ((t ≡ false) × ((v : List ℕ) × (o ≡ Some v) × (first ≡ Some v)))
 stored_cases true o first h = inl (refl, cc)
@@ -52,46 +52,46 @@ stored_cases false None first h = cc
 stored_cases false (Some v) first h = inr (refl, (v, refl, cc))
 
 pub stored_stand : (encode : List ℕ → List Cell → Option (List ℕ)) (inner : List ℕ → List ℕ → List Cell → Type 0) (fill : Cell) (xs : List Piece) (os : List (Option (List ℕ)))
-    → Each (λ x. (v : List ℕ) → encode x.0 x.1 ≡ Some v → inner x.0 v x.1) xs → stored_pieces encode fill xs ≡ Some os → TextsStand inner fill xs os
-stored_stand encode inner fill [] os law e = subst (λ (l : List (Option (List ℕ))). TextsStand inner fill [] l) (some_same e) tt
+    → Each (λ x. (v : List ℕ) → encode x.0 x.1 ≡ Some v → inner x.0 v x.1) xs → stored_pieces encode fill xs ≡ Some os → SlicesStand inner fill xs os
+stored_stand encode inner fill [] os law e = subst (λ (l : List (Option (List ℕ))). SlicesStand inner fill [] l) (some_same e) tt
 stored_stand encode inner fill (x ∷ xs) os law e =
     let now = bind_some (λ (first : Option (List ℕ)). option_map (λ (others : List (Option (List ℕ))). first ∷ others) (stored_pieces encode fill xs)) (stored_of fill x.1 (encode x.0 x.1)) os e in
     let rest = map_some (λ (others : List (Option (List ℕ))). now.0 ∷ others) (stored_pieces encode fill xs) os now.2 in
     let others = stored_stand encode inner fill xs rest.0 law.1 rest.1 in
-    let first : TextStands inner fill x now.0 = elim (stored_cases (is_fill fill x.1) (encode x.0 x.1) now.0 now.1) [
-      | inl k ↦ subst (λ (o : Option (List ℕ)). TextStands inner fill x o) (sym k.1) k.0
-      | inr k ↦ subst (λ (o : Option (List ℕ)). TextStands inner fill x o) (sym k.1.2) (k.0, law.0 k.1.0 k.1.1)
+    let first : SliceStands inner fill x now.0 = elim (stored_cases (is_fill fill x.1) (encode x.0 x.1) now.0 now.1) [
+      | inl k ↦ subst (λ (o : Option (List ℕ)). SliceStands inner fill x o) (sym k.1) k.0
+      | inr k ↦ subst (λ (o : Option (List ℕ)). SliceStands inner fill x o) (sym k.1.2) (k.0, law.0 k.1.0 k.1.1)
     ] in
-    subst (λ (l : List (Option (List ℕ))). TextsStand inner fill (x ∷ xs) l) rest.2 (first, others)
+    subst (λ (l : List (Option (List ℕ))). SlicesStand inner fill (x ∷ xs) l) rest.2 (first, others)
 
-pub put : (inner : List ℕ → List ℕ → List Cell → Type 0) (fill : Cell) (base : ℕ) (text : List ℕ) (xs : List Piece) (os : List (Option (List ℕ))) (before : List ℕ) (offset : ℕ) → TextsStand inner fill xs os → text ≡ before ++ joined_texts os → offset ≡ base + length before → offset + length (joined_texts os) < 2 ^ 64 - 1
-    → PiecesStand inner fill base text xs (pairs_from offset os)
-put inner fill base text [] [] before offset h is begins low = tt
-put inner fill base text [] (o ∷ os) before offset h is begins low = elim h [ ]
-put inner fill base text (x ∷ xs) [] before offset h is begins low = elim h [ ]
-put inner fill base text (x ∷ xs) (None ∷ os) before offset h is begins low =
-    (inl (h.0, refl), put inner fill base text xs os before (offset + 0) h.1 is (omega arith) (omega arith))
-put inner fill base text (x ∷ xs) (Some v ∷ os) before offset h is begins low =
-    let count = length-append v (joined_texts os) in
+pub put : (inner : List ℕ → List ℕ → List Cell → Type 0) (fill : Cell) (base : ℕ) («data» : List ℕ) (xs : List Piece) (os : List (Option (List ℕ))) (before : List ℕ) (offset : ℕ) → SlicesStand inner fill xs os → «data» ≡ before ++ joined_slices os → offset ≡ base + length before → offset + length (joined_slices os) < 2 ^ 64 - 1
+    → PiecesStand inner fill base «data» xs (pairs_from offset os)
+put inner fill base «data» [] [] before offset h is begins low = tt
+put inner fill base «data» [] (o ∷ os) before offset h is begins low = elim h [ ]
+put inner fill base «data» (x ∷ xs) [] before offset h is begins low = elim h [ ]
+put inner fill base «data» (x ∷ xs) (None ∷ os) before offset h is begins low =
+    (inl (h.0, refl), put inner fill base «data» xs os before (offset + 0) h.1 is (omega arith) (omega arith))
+put inner fill base «data» (x ∷ xs) (Some v ∷ os) before offset h is begins low =
+    let count = length-append v (joined_slices os) in
     let short : offset + length v < 2 ^ 64 - 1 = omega arith in
-    let others = put inner fill base text xs os (before ++ v) (offset + length v) h.1 (is ∙ sym (append_assoc before v (joined_texts os))) (omega (arith, length-append before v)) (omega arith) in
-    (inr (h.0.0, (v, record { before = before; after = joined_texts os; is = is; begins = begins; long = refl; low = short }, h.0.1)), others)
+    let others = put inner fill base «data» xs os (before ++ v) (offset + length v) h.1 (is ∙ sym (append_assoc before v (joined_slices os))) (omega (arith, length-append before v)) (omega arith) in
+    (inr (h.0.0, (v, record { before = before; after = joined_slices os; is = is; begins = begins; long = refl; low = short }, h.0.1)), others)
 
 pub length-pairs_from : (os : List (Option (List ℕ))) (offset : ℕ) → length (pairs_from offset os) ≡ length os
 length-pairs_from [] offset = refl
-length-pairs_from (o ∷ os) offset = let h = length-pairs_from os (offset + length (text_of o)) in omega (arith, h)
+length-pairs_from (o ∷ os) offset = let h = length-pairs_from os (offset + length (slice_bytes o)) in omega (arith, h)
 
--- there is a text, or none, for each piece
-pub length-texts : (inner : List ℕ → List ℕ → List Cell → Type 0) (fill : Cell) (xs : List Piece) (os : List (Option (List ℕ))) → TextsStand inner fill xs os → length os ≡ length xs
-length-texts inner fill [] [] h = refl
-length-texts inner fill [] (o ∷ os) h = elim h [ ]
-length-texts inner fill (x ∷ xs) [] h = elim h [ ]
-length-texts inner fill (x ∷ xs) (o ∷ os) h = let rest = length-texts inner fill xs os h.1 in omega (arith, rest)
+-- there is a slice, or none, for each piece
+pub length-slices : (inner : List ℕ → List ℕ → List Cell → Type 0) (fill : Cell) (xs : List Piece) (os : List (Option (List ℕ))) → SlicesStand inner fill xs os → length os ≡ length xs
+length-slices inner fill [] [] h = refl
+length-slices inner fill [] (o ∷ os) h = elim h [ ]
+length-slices inner fill (x ∷ xs) [] h = elim h [ ]
+length-slices inner fill (x ∷ xs) (o ∷ os) h = let rest = length-slices inner fill xs os h.1 in omega (arith, rest)
 
 pub length-stored : (encode : List ℕ → List Cell → Option (List ℕ)) (fill : Cell) (xs : List Piece) (os : List (Option (List ℕ))) → stored_pieces encode fill xs ≡ Some os → length os ≡ length xs
 length-stored encode fill xs os e =
-    let any = λ (shape text : List ℕ). λ (cells : List Cell). Unit {0} in
-    length-texts any fill xs os (stored_stand encode any fill xs os (every (λ (x : Piece). (v : List ℕ) → encode x.0 x.1 ≡ Some v → Unit {0}) xs (λ x v h. tt)) e)
+    let any = λ (shape slice : List ℕ). λ (cells : List Cell). Unit {0} in
+    length-slices any fill xs os (stored_stand encode any fill xs os (every (λ (x : Piece). (v : List ℕ) → encode x.0 x.1 ≡ Some v → Unit {0}) xs (λ x v h. tt)) e)
 
 -- ---- pairs as cells
 
@@ -113,24 +113,24 @@ pairs_back (p ∷ ps) h =
     ap (λ (n : ℕ). (n, number 256 (word p.1)) ∷ pairs_of_cells (pair_cells ps)) (number_word p.0 h.0)
     ∙ (ap (λ (n : ℕ). (p.0, n) ∷ pairs_of_cells (pair_cells ps)) (number_word p.1 h.1) ∙ ap (λ (qs : List Pair). p ∷ qs) (pairs_back ps h.2))
 
-pub words_of : (inner : List ℕ → List ℕ → List Cell → Type 0) (fill : Cell) (base : ℕ) (text : List ℕ) (xs : List Piece) (ps : List Pair) → PiecesStand inner fill base text xs ps → AreWords ps
-words_of inner fill base text [] [] h = tt
-words_of inner fill base text [] (p ∷ ps) h = elim h [ ]
-words_of inner fill base text (x ∷ xs) [] h = elim h [ ]
-words_of inner fill base text (x ∷ xs) (p ∷ ps) h =
+pub words_of : (inner : List ℕ → List ℕ → List Cell → Type 0) (fill : Cell) (base : ℕ) («data» : List ℕ) (xs : List Piece) (ps : List Pair) → PiecesStand inner fill base «data» xs ps → AreWords ps
+words_of inner fill base «data» [] [] h = tt
+words_of inner fill base «data» [] (p ∷ ps) h = elim h [ ]
+words_of inner fill base «data» (x ∷ xs) [] h = elim h [ ]
+words_of inner fill base «data» (x ∷ xs) (p ∷ ps) h =
     let mark : 2 ^ 64 - 1 < 2 ^ 64 = omega arith in
     let here : (p.0 < 2 ^ 64) × (p.1 < 2 ^ 64) = elim h.0 [
       | inl k ↦ subst (λ (q : Pair). (q.0 < 2 ^ 64) × (q.1 < 2 ^ 64)) (sym k.1) (mark, mark)
       | inr k ↦ let low = k.1.1.low in (omega arith, omega arith)
     ] in
-    (here.0, here.1, words_of inner fill base text xs ps h.1)
+    (here.0, here.1, words_of inner fill base «data» xs ps h.1)
 
--- the pairs of texts that end below the mark of an absent one
-pub words_from : (os : List (Option (List ℕ))) (offset : ℕ) → offset + length (joined_texts os) < 2 ^ 64 - 1 → AreWords (pairs_from offset os)
+-- the pairs of slices that end below the mark of an absent one
+pub words_from : (os : List (Option (List ℕ))) (offset : ℕ) → offset + length (joined_slices os) < 2 ^ 64 - 1 → AreWords (pairs_from offset os)
 words_from [] offset low = tt
 words_from (None ∷ os) offset low = (omega arith, omega arith, words_from os (offset + 0) (omega (arith, low)))
 words_from (Some v ∷ os) offset low =
-    let count = length-append v (joined_texts os) in
+    let count = length-append v (joined_slices os) in
     (omega (arith, low), omega (arith, low, count), words_from os (offset + length v) (omega (arith, low, count)))
 
 -- ---- reading
@@ -141,18 +141,18 @@ not_absent m n low = elim (cases_Bool (is_absent (m, n))) [
   | inr f ↦ f
 ]
 
-pub is_present : (base : ℕ) (text : List ℕ) (p : Pair) (slice : List ℕ) → HasSlice base text p slice → is_absent p ≡ false
-is_present base text p slice h = let low = h.low in not_absent p.0 p.1 (omega arith)
+pub is_present : (base : ℕ) («data» : List ℕ) (p : Pair) (slice : List ℕ) → HasSlice base «data» p slice → is_absent p ≡ false
+is_present base «data» p slice h = let low = h.low in not_absent p.0 p.1 (omega arith)
 
 -- where the index and a slice are read in the value
-pub index_read : (location : Location) (size : ℕ) (index text value : List ℕ) → length index ≡ size → value ≡ joined location index text → (size ≤ length value) × (index_text location size value ≡ index)
-index_read at_start size index text value long is =
-    let count = ap length is ∙ length-append index text in
-    (omega (arith, count, long), ap (take size) is ∙ (ap (λ n. take n (index ++ text)) (sym long) ∙ take-append_seam index text))
-index_read at_end size index text value long is =
-    let count = ap length is ∙ length-append text index in
-    let skip : length value - size ≡ length text = omega (arith, count, long) in
-    (omega (arith, count, long), ap (λ n. drop n value) skip ∙ (ap (drop (length text)) is ∙ drop-append_seam text index))
+pub index_read : (location : Location) (size : ℕ) (index «data» value : List ℕ) → length index ≡ size → value ≡ joined location index «data» → (size ≤ length value) × (index_bytes location size value ≡ index)
+index_read at_start size index «data» value long is =
+    let count = ap length is ∙ length-append index «data» in
+    (omega (arith, count, long), ap (take size) is ∙ (ap (λ n. take n (index ++ «data»)) (sym long) ∙ take-append_seam index «data»))
+index_read at_end size index «data» value long is =
+    let count = ap length is ∙ length-append «data» index in
+    let skip : length value - size ≡ length «data» = omega (arith, count, long) in
+    (omega (arith, count, long), ap (λ n. drop n value) skip ∙ (ap (drop (length «data»)) is ∙ drop-append_seam «data» index))
 
 slice_written : (base : ℕ) (before v after value : List ℕ) → base ≡ length before → value ≡ before ++ (v ++ after) → slice_at value (base, length v) ≡ Some v
 slice_written base before v after value begins is =
@@ -162,12 +162,12 @@ slice_written base before v after value begins is =
     let read = ap (λ (xs : List ℕ). take (length v) (drop base xs)) is ∙ (ap (λ n. take (length v) (drop n (before ++ (v ++ after)))) begins ∙ (ap (take (length v)) (drop-append_seam before (v ++ after)) ∙ take-append_seam v after)) in
     ap (λ (t : Bool). if t then Some (take (length v) (drop base value)) else None) test ∙ ap Some read
 
-pub slice_found : (location : Location) (base : ℕ) (index text value : List ℕ) (p : Pair) (slice : List ℕ) → value ≡ joined location index text → base ≡ base_of location (length index) → HasSlice base text p slice → slice_at value p ≡ Some slice
-slice_found at_start base index text value p slice is begins h =
+pub slice_found : (location : Location) (base : ℕ) (index «data» value : List ℕ) (p : Pair) (slice : List ℕ) → value ≡ joined location index «data» → base ≡ base_of location (length index) → HasSlice base «data» p slice → slice_at value p ≡ Some slice
+slice_found at_start base index «data» value p slice is begins h =
     let from = h.begins in
     let same : p ≡ (p.0, length slice) = ap (λ n. (p.0, n)) h.long in
     ap (slice_at value) same ∙ slice_written p.0 (index ++ h.before) slice h.after value (omega (arith, from, begins, length-append index h.before)) (is ∙ (ap (λ (xs : List ℕ). index ++ xs) h.is ∙ sym (append_assoc index h.before (slice ++ h.after))))
-slice_found at_end base index text value p slice is begins h =
+slice_found at_end base index «data» value p slice is begins h =
     let from = h.begins in
     let same : p ≡ (p.0, length slice) = ap (λ n. (p.0, n)) h.long in
     ap (slice_at value) same ∙ slice_written p.0 h.before slice (h.after ++ index) value (omega (arith, from, begins)) (is ∙ (ap (λ (xs : List ℕ). xs ++ index) h.is ∙ (append_assoc h.before (slice ++ h.after) index ∙ ap (λ (xs : List ℕ). h.before ++ xs) (append_assoc slice h.after index))))

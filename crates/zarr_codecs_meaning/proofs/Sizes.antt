@@ -4,15 +4,15 @@ use Rattle.std.specs.List.{flat_map, list_all}
 use Rattle.std.proofs.lemmas.List.FromFn.{length-map-range_with_len}
 use Rattle.zarr_codecs_meaning.specs.Numbers.{number}
 use Rattle.zarr_codecs_meaning.specs.Types.{Cell, cell_bytes, components, bytes_in, is_fixed, is_value, Elements}
-use Rattle.zarr_codecs_meaning.specs.Chains.{Padding, Step}
+use Rattle.zarr_codecs_meaning.specs.Chains.{Padding, ArrayCodec}
 use Rattle.zarr_codecs_meaning.specs.Chains.Padding.{no_padding_byte, first_byte, last_byte}
-use Rattle.zarr_codecs_meaning.specs.Places.{gather, step_shape, step_places}
-use Rattle.zarr_codecs_meaning.specs.Fits.{step_fits, bits_in, padding_size}
+use Rattle.zarr_codecs_meaning.specs.Places.{gather, encoded_shape, source_places}
+use Rattle.zarr_codecs_meaning.specs.Fits.{array_codec_fits, bits_in, padding_size}
 use Rattle.zarr_codecs_meaning.specs.Encoding.{ordered, element_bits, packed, with_padding, padding_bits}
 use Rattle.zarr_codecs_meaning.specs.Laws.{AreCells}
 use Rattle.zarr_codecs_meaning.proofs.Lists.{every, each_passes, each_weaker, length-flat_map}
 use Rattle.zarr_codecs_meaning.proofs.Values.{fixed_value, length-ordered, length-element_bits}
-use Rattle.zarr_codecs_meaning.proofs.Steps.{length-gather, values_gathered, step_count}
+use Rattle.zarr_codecs_meaning.proofs.ArrayCodecs.{length-gather, values_gathered, array_codec_count}
 
 pub length-packed : (bits : List ℕ) → length (packed bits) ≡ (length bits + 7) / 8
 length-packed bits = length-map-range_with_len (λ n. number 2 (take 8 (drop (8 * n) bits))) 0 ((length bits + 7) / 8)
@@ -23,11 +23,11 @@ length-with_padding first_byte bits = let h = length-packed bits in omega (arith
 length-with_padding last_byte bits = let h = length-packed bits in length-append (packed bits) (padding_bits bits ∷ []) ∙ omega (arith, h)
 
 -- the cells that an array codec gives
-pub cells_moved : (step : Step) (elements : Elements) (shape : List ℕ) (cells : List Cell) → step_fits step shape ≡ true → AreCells elements shape cells → AreCells elements (step_shape step shape) (gather elements.fill cells (step_places step shape))
-cells_moved step elements shape cells fit are = record {
+pub cells_moved : (codec : ArrayCodec) (elements : Elements) (shape : List ℕ) (cells : List Cell) → array_codec_fits codec shape ≡ true → AreCells elements shape cells → AreCells elements (encoded_shape codec shape) (gather elements.fill cells (source_places codec shape))
+cells_moved codec elements shape cells fit are = record {
   fill = are.fill;
-  values = values_gathered (is_value elements.type) elements.fill cells (step_places step shape) are.fill are.values;
-  whole = length-gather elements.fill cells (step_places step shape) ∙ step_count step shape fit;
+  values = values_gathered (is_value elements.type) elements.fill cells (source_places codec shape) are.fill are.values;
+  whole = length-gather elements.fill cells (source_places codec shape) ∙ array_codec_count codec shape fit;
 }
 
 pub bytes_length : (order : Option _) (elements : Elements) (cells : List Cell) → is_fixed elements.type ≡ true → list_all (is_value elements.type) cells ≡ true

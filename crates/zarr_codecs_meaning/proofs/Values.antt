@@ -12,19 +12,19 @@ use Rattle.zarr_codecs_meaning.specs.Encoding.{in_order, ordered, element_bits}
 
 -- a value of a fixed type
 pub record IsFixedValue (type : DataType) (cell : Cell) : Type 0 where
-  pub text : List ℕ
-  pub is : cell ≡ of_bytes text
-  pub bytes : are_bytes text ≡ true
-  pub long : length text ≡ bytes_in (components type)
-  pub fine : are_components (components type) text ≡ true
+  pub element : List ℕ
+  pub is : cell ≡ of_bytes element
+  pub bytes : are_bytes element ≡ true
+  pub long : length element ≡ bytes_in (components type)
+  pub fine : are_components (components type) element ≡ true
 
 pub fixed_value : (type : DataType) (cell : Cell) → is_fixed type ≡ true → is_value type cell ≡ true → IsFixedValue type cell
-fixed_value type (of_bytes text) fixed h =
+fixed_value type (of_bytes element) fixed h =
     let parts = components type in
-    let open_ = ap (λ (b : Bool). are_bytes text && (if b then (length text == bytes_in parts) && are_components parts text else is_variable type)) (sym fixed) ∙ h in
-    let one = and_parts (are_bytes text) ((length text == bytes_in parts) && are_components parts text) open_ in
-    let two = and_parts (length text == bytes_in parts) (are_components parts text) one.1 in
-    record { text = text; is = refl; bytes = one.0; long = exact_unsigned_eq (length text) (bytes_in parts) two.0; fine = two.1 }
+    let open_ = ap (λ (b : Bool). are_bytes element && (if b then (length element == bytes_in parts) && are_components parts element else is_variable type)) (sym fixed) ∙ h in
+    let one = and_parts (are_bytes element) ((length element == bytes_in parts) && are_components parts element) open_ in
+    let two = and_parts (length element == bytes_in parts) (are_components parts element) one.1 in
+    record { element = element; is = refl; bytes = one.0; long = exact_unsigned_eq (length element) (bytes_in parts) two.0; fine = two.1 }
 fixed_value bool absent fixed h = cc
 fixed_value (integer sign width) absent fixed h = cc
 fixed_value (custom parts) absent fixed h = cc
@@ -42,22 +42,22 @@ pub length-digits : (base count n : ℕ) → length (digits base count n) ≡ co
 length-digits base zero n = refl
 length-digits base (suc count) n = ap suc (length-digits base count (n / base))
 
-pub length-in_order : (order : Option Endianness) (text : List ℕ) → length (in_order order text) ≡ length text
-length-in_order None text = refl
-length-in_order (Some little) text = refl
-length-in_order (Some big) text = length-reverse text
+pub length-in_order : (order : Option Endianness) (element : List ℕ) → length (in_order order element) ≡ length element
+length-in_order None element = refl
+length-in_order (Some little) element = refl
+length-in_order (Some big) element = length-reverse element
 
-pub length-ordered : (order : Option Endianness) (parts : List Component) (text : List ℕ) → length text ≡ bytes_in parts → length (ordered order parts text) ≡ bytes_in parts
-length-ordered order [] text h = refl
-length-ordered order (c ∷ cs) text h =
+pub length-ordered : (order : Option Endianness) (parts : List Component) (element : List ℕ) → length element ≡ bytes_in parts → length (ordered order parts element) ≡ bytes_in parts
+length-ordered order [] element h = refl
+length-ordered order (c ∷ cs) element h =
     let n = c.byte_count in
-    let rest = length-ordered order cs (drop n text) (length-drop n text ∙ omega (arith, h)) in
-    let first = length-in_order order (take n text) ∙ length-take n text in
-    length-append (in_order order (take n text)) (ordered order cs (drop n text)) ∙ omega (arith, h, rest, first)
+    let rest = length-ordered order cs (drop n element) (length-drop n element ∙ omega (arith, h)) in
+    let first = length-in_order order (take n element) ∙ length-take n element in
+    length-append (in_order order (take n element)) (ordered order cs (drop n element)) ∙ omega (arith, h, rest, first)
 
-pub length-element_bits : (first : ℕ) (last : Option ℕ) (parts : List Component) (text : List ℕ) → length (element_bits first last parts text) ≡ bits_in first last parts
-length-element_bits first last [] text = refl
-length-element_bits first last (c ∷ cs) text =
-    let rest = length-element_bits first last cs (drop c.byte_count text) in
-    let here = length-digits 2 (kept_bits first last c) (number 256 (take c.byte_count text) / 2 ^ first) in
-    length-append (digits 2 (kept_bits first last c) (number 256 (take c.byte_count text) / 2 ^ first)) (element_bits first last cs (drop c.byte_count text)) ∙ omega (arith, rest, here)
+pub length-element_bits : (first : ℕ) (last : Option ℕ) (parts : List Component) (element : List ℕ) → length (element_bits first last parts element) ≡ bits_in first last parts
+length-element_bits first last [] element = refl
+length-element_bits first last (c ∷ cs) element =
+    let rest = length-element_bits first last cs (drop c.byte_count element) in
+    let here = length-digits 2 (kept_bits first last c) (number 256 (take c.byte_count element) / 2 ^ first) in
+    length-append (digits 2 (kept_bits first last c) (number 256 (take c.byte_count element) / 2 ^ first)) (element_bits first last cs (drop c.byte_count element)) ∙ omega (arith, rest, here)

@@ -32,15 +32,15 @@ number_back width n h = number_digits 256 ((width + 7) / 8) n (omega arith) ∙ 
 pub number_is_value : (width n : ℕ) → n < 2 ^ width → is_value (integer unsigned width) (of_bytes (digits 256 ((width + 7) / 8) n)) ≡ true
 number_is_value width n h =
     let k = (width + 7) / 8 in
-    let text = digits 256 k n in
-    let one : are_bytes text ≡ true = all_pass (λ b. nat_lt b 256) text (each_weaker (λ b. b < 256) (λ b. nat_lt b 256 ≡ true) text (λ b l. lt-ltb b 256 l) (digits_below 256 k n (omega arith))) in
-    let two : (length text == k + 0) ≡ true = eq-eqb (length text) (k + 0) (length-digits 256 k n ∙ omega arith) in
-    let all : take k text ≡ text = take_all k text (omega (arith, length-digits 256 k n)) in
+    let element = digits 256 k n in
+    let one : are_bytes element ≡ true = all_pass (λ b. nat_lt b 256) element (each_weaker (λ b. b < 256) (λ b. nat_lt b 256 ≡ true) element (λ b l. lt-ltb b 256 l) (digits_below 256 k n (omega arith))) in
+    let two : (length element == k + 0) ≡ true = eq-eqb (length element) (k + 0) (length-digits 256 k n ∙ omega arith) in
+    let all : take k element ≡ element = take_all k element (omega (arith, length-digits 256 k n)) in
     let back = number_back width n h in
-    let three : (number 256 (take k text) == number 256 (take k text) % 2 ^ width) ≡ true =
+    let three : (number 256 (take k element) == number 256 (take k element) % 2 ^ width) ≡ true =
     ap (λ ns. number 256 ns == number 256 ns % 2 ^ width) all ∙ (ap (λ m. m == m % 2 ^ width) back ∙ eq-eqb n (n % 2 ^ width) (sym (mod-eq_of_lt h))) in
-    ap (λ (b : Bool). b && ((length text == k + 0) && ((number 256 (take k text) == number 256 (take k text) % 2 ^ width) && true))) one
-    ∙ (ap (λ (b : Bool). b && ((number 256 (take k text) == number 256 (take k text) % 2 ^ width) && true)) two ∙ ap (λ (b : Bool). b && true) three)
+    ap (λ (b : Bool). b && ((length element == k + 0) && ((number 256 (take k element) == number 256 (take k element) % 2 ^ width) && true))) one
+    ∙ (ap (λ (b : Bool). b && ((number 256 (take k element) == number 256 (take k element) % 2 ^ width) && true)) two ∙ ap (λ (b : Bool). b && true) three)
 
 pub pair_cells_are_values : (ps : List Pair) → AreWords ps → list_all (is_value uint64) (pair_cells ps) ≡ true
 pair_cells_are_values [] h = refl

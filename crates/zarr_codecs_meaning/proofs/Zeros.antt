@@ -6,7 +6,7 @@ use Rattle.zarr_grids_boxes.specs.Boxes.{product}
 use Rattle.zarr_codecs_meaning.specs.Numbers.{number}
 use Rattle.zarr_codecs_meaning.specs.Types.{DataType, bool, integer, custom, string, variable_bytes, optional_of, uint8, Sign, signed, unsigned, Component, bytes_in, extended, is_component, are_components, are_bytes, is_value, is_variable, zero_cell, inner_type}
 use Rattle.zarr_codecs_meaning.specs.Chains.{Chain}
-use Rattle.zarr_codecs_meaning.specs.Chains.Chain.{bytes, packbits, vlen, optional, after_step, then_bytes, sharded}
+use Rattle.zarr_codecs_meaning.specs.Chains.Chain.{bytes, packbits, vlen, optional, after_array_codec, then_bytes, sharded}
 use Rattle.zarr_codecs_meaning.specs.Fits.{fits, takes_each_shape}
 use Rattle.zarr_codecs_meaning.proofs.Lists.{zero_list}
 
@@ -62,10 +62,10 @@ zero_is_value (optional_of inner) = refl
 pub fits_each : (chain : Chain) (type : DataType) (one two : List ℕ) → takes_each_shape chain ≡ true → fits chain type one ≡ true → fits chain type two ≡ true
 fits_each (bytes order) type one two takes fit = fit
 fits_each (packbits padding first last) type one two takes fit = fit
-fits_each (vlen index texts width location) type one two takes fit =
-    let t = and_parts (takes_each_shape index) (takes_each_shape texts) takes in
+fits_each (vlen index «data» width location) type one two takes fit =
+    let t = and_parts (takes_each_shape index) (takes_each_shape «data») takes in
     let rest = λ (shape : List ℕ). fits index (integer unsigned width) ((product shape + 1) ∷ []) in
-    let last = takes_each_shape texts && fits texts uint8 (0 ∷ []) in
+    let last = takes_each_shape «data» && fits «data» uint8 (0 ∷ []) in
     let a = and_parts (is_variable type) (rest one && last) fit in
     let b = and_parts (rest one) last a.1 in
     ap (λ (t : Bool). t && (rest two && last)) a.0 ∙ (ap (λ (t : Bool). t && last) (fits_each index (integer unsigned width) ((product one + 1) ∷ []) ((product two + 1) ∷ []) t.0 b.0) ∙ b.1)
@@ -78,6 +78,6 @@ fits_each (optional mask values) type one two takes fit =
       masked_fits (Some inner) values before after law h =
           let b = and_parts before (takes_each_shape values && fits values inner (0 ∷ [])) h in
           ap (λ (t : Bool). t && (takes_each_shape values && fits values inner (0 ∷ []))) (law b.0) ∙ b.1
-fits_each (after_step step chain) type one two takes fit = cc
+fits_each (after_array_codec codec chain) type one two takes fit = cc
 fits_each (then_bytes chain codec) type one two takes fit = fits_each chain type one two takes fit
 fits_each (sharded subchunk inner index location) type one two takes fit = cc

@@ -7,7 +7,7 @@ pub data BytesRepresentation : Type 0 where
   bounded_size : ℕ → BytesRepresentation
   unbounded_size : BytesRepresentation
 
--- a codec on bytes that a caller brings: what it makes of a text, unless it refuses; what it undoes a text to, unless that is damaged;
+-- a codec on bytes that a caller brings: what it makes of bytes, unless it refuses; what it undoes bytes to, unless they are damaged;
 -- and what is known of the size of what it makes, by what is known of the size of what it is given
 pub record ByteCodec : Type 0 where
   pub encode : List ℕ → Option (List ℕ)
@@ -21,11 +21,11 @@ pub data ShapeEntry : Type 0 where
   left_over : ShapeEntry
 
 -- an array to array codec (`transpose`: Zarr core specification; `reshape`, `squeeze`: this project's profile)
-pub data Step : Type 0 where
+pub data ArrayCodec : Type 0 where
   -- dimension i of the encoded array is the dimension of the decoded one that stands at i in the order
-  transpose : List ℕ → Step
-  reshape : List ShapeEntry → Step
-  squeeze : Step
+  transpose : List ℕ → ArrayCodec
+  reshape : List ShapeEntry → ArrayCodec
+  squeeze : ArrayCodec
 
 -- which byte of a component comes first: the lowest, or the highest
 pub data Endianness : Type 0 where
@@ -54,7 +54,7 @@ pub data Chain : Type 0 where
   -- the chains of the mask and of the data
   optional : Chain → Chain → Chain
   -- an array to array codec, and then a chain
-  after_step : Step → Chain → Chain
+  after_array_codec : ArrayCodec → Chain → Chain
   -- a chain, and then a bytes to bytes codec
   then_bytes : Chain → ByteCodec → Chain
   -- the subchunk shape, the chains of the subchunks and of the index, and where the index stands

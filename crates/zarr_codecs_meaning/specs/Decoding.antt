@@ -5,10 +5,10 @@ use Rattle.zarr_grids_boxes.specs.Boxes.{product}
 use Rattle.zarr_codecs_meaning.specs.Numbers.{digits, number}
 use Rattle.zarr_codecs_meaning.specs.Types.{DataType, bool, integer, unsigned, uint8, uint64, components, bytes_in, inner_type, Cell, of_bytes, cell_bytes, is_value, Elements, zero_filled}
 use Rattle.zarr_codecs_meaning.specs.Chains.{Chain, Endianness, Padding, Location}
-use Rattle.zarr_codecs_meaning.specs.Chains.Chain.{bytes, packbits, vlen, optional, after_step, then_bytes, sharded}
+use Rattle.zarr_codecs_meaning.specs.Chains.Chain.{bytes, packbits, vlen, optional, after_array_codec, then_bytes, sharded}
 use Rattle.zarr_codecs_meaning.specs.Chains.Padding.{no_padding_byte, first_byte, last_byte}
 use Rattle.zarr_codecs_meaning.specs.Chains.Location.{at_start, at_end}
-use Rattle.zarr_codecs_meaning.specs.Places.{gather, place_numbers, position_of, step_shape, step_places, undone_places, Part, parts_of, index_shape}
+use Rattle.zarr_codecs_meaning.specs.Places.{gather, place_numbers, position_of, encoded_shape, source_places, undone_places, Part, parts_of, index_shape}
 use Rattle.zarr_codecs_meaning.specs.Fits.{bits_in, packed_size}
 use Rattle.zarr_codecs_meaning.specs.Encoding.{ordered, element_of_bits, Pair, index_size, last_number}
 use Rattle.zarr_codecs_meaning.specs.Keeping.{spread, arranged}
@@ -26,21 +26,21 @@ tested type cell = if is_value type cell then Some cell else None
 
 -- the element at a place
 abbrev pub element_at : Option Endianness → DataType → List ℕ → ℕ → Option Cell
-element_at order type text place =
+element_at order type encoded place =
     let width = bytes_in (components type) in
-    tested type (of_bytes (ordered order (components type) (take width (drop (place * width) text))))
+    tested type (of_bytes (ordered order (components type) (take width (drop (place * width) encoded))))
 
 -- as many bytes as the elements take
 abbrev pub is_whole : DataType → List ℕ → List ℕ → Bool
-is_whole type shape text = length text == bytes_in (components type) * product shape
+is_whole type shape encoded = length encoded == bytes_in (components type) * product shape
 
 -- ---- `packbits`: each pattern of bits is a value, so only the length is tested
 
 -- the bytes of the bits, without the byte that tells the padding; that byte is not tested
 abbrev pub without_padding : Padding → List ℕ → List ℕ
-without_padding no_padding_byte text = text
-without_padding first_byte text = drop 1 text
-without_padding last_byte text = take (length text - 1) text
+without_padding no_padding_byte encoded = encoded
+without_padding first_byte encoded = drop 1 encoded
+without_padding last_byte encoded = take (length encoded - 1) encoded
 
 -- the element at a place of a list of bits
 abbrev pub unpacked : ℕ → Option ℕ → DataType → List ℕ → ℕ → Cell
@@ -50,51 +50,51 @@ unpacked first last type bits place =
 
 -- ---- `vlen`
 
--- the index and the data of a text that tells the index's length
+-- the index and the data of a value that tells the index's length
 abbrev pub sections_of : Location → List ℕ → Option (List ℕ × List ℕ)
-sections_of at_start text =
-    let long = number 256 (take 8 text) in
-    if nat_le (8 + long) (length text) then Some (take long (drop 8 text), drop (8 + long) text) else None
-sections_of at_end text =
-    let long = number 256 (drop (length text - 8) text) in
-    let front = length text - (8 + long) in
-    if nat_le (8 + long) (length text) then Some (take long (drop front text), take front text) else None
+sections_of at_start encoded =
+    let long = number 256 (take 8 encoded) in
+    if nat_le (8 + long) (length encoded) then Some (take long (drop 8 encoded), drop (8 + long) encoded) else None
+sections_of at_end encoded =
+    let long = number 256 (drop (length encoded - 8) encoded) in
+    let front = length encoded - (8 + long) in
+    if nat_le (8 + long) (length encoded) then Some (take long (drop front encoded), take front encoded) else None
 
 -- the bytes from each offset to the next, up to the last one, which is where the bytes end
-abbrev pub texts_between : ℕ → List ℕ → List ℕ → Option (List (List ℕ))
-texts_between offset [] text = if length text == 0 then Some [] else None
-texts_between offset (end ∷ ends) text =
-    if nat_le offset end && nat_le (end - offset) (length text)
-    then option_map (λ texts. take (end - offset) text ∷ texts) (texts_between end ends (drop (end - offset) text))
+abbrev pub elements_between : ℕ → List ℕ → List ℕ → Option (List (List ℕ))
+elements_between offset [] «data» = if length «data» == 0 then Some [] else None
+elements_between offset (end ∷ ends) «data» =
+    if nat_le offset end && nat_le (end - offset) (length «data»)
+    then option_map (λ rest. take (end - offset) «data» ∷ rest) (elements_between end ends (drop (end - offset) «data»))
     else None
 
--- the texts of these offsets, which begin at 0, from the data as it is read at the length that the last offset says
-abbrev pub texts_of : (ℕ → Option (List ℕ)) → List ℕ → Option (List (List ℕ))
-texts_of read [] = None
-texts_of read (first ∷ ends) = if first == 0 then option_and_then (texts_between 0 ends) (read (last_number 0 ends)) else None
+-- the elements of these offsets, which begin at 0, from the data as it is read at the length that the last offset says
+abbrev pub elements_of : (ℕ → Option (List ℕ)) → List ℕ → Option (List (List ℕ))
+elements_of read [] = None
+elements_of read (first ∷ ends) = if first == 0 then option_and_then (elements_between 0 ends) (read (last_number 0 ends)) else None
 
 -- no elements are decoded from nothing
 abbrev pub read_unless_none : ℕ → List ℕ → (List ℕ → Option (List Cell)) → Option (List Cell)
-read_unless_none zero text read = if length text == 0 then Some [] else None
-read_unless_none (suc count) text read = read text
+read_unless_none zero encoded read = if length encoded == 0 then Some [] else None
+read_unless_none (suc count) encoded read = read encoded
 
--- texts by a chain for their offsets and one for as many bytes as the last offset says
-abbrev pub texts_decoded : (List ℕ → Option (List Cell)) → (ℕ → List ℕ → Option (List Cell)) → Location → List ℕ → Option (List Cell)
-texts_decoded index texts location value =
+-- elements of variable length by a chain for their offsets and one for as many bytes as the last offset says
+abbrev pub variable_decoded : (List ℕ → Option (List Cell)) → (ℕ → List ℕ → Option (List Cell)) → Location → List ℕ → Option (List Cell)
+variable_decoded index «data» location value =
     option_and_then
     (λ (sections : List ℕ × List ℕ).
-    let read = λ (long : ℕ). option_map (flat_map cell_bytes) (read_unless_none long sections.1 (texts long)) in
-    option_and_then (λ offsets. option_map (map of_bytes) (texts_of read (map (λ offset. number 256 (cell_bytes offset)) offsets))) (index sections.0))
+    let read = λ (long : ℕ). option_map (flat_map cell_bytes) (read_unless_none long sections.1 («data» long)) in
+    option_and_then (λ offsets. option_map (map of_bytes) (elements_of read (map (λ offset. number 256 (cell_bytes offset)) offsets))) (index sections.0))
     (sections_of location value)
 
 -- ---- `optional`
 
--- the mask and the data of a text that tells the length of each
+-- the mask and the data of a value that tells the length of each
 abbrev pub masked_of : List ℕ → Option (List ℕ × List ℕ)
-masked_of text =
-    let long = number 256 (take 8 text) in
-    let rest = number 256 (take 8 (drop 8 text)) in
-    if nat_le 16 (length text) && (length text == 16 + long + rest) then Some (take long (drop 16 text), drop (16 + long) text) else None
+masked_of encoded =
+    let long = number 256 (take 8 encoded) in
+    let rest = number 256 (take 8 (drop 8 encoded)) in
+    if nat_le 16 (length encoded) && (length encoded == 16 + long + rest) then Some (take long (drop 16 encoded), drop (16 + long) encoded) else None
 
 -- how many ones a mask has
 abbrev pub count_present : List Cell → ℕ
@@ -125,13 +125,13 @@ pairs_of_cells (first ∷ []) = []
 pairs_of_cells (first ∷ second ∷ cells) = (number 256 (cell_bytes first), number 256 (cell_bytes second)) ∷ pairs_of_cells cells
 
 -- the bytes of the index
-abbrev pub index_text : Location → ℕ → List ℕ → List ℕ
-index_text at_start size value = take size value
-index_text at_end size value = drop (length value - size) value
+abbrev pub index_bytes : Location → ℕ → List ℕ → List ℕ
+index_bytes at_start size value = take size value
+index_bytes at_end size value = drop (length value - size) value
 
 -- the pairs of a shard whose index has this size and is read so
 abbrev pub pairs_in : (List ℕ → Option (List Cell)) → Location → ℕ → List ℕ → Option (List Pair)
-pairs_in index location size value = if nat_le size (length value) then option_map pairs_of_cells (index (index_text location size value)) else None
+pairs_in index location size value = if nat_le size (length value) then option_map pairs_of_cells (index (index_bytes location size value)) else None
 
 -- the cells of each subchunk: the fill value where it is absent, else what its slice is decoded to
 abbrev pub pieces_decoded : (List ℕ → List ℕ → Option (List Cell)) → Cell → List ℕ → List Part → List Pair → Option (List (List Cell))
@@ -163,13 +163,13 @@ decoded (packbits padding first last) elements shape value =
       | true ↦ Some (map (unpacked first last elements.type (flat_map (digits 2 8) (without_padding padding value))) (place_numbers shape))
       | false ↦ None
     ]
-decoded (vlen index texts width location) elements shape value =
-    texts_decoded (decoded index (zero_filled (integer unsigned width)) ((product shape + 1) ∷ [])) (λ long. decoded texts (zero_filled uint8) (long ∷ [])) location value
+decoded (vlen index «data» width location) elements shape value =
+    variable_decoded (decoded index (zero_filled (integer unsigned width)) ((product shape + 1) ∷ [])) (λ long. decoded «data» (zero_filled uint8) (long ∷ [])) location value
 decoded (optional mask values) elements shape value =
     let inner = zero_filled (unwrap_or (inner_type elements.type) elements.type) in
     options_decoded (decoded mask (zero_filled bool) shape) (λ count. decoded values inner (count ∷ [])) value
-decoded (after_step step chain) elements shape value =
-    option_map (λ cells. gather elements.fill cells (undone_places step shape)) (decoded chain elements (step_shape step shape) value)
+decoded (after_array_codec codec chain) elements shape value =
+    option_map (λ cells. gather elements.fill cells (undone_places codec shape)) (decoded chain elements (encoded_shape codec shape) value)
 decoded (then_bytes chain codec) elements shape value = option_and_then (decoded chain elements shape) (codec.decode value)
 decoded (sharded subchunk inner index location) elements shape value =
     let pairs_shape = index_shape shape subchunk in
@@ -185,9 +185,9 @@ decoded (sharded subchunk inner index location) elements shape value =
 abbrev pub cell_at : Chain → Elements → List ℕ → List ℕ → ℕ → Option Cell
 cell_at (bytes order) elements shape value place = if is_whole elements.type shape value then element_at order elements.type value place else None
 cell_at (packbits padding first last) elements shape value place = option_and_then (λ cells. slice_get cells place) (decoded (packbits padding first last) elements shape value)
-cell_at (vlen index texts width location) elements shape value place = option_and_then (λ cells. slice_get cells place) (decoded (vlen index texts width location) elements shape value)
+cell_at (vlen index «data» width location) elements shape value place = option_and_then (λ cells. slice_get cells place) (decoded (vlen index «data» width location) elements shape value)
 cell_at (optional mask values) elements shape value place = option_and_then (λ cells. slice_get cells place) (decoded (optional mask values) elements shape value)
-cell_at (after_step step chain) elements shape value place = cell_at chain elements (step_shape step shape) value (position_of place (step_places step shape))
+cell_at (after_array_codec codec chain) elements shape value place = cell_at chain elements (encoded_shape codec shape) value (position_of place (source_places codec shape))
 cell_at (then_bytes chain codec) elements shape value place = option_and_then (λ inside. cell_at chain elements shape inside place) (codec.decode value)
 cell_at (sharded subchunk inner index location) elements shape value place =
     let pairs_shape = index_shape shape subchunk in
@@ -198,9 +198,9 @@ cell_at (sharded subchunk inner index location) elements shape value place =
 abbrev pub opens : Chain → Elements → List ℕ → List ℕ → Bool
 opens (bytes order) elements shape value = is_whole elements.type shape value
 opens (packbits padding first last) elements shape value = is_some (decoded (packbits padding first last) elements shape value)
-opens (vlen index texts width location) elements shape value = is_some (decoded (vlen index texts width location) elements shape value)
+opens (vlen index «data» width location) elements shape value = is_some (decoded (vlen index «data» width location) elements shape value)
 opens (optional mask values) elements shape value = is_some (decoded (optional mask values) elements shape value)
-opens (after_step step chain) elements shape value = opens chain elements (step_shape step shape) value
+opens (after_array_codec codec chain) elements shape value = opens chain elements (encoded_shape codec shape) value
 opens (then_bytes chain codec) elements shape value = elim (codec.decode value) [ None ↦ false | Some inside ↦ opens chain elements shape inside ]
 opens (sharded subchunk inner index location) elements shape value =
     is_some (pairs_in (decoded index (zero_filled uint64) (index_shape shape subchunk)) location (index_size index (index_shape shape subchunk)) value)

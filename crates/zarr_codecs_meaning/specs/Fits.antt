@@ -3,13 +3,13 @@ use Rattle.std.specs.Prelude.{ℕ, ◌+◌, ◌-◌, ◌*◌, ◌/◌, ◌%◌, 
 use Rattle.std.specs.List.{list_all, list_any, range_with_len}
 use Rattle.zarr_grids_boxes.specs.Boxes.{product}
 use Rattle.zarr_codecs_meaning.specs.Types.{DataType, bool, integer, unsigned, uint8, uint64, Component, components, bytes_in, is_fixed, is_variable, inner_type}
-use Rattle.zarr_codecs_meaning.specs.Chains.{Chain, BytesRepresentation, Endianness, Padding, Step, ShapeEntry}
+use Rattle.zarr_codecs_meaning.specs.Chains.{Chain, BytesRepresentation, Endianness, Padding, ArrayCodec, ShapeEntry}
 use Rattle.zarr_codecs_meaning.specs.Chains.BytesRepresentation.{fixed_size, bounded_size, unbounded_size}
-use Rattle.zarr_codecs_meaning.specs.Chains.Chain.{bytes, packbits, vlen, optional, after_step, then_bytes, sharded}
+use Rattle.zarr_codecs_meaning.specs.Chains.Chain.{bytes, packbits, vlen, optional, after_array_codec, then_bytes, sharded}
 use Rattle.zarr_codecs_meaning.specs.Chains.Padding.{no_padding_byte, first_byte, last_byte}
-use Rattle.zarr_codecs_meaning.specs.Chains.Step.{transpose, reshape, squeeze}
+use Rattle.zarr_codecs_meaning.specs.Chains.ArrayCodec.{transpose, reshape, squeeze}
 use Rattle.zarr_codecs_meaning.specs.Chains.ShapeEntry.{size_entry, product_entry, left_over}
-use Rattle.zarr_codecs_meaning.specs.Places.{step_shape, known_product, Part, parts_of, index_shape}
+use Rattle.zarr_codecs_meaning.specs.Places.{encoded_shape, known_product, Part, parts_of, index_shape}
 
 -- ---- Array codecs
 
@@ -24,10 +24,10 @@ entry_fits known dimensions (product_entry named) = list_all (λ d. nat_lt d dim
 entry_fits known dimensions left_over = nat_lt 0 known
 
 -- `transpose`: as many dimensions as its order names; `reshape`: as many elements as before; `squeeze`: always
-abbrev pub step_fits : Step → List ℕ → Bool
-step_fits (transpose order) shape = (length order == length shape) && is_permutation order
-step_fits (reshape entries) shape = list_all (entry_fits (known_product entries shape) (length shape)) entries && (product (step_shape (reshape entries) shape) == product shape)
-step_fits squeeze shape = true
+abbrev pub array_codec_fits : ArrayCodec → List ℕ → Bool
+array_codec_fits (transpose order) shape = (length order == length shape) && is_permutation order
+array_codec_fits (reshape entries) shape = list_all (entry_fits (known_product entries shape) (length shape)) entries && (product (encoded_shape (reshape entries) shape) == product shape)
+array_codec_fits squeeze shape = true
 
 -- ---- `packbits`
 
@@ -78,16 +78,16 @@ abbrev pub sum_of_bounds : List (Option ℕ) → Option ℕ
 sum_of_bounds [] = Some 0
 sum_of_bounds (bound ∷ bounds) = option_and_then (λ n. option_map (λ m. n + m) (sum_of_bounds bounds)) bound
 
--- what the type and the shape tell of the size of what a chain writes: of texts nothing; of optional elements at most two lengths, the mask and the data
+-- what the type and the shape tell of the size of what a chain writes: of elements of variable length nothing; of optional elements at most two lengths, the mask and the data
 -- of all elements; of a shard at most the index and each subchunk
 abbrev pub representation_of : Chain → DataType → List ℕ → BytesRepresentation
 representation_of (bytes order) type shape = fixed_size (bytes_in (components type) * product shape)
 representation_of (packbits padding first last) type shape = fixed_size (packed_size padding first last (components type) (product shape))
-representation_of (vlen index texts width location) type shape = unbounded_size
+representation_of (vlen index «data» width location) type shape = unbounded_size
 representation_of (optional mask values) type shape =
     let inner = unwrap_or (inner_type type) type in
     at_most (sum_of_bounds (Some 16 ∷ bound_of (representation_of mask bool shape) ∷ bound_of (representation_of values inner (product shape ∷ [])) ∷ []))
-representation_of (after_step step chain) type shape = representation_of chain type (step_shape step shape)
+representation_of (after_array_codec codec chain) type shape = representation_of chain type (encoded_shape codec shape)
 representation_of (then_bytes chain codec) type shape = codec.representation (representation_of chain type shape)
 representation_of (sharded subchunk inner index location) type shape =
     at_most (sum_of_bounds (bound_of (representation_of index uint64 (index_shape shape subchunk)) ∷ map (λ (part : Part). bound_of (representation_of inner type part.shape)) (parts_of shape subchunk)))
@@ -119,9 +119,9 @@ is_some_below bound (Some n) = nat_lt n bound
 abbrev pub takes_each_shape : Chain → Bool
 takes_each_shape (bytes order) = true
 takes_each_shape (packbits padding first last) = true
-takes_each_shape (vlen index texts width location) = takes_each_shape index && takes_each_shape texts
+takes_each_shape (vlen index «data» width location) = takes_each_shape index && takes_each_shape «data»
 takes_each_shape (optional mask values) = takes_each_shape mask && takes_each_shape values
-takes_each_shape (after_step step chain) = false
+takes_each_shape (after_array_codec codec chain) = false
 takes_each_shape (then_bytes chain codec) = takes_each_shape chain
 takes_each_shape (sharded subchunk inner index location) = false
 
@@ -150,11 +150,11 @@ bits_fit first last c = nat_le first (last_kept last c) && nat_lt (last_kept las
 abbrev pub fits : Chain → DataType → List ℕ → Bool
 fits (bytes order) type shape = is_fixed type && order_fits order (components type)
 fits (packbits padding first last) type shape = is_fixed type && list_all (bits_fit first last) (components type)
-fits (vlen index texts width location) type shape =
-    is_variable type && (fits index (integer unsigned width) ((product shape + 1) ∷ []) && (takes_each_shape texts && fits texts uint8 (0 ∷ [])))
+fits (vlen index «data» width location) type shape =
+    is_variable type && (fits index (integer unsigned width) ((product shape + 1) ∷ []) && (takes_each_shape «data» && fits «data» uint8 (0 ∷ [])))
 fits (optional mask values) type shape =
     elim (inner_type type) [ None ↦ false | Some inner ↦ fits mask bool shape && (takes_each_shape values && fits values inner (0 ∷ [])) ]
-fits (after_step step chain) type shape = step_fits step shape && fits chain type (step_shape step shape)
+fits (after_array_codec codec chain) type shape = array_codec_fits codec shape && fits chain type (encoded_shape codec shape)
 fits (then_bytes chain codec) type shape = fits chain type shape
 fits (sharded subchunk inner index location) type shape =
     divides shape subchunk && (not (is_some (inner_type type)) && (can_cut shape subchunk && (list_all (λ (part : Part). fits inner type part.shape) (parts_of shape subchunk)
@@ -166,9 +166,9 @@ fits (sharded subchunk inner index location) type shape =
 abbrev pub is_lossless : Chain → DataType → Bool
 is_lossless (bytes order) type = true
 is_lossless (packbits padding first last) type = list_all (λ (c : Component). (first == 0) && (last_kept last c + 1 == c.width)) (components type)
-is_lossless (vlen index texts width location) type = is_lossless index (integer unsigned width) && is_lossless texts uint8
+is_lossless (vlen index «data» width location) type = is_lossless index (integer unsigned width) && is_lossless «data» uint8
 is_lossless (optional mask values) type = is_lossless mask bool && elim (inner_type type) [ None ↦ true | Some inner ↦ is_lossless values inner ]
-is_lossless (after_step step chain) type = is_lossless chain type
+is_lossless (after_array_codec codec chain) type = is_lossless chain type
 is_lossless (then_bytes chain codec) type = is_lossless chain type
 is_lossless (sharded subchunk inner index location) type = is_lossless inner type && is_lossless index uint64
 
@@ -176,9 +176,9 @@ is_lossless (sharded subchunk inner index location) type = is_lossless inner typ
 abbrev pub keeps_indices : Chain → Bool
 keeps_indices (bytes order) = true
 keeps_indices (packbits padding first last) = true
-keeps_indices (vlen index texts width location) = is_lossless index (integer unsigned width) && keeps_indices texts
+keeps_indices (vlen index «data» width location) = is_lossless index (integer unsigned width) && keeps_indices «data»
 keeps_indices (optional mask values) = keeps_indices mask && keeps_indices values
-keeps_indices (after_step step chain) = keeps_indices chain
+keeps_indices (after_array_codec codec chain) = keeps_indices chain
 keeps_indices (then_bytes chain codec) = keeps_indices chain
 keeps_indices (sharded subchunk inner index location) = keeps_indices inner && is_lossless index uint64
 
@@ -186,8 +186,8 @@ keeps_indices (sharded subchunk inner index location) = keeps_indices inner && i
 abbrev pub is_plain : Chain → Bool
 is_plain (bytes order) = true
 is_plain (packbits padding first last) = true
-is_plain (vlen index texts width location) = true
+is_plain (vlen index «data» width location) = true
 is_plain (optional mask values) = true
-is_plain (after_step step chain) = is_plain chain
+is_plain (after_array_codec codec chain) = is_plain chain
 is_plain (then_bytes chain codec) = is_plain chain
 is_plain (sharded subchunk inner index location) = false

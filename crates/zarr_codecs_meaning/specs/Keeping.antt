@@ -4,14 +4,14 @@ use Rattle.std.specs.List.{filter_map}
 use Rattle.zarr_codecs_meaning.specs.Numbers.{number}
 use Rattle.zarr_codecs_meaning.specs.Types.{uint8, components, Cell, of_bytes, absent, present, cell_bytes, inner_type, is_fill, Elements, zero_filled}
 use Rattle.zarr_codecs_meaning.specs.Chains.{Chain}
-use Rattle.zarr_codecs_meaning.specs.Chains.Chain.{bytes, packbits, vlen, optional, after_step, then_bytes, sharded}
-use Rattle.zarr_codecs_meaning.specs.Places.{gather, place_numbers, position_of, step_shape, step_places, undone_places, Part, parts_of}
+use Rattle.zarr_codecs_meaning.specs.Chains.Chain.{bytes, packbits, vlen, optional, after_array_codec, then_bytes, sharded}
+use Rattle.zarr_codecs_meaning.specs.Places.{gather, place_numbers, position_of, encoded_shape, source_places, undone_places, Part, parts_of}
 use Rattle.zarr_codecs_meaning.specs.Encoding.{element_bits, element_of_bits, byte_cells, mask_cell, present_cell, Piece, piece_of}
 
--- texts of the lengths that these cells have, from joined bytes
+-- elements of the lengths that these cells have, cut from their joined bytes
 abbrev pub cut_again : List Cell → List ℕ → List Cell
-cut_again [] text = []
-cut_again (cell ∷ cells) text = of_bytes (take (length (cell_bytes cell)) text) ∷ cut_again cells (drop (length (cell_bytes cell)) text)
+cut_again [] «data» = []
+cut_again (cell ∷ cells) «data» = of_bytes (take (length (cell_bytes cell)) «data») ∷ cut_again cells (drop (length (cell_bytes cell)) «data»)
 
 -- cells that are present where the mask says one, in their order
 abbrev pub spread : List Cell → List Cell → List Cell
@@ -35,14 +35,14 @@ abbrev pub kept : Chain → Elements → List ℕ → List Cell → List Cell
 kept (bytes order) elements shape cells = cells
 kept (packbits padding first last) elements shape cells =
     map (λ cell. of_bytes (element_of_bits first last (components elements.type) (element_bits first last (components elements.type) (cell_bytes cell)))) cells
-kept (vlen index texts width location) elements shape cells =
+kept (vlen index «data» width location) elements shape cells =
     let content = byte_cells (flat_map cell_bytes cells) in
-    cut_again cells (flat_map cell_bytes (kept texts (zero_filled uint8) (length content ∷ []) content))
+    cut_again cells (flat_map cell_bytes (kept «data» (zero_filled uint8) (length content ∷ []) content))
 kept (optional mask values) elements shape cells =
     let found = filter_map present_cell cells in
     spread (map mask_cell cells) (kept values (zero_filled (unwrap_or (inner_type elements.type) elements.type)) (length found ∷ []) found)
-kept (after_step step chain) elements shape cells =
-    gather elements.fill (kept chain elements (step_shape step shape) (gather elements.fill cells (step_places step shape))) (undone_places step shape)
+kept (after_array_codec codec chain) elements shape cells =
+    gather elements.fill (kept chain elements (encoded_shape codec shape) (gather elements.fill cells (source_places codec shape))) (undone_places codec shape)
 kept (then_bytes chain codec) elements shape cells = kept chain elements shape cells
 kept (sharded subchunk inner index location) elements shape cells =
     map (arranged elements.fill (parts_of shape subchunk) (map (λ (part : Part). kept_piece (kept inner elements) elements.fill (piece_of elements.fill cells part)) (parts_of shape subchunk))) (place_numbers shape)

@@ -3,8 +3,8 @@ use Rattle.std.specs.Prelude.{ℕ, ◌+◌, ◌-◌, ◌*◌, ◌/◌, min, List
 use Rattle.std.specs.List.{range_with_len, position_or_len, filter}
 use Rattle.zarr_grids_boxes.specs.Boxes.{Region, product, places, ravel, each2}
 use Rattle.zarr_codecs_meaning.specs.Types.{Cell}
-use Rattle.zarr_codecs_meaning.specs.Chains.{Step, ShapeEntry}
-use Rattle.zarr_codecs_meaning.specs.Chains.Step.{transpose, reshape, squeeze}
+use Rattle.zarr_codecs_meaning.specs.Chains.{ArrayCodec, ShapeEntry}
+use Rattle.zarr_codecs_meaning.specs.Chains.ArrayCodec.{transpose, reshape, squeeze}
 use Rattle.zarr_codecs_meaning.specs.Chains.ShapeEntry.{size_entry, product_entry, left_over}
 
 -- the cells at these places, in this order
@@ -47,20 +47,20 @@ abbrev pub squeezed : List ℕ → List ℕ
 squeezed shape = elim (filter (λ size. not (size == 1)) shape) [ [] ↦ 1 ∷ [] | size ∷ sizes ↦ size ∷ sizes ]
 
 -- the shape of what an array codec makes of an array
-abbrev pub step_shape : Step → List ℕ → List ℕ
-step_shape (transpose order) shape = map (slice_index shape) order
-step_shape (reshape entries) shape = map (entry_size (known_product entries shape) shape) entries
-step_shape squeeze shape = squeezed shape
+abbrev pub encoded_shape : ArrayCodec → List ℕ → List ℕ
+encoded_shape (transpose order) shape = map (slice_index shape) order
+encoded_shape (reshape entries) shape = map (entry_size (known_product entries shape) shape) entries
+encoded_shape squeeze shape = squeezed shape
 
 -- for each place of what it makes, the number of the place that the cell comes from
-abbrev pub step_places : Step → List ℕ → List ℕ
-step_places (transpose order) shape = map (λ place. ravel (untransposed order place) shape) (places_of (step_shape (transpose order) shape))
-step_places (reshape entries) shape = place_numbers shape
-step_places squeeze shape = place_numbers shape
+abbrev pub source_places : ArrayCodec → List ℕ → List ℕ
+source_places (transpose order) shape = map (λ place. ravel (untransposed order place) shape) (places_of (encoded_shape (transpose order) shape))
+source_places (reshape entries) shape = place_numbers shape
+source_places squeeze shape = place_numbers shape
 
 -- for each place before an array codec, the number of the place that its cell has afterwards
-abbrev pub undone_places : Step → List ℕ → List ℕ
-undone_places step shape = map (λ n. position_of n (step_places step shape)) (place_numbers shape)
+abbrev pub undone_places : ArrayCodec → List ℕ → List ℕ
+undone_places codec shape = map (λ n. position_of n (source_places codec shape)) (place_numbers shape)
 
 -- ---- Subchunks
 

@@ -2,8 +2,8 @@
 use Rattle.std.specs.Prelude.{◌≡◌, ℕ, ◌+◌, ◌-◌, ◌^◌, ◌<◌, List, [], ◌∷◌, ◌++◌, length, Option, Some, None, true, false, ◌⊎◌, MatchBool, MatchOption}
 use Rattle.zarr_codecs_meaning.specs.Types.{uint64, Cell, is_fill, Elements, zero_filled}
 use Rattle.zarr_codecs_meaning.specs.Chains.{Chain, Location}
-use Rattle.zarr_codecs_meaning.specs.Chains.Chain.{bytes, packbits, vlen, optional, after_step, then_bytes, sharded}
-use Rattle.zarr_codecs_meaning.specs.Places.{gather, step_shape, step_places, parts_of, index_shape}
+use Rattle.zarr_codecs_meaning.specs.Chains.Chain.{bytes, packbits, vlen, optional, after_array_codec, then_bytes, sharded}
+use Rattle.zarr_codecs_meaning.specs.Places.{gather, encoded_shape, source_places, parts_of, index_shape}
 use Rattle.zarr_codecs_meaning.specs.Fits.{is_plain}
 use Rattle.zarr_codecs_meaning.specs.Encoding.{Pair, absent_pair, Piece, pieces_of, pair_cells, index_size, base_of, joined, encoded}
 use Rattle.zarr_codecs_meaning.specs.Decoding.{decoded}
@@ -22,10 +22,10 @@ abbrev pub PieceStands : (List ℕ → List ℕ → List Cell → Type 0) → Ce
 PieceStands inner fill base «data» piece pair =
     ((is_fill fill piece.1 ≡ true) × (pair ≡ absent_pair)) ⊎ ((is_fill fill piece.1 ≡ false) × ((slice : List ℕ) × HasSlice base «data» pair slice × inner piece.0 slice piece.1))
 
--- there is no text for a subchunk that is all fill; any other text stands for the subchunk's cells
-abbrev pub TextStands : (List ℕ → List ℕ → List Cell → Type 0) → Cell → Piece → Option (List ℕ) → Type 0
-TextStands inner fill piece None = is_fill fill piece.1 ≡ true
-TextStands inner fill piece (Some text) = (is_fill fill piece.1 ≡ false) × inner piece.0 text piece.1
+-- there is no slice for a subchunk that is all fill; any other slice stands for the subchunk's cells
+abbrev pub SliceStands : (List ℕ → List ℕ → List Cell → Type 0) → Cell → Piece → Option (List ℕ) → Type 0
+SliceStands inner fill piece None = is_fill fill piece.1 ≡ true
+SliceStands inner fill piece (Some slice) = (is_fill fill piece.1 ≡ false) × inner piece.0 slice piece.1
 
 -- each pair stands for its subchunk, and there are as many of both
 abbrev pub PiecesStand : (List ℕ → List ℕ → List Cell → Type 0) → Cell → ℕ → List ℕ → List Piece → List Pair → Type 0
@@ -36,10 +36,10 @@ PiecesStand inner fill base «data» (piece ∷ pieces) (pair ∷ pairs) = Piece
 
 -- the value is an index that is decoded to these pairs, joined with this data part
 pub record IsLaidOut (index : List ℕ → Option (List Cell)) (location : Location) (size : ℕ) (value : List ℕ) (pairs : List Pair) («data» : List ℕ) : Type 0 where
-  pub text : List ℕ
-  pub long : length text ≡ size
-  pub read : index text ≡ Some (pair_cells pairs)
-  pub is : value ≡ joined location text «data»
+  pub index_bytes : List ℕ
+  pub long : length index_bytes ≡ size
+  pub read : index index_bytes ≡ Some (pair_cells pairs)
+  pub is : value ≡ joined location index_bytes «data»
 
 -- an index of pairs and a data part make the value, and they stand for the pieces
 abbrev pub ShardStands : (List ℕ → Option (List Cell)) → (List ℕ → List ℕ → List Cell → Type 0) → Location → ℕ → Cell → List Piece → List ℕ → Type 0
@@ -59,9 +59,9 @@ IsEncoding chain elements shape value cells = encoded chain elements shape cells
 abbrev pub StandsBy : Slices → Chain → Elements → List ℕ → List ℕ → List Cell → Type 0
 StandsBy slices (bytes order) elements shape value cells = IsEncoding (bytes order) elements shape value cells
 StandsBy slices (packbits padding first last) elements shape value cells = IsEncoding (packbits padding first last) elements shape value cells
-StandsBy slices (vlen index texts width location) elements shape value cells = IsEncoding (vlen index texts width location) elements shape value cells
+StandsBy slices (vlen index «data» width location) elements shape value cells = IsEncoding (vlen index «data» width location) elements shape value cells
 StandsBy slices (optional mask values) elements shape value cells = IsEncoding (optional mask values) elements shape value cells
-StandsBy slices (after_step step chain) elements shape value cells = StandsBy slices chain elements (step_shape step shape) value (gather elements.fill cells (step_places step shape))
+StandsBy slices (after_array_codec codec chain) elements shape value cells = StandsBy slices chain elements (encoded_shape codec shape) value (gather elements.fill cells (source_places codec shape))
 StandsBy slices (then_bytes chain codec) elements shape value cells =
     MatchBool (is_plain chain) (IsEncoding (then_bytes chain codec) elements shape value cells)
     ((inside : List ℕ) × (codec.decode value ≡ Some inside) × StandsBy slices chain elements shape inside cells)

@@ -42,7 +42,7 @@ is_fixed string = false
 is_fixed variable_bytes = false
 is_fixed (optional_of inner) = false
 
--- whether the elements are texts of any number of bytes
+-- whether the elements may have any number of bytes
 abbrev pub is_variable : DataType → Bool
 is_variable bool = false
 is_variable (integer sign width) = false
@@ -108,7 +108,7 @@ are_components (c ∷ cs) bytes = is_component c (take c.byte_count bytes) && ar
 abbrev pub are_bytes : List ℕ → Bool
 are_bytes bytes = list_all (λ b. nat_lt b 256) bytes
 
--- of a fixed type the right number of bytes and each component as it should be; of a text any bytes (UTF-8 is not asked for)
+-- of a fixed type the right number of bytes and each component as it should be; of a type of variable length any bytes (UTF-8 is not asked for)
 abbrev pub is_value_in_bytes : DataType → List ℕ → Bool
 is_value_in_bytes type bytes =
     are_bytes bytes && (if is_fixed type then (length bytes == bytes_in (components type)) && are_components (components type) bytes else is_variable type)
@@ -135,7 +135,7 @@ same_cell (present cell) (present other) = same_cell cell other
 abbrev pub is_fill : Cell → List Cell → Bool
 is_fill fill cells = list_all (λ cell. same_cell cell fill) cells
 
--- the cell of zero bytes, the empty text, or absent
+-- the cell of zero bytes, of no bytes, or absent
 abbrev pub zero_cell : DataType → Cell
 zero_cell bool = of_bytes (0 ∷ [])
 zero_cell (integer sign width) = of_bytes (replicate ((width + 7) / 8) 0)

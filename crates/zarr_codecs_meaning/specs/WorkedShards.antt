@@ -1,11 +1,11 @@
 -- The definitions computed on small examples: the expected values were worked out by hand.
 use Rattle.std.specs.Prelude.{◌≡◌, [], ◌∷◌, ◌++◌, length, replicate, Some, None, option_map}
 use Rattle.zarr_codecs_meaning.specs.Types.{bool, integer, string, optional_of, uint8, signed, unsigned, of_bytes, absent, present, zero_filled}
-use Rattle.zarr_codecs_meaning.specs.Chains.Chain.{bytes, packbits, vlen, optional, after_step, then_bytes, sharded}
+use Rattle.zarr_codecs_meaning.specs.Chains.Chain.{bytes, packbits, vlen, optional, after_array_codec, then_bytes, sharded}
 use Rattle.zarr_codecs_meaning.specs.Chains.Endianness.{little}
 use Rattle.zarr_codecs_meaning.specs.Chains.Padding.{no_padding_byte, first_byte}
 use Rattle.zarr_codecs_meaning.specs.Chains.Location.{at_start, at_end}
-use Rattle.zarr_codecs_meaning.specs.Chains.Step.{transpose}
+use Rattle.zarr_codecs_meaning.specs.Chains.ArrayCodec.{transpose}
 use Rattle.zarr_codecs_meaning.specs.Encoding.{encoded, stored_chunk, byte_cells, number_cells}
 use Rattle.zarr_codecs_meaning.specs.Keeping.{kept}
 use Rattle.zarr_codecs_meaning.specs.Decoding.{decoded, part_decoded}
@@ -48,12 +48,12 @@ pub record ShardRows : Type 0 where
   pub clipped_twice_back : decoded (sharded (2 ∷ 2 ∷ []) (bytes None) (bytes (Some little)) at_end) (zero_filled uint8) (3 ∷ 3 ∷ []) ((1 ∷ 2 ∷ 4 ∷ 5 ∷ 3 ∷ 6 ∷ 7 ∷ 8 ∷ 9 ∷ []) ++ (0 ∷ 0 ∷ 0 ∷ 0 ∷ 0 ∷ 0 ∷ 0 ∷ 0 ∷ 4 ∷ 0 ∷ 0 ∷ 0 ∷ 0 ∷ 0 ∷ 0 ∷ 0 ∷ []) ++ (4 ∷ 0 ∷ 0 ∷ 0 ∷ 0 ∷ 0 ∷ 0 ∷ 0 ∷ 2 ∷ 0 ∷ 0 ∷ 0 ∷ 0 ∷ 0 ∷ 0 ∷ 0 ∷ []) ++ (6 ∷ 0 ∷ 0 ∷ 0 ∷ 0 ∷ 0 ∷ 0 ∷ 0 ∷ 2 ∷ 0 ∷ 0 ∷ 0 ∷ 0 ∷ 0 ∷ 0 ∷ 0 ∷ []) ++ (8 ∷ 0 ∷ 0 ∷ 0 ∷ 0 ∷ 0 ∷ 0 ∷ 0 ∷ 1 ∷ 0 ∷ 0 ∷ 0 ∷ 0 ∷ 0 ∷ 0 ∷ 0 ∷ [])) ≡ Some (byte_cells (1 ∷ 2 ∷ 3 ∷ 4 ∷ 5 ∷ 6 ∷ 7 ∷ 8 ∷ 9 ∷ []))
   pub larger_subchunk : encoded (sharded (4 ∷ []) (bytes None) (bytes (Some little)) at_end) (zero_filled uint8) (3 ∷ []) (byte_cells (5 ∷ 6 ∷ 7 ∷ [])) ≡ Some ((5 ∷ 6 ∷ 7 ∷ []) ++ (0 ∷ 0 ∷ 0 ∷ 0 ∷ 0 ∷ 0 ∷ 0 ∷ 0 ∷ 3 ∷ 0 ∷ 0 ∷ 0 ∷ 0 ∷ 0 ∷ 0 ∷ 0 ∷ []))
   pub larger_subchunk_back : decoded (sharded (4 ∷ []) (bytes None) (bytes (Some little)) at_end) (zero_filled uint8) (3 ∷ []) ((5 ∷ 6 ∷ 7 ∷ []) ++ (0 ∷ 0 ∷ 0 ∷ 0 ∷ 0 ∷ 0 ∷ 0 ∷ 0 ∷ 3 ∷ 0 ∷ 0 ∷ 0 ∷ 0 ∷ 0 ∷ 0 ∷ 0 ∷ [])) ≡ Some (byte_cells (5 ∷ 6 ∷ 7 ∷ []))
-  pub transposed_shard : encoded (after_step (transpose (1 ∷ 0 ∷ [])) (sharded (1 ∷ 1 ∷ []) (bytes None) (bytes (Some little)) at_end)) (zero_filled uint8) (1 ∷ 2 ∷ []) (byte_cells (3 ∷ 4 ∷ [])) ≡ Some ((3 ∷ 4 ∷ []) ++ (0 ∷ 0 ∷ 0 ∷ 0 ∷ 0 ∷ 0 ∷ 0 ∷ 0 ∷ 1 ∷ 0 ∷ 0 ∷ 0 ∷ 0 ∷ 0 ∷ 0 ∷ 0 ∷ []) ++ (1 ∷ 0 ∷ 0 ∷ 0 ∷ 0 ∷ 0 ∷ 0 ∷ 0 ∷ 1 ∷ 0 ∷ 0 ∷ 0 ∷ 0 ∷ 0 ∷ 0 ∷ 0 ∷ []))
-  pub transposed_shard_back : decoded (after_step (transpose (1 ∷ 0 ∷ [])) (sharded (1 ∷ 1 ∷ []) (bytes None) (bytes (Some little)) at_end)) (zero_filled uint8) (1 ∷ 2 ∷ []) ((3 ∷ 4 ∷ []) ++ (0 ∷ 0 ∷ 0 ∷ 0 ∷ 0 ∷ 0 ∷ 0 ∷ 0 ∷ 1 ∷ 0 ∷ 0 ∷ 0 ∷ 0 ∷ 0 ∷ 0 ∷ 0 ∷ []) ++ (1 ∷ 0 ∷ 0 ∷ 0 ∷ 0 ∷ 0 ∷ 0 ∷ 0 ∷ 1 ∷ 0 ∷ 0 ∷ 0 ∷ 0 ∷ 0 ∷ 0 ∷ 0 ∷ [])) ≡ Some (byte_cells (3 ∷ 4 ∷ []))
-  pub transposed_subchunk : encoded (sharded (2 ∷ 2 ∷ []) (after_step (transpose (1 ∷ 0 ∷ [])) (bytes None)) (bytes (Some little)) at_end) (zero_filled uint8) (2 ∷ 2 ∷ []) (byte_cells (1 ∷ 2 ∷ 3 ∷ 4 ∷ [])) ≡ Some ((1 ∷ 3 ∷ 2 ∷ 4 ∷ []) ++ (0 ∷ 0 ∷ 0 ∷ 0 ∷ 0 ∷ 0 ∷ 0 ∷ 0 ∷ 4 ∷ 0 ∷ 0 ∷ 0 ∷ 0 ∷ 0 ∷ 0 ∷ 0 ∷ []))
-  pub transposed_subchunk_back : decoded (sharded (2 ∷ 2 ∷ []) (after_step (transpose (1 ∷ 0 ∷ [])) (bytes None)) (bytes (Some little)) at_end) (zero_filled uint8) (2 ∷ 2 ∷ []) ((1 ∷ 3 ∷ 2 ∷ 4 ∷ []) ++ (0 ∷ 0 ∷ 0 ∷ 0 ∷ 0 ∷ 0 ∷ 0 ∷ 0 ∷ 4 ∷ 0 ∷ 0 ∷ 0 ∷ 0 ∷ 0 ∷ 0 ∷ 0 ∷ [])) ≡ Some (byte_cells (1 ∷ 2 ∷ 3 ∷ 4 ∷ []))
-  pub texts_in_a_shard : encoded (sharded (1 ∷ []) (vlen (bytes (Some little)) (bytes None) 32 at_start) (bytes (Some little)) at_end) (zero_filled string) (2 ∷ []) (of_bytes ([]) ∷ of_bytes (97 ∷ []) ∷ []) ≡ Some ((8 ∷ 0 ∷ 0 ∷ 0 ∷ 0 ∷ 0 ∷ 0 ∷ 0 ∷ 0 ∷ 0 ∷ 0 ∷ 0 ∷ 1 ∷ 0 ∷ 0 ∷ 0 ∷ 97 ∷ []) ++ (replicate 16 255) ++ (0 ∷ 0 ∷ 0 ∷ 0 ∷ 0 ∷ 0 ∷ 0 ∷ 0 ∷ 17 ∷ 0 ∷ 0 ∷ 0 ∷ 0 ∷ 0 ∷ 0 ∷ 0 ∷ []))
-  pub texts_in_a_shard_back : decoded (sharded (1 ∷ []) (vlen (bytes (Some little)) (bytes None) 32 at_start) (bytes (Some little)) at_end) (zero_filled string) (2 ∷ []) ((8 ∷ 0 ∷ 0 ∷ 0 ∷ 0 ∷ 0 ∷ 0 ∷ 0 ∷ 0 ∷ 0 ∷ 0 ∷ 0 ∷ 1 ∷ 0 ∷ 0 ∷ 0 ∷ 97 ∷ []) ++ (replicate 16 255) ++ (0 ∷ 0 ∷ 0 ∷ 0 ∷ 0 ∷ 0 ∷ 0 ∷ 0 ∷ 17 ∷ 0 ∷ 0 ∷ 0 ∷ 0 ∷ 0 ∷ 0 ∷ 0 ∷ [])) ≡ Some (of_bytes ([]) ∷ of_bytes (97 ∷ []) ∷ [])
+  pub transposed_shard : encoded (after_array_codec (transpose (1 ∷ 0 ∷ [])) (sharded (1 ∷ 1 ∷ []) (bytes None) (bytes (Some little)) at_end)) (zero_filled uint8) (1 ∷ 2 ∷ []) (byte_cells (3 ∷ 4 ∷ [])) ≡ Some ((3 ∷ 4 ∷ []) ++ (0 ∷ 0 ∷ 0 ∷ 0 ∷ 0 ∷ 0 ∷ 0 ∷ 0 ∷ 1 ∷ 0 ∷ 0 ∷ 0 ∷ 0 ∷ 0 ∷ 0 ∷ 0 ∷ []) ++ (1 ∷ 0 ∷ 0 ∷ 0 ∷ 0 ∷ 0 ∷ 0 ∷ 0 ∷ 1 ∷ 0 ∷ 0 ∷ 0 ∷ 0 ∷ 0 ∷ 0 ∷ 0 ∷ []))
+  pub transposed_shard_back : decoded (after_array_codec (transpose (1 ∷ 0 ∷ [])) (sharded (1 ∷ 1 ∷ []) (bytes None) (bytes (Some little)) at_end)) (zero_filled uint8) (1 ∷ 2 ∷ []) ((3 ∷ 4 ∷ []) ++ (0 ∷ 0 ∷ 0 ∷ 0 ∷ 0 ∷ 0 ∷ 0 ∷ 0 ∷ 1 ∷ 0 ∷ 0 ∷ 0 ∷ 0 ∷ 0 ∷ 0 ∷ 0 ∷ []) ++ (1 ∷ 0 ∷ 0 ∷ 0 ∷ 0 ∷ 0 ∷ 0 ∷ 0 ∷ 1 ∷ 0 ∷ 0 ∷ 0 ∷ 0 ∷ 0 ∷ 0 ∷ 0 ∷ [])) ≡ Some (byte_cells (3 ∷ 4 ∷ []))
+  pub transposed_subchunk : encoded (sharded (2 ∷ 2 ∷ []) (after_array_codec (transpose (1 ∷ 0 ∷ [])) (bytes None)) (bytes (Some little)) at_end) (zero_filled uint8) (2 ∷ 2 ∷ []) (byte_cells (1 ∷ 2 ∷ 3 ∷ 4 ∷ [])) ≡ Some ((1 ∷ 3 ∷ 2 ∷ 4 ∷ []) ++ (0 ∷ 0 ∷ 0 ∷ 0 ∷ 0 ∷ 0 ∷ 0 ∷ 0 ∷ 4 ∷ 0 ∷ 0 ∷ 0 ∷ 0 ∷ 0 ∷ 0 ∷ 0 ∷ []))
+  pub transposed_subchunk_back : decoded (sharded (2 ∷ 2 ∷ []) (after_array_codec (transpose (1 ∷ 0 ∷ [])) (bytes None)) (bytes (Some little)) at_end) (zero_filled uint8) (2 ∷ 2 ∷ []) ((1 ∷ 3 ∷ 2 ∷ 4 ∷ []) ++ (0 ∷ 0 ∷ 0 ∷ 0 ∷ 0 ∷ 0 ∷ 0 ∷ 0 ∷ 4 ∷ 0 ∷ 0 ∷ 0 ∷ 0 ∷ 0 ∷ 0 ∷ 0 ∷ [])) ≡ Some (byte_cells (1 ∷ 2 ∷ 3 ∷ 4 ∷ []))
+  pub strings_in_a_shard : encoded (sharded (1 ∷ []) (vlen (bytes (Some little)) (bytes None) 32 at_start) (bytes (Some little)) at_end) (zero_filled string) (2 ∷ []) (of_bytes ([]) ∷ of_bytes (97 ∷ []) ∷ []) ≡ Some ((8 ∷ 0 ∷ 0 ∷ 0 ∷ 0 ∷ 0 ∷ 0 ∷ 0 ∷ 0 ∷ 0 ∷ 0 ∷ 0 ∷ 1 ∷ 0 ∷ 0 ∷ 0 ∷ 97 ∷ []) ++ (replicate 16 255) ++ (0 ∷ 0 ∷ 0 ∷ 0 ∷ 0 ∷ 0 ∷ 0 ∷ 0 ∷ 17 ∷ 0 ∷ 0 ∷ 0 ∷ 0 ∷ 0 ∷ 0 ∷ 0 ∷ []))
+  pub strings_in_a_shard_back : decoded (sharded (1 ∷ []) (vlen (bytes (Some little)) (bytes None) 32 at_start) (bytes (Some little)) at_end) (zero_filled string) (2 ∷ []) ((8 ∷ 0 ∷ 0 ∷ 0 ∷ 0 ∷ 0 ∷ 0 ∷ 0 ∷ 0 ∷ 0 ∷ 0 ∷ 0 ∷ 1 ∷ 0 ∷ 0 ∷ 0 ∷ 97 ∷ []) ++ (replicate 16 255) ++ (0 ∷ 0 ∷ 0 ∷ 0 ∷ 0 ∷ 0 ∷ 0 ∷ 0 ∷ 17 ∷ 0 ∷ 0 ∷ 0 ∷ 0 ∷ 0 ∷ 0 ∷ 0 ∷ [])) ≡ Some (of_bytes ([]) ∷ of_bytes (97 ∷ []) ∷ [])
   -- a subchunk that is all fill isn't encoded, and loses no bit
   pub dropped_in_a_shard : kept (sharded (2 ∷ []) (packbits no_padding_byte 4 None) (bytes (Some little)) at_end) (record { type = uint8; fill = of_bytes (7 ∷ []) }) (4 ∷ []) (byte_cells (7 ∷ 7 ∷ 7 ∷ 87 ∷ [])) ≡ byte_cells (7 ∷ 7 ∷ 0 ∷ 80 ∷ [])
   -- cells that become fill are stored, and left out the second time
@@ -92,11 +92,11 @@ pub record DamageRows : Type 0 where
   pub falling_offsets : decoded (vlen (bytes (Some little)) (bytes None) 32 at_start) (zero_filled string) (3 ∷ []) (16 ∷ 0 ∷ 0 ∷ 0 ∷ 0 ∷ 0 ∷ 0 ∷ 0 ∷ 0 ∷ 0 ∷ 0 ∷ 0 ∷ 2 ∷ 0 ∷ 0 ∷ 0 ∷ 1 ∷ 0 ∷ 0 ∷ 0 ∷ 3 ∷ 0 ∷ 0 ∷ 0 ∷ 97 ∷ 98 ∷ 99 ∷ []) ≡ None
   pub first_offset : decoded (vlen (bytes (Some little)) (bytes None) 32 at_start) (zero_filled string) (3 ∷ []) (16 ∷ 0 ∷ 0 ∷ 0 ∷ 0 ∷ 0 ∷ 0 ∷ 0 ∷ 1 ∷ 0 ∷ 0 ∷ 0 ∷ 1 ∷ 0 ∷ 0 ∷ 0 ∷ 1 ∷ 0 ∷ 0 ∷ 0 ∷ 3 ∷ 0 ∷ 0 ∷ 0 ∷ 97 ∷ 98 ∷ 99 ∷ []) ≡ None
   pub index_length : decoded (vlen (bytes (Some little)) (bytes None) 32 at_start) (zero_filled string) (3 ∷ []) (255 ∷ 255 ∷ 255 ∷ 255 ∷ 255 ∷ 255 ∷ 255 ∷ 255 ∷ 0 ∷ 0 ∷ 0 ∷ 0 ∷ 1 ∷ 0 ∷ 0 ∷ 0 ∷ 1 ∷ 0 ∷ 0 ∷ 0 ∷ 3 ∷ 0 ∷ 0 ∷ 0 ∷ 97 ∷ 98 ∷ 99 ∷ []) ≡ None
-  pub text_cut : decoded (vlen (bytes (Some little)) (bytes None) 32 at_start) (zero_filled string) (3 ∷ []) (16 ∷ 0 ∷ 0 ∷ 0 ∷ 0 ∷ 0 ∷ 0 ∷ 0 ∷ 0 ∷ 0 ∷ 0 ∷ 0 ∷ 1 ∷ 0 ∷ 0 ∷ 0 ∷ 1 ∷ 0 ∷ 0 ∷ 0 ∷ 3 ∷ 0 ∷ 0 ∷ 0 ∷ 97 ∷ 98 ∷ []) ≡ None
-  pub text_longer : decoded (vlen (bytes (Some little)) (bytes None) 32 at_start) (zero_filled string) (3 ∷ []) (16 ∷ 0 ∷ 0 ∷ 0 ∷ 0 ∷ 0 ∷ 0 ∷ 0 ∷ 0 ∷ 0 ∷ 0 ∷ 0 ∷ 1 ∷ 0 ∷ 0 ∷ 0 ∷ 1 ∷ 0 ∷ 0 ∷ 0 ∷ 3 ∷ 0 ∷ 0 ∷ 0 ∷ 97 ∷ 98 ∷ 99 ∷ 100 ∷ []) ≡ None
+  pub data_cut : decoded (vlen (bytes (Some little)) (bytes None) 32 at_start) (zero_filled string) (3 ∷ []) (16 ∷ 0 ∷ 0 ∷ 0 ∷ 0 ∷ 0 ∷ 0 ∷ 0 ∷ 0 ∷ 0 ∷ 0 ∷ 0 ∷ 1 ∷ 0 ∷ 0 ∷ 0 ∷ 1 ∷ 0 ∷ 0 ∷ 0 ∷ 3 ∷ 0 ∷ 0 ∷ 0 ∷ 97 ∷ 98 ∷ []) ≡ None
+  pub data_longer : decoded (vlen (bytes (Some little)) (bytes None) 32 at_start) (zero_filled string) (3 ∷ []) (16 ∷ 0 ∷ 0 ∷ 0 ∷ 0 ∷ 0 ∷ 0 ∷ 0 ∷ 0 ∷ 0 ∷ 0 ∷ 0 ∷ 1 ∷ 0 ∷ 0 ∷ 0 ∷ 1 ∷ 0 ∷ 0 ∷ 0 ∷ 3 ∷ 0 ∷ 0 ∷ 0 ∷ 97 ∷ 98 ∷ 99 ∷ 100 ∷ []) ≡ None
   pub no_length : decoded (vlen (bytes (Some little)) (bytes None) 32 at_start) (zero_filled string) (3 ∷ []) (16 ∷ 0 ∷ 0 ∷ 0 ∷ 0 ∷ 0 ∷ 0 ∷ []) ≡ None
-  -- a part of texts is selected from the whole
-  pub texts_part_of_damage : part_decoded (vlen (bytes (Some little)) (bytes None) 32 at_start) (zero_filled string) (3 ∷ []) (16 ∷ 0 ∷ 0 ∷ 0 ∷ 0 ∷ 0 ∷ 0 ∷ 0 ∷ 0 ∷ 0 ∷ 0 ∷ 0 ∷ 2 ∷ 0 ∷ 0 ∷ 0 ∷ 1 ∷ 0 ∷ 0 ∷ 0 ∷ 3 ∷ 0 ∷ 0 ∷ 0 ∷ 97 ∷ 98 ∷ 99 ∷ []) (0 ∷ []) ≡ None
+  -- a part of strings is selected from the whole
+  pub strings_part_of_damage : part_decoded (vlen (bytes (Some little)) (bytes None) 32 at_start) (zero_filled string) (3 ∷ []) (16 ∷ 0 ∷ 0 ∷ 0 ∷ 0 ∷ 0 ∷ 0 ∷ 0 ∷ 0 ∷ 0 ∷ 0 ∷ 0 ∷ 2 ∷ 0 ∷ 0 ∷ 0 ∷ 1 ∷ 0 ∷ 0 ∷ 0 ∷ 3 ∷ 0 ∷ 0 ∷ 0 ∷ 97 ∷ 98 ∷ 99 ∷ []) (0 ∷ []) ≡ None
   pub mask_of_three : decoded (optional (packbits no_padding_byte 0 None) (bytes None)) (zero_filled (optional_of uint8)) (3 ∷ []) (1 ∷ 0 ∷ 0 ∷ 0 ∷ 0 ∷ 0 ∷ 0 ∷ 0 ∷ 2 ∷ 0 ∷ 0 ∷ 0 ∷ 0 ∷ 0 ∷ 0 ∷ 0 ∷ 7 ∷ 5 ∷ 7 ∷ []) ≡ None
   pub mask_fill_bits : decoded (optional (packbits no_padding_byte 0 None) (bytes None)) (zero_filled (optional_of uint8)) (3 ∷ []) (1 ∷ 0 ∷ 0 ∷ 0 ∷ 0 ∷ 0 ∷ 0 ∷ 0 ∷ 2 ∷ 0 ∷ 0 ∷ 0 ∷ 0 ∷ 0 ∷ 0 ∷ 0 ∷ 253 ∷ 5 ∷ 7 ∷ []) ≡ Some (present (of_bytes (5 ∷ [])) ∷ absent ∷ present (of_bytes (7 ∷ [])) ∷ [])
   pub option_cut : decoded (optional (packbits no_padding_byte 0 None) (bytes None)) (zero_filled (optional_of uint8)) (3 ∷ []) (1 ∷ 0 ∷ 0 ∷ 0 ∷ 0 ∷ 0 ∷ 0 ∷ 0 ∷ 2 ∷ 0 ∷ 0 ∷ 0 ∷ 0 ∷ 0 ∷ 0 ∷ 0 ∷ 5 ∷ 5 ∷ []) ≡ None
@@ -113,5 +113,5 @@ pub record DamageRows : Type 0 where
   pub damage_beside_in_a_shard : part_decoded (sharded (2 ∷ []) (bytes None) (bytes (Some little)) at_end) (zero_filled bool) (2 ∷ []) ((2 ∷ 1 ∷ []) ++ (0 ∷ 0 ∷ 0 ∷ 0 ∷ 0 ∷ 0 ∷ 0 ∷ 0 ∷ 2 ∷ 0 ∷ 0 ∷ 0 ∷ 0 ∷ 0 ∷ 0 ∷ 0 ∷ [])) (1 ∷ []) ≡ Some (byte_cells (1 ∷ []))
   pub fill_bits_ignored : decoded (packbits no_padding_byte 0 None) (zero_filled bool) (3 ∷ []) (253 ∷ []) ≡ Some (byte_cells (1 ∷ 0 ∷ 1 ∷ []))
   pub padding_count_ignored : decoded (packbits first_byte 0 None) (zero_filled bool) (3 ∷ []) (255 ∷ 5 ∷ []) ≡ Some (byte_cells (1 ∷ 0 ∷ 1 ∷ []))
-  pub refused_bytes : decoded (then_bytes (bytes None) (record { encode = λ text. Some text; decode = λ text. None; representation = λ known. known })) (zero_filled uint8) (1 ∷ []) (1 ∷ []) ≡ None
+  pub refused_bytes : decoded (then_bytes (bytes None) (record { encode = λ given. Some given; decode = λ given. None; representation = λ known. known })) (zero_filled uint8) (1 ∷ []) (1 ∷ []) ≡ None
   pub no_bytes_for_one : decoded (bytes None) (zero_filled uint8) [] [] ≡ None

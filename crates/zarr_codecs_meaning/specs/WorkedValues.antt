@@ -2,11 +2,11 @@
 use Rattle.std.specs.Prelude.{◌≡◌, List, [], ◌∷◌, reverse, Some, None, true, false}
 use Rattle.zarr_codecs_meaning.specs.Types.{bool, integer, custom, string, variable_bytes, optional_of, uint8, signed, unsigned, Component, of_bytes, absent, present, is_value, byte_width, is_fill}
 use Rattle.zarr_codecs_meaning.specs.Chains.BytesRepresentation.{bounded_size, unbounded_size}
-use Rattle.zarr_codecs_meaning.specs.Chains.Chain.{bytes, packbits, vlen, optional, after_step, then_bytes, sharded}
+use Rattle.zarr_codecs_meaning.specs.Chains.Chain.{bytes, packbits, vlen, optional, after_array_codec, then_bytes, sharded}
 use Rattle.zarr_codecs_meaning.specs.Chains.Endianness.{little}
 use Rattle.zarr_codecs_meaning.specs.Chains.Padding.{no_padding_byte, last_byte}
 use Rattle.zarr_codecs_meaning.specs.Chains.Location.{at_start, at_end}
-use Rattle.zarr_codecs_meaning.specs.Chains.Step.{transpose, reshape, squeeze}
+use Rattle.zarr_codecs_meaning.specs.Chains.ArrayCodec.{transpose, reshape, squeeze}
 use Rattle.zarr_codecs_meaning.specs.Chains.ShapeEntry.{size_entry, product_entry, left_over}
 use Rattle.zarr_codecs_meaning.specs.Fits.{fits, representation_of, size_of, is_lossless}
 
@@ -60,20 +60,20 @@ pub record FitRows : Type 0 where
   pub first_bit_after_last : fits (packbits no_padding_byte 3 (Some 2)) uint8 (3 ∷ []) ≡ false
   pub last_bit_too_large : fits (packbits no_padding_byte 0 (Some 8)) uint8 (3 ∷ []) ≡ false
   pub last_bit_of_bool : fits (packbits no_padding_byte 0 (Some 0)) bool (3 ∷ []) ≡ true
-  pub transpose_of_two : fits (after_step (transpose (1 ∷ 0 ∷ [])) (bytes None)) uint8 (2 ∷ 3 ∷ []) ≡ true
-  pub transpose_of_three : fits (after_step (transpose (1 ∷ 0 ∷ [])) (bytes None)) uint8 (2 ∷ 3 ∷ 4 ∷ []) ≡ false
-  pub transpose_repeats : fits (after_step (transpose (0 ∷ 0 ∷ [])) (bytes None)) uint8 (2 ∷ 3 ∷ []) ≡ false
-  pub reshape_divides : fits (after_step (reshape (size_entry 3 ∷ left_over ∷ [])) (bytes None)) uint8 (2 ∷ 6 ∷ []) ≡ true
-  pub reshape_divides_not : fits (after_step (reshape (size_entry 5 ∷ left_over ∷ [])) (bytes None)) uint8 (2 ∷ 6 ∷ []) ≡ false
-  pub reshape_other_product : fits (after_step (reshape (size_entry 5 ∷ [])) (bytes None)) uint8 (6 ∷ []) ≡ false
-  pub reshape_no_dimension : fits (after_step (reshape (product_entry (1 ∷ []) ∷ [])) (bytes None)) uint8 (6 ∷ []) ≡ false
-  pub squeeze_fits : fits (after_step squeeze (bytes None)) uint8 (1 ∷ 1 ∷ []) ≡ true
+  pub transpose_of_two : fits (after_array_codec (transpose (1 ∷ 0 ∷ [])) (bytes None)) uint8 (2 ∷ 3 ∷ []) ≡ true
+  pub transpose_of_three : fits (after_array_codec (transpose (1 ∷ 0 ∷ [])) (bytes None)) uint8 (2 ∷ 3 ∷ 4 ∷ []) ≡ false
+  pub transpose_repeats : fits (after_array_codec (transpose (0 ∷ 0 ∷ [])) (bytes None)) uint8 (2 ∷ 3 ∷ []) ≡ false
+  pub reshape_divides : fits (after_array_codec (reshape (size_entry 3 ∷ left_over ∷ [])) (bytes None)) uint8 (2 ∷ 6 ∷ []) ≡ true
+  pub reshape_divides_not : fits (after_array_codec (reshape (size_entry 5 ∷ left_over ∷ [])) (bytes None)) uint8 (2 ∷ 6 ∷ []) ≡ false
+  pub reshape_other_product : fits (after_array_codec (reshape (size_entry 5 ∷ [])) (bytes None)) uint8 (6 ∷ []) ≡ false
+  pub reshape_no_dimension : fits (after_array_codec (reshape (product_entry (1 ∷ []) ∷ [])) (bytes None)) uint8 (6 ∷ []) ≡ false
+  pub squeeze_fits : fits (after_array_codec squeeze (bytes None)) uint8 (1 ∷ 1 ∷ []) ≡ true
   pub vlen_of_string : fits (vlen (bytes (Some little)) (bytes None) 32 at_start) string (3 ∷ []) ≡ true
   pub vlen_of_uint8 : fits (vlen (bytes (Some little)) (bytes None) 32 at_start) uint8 (3 ∷ []) ≡ false
   pub vlen_index_without_order : fits (vlen (bytes None) (bytes None) 32 at_start) string (3 ∷ []) ≡ false
-  -- the index has one offset more than there are texts
-  pub vlen_index_reshaped : fits (vlen (after_step (reshape (size_entry 4 ∷ [])) (bytes (Some little))) (bytes None) 32 at_start) string (3 ∷ []) ≡ true
-  pub vlen_texts_reshaped : fits (vlen (bytes (Some little)) (after_step squeeze (bytes None)) 32 at_start) string (3 ∷ []) ≡ false
+  -- the index has one offset more than there are elements
+  pub vlen_index_reshaped : fits (vlen (after_array_codec (reshape (size_entry 4 ∷ [])) (bytes (Some little))) (bytes None) 32 at_start) string (3 ∷ []) ≡ true
+  pub vlen_data_reshaped : fits (vlen (bytes (Some little)) (after_array_codec squeeze (bytes None)) 32 at_start) string (3 ∷ []) ≡ false
   pub optional_of_uint8_fits : fits (optional (packbits no_padding_byte 0 None) (bytes None)) (optional_of uint8) (3 ∷ []) ≡ true
   pub optional_of_uint16_without_order : fits (optional (packbits no_padding_byte 0 None) (bytes None)) (optional_of (integer unsigned 16)) (3 ∷ []) ≡ false
   pub optional_over_uint8 : fits (optional (packbits no_padding_byte 0 None) (bytes None)) uint8 (3 ∷ []) ≡ false
@@ -85,15 +85,15 @@ pub record FitRows : Type 0 where
   pub shard_inner : fits (sharded (2 ∷ []) (bytes (Some little)) (bytes (Some little)) at_end) string (4 ∷ []) ≡ false
   pub shard_index_without_order : fits (sharded (2 ∷ []) (bytes None) (bytes None) at_end) uint8 (4 ∷ []) ≡ false
   pub shard_nested : fits (sharded (2 ∷ 2 ∷ []) (sharded (1 ∷ 2 ∷ []) (bytes None) (bytes (Some little)) at_end) (bytes (Some little)) at_end) uint8 (4 ∷ 4 ∷ []) ≡ true
-  pub shard_index_without_size : fits (sharded (2 ∷ []) (bytes None) (then_bytes (bytes (Some little)) (record { encode = λ text. Some text; decode = λ text. Some text; representation = λ known. unbounded_size })) at_end) uint8 (4 ∷ []) ≡ false
-  pub shard_of_reshaped : fits (sharded (2 ∷ []) (after_step (reshape (size_entry 2 ∷ [])) (bytes None)) (bytes (Some little)) at_end) uint8 (4 ∷ []) ≡ true
+  pub shard_index_without_size : fits (sharded (2 ∷ []) (bytes None) (then_bytes (bytes (Some little)) (record { encode = λ given. Some given; decode = λ given. Some given; representation = λ known. unbounded_size })) at_end) uint8 (4 ∷ []) ≡ false
+  pub shard_of_reshaped : fits (sharded (2 ∷ []) (after_array_codec (reshape (size_entry 2 ∷ [])) (bytes None)) (bytes (Some little)) at_end) uint8 (4 ∷ []) ≡ true
   pub size_of_bytes : size_of (bytes (Some little)) (integer unsigned 16) (2 ∷ 3 ∷ []) ≡ Some 12
   pub size_of_packbits : size_of (packbits last_byte 0 None) bool (9 ∷ []) ≡ Some 3
   pub size_of_shard : size_of (sharded (2 ∷ 2 ∷ []) (bytes None) (bytes (Some little)) at_end) uint8 (4 ∷ 4 ∷ []) ≡ None
-  pub size_of_texts : size_of (vlen (bytes (Some little)) (bytes None) 32 at_start) string (3 ∷ []) ≡ None
+  pub size_of_strings : size_of (vlen (bytes (Some little)) (bytes None) 32 at_start) string (3 ∷ []) ≡ None
   -- what a codec on bytes tells of the size of what it is given
-  pub size_of_reversed : size_of (then_bytes (bytes (Some little)) (record { encode = λ text. Some (reverse text); decode = λ text. Some (reverse text); representation = λ known. known })) (integer unsigned 16) (3 ∷ []) ≡ Some 6
-  pub shard_index_reversed : fits (sharded (2 ∷ []) (bytes None) (then_bytes (bytes (Some little)) (record { encode = λ text. Some (reverse text); decode = λ text. Some (reverse text); representation = λ known. known })) at_end) uint8 (4 ∷ []) ≡ true
+  pub size_of_reversed : size_of (then_bytes (bytes (Some little)) (record { encode = λ given. Some (reverse given); decode = λ given. Some (reverse given); representation = λ known. known })) (integer unsigned 16) (3 ∷ []) ≡ Some 6
+  pub shard_index_reversed : fits (sharded (2 ∷ []) (bytes None) (then_bytes (bytes (Some little)) (record { encode = λ given. Some (reverse given); decode = λ given. Some (reverse given); representation = λ known. known })) at_end) uint8 (4 ∷ []) ≡ true
   -- two lengths, one byte of mask bits and three elements
   pub bound_of_options : representation_of (optional (packbits no_padding_byte 0 None) (bytes None)) (optional_of uint8) (3 ∷ []) ≡ bounded_size 20
   -- an index of 64 bytes and 16 elements

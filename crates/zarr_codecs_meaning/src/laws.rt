@@ -40,7 +40,7 @@ pub fn encoded_size()
     ensures { EncodedSize }
 {}
 
-/// A shard is as long as its index and the texts of the subchunks that are present.
+/// A shard is as long as its index and the slices of the subchunks that are present.
 pub fn shard_size()
     ensures { ShardSize }
 {}

@@ -92,8 +92,8 @@ bool_is_value : (flag : Bool) → is_value bool (of_bytes (bool_bytes flag)) ≡
 bool_is_value true = refl
 bool_is_value false = refl
 
-text_is_value : (o : Option (List ℕ)) (cell : Cell) → option_map of_bytes o ≡ Some cell → holds_bytes cell ≡ true → is_value string cell ≡ true
-text_is_value o cell is h =
+string_is_value : (o : Option (List ℕ)) (cell : Cell) → option_map of_bytes o ≡ Some cell → holds_bytes cell ≡ true → is_value string cell ≡ true
+string_is_value o cell is h =
     let found = map_some of_bytes o cell is in
     ap (is_value string) (sym found.2) ∙ ap (λ (b : Bool). b && true) (ap holds_bytes found.2 ∙ h)
 
@@ -115,7 +115,7 @@ fill_is_value (integer sign width) d cell is h =
     let found = map_some (λ z. of_bytes (integer_bytes ((width + 7) / 8) z)) (integer_in sign width d) cell is in
     ap (is_value (integer sign width)) (sym found.2) ∙ integer_is_value sign width found.0 (in_range sign width d found.0 found.1)
 fill_is_value (custom parts) d cell is h = absurd (cc)
-fill_is_value string d cell is h = text_is_value (as_str d) cell is h
+fill_is_value string d cell is h = string_is_value (as_str d) cell is h
 fill_is_value variable_bytes d cell is h = bytes_are_value (bytes_in d) cell is h
 fill_is_value (optional_of inner) d cell is h =
     let found = bind_some (option_cell (cell_in inner)) (option_in d) cell is in

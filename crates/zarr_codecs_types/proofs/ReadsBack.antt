@@ -2,7 +2,7 @@
 use Rattle.std.proofs.Common.{◌≡◌, List, ℕ, [], ◌∷◌, codes, Bool, true, false, if◌then◌else◌, Option, Some, None, option_map, option_and_then, refl, sym, ap, ◌∙◌, rules}
 use Rattle.serde_json.specs.Data.{Data, Members}
 use Rattle.zarr_grids_metadata.specs.ExtensionPoints.{ExtensionPoint, extension_point, written_point, configuration_members}
-use Rattle.zarr_codecs_meaning.specs.Types.{DataType, bool, integer, custom, string as texts, variable_bytes, optional_of}
+use Rattle.zarr_codecs_meaning.specs.Types.{DataType, bool, integer, custom, string as strings, variable_bytes, optional_of}
 use Rattle.zarr_codecs_meaning.proofs.Lists.{Each, map_some}
 use Rattle.zarr_codecs_types.specs.Same.{same_type}
 use Rattle.zarr_codecs_types.specs.SameEquivalence.{same_type_decides}
@@ -99,7 +99,7 @@ point_named : (type : DataType) (point : ExtensionPoint) → type_point type ≡
 point_named bool point is = plain_named (name_of bool rows) point is
 point_named (integer sign width) point is = plain_named (name_of (integer sign width) rows) point is
 point_named (custom parts) point is = absurd (cc)
-point_named texts point is = plain_named (name_of texts rows) point is
+point_named strings point is = plain_named (name_of strings rows) point is
 point_named variable_bytes point is = plain_named (name_of variable_bytes rows) point is
 point_named (optional_of inner) point is =
     let found = map_some (λ p. named (Some (optional_configuration p)) (codes "zarrs.optional")) (type_point inner) point is in
@@ -109,7 +109,7 @@ point_back : (type : DataType) (point : ExtensionPoint) → type_point type ≡ 
 point_back bool point is = plain_back bool point is
 point_back (integer sign width) point is = plain_back (integer sign width) point is
 point_back (custom parts) point is = absurd (cc)
-point_back texts point is = plain_back texts point is
+point_back strings point is = plain_back strings point is
 point_back variable_bytes point is = plain_back variable_bytes point is
 point_back (optional_of inner) point is =
     let found = map_some (λ p. named (Some (optional_configuration p)) (codes "zarrs.optional")) (type_point inner) point is in

@@ -86,7 +86,7 @@ abbrev pub byte_items : List ℕ → Items
 byte_items [] = no_items
 byte_items (b ∷ bs) = item (numeral (natural b)) (byte_items bs)
 
--- what is written for bytes that are a value of a data type; None for a caller's type, and for a text that is not UTF-8
+-- what is written for bytes that are a value of a data type; None for a caller's type, and for a string that is not UTF-8
 abbrev pub bytes_data : DataType → List ℕ → Option Data
 bytes_data bool bytes = Some (boolean (not (bytes_eq bytes (0 ∷ []))))
 bytes_data (integer sign width) bytes = Some (numeral (of_integer (integer_from sign width bytes)))

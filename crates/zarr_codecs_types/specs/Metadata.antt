@@ -4,7 +4,7 @@ use Rattle.serde_json.specs.Data.{Data, string, Members, no_members, put, member
 use Rattle.serde_json.specs.Find.{get_member, as_str}
 use Rattle.zarr_grids_metadata.specs.Members.{has_only}
 use Rattle.zarr_grids_metadata.specs.ExtensionPoints.{ExtensionPoint, extension_point, configuration_in, configuration_members, put_configuration, written_point}
-use Rattle.zarr_codecs_meaning.specs.Types.{DataType, bool, integer, signed, unsigned, custom, string as texts, variable_bytes, optional_of}
+use Rattle.zarr_codecs_meaning.specs.Types.{DataType, bool, integer, signed, unsigned, custom, string as strings, variable_bytes, optional_of}
 use Rattle.zarr_codecs_types.specs.Same.{same_type}
 
 -- a name, and the type that it stands for
@@ -19,7 +19,7 @@ rows =
     ∷ (codes "int16", integer signed 16) ∷ (codes "int32", integer signed 32) ∷ (codes "int64", integer signed 64)
     ∷ (codes "uint2", integer unsigned 2) ∷ (codes "uint4", integer unsigned 4) ∷ (codes "uint8", integer unsigned 8)
     ∷ (codes "uint16", integer unsigned 16) ∷ (codes "uint32", integer unsigned 32) ∷ (codes "uint64", integer unsigned 64)
-    ∷ (codes "string", texts) ∷ (codes "bytes", variable_bytes) ∷ (codes "variable_length_bytes", variable_bytes) ∷ []
+    ∷ (codes "string", strings) ∷ (codes "bytes", variable_bytes) ∷ (codes "variable_length_bytes", variable_bytes) ∷ []
 
 -- the type that a name stands for
 abbrev pub type_named : List ℕ → List Row → Option DataType
@@ -84,7 +84,7 @@ abbrev pub type_point : DataType → Option ExtensionPoint
 type_point bool = option_map (named None) (name_of bool rows)
 type_point (integer sign width) = option_map (named None) (name_of (integer sign width) rows)
 type_point (custom parts) = None
-type_point texts = option_map (named None) (name_of texts rows)
+type_point strings = option_map (named None) (name_of strings rows)
 type_point variable_bytes = option_map (named None) (name_of variable_bytes rows)
 type_point (optional_of inner) = option_map (λ point. named (Some (optional_configuration point)) (codes "zarrs.optional")) (type_point inner)
 

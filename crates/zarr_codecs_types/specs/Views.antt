@@ -51,6 +51,10 @@ cell_of (Present' p cell) = types.present (cell_of cell)
 abbrev pub cells_of : List Cell → List types.Cell
 cells_of cells = map cell_of cells
 
--- the cell that a fill value is
+-- the cell that a fill value holds
+abbrev pub held_cell : FillValue → Cell
+held_cell value = value.cell
+
+-- the element that a fill value is
 abbrev pub fill_of : FillValue → types.Cell
-fill_of value = cell_of value.cell
+fill_of value = cell_of (held_cell value)

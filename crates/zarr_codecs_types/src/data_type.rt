@@ -136,7 +136,7 @@ pub fn uint64() -> DataType
     DataType::UInt64
 }
 
-/// Texts. Their UTF-8 is not checked.
+/// Strings. Their UTF-8 is not checked.
 pub fn string() -> DataType
     ensures { type_of result ≡ types.string }
 {
@@ -201,7 +201,7 @@ impl DataType {
         )
     }
 
-    /// Whether the elements are texts or lists of any number of bytes.
+    /// Whether the elements may have any number of bytes.
     pub fn is_variable(&self) -> bool
         ensures { result ≡ types.is_variable (type_of self.now) }
     {

@@ -13,7 +13,9 @@ pub struct FillValue {
 }
 
 impl From<Cell> for FillValue {
-    ghost from_gives = { λ cell value. value.cell ≡ cell };
+    ghost use Rattle.zarr_codecs_types.specs.Views.{held_cell};
+
+    ghost from_gives = { λ cell value. held_cell value ≡ cell };
 
     fn from(cell: Cell) -> FillValue {
         FillValue { cell }
@@ -27,7 +29,8 @@ impl FillValue {
     ghost use Rattle.zarr_codecs_types.specs.Views.{type_of, cell_of, fill_of};
     ghost use Rattle.zarr_codecs_types.specs.Integers.{integer_bytes};
 
-    /// The value with these bytes in memory, little endian: an element of a fixed type, or a text.
+    /// The value with these bytes in memory, little endian: an element of a fixed type, or a
+    /// string.
     pub fn new(bytes: Vec<u8>) -> FillValue
         ensures { fill_of result ≡ types.of_bytes bytes.items }
     {

@@ -21,7 +21,7 @@ impl FillValue {
     ghost use Rattle.zarr_codecs_types.specs.FillMetadata.{cell_data};
 
     /// The metadata that is written for a value of a data type; for `bytes` it is a list of
-    /// numbers. `None` where it is no value of the type, for a caller's type, and for a text that
+    /// numbers. `None` where it is no value of the type, for a caller's type, and for a string that
     /// is not UTF-8. `Err` only where an allocation failed.
     pub fn to_metadata(
         &self,

@@ -76,7 +76,8 @@ fn is_optional_name(name: &str) -> bool
 /// The extension point of the inner type, in the configuration of an optional type.
 fn inner_point<'v>(configuration: Option<&'v Map<String, Value>>) -> Option<ExtensionPoint<'v>>
     ensures { option_map point_view result
-        ≡ inner_point (configuration_members (option_map (λ ms. members_view ms.now.entries) configuration.entry)) }
+        ≡ inner_point (configuration_members
+        (option_map (λ ms. members_view ms.now.entries) configuration.entry)) }
 {
     let members = configuration?;
     if !has_only(members, &["name", "configuration"]) {
@@ -211,8 +212,8 @@ fn named_members(alloc: Global, name: &str) -> Result<Map<String, Value>, AllocE
 
 /// The metadata of an optional type with this configuration.
 fn optional_metadata(alloc: Global, configuration: &Map<String, Value>) -> Result<Value, AllocError>
-    ensures { IfOk result
-        (λ v. view v ≡ written_point (named (Some (members_view configuration.now.entries)) (codes "zarrs.optional"))) }
+    ensures { IfOk result (λ v. view v ≡ written_point
+        (named (Some (members_view configuration.now.entries)) (codes "zarrs.optional"))) }
 {
     let point = ExtensionPoint {
         name: "zarrs.optional",

@@ -9,7 +9,8 @@ use crate::cell::Cell;
 use crate::data_type::{Component, DataType, Sign};
 
 /// Whether a cell is a value of a data type: of a fixed type it has the right number of bytes,
-/// and the bits above each number's own are as its sign says; of a text any bytes are.
+/// and the bits above each number's own are as its sign says; of a type of variable length any
+/// bytes are.
 pub fn is_value(data_type: &DataType, cell: &Cell) -> bool
     ensures { result ≡ types.is_value (type_of data_type.now) (cell_of cell.now) }
 {

@@ -4,14 +4,16 @@
 //!   `LinearisedIndices` walk over it. `ravel_indices` and `unravel_index` turn a place of a shape into its row-major number
 //!   and back. An `ArrayShape` has any sizes, a `ChunkShape` none of 0.
 //! - Chunk grids: the four grids, each made of an array's shape and edges or of its extension point. `ChunkGridTraits` is what
-//!   all of them answer: which chunks there are, where each lies, which chunk a place lies in, which chunks a box meets, and
-//!   the three walks. `ChunkGrid` is any of them. A `LookupError` tells of a place or a chunk of another dimensionality.
+//!   all of them answer: which chunks there are, where each lies, which chunk a place lies in, which chunks a box intersects, and
+//!   the three walks. `ChunkGrid` is any of them, made of each by `from`. Each grid's `CreateError` is why its edges make none;
+//!   all of them turn into a `GridError`. A `LookupError` tells of a place or a chunk of another dimensionality.
 //! - Configurations of grids: the fields of each grid's configuration, typed. The edges along a dimension are one edge for all
-//!   chunks, a list, or runs of equal edges.
+//!   chunks, a list, or repeats of equal edges.
 //! - Chunk keys: the three encodings, each of which gives a chunk's name in a store, with `ChunkKeyEncoding` as any of them and
-//!   `ChunkKeyEncodingTraits` as what they answer. A `StoreKey` is a name in a store, a `NodePath` a node's place in a hierarchy.
-//! - Configurations of encodings: the fields of each encoding's configuration, typed. `ChunkKeyEncodingMetadata` makes an encoding
-//!   of an extension point, and writes it as one.
+//!   `ChunkKeyEncodingTraits` for code that takes any of them. Each is made of an extension point by `create`, any of them by
+//!   `ChunkKeyEncoding::from_metadata`, and written as one by `metadata`. A `StoreKey` is a name in a store, a `NodePath` a
+//!   node's place in a hierarchy. `chunk_key` and `document_key` give the keys of a node's chunks and documents.
+//! - Configurations of encodings: the fields of each encoding's configuration, typed.
 //! - Metadata: a `MetadataV3` is an extension point, a name and a configuration in JSON, from which grids and encodings are
 //!   made. A `PluginCreateError` is why one is not made.
 #![tactic(auto)]
@@ -31,14 +33,14 @@ pub use zarr_grids_configurations::{
     RectangularChunkGridDimensionConfiguration, RectilinearChunkGridConfiguration,
     RegularBoundedChunkGridConfiguration, RegularChunkGridConfiguration, RunLengthElement,
 };
-pub use zarr_grids_dimensions::{Dimension, IncompatibleDimensionalityError, LookupError, Run};
-pub use zarr_grids_key_metadata::{
-    ChunkKeyEncodingMetadata, DefaultChunkKeyEncodingConfiguration,
-    DefaultSuffixChunkKeyEncodingConfiguration, V2ChunkKeyEncodingConfiguration,
+pub use zarr_grids_dimensions::{
+    Dimension, IncompatibleDimensionalityError, LookupError, RepeatedEdge,
 };
 pub use zarr_grids_keys::{
     ChunkKeyEncoding, ChunkKeyEncodingTraits, ChunkKeySeparator, DefaultChunkKeyEncoding,
-    DefaultSuffixChunkKeyEncoding, NodePath, NodePathError, StoreKey, StoreKeyError,
-    SuffixEndsWithSlashError, V2ChunkKeyEncoding,
+    DefaultChunkKeyEncodingConfiguration, DefaultSuffixChunkKeyEncoding,
+    DefaultSuffixChunkKeyEncodingConfiguration, DocumentName, NodePath, NodePathError, StoreKey,
+    StoreKeyError, SuffixEndsWithSlashError, V2ChunkKeyEncoding, V2ChunkKeyEncodingConfiguration,
+    are_related, chunk_key, chunk_key_into, document_key, is_node_path, parent_path,
 };
 pub use zarr_grids_metadata::{MetadataV3, PluginCreateError};

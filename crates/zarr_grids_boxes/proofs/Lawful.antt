@@ -8,7 +8,7 @@ use Rattle.std.proofs.lemmas.Option.{get_or_from_slice_get}
 use Rattle.zarr_grids_boxes.specs.Boxes.{product, places, place_at, is_in_box, ravel, each2}
 use Rattle.zarr_grids_boxes.proofs.InBox.{ravel-place_at, in_box-place_at, place_at-number, length-places}
 use Rattle.zarr_grids_boxes.proofs.Places.{both}
-use Rattle.zarr_grids_boxes.proofs.Steps.{number_below}
+use Rattle.zarr_grids_boxes.proofs.Steps.{number_in_grid}
 use Rattle.zarr_grids_boxes.proofs.Walking.{get_or-places, start_in_box}
 
 -- ---- one dimension of an overlap
@@ -96,7 +96,7 @@ bound_below (s ∷ ss) (e ∷ es) (z ∷ zs) (p ∷ ps) l m =
 pub empty_has_none : (ss es : List ℕ) → length es ≡ length ss → (product es ≡ 0) ↔ ((ps : List ℕ) → is_in_box ss es ps ≡ false)
 empty_has_none ss es l = (there, back) where
   there : product es ≡ 0 → (ps : List ℕ) → is_in_box ss es ps ≡ false
-  there z ps = same_bool (is_in_box ss es ps) false (λ h. let b = number_below ss es ps h in absurd (omega arith)) (λ h. absurd (cc))
+  there z ps = same_bool (is_in_box ss es ps) false (λ h. let b = number_in_grid ss es ps h in absurd (omega arith)) (λ h. absurd (cc))
 
   back : ((ps : List ℕ) → is_in_box ss es ps ≡ false) → product es ≡ 0
   back h = from_none (product es) (λ p. let a = start_in_box ss es l p in let b = h ss in absurd (cc)) where
@@ -116,7 +116,7 @@ place_by_number ss es ps n l = (there, back) where
 
   back : (is_in_box ss es ps ≡ true) × (ravel (each2 (λ p s. p - s) ps ss) es ≡ n) → slice_get (places ss es) n ≡ Some ps
   back h =
-      let b = number_below ss es ps h.0 in
+      let b = number_in_grid ss es ps h.0 in
       let e = h.1 in
       let c : n < product es = omega arith in
       let d : n < length (places ss es) = omega (arith, length-places ss es (sym l)) in

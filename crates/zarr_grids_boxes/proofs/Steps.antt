@@ -79,8 +79,8 @@ pub put_back : (ss es ps : List ℕ) (k total : ℕ) → length es ≡ length ss
 put_back ss es ps k total l m h a t =
     put_by _ _ (get_or ps k 0 - get_or ss k 0) (get_or ss k 0 - get_or ss k 0) (get_or es k 0) _ _ total (omega arith) (number-set_at ss es ps k (get_or ss k 0) l m h) a (product-drop es k (omega arith)) t
 
-pub number_below : (ss es ps : List ℕ) → is_in_box ss es ps ≡ true → ravel (each2 (λ p s. p - s) ps ss) es < product es
-number_below ss es ps h = ravel_below _ es (in_box_below ss es ps h)
+pub number_in_grid : (ss es ps : List ℕ) → is_in_box ss es ps ≡ true → ravel (each2 (λ p s. p - s) ps ss) es < product es
+number_in_grid ss es ps h = ravel_below _ es (in_box_below ss es ps h)
 
 -- ---- one turn of the loop from the last dimension to the first, of which `k` are left
 pub record Along (ss es ps : List ℕ) (k : ℕ) : Type 0 where
@@ -112,7 +112,7 @@ back_here ss es ps j k total h l e a t =
 
 pub all_back : (ss es ps : List ℕ) (k x : ℕ) → is_in_box ss es ps ≡ true → k ≡ 0 → x + product (drop k es) ≡ ravel (each2 (λ p s. p - s) ps ss) es + 1 → ravel (each2 (λ p s. p - s) ps ss) es + 1 ≡ product es
 all_back ss es ps k x h e t =
-    let b = number_below ss es ps h in
+    let b = number_in_grid ss es ps h in
     let t' = rw e at t in omega arith
 
 pub product-past : (es : List ℕ) (n : ℕ) → length es ≤ n → product (drop n es) ≡ 1

@@ -11,7 +11,7 @@ use Rattle.zarr_grids_boxes.proofs.Dimensions.{place_at-drop, positive-drop, pos
 use Rattle.zarr_grids_boxes.proofs.InBox.{length-places, place_at-number}
 use Rattle.zarr_grids_boxes.proofs.Numbers.{one_digit_more, front_below}
 use Rattle.zarr_grids_boxes.proofs.Places.{places_by_number, length-place_at, place_at_below}
-use Rattle.zarr_grids_boxes.proofs.Steps.{in_box_same, number_below}
+use Rattle.zarr_grids_boxes.proofs.Steps.{in_box_same, number_in_grid}
 
 -- ---- the places from one on
 pub get_or-places : (ss es : List ℕ) (n : ℕ) (d : List ℕ) → length ss ≡ length es → n < product es → get_or (places ss es) n d ≡ place_at ss es n
@@ -25,7 +25,7 @@ places_from ss es n l h =
 pub places_from_place : (ss es ps : List ℕ) (n : ℕ) → is_in_box ss es ps ≡ true → n ≡ ravel (each2 (λ p s. p - s) ps ss) es → drop n (places ss es) ≡ ps ∷ drop (n + 1) (places ss es)
 places_from_place ss es ps n h e =
     let l = (in_box_same ss es ps h).0 in
-    let b = number_below ss es ps h in
+    let b = number_in_grid ss es ps h in
     let f = places_from ss es n (sym l) (omega arith) in
     f ∙ ap (λ p. p ∷ drop (n + 1) (places ss es)) (ap (place_at ss es) e ∙ place_at-number ss es ps h)
 

@@ -26,3 +26,7 @@ relative box offset = record { start = each2 (λ s o. s - o) box.start offset; s
 pub record IsAtMost (xs ys : List ℕ) : Type 0 where
   pub same : length xs ≡ length ys
   pub each : (k : ℕ) → k < length ys → slice_index xs k ≤ slice_index ys k
+
+-- as many numbers, one of them more than the other's
+abbrev pub HasOneNotAtMost : List ℕ → List ℕ → Type 0
+HasOneNotAtMost xs ys = (length xs ≡ length ys) × (¬ IsAtMost xs ys)

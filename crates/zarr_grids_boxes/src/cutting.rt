@@ -1,7 +1,7 @@
 //! Boxes made from boxes.
 ghost use Rattle.std.specs.Prelude.{◌≡◌, ◌↔◌, ◌+◌, ◌-◌, ◌<◌, ◌≤◌, ◌^◌, ℕ, length, slice_index, min, max, IfOk, IsOkUnless};
 ghost use Rattle.zarr_grids_boxes.specs.Boxes.{EndsFit, each2};
-ghost use Rattle.zarr_grids_boxes.specs.Cuts.{ends, overlapped, bounded, relative, IsAtMost};
+ghost use Rattle.zarr_grids_boxes.specs.Cuts.{ends, overlapped, bounded, relative, IsAtMost, HasOneNotAtMost};
 ghost use Rattle.zarr_grids_boxes.specs.Subsets.{region_of};
 
 use crate::making::{box_between, is_at_most};
@@ -9,15 +9,18 @@ use crate::subset::{ArraySubset, ArraySubsetError};
 use std::alloc::{AllocError, Global};
 
 impl ArraySubset {
-    /// The box of the places in both boxes. Where they share no number in a dimension, it has length 0 there.
+    /// The box of the places in both boxes. Its length is 0 in a dimension where the two have no number in common.
     pub fn overlap(
         &self,
         alloc: Global,
         other: &ArraySubset,
     ) -> Result<ArraySubset, ArraySubsetError>
-        ensures made { IfOk result (λ subset. region_of subset ≡ overlapped (region_of self.now) (region_of other.now)) }
-        ensures differ { (result ≡ Err ArraySubsetError.LengthsDiffer) ↔ (¬ (length other.now.start.items ≡ length self.now.start.items)) }
-        ensures memory { length other.now.start.items ≡ length self.now.start.items → IsOkUnless result ArraySubsetError.Memory }
+        ensures made { IfOk result
+            (λ subset. region_of subset ≡ overlapped (region_of self.now) (region_of other.now)) }
+        ensures differ { (result ≡ Err ArraySubsetError.LengthsDiffer)
+            ↔ (¬ (length other.now.start.items ≡ length self.now.start.items)) }
+        ensures memory { length other.now.start.items ≡ length self.now.start.items
+            → IsOkUnless result ArraySubsetError.Memory }
     {
         if other.start.len() != self.start.len() {
             return Err(ArraySubsetError::LengthsDiffer);
@@ -27,9 +30,12 @@ impl ArraySubset {
 
     /// The box of the places that lie below `end` in each dimension.
     pub fn bound(&self, alloc: Global, end: &[u64]) -> Result<ArraySubset, ArraySubsetError>
-        ensures made { IfOk result (λ subset. region_of subset ≡ bounded (region_of self.now) end.now) }
-        ensures differ { (result ≡ Err ArraySubsetError.LengthsDiffer) ↔ (¬ (length end.now ≡ length self.now.start.items)) }
-        ensures memory { length end.now ≡ length self.now.start.items → IsOkUnless result ArraySubsetError.Memory }
+        ensures made { IfOk result
+            (λ subset. region_of subset ≡ bounded (region_of self.now) end.now) }
+        ensures differ { (result ≡ Err ArraySubsetError.LengthsDiffer)
+            ↔ (¬ (length end.now ≡ length self.now.start.items)) }
+        ensures memory { length end.now ≡ length self.now.start.items
+            → IsOkUnless result ArraySubsetError.Memory }
     {
         if end.len() != self.start.len() {
             return Err(ArraySubsetError::LengthsDiffer);
@@ -37,16 +43,20 @@ impl ArraySubset {
         Ok(bound_same(alloc, self, end)?)
     }
 
-    /// The box as seen from `offset`, which is at most its start.
+    /// The same box with its start given from `offset` on. The error is an offset after the start in some dimension.
     pub fn relative_to(
         &self,
         alloc: Global,
         offset: &[u64],
     ) -> Result<ArraySubset, ArraySubsetError>
-        ensures made { IfOk result (λ subset. region_of subset ≡ relative (region_of self.now) offset.now) }
-        ensures differ { (result ≡ Err ArraySubsetError.LengthsDiffer) ↔ (¬ (length offset.now ≡ length self.now.start.items)) }
-        ensures after { (result ≡ Err ArraySubsetError.NotRelative) ↔ ((length offset.now ≡ length self.now.start.items) × (¬ IsAtMost offset.now self.now.start.items)) }
-        ensures memory { IsAtMost offset.now self.now.start.items → IsOkUnless result ArraySubsetError.Memory }
+        ensures made { IfOk result
+            (λ subset. region_of subset ≡ relative (region_of self.now) offset.now) }
+        ensures differ { (result ≡ Err ArraySubsetError.LengthsDiffer)
+            ↔ (¬ (length offset.now ≡ length self.now.start.items)) }
+        ensures after { (result ≡ Err ArraySubsetError.NotRelative)
+            ↔ HasOneNotAtMost offset.now self.now.start.items }
+        ensures memory { IsAtMost offset.now self.now.start.items
+            → IsOkUnless result ArraySubsetError.Memory }
     {
         if offset.len() != self.start.len() {
             return Err(ArraySubsetError::LengthsDiffer);
@@ -65,7 +75,8 @@ fn overlap_same(
     other: &ArraySubset,
 ) -> Result<ArraySubset, AllocError>
     requires { length other.now.start.items ≡ length one.now.start.items }
-    ensures { IfOk result (λ subset. region_of subset ≡ overlapped (region_of one.now) (region_of other.now)) }
+    ensures { IfOk result
+        (λ subset. region_of subset ≡ overlapped (region_of one.now) (region_of other.now)) }
 {
     let start = larger_each(alloc, &one.start, &other.start)?;
     let end = lower_to_end(one.end_exc(alloc)?, other);

@@ -11,7 +11,8 @@ impl ArraySubset {
     /// The first number past the box in each dimension.
     pub fn end_exc(&self, alloc: Global) -> Result<Vec<u64>, AllocError>
         ensures end { IfOk result (λ end. end.items ≡ ends (region_of self.now)) }
-        ensures dimensionality { IfOk result (λ end. length end.items ≡ length self.now.start.items) }
+        ensures dimensionality { IfOk result
+            (λ end. length end.items ≡ length self.now.start.items) }
     {
         let mut end = Vec::with_capacity(alloc, self.start.len())?;
         for k in 0..self.start.len() {
@@ -22,7 +23,9 @@ impl ArraySubset {
 
     /// The last number of the box in each dimension, if the box has a place.
     pub fn end_inc(&self, alloc: Global) -> Result<Option<Vec<u64>>, AllocError>
-        ensures { IfOk result (λ last. MatchOption last (product self.now.shape.items ≡ 0) (λ end. (0 < product self.now.shape.items) × (end.items ≡ map (λ n. n - 1) (ends (region_of self.now))))) }
+        ensures { IfOk result (λ last. MatchOption last (product self.now.shape.items ≡ 0)
+            (λ end. (0 < product self.now.shape.items)
+            × (end.items ≡ map (λ n. n - 1) (ends (region_of self.now))))) }
     {
         if self.is_empty() {
             return Ok(None);
@@ -49,10 +52,12 @@ impl ArraySubset {
         true
     }
 
-    /// Whether the box ends within an array of this shape in each dimension. In an array of another dimensionality it does not.
+    /// Whether the box ends inside an array of this shape in each dimension. An array of another dimensionality does
+    /// not hold it.
     pub fn inbounds_shape(&self, array_shape: &[u64]) -> bool
         ensures inside { IsTrue result ↔ IsAtMost (ends (region_of self.now)) array_shape.now }
-        ensures dimensionality { IsTrue result → length array_shape.now ≡ length self.now.start.items }
+        ensures dimensionality { IsTrue result
+            → length array_shape.now ≡ length self.now.start.items }
     {
         if array_shape.len() != self.start.len() {
             return false;

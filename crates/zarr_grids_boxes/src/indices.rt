@@ -6,15 +6,16 @@ ghost use Rattle.zarr_grids_boxes.specs.Boxes.{product, places, is_in_box, ravel
 use crate::subset::ArraySubset;
 use std::alloc::{AllocError, Global};
 
-/// The places of a box that a walk has left, row-major. Each item takes memory: where there is none, the item is the error, and
-/// the walk goes on after that place.
+/// A walk over the places of a box, row-major: what it has left. Each item is allocated; where memory runs out, the item
+/// is the error, and the walk goes on with the next place.
 #[derive(Drop)]
 pub struct Indices<'a> {
     subset: &'a ArraySubset,
     alloc: Global,
     next: Vec<u64>,
     more: bool,
-    ghost within: { IsTrue more → is_in_box subset.now.start.items subset.now.shape.items next.items ≡ true },
+    ghost within: { IsTrue more
+        → is_in_box subset.now.start.items subset.now.shape.items next.items ≡ true },
 }
 
 impl ArraySubset {
@@ -22,7 +23,8 @@ impl ArraySubset {
 
     /// The places of the box, row-major.
     pub fn indices(&self, alloc: Global) -> Result<Indices<'_>, AllocError>
-        ensures { IfOk result (λ walk. indices_left walk ≡ places self.now.start.items self.now.shape.items) }
+        ensures { IfOk result
+            (λ walk. indices_left walk ≡ places self.now.start.items self.now.shape.items) }
     {
         let next = self.start.to_vec(alloc)?;
         let more = !self.is_empty();
@@ -40,7 +42,10 @@ impl<'a> Iterator for Indices<'a> {
 
     type Item = Result<Vec<u64>, AllocError>;
 
-    ghost next_gives = { λ old given new. MatchOption given ((indices_left old ≡ []) × (indices_left new ≡ [])) (λ item. (place : List ℕ) × (indices_left old ≡ place ∷ indices_left new) × IfOk item (λ indices. indices.items ≡ place)) };
+    ghost next_gives = { λ old given new. MatchOption given
+        ((indices_left old ≡ []) × (indices_left new ≡ []))
+        (λ item. (place : List ℕ) × (indices_left old ≡ place ∷ indices_left new)
+        × IfOk item (λ indices. indices.items ≡ place)) };
 
     ghost remaining = { item_count indices_left };
 
@@ -66,13 +71,18 @@ impl<'a> Indices<'a> {
     }
 }
 
-/// Goes to the next place of a box, or tells that there is none.
+/// Changes a place of a box to the next one, row-major. From the last place it goes back to the first, and answers
+/// `false`.
 pub fn step(start: &[u64], shape: &[u64], place: &mut Vec<u64>) -> bool
     requires fit { EndsFit start.now shape.now }
     requires within { is_in_box start.now shape.now place.old.items ≡ true }
     ensures within { is_in_box start.now shape.now place.new.items ≡ true }
-    ensures next { IsTrue result → ravel (each2 (λ p s. p - s) place.new.items start.now) shape.now ≡ ravel (each2 (λ p s. p - s) place.old.items start.now) shape.now + 1 }
-    ensures last { (¬ IsTrue result) → ravel (each2 (λ p s. p - s) place.old.items start.now) shape.now + 1 ≡ product shape.now }
+    ensures next { IsTrue result
+        → ravel (each2 (λ p s. p - s) place.new.items start.now) shape.now
+        ≡ ravel (each2 (λ p s. p - s) place.old.items start.now) shape.now + 1 }
+    ensures last { (¬ IsTrue result)
+        → ravel (each2 (λ p s. p - s) place.old.items start.now) shape.now + 1
+        ≡ product shape.now }
 {
     for k in (0..start.len()).rev() {
         let at = place[k];

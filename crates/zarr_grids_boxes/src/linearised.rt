@@ -8,7 +8,7 @@ ghost use Rattle.zarr_grids_boxes.specs.Subsets.{region_of};
 use crate::shapes::count_elements;
 use crate::subset::{ArraySubset, ArraySubsetError};
 
-/// The numbers, in an array, of the places of a box that a walk has left, row-major. It takes no memory.
+/// A walk over the numbers, in an array, of the places of a box, row-major: what it has left. It allocates nothing.
 #[derive(Drop)]
 pub struct LinearisedIndices<'a> {
     subset: &'a ArraySubset,
@@ -28,11 +28,18 @@ impl ArraySubset {
         &'a self,
         array_shape: &'a [u64],
     ) -> Result<LinearisedIndices<'a>, ArraySubsetError>
-        ensures made { IfOk result (λ walk. linearised_left walk ≡ linearised (region_of self.now) array_shape.now) }
-        ensures differ { (result ≡ Err ArraySubsetError.LengthsDiffer) ↔ (¬ (length array_shape.now ≡ length self.now.start.items)) }
-        ensures outside { (result ≡ Err ArraySubsetError.NotInbounds) ↔ ((length array_shape.now ≡ length self.now.start.items) × (¬ IsAtMost (ends (region_of self.now)) array_shape.now)) }
-        ensures size { (result ≡ Err ArraySubsetError.Size) ↔ (IsAtMost (ends (region_of self.now)) array_shape.now × (2 ^ 64 ≤ product array_shape.now)) }
-        ensures others { IsAtMost (ends (region_of self.now)) array_shape.now → product array_shape.now < 2 ^ 64 → IsOk result }
+        ensures made { IfOk result
+            (λ walk. linearised_left walk ≡ linearised (region_of self.now) array_shape.now) }
+        ensures differ { (result ≡ Err ArraySubsetError.LengthsDiffer)
+            ↔ (¬ (length array_shape.now ≡ length self.now.start.items)) }
+        ensures outside { (result ≡ Err ArraySubsetError.NotInbounds)
+            ↔ ((length array_shape.now ≡ length self.now.start.items)
+            × (¬ IsAtMost (ends (region_of self.now)) array_shape.now)) }
+        ensures size { (result ≡ Err ArraySubsetError.Size)
+            ↔ (IsAtMost (ends (region_of self.now)) array_shape.now
+            × (2 ^ 64 ≤ product array_shape.now)) }
+        ensures others { IsAtMost (ends (region_of self.now)) array_shape.now
+            → product array_shape.now < 2 ^ 64 → IsOk result }
     {
         if !self.inbounds_shape(array_shape) {
             return Err(if array_shape.len() == self.start.len() {
@@ -71,7 +78,9 @@ impl<'a> LinearisedIndices<'a> {
     /// The walk over a box inside an array, if the array has less than 2^64 elements.
     fn new(subset: &'a ArraySubset, array_shape: &'a [u64]) -> Option<LinearisedIndices<'a>>
         requires { IsAtMost (ends (region_of subset.now)) array_shape.now }
-        ensures { MatchOption result (2 ^ 64 ≤ product array_shape.now) (λ walk. (product array_shape.now < 2 ^ 64) × (linearised_left walk ≡ linearised (region_of subset.now) array_shape.now)) }
+        ensures { MatchOption result (2 ^ 64 ≤ product array_shape.now)
+            (λ walk. (product array_shape.now < 2 ^ 64)
+            × (linearised_left walk ≡ linearised (region_of subset.now) array_shape.now)) }
     {
         let Some(_) = count_elements(array_shape) else {
             return None;

@@ -1,7 +1,7 @@
 //! Making boxes.
 ghost use Rattle.std.specs.Prelude.{◌≡◌, ◌↔◌, ◌+◌, ◌-◌, ◌<◌, ◌≤◌, ◌^◌, ℕ, length, slice_index, map, replicate, IsTrue, IfOk, IsOk};
 ghost use Rattle.zarr_grids_boxes.specs.Boxes.{EndsFit, product, each2};
-ghost use Rattle.zarr_grids_boxes.specs.Cuts.{between, IsAtMost};
+ghost use Rattle.zarr_grids_boxes.specs.Cuts.{between, IsAtMost, HasOneNotAtMost};
 ghost use Rattle.zarr_grids_boxes.specs.Subsets.{region_of};
 
 use crate::subset::{ArraySubset, ArraySubsetError};
@@ -9,9 +9,10 @@ use std::alloc::{AllocError, Global};
 use std::ops::Range;
 
 impl ArraySubset {
-    /// The box with these ranges: a reversed range has no number.
+    /// The box of the numbers in these ranges, one for each dimension. A range that ends before its start has no number.
     pub fn new_with_ranges(alloc: Global, ranges: &[Range<u64>]) -> Result<ArraySubset, AllocError>
-        ensures { IfOk result (λ subset. region_of subset ≡ between (map (λ r. r.start) ranges.now) (map (λ r. r.end) ranges.now)) }
+        ensures { IfOk result (λ subset. region_of subset
+            ≡ between (map (λ r. r.start) ranges.now) (map (λ r. r.end) ranges.now)) }
     {
         let mut start = Vec::with_capacity(alloc, ranges.len())?;
         let mut shape = Vec::with_capacity(alloc, ranges.len())?;
@@ -24,7 +25,8 @@ impl ArraySubset {
 
     /// The box of this shape that starts at 0.
     pub fn new_with_shape(alloc: Global, shape: Vec<u64>) -> Result<ArraySubset, AllocError>
-        ensures start { IfOk result (λ subset. subset.start.items ≡ replicate (length shape.items) 0) }
+        ensures start { IfOk result
+            (λ subset. subset.start.items ≡ replicate (length shape.items) 0) }
         ensures shape { IfOk result (λ subset. subset.shape ≡ shape) }
     {
         let start = vec![in alloc; 0u64; shape.len()]?;
@@ -38,8 +40,10 @@ impl ArraySubset {
     ) -> Result<ArraySubset, ArraySubsetError>
         ensures start { IfOk result (λ subset. subset.start ≡ start) }
         ensures made { IfOk result (λ subset. region_of subset ≡ between start.items end.items) }
-        ensures differ { (result ≡ Err ArraySubsetError.LengthsDiffer) ↔ (¬ (length start.items ≡ length end.items)) }
-        ensures after { (result ≡ Err ArraySubsetError.StartAfterEnd) ↔ ((length start.items ≡ length end.items) × (¬ IsAtMost start.items end.items)) }
+        ensures differ { (result ≡ Err ArraySubsetError.LengthsDiffer)
+            ↔ (¬ (length start.items ≡ length end.items)) }
+        ensures after { (result ≡ Err ArraySubsetError.StartAfterEnd)
+            ↔ HasOneNotAtMost start.items end.items }
         ensures others { IsAtMost start.items end.items → IsOk result }
     {
         if end.len() != start.len() {
@@ -51,7 +55,8 @@ impl ArraySubset {
         Ok(box_between(start, end))
     }
 
-    /// The box with no place, of this dimensionality: its start and its shape are 0. With no dimension it has its one place.
+    /// The box of this dimensionality that has no place: its start and its shape are 0. With no dimension it has one
+    /// place, as every box of no dimension.
     pub fn new_empty(alloc: Global, dimensionality: usize) -> Result<ArraySubset, AllocError>
         ensures start { IfOk result (λ subset. subset.start.items ≡ replicate dimensionality 0) }
         ensures shape { IfOk result (λ subset. subset.shape.items ≡ replicate dimensionality 0) }

@@ -8,9 +8,12 @@ use crate::shapes::ArrayIndices;
 use crate::walk::has_no_place;
 use std::alloc::{AllocError, Global};
 
-/// The number of an index below this shape, if that is below 2^64.
+/// The number of an index in an array of this shape, row-major. `None` where the index is outside the array, or the
+/// number is 2^64 or more.
 pub fn ravel_indices(indices: &[u64], shape: &[u64]) -> Option<u64>
-    ensures { SomeIff result (IsIndex indices.now shape.now × (ravel indices.now shape.now < 2 ^ 64)) (ravel indices.now shape.now) }
+    ensures { SomeIff result
+        (IsIndex indices.now shape.now × (ravel indices.now shape.now < 2 ^ 64))
+        (ravel indices.now shape.now) }
 {
     if !is_index(indices, shape) {
         return None;
@@ -18,7 +21,7 @@ pub fn ravel_indices(indices: &[u64], shape: &[u64]) -> Option<u64>
     ravel_below(indices, shape)
 }
 
-/// Whether the index is below the shape in each dimension.
+/// Whether the index lies in an array of this shape.
 fn is_index(indices: &[u64], shape: &[u64]) -> bool
     ensures { IsTrue result ↔ IsIndex indices.now shape.now }
 {
@@ -33,7 +36,7 @@ fn is_index(indices: &[u64], shape: &[u64]) -> bool
     true
 }
 
-/// The number of an index that is below the shape, if that is below 2^64.
+/// The number of an index in an array of this shape, if that is below 2^64.
 fn ravel_below(indices: &[u64], shape: &[u64]) -> Option<u64>
     requires { IsIndex indices.now shape.now }
     ensures { SomeIff result (ravel indices.now shape.now < 2 ^ 64) (ravel indices.now shape.now) }
@@ -58,13 +61,14 @@ fn with_digit(number: u64, size: u64, digit: u64) -> Option<u64>
     }
 }
 
-/// The index below this shape that has a number, if one has it.
+/// The index that has this number in an array of this shape, row-major. `None` where the array has no such number.
 pub fn unravel_index(
     alloc: Global,
     index: u64,
     shape: &[u64],
 ) -> Result<Option<ArrayIndices>, AllocError>
-    ensures { IfOk result (λ found. MatchOption found (product shape.now ≤ index) (λ indices. (index < product shape.now) × (indices.items ≡ unravel shape.now index))) }
+    ensures { IfOk result (λ found. MatchOption found (product shape.now ≤ index)
+        (λ indices. (index < product shape.now) × (indices.items ≡ unravel shape.now index))) }
 {
     if has_no_place(shape) {
         return Ok(None);

@@ -58,9 +58,12 @@ impl ArraySubset {
     ) -> Result<ArraySubset, ArraySubsetError>
         ensures start { IfOk result (λ subset. subset.start ≡ start) }
         ensures shape { IfOk result (λ subset. subset.shape ≡ shape) }
-        ensures differ { (result ≡ Err ArraySubsetError.LengthsDiffer) ↔ (¬ (length shape.items ≡ length start.items)) }
-        ensures passes { result ≡ Err ArraySubsetError.EndPasses → ¬ EndsFit start.items shape.items }
-        ensures others { length shape.items ≡ length start.items → IsOkUnless result ArraySubsetError.EndPasses }
+        ensures differ { (result ≡ Err ArraySubsetError.LengthsDiffer)
+            ↔ (¬ (length shape.items ≡ length start.items)) }
+        ensures passes { result ≡ Err ArraySubsetError.EndPasses
+            → ¬ EndsFit start.items shape.items }
+        ensures others { length shape.items ≡ length start.items
+            → IsOkUnless result ArraySubsetError.EndPasses }
     {
         if shape.len() != start.len() {
             return Err(ArraySubsetError::LengthsDiffer);
@@ -94,7 +97,8 @@ impl ArraySubset {
 
     /// How many places the box has, if that is below 2^64.
     pub fn num_elements(&self) -> Result<u64, ArraySubsetError>
-        ensures { MatchResult result (λ count. count ≡ product self.now.shape.items) (λ e. (e ≡ ArraySubsetError.Size) × (2 ^ 64 ≤ product self.now.shape.items)) }
+        ensures { MatchResult result (λ count. count ≡ product self.now.shape.items)
+            (λ e. (e ≡ ArraySubsetError.Size) × (2 ^ 64 ≤ product self.now.shape.items)) }
     {
         count_elements(&self.shape).ok_or(ArraySubsetError::Size)
     }

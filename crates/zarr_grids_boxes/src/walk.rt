@@ -33,7 +33,7 @@ pub fn count_places(shape: &[u64]) -> Option<u64>
 }
 
 /// Writes the place with number `n`, row-major, of a box with `count` places.
-pub fn write_place(start: &[u64], shape: &[u64], count: u64, n: u64, place: &mut [u64])
+pub fn place_into(start: &[u64], shape: &[u64], count: u64, n: u64, place: &mut [u64])
     requires same { length shape.now ≡ length start.now }
     requires room { length place.old ≡ length start.now }
     requires fit { EndsFit start.now shape.now }

@@ -1,4 +1,5 @@
 pub mod ByEdges
+pub mod Causes
 pub mod Made
 pub mod PositiveShapes
 pub mod Walking

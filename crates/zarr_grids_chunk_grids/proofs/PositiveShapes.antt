@@ -9,7 +9,7 @@ use Rattle.zarr_grids_dimensions.specs.declared.dimension.Dimension.{Dimension a
 use Rattle.zarr_grids_dimensions.specs.declared.dimension.Dimension.TheVariants.{Regular, Clipped, Varying}
 use Rattle.zarr_grids_dimensions.specs.Dimensions.{dimension_of, grid_of}
 use Rattle.zarr_grids_dimensions.specs.Chunks.{count_of, shape}
-use Rattle.zarr_grids_dimensions.specs.Runs.{expanded}
+use Rattle.zarr_grids_dimensions.specs.RepeatedEdges.{expanded}
 use Rattle.zarr_grids_dimensions.proofs.Expanded.{positive-at, positive-expanded}
 
 -- a chosen interval's count
@@ -26,9 +26,9 @@ count-positive (Clipped fixed) k n h =
     let e = x.1 in
     omega arith
 count-positive (Varying edges) k n h =
-    let es : List ℕ = expanded edges.runs.items in
+    let es : List ℕ = expanded edges.repeats.items in
     let x = chosen (nat_lt k (length es)) (interval-at es k) n h in
-    let p = positive-at es k (ltb-true k (length es) x.0) (positive-expanded edges.runs.items edges.positive) in
+    let p = positive-at es k (ltb-true k (length es) x.0) (positive-expanded edges.repeats.items edges.positive) in
     subst (λ (m : ℕ). 0 < m) x.1 p where
       interval-at : List ℕ → ℕ → Interval
       interval-at es k = record { first = sum (take k es); count = get_or es k 0 }

@@ -3,7 +3,7 @@ use Rattle.std.proofs.Common.{◌≡◌, ◌≢◌, ◌∙◌, ℕ, List, [], �
 use Rattle.std.specs.List.{list_all}
 use Rattle.std.proofs.lemmas.List.{length-map}
 use Rattle.zarr_grids_boxes.specs.Boxes.{Region, places}
-use Rattle.zarr_grids_chunks.specs.Grids.{Grid, Interval, interval, bounded, onto_box, chunk_box, chunk_count, grid_shape, chunk_indices}
+use Rattle.zarr_grids_chunks.specs.Grids.{Grid, Interval, interval, addressable, onto_box, chunk_box, chunk_count, grid_shape, chunk_indices}
 use Rattle.zarr_grids_dimensions.specs.Errors.{Tells}
 use Rattle.zarr_grids_dimensions.specs.declared.error.IncompatibleDimensionalityError.{IncompatibleDimensionalityError}
 use Rattle.zarr_grids_dimensions.specs.declared.error.LookupError.{LookupError}
@@ -15,7 +15,7 @@ pub other_length : (grid : Grid) (chunk : List ℕ) → length chunk ≢ length 
 other_length [] [] h = absurd (h refl)
 other_length [] (k ∷ ks) h = refl
 other_length (d ∷ ds) [] h = refl
-other_length (d ∷ ds) (k ∷ ks) h = nothing (option_and_then bounded (interval d k)) (chunk_box ds ks) (other_length ds ks (λ e. h (omega arith))) where
+other_length (d ∷ ds) (k ∷ ks) h = nothing (option_and_then addressable (interval d k)) (chunk_box ds ks) (other_length ds ks (λ e. h (omega arith))) where
   nothing : (o : Option Interval) (p : Option Region) → p ≡ None → option_and_then (λ i. option_map (onto_box i) p) o ≡ None
   nothing None p e = refl
   nothing (Some i) p e = ap (option_map (onto_box i)) e

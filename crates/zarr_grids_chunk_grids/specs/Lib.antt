@@ -1,3 +1,4 @@
+pub mod Errors
 pub mod Grids
 pub mod Laws
 pub mod Walks

@@ -1,10 +1,10 @@
-//! Walks over the boxes of the chunks below a grid shape.
-ghost use Rattle.std.specs.Prelude.{◌≡◌, List, ℕ, [], ◌∷◌, Some, Ok, option_map, IsTrue, IfOk, IfSome, IfNone, MatchOption};
+//! Walks over the boxes of the chunks in a grid.
+ghost use Rattle.std.specs.Prelude.{◌≡◌, [], Some, Ok, option_map, IsTrue, IfOk, IfSome, IfNone};
 ghost use Rattle.std.specs.Iterator.{item_count};
 ghost use Rattle.zarr_grids_boxes.specs.Subsets.{region_of};
 ghost use Rattle.zarr_grids_chunks.specs.Grids.{chunk_box, chunk_indices};
 ghost use Rattle.zarr_grids_dimensions.specs.Dimensions.{grid_of};
-ghost use Rattle.zarr_grids_chunk_grids.specs.Walks.{chunks_left, PassesOver};
+ghost use Rattle.zarr_grids_chunk_grids.specs.Walks.{chunks_left, subsets_left, dimensions_of_subsets, pairs_left, dimensions_of_pairs, PassesOver, GivesNext};
 
 use crate::walks::ChunkIndices;
 use std::alloc::{AllocError, Global};
@@ -18,12 +18,13 @@ fn box_of(
     grid: &[Dimension],
     chunk: &[u64],
 ) -> Result<Option<ArraySubset>, AllocError>
-    ensures { IfOk result (λ found. option_map region_of found ≡ chunk_box (grid_of grid.now) chunk.now) }
+    ensures { IfOk result
+        (λ found. option_map region_of found ≡ chunk_box (grid_of grid.now) chunk.now) }
 {
     match lookups::subset(alloc, grid, chunk) {
         Ok(found) => Ok(found),
         Err(LookupError::Dimensionality(_)) => Ok(None),
-        Err(LookupError::OutOfMemory(error)) => Err(error),
+        Err(LookupError::Memory(error)) => Err(error),
     }
 }
 
@@ -33,8 +34,10 @@ fn find_box(
     grid: &[Dimension],
     chunks: &mut ChunkIndices,
 ) -> Option<Result<ArraySubset, AllocError>>
-    ensures passes { PassesOver (grid_of grid.now) (chunks_left chunks.old) (chunks_left chunks.new) }
-    ensures found { IfSome result (λ item. IsTrue chunks.new.more × IfOk item (λ subset. chunk_box (grid_of grid.now) chunks.new.next.items ≡ Some (region_of subset))) }
+    ensures passes { PassesOver (grid_of grid.now) (chunks_left chunks.old)
+        (chunks_left chunks.new) }
+    ensures found { IfSome result (λ item. IsTrue chunks.new.more × IfOk item
+        (λ subset. chunk_box (grid_of grid.now) chunks.new.next.items ≡ Some (region_of subset))) }
     ensures none { IfNone result (chunks_left chunks.new ≡ []) }
 {
     while chunks.more {
@@ -50,7 +53,7 @@ fn find_box(
     None
 }
 
-/// The boxes of the chunks below a grid shape that a walk has left, row-major. A chunk whose end passes 2^64 - 1 has no box, and
+/// The boxes of the chunks in the grid that a walk has left, row-major. A chunk whose end passes 2^64 - 1 has no box, and
 /// is passed over.
 #[derive(Drop)]
 pub struct ChunkSubsets<'a> {
@@ -60,10 +63,10 @@ pub struct ChunkSubsets<'a> {
 }
 
 impl<'a> ChunkSubsets<'a> {
-    /// The boxes of all chunks below the grid shape.
+    /// The boxes of all chunks in the grid.
     pub fn new(alloc: Global, grid: &'a [Dimension]) -> Result<ChunkSubsets<'a>, AllocError>
-        ensures left { IfOk result (λ walk. chunks_left walk.chunks ≡ chunk_indices (grid_of grid.now)) }
-        ensures grid { IfOk result (λ walk. walk.grid.now ≡ grid.now) }
+        ensures left { IfOk result (λ walk. subsets_left walk ≡ chunk_indices (grid_of grid.now)) }
+        ensures grid { IfOk result (λ walk. dimensions_of_subsets walk ≡ grid.now) }
     {
         let chunks = ChunkIndices::new(alloc, grid)?;
         Ok(ChunkSubsets {
@@ -77,9 +80,13 @@ impl<'a> ChunkSubsets<'a> {
 impl<'a> Iterator for ChunkSubsets<'a> {
     type Item = Result<ArraySubset, AllocError>;
 
-    ghost next_gives = { λ old given new. (new.grid.now ≡ old.grid.now) × MatchOption given (PassesOver (grid_of old.grid.now) (chunks_left old.chunks) [] × (chunks_left new.chunks ≡ [])) (λ item. (chunk : List ℕ) × PassesOver (grid_of old.grid.now) (chunks_left old.chunks) (chunk ∷ chunks_left new.chunks) × IfOk item (λ subset. chunk_box (grid_of old.grid.now) chunk ≡ Some (region_of subset))) };
+    ghost next_gives = { λ old given new. let grid = grid_of (dimensions_of_subsets old) in
+        (dimensions_of_subsets new ≡ dimensions_of_subsets old)
+        × GivesNext grid (subsets_left old) (subsets_left new)
+        (λ chunk item. IfOk item
+        (λ subset. chunk_box grid chunk ≡ Some (region_of subset))) given };
 
-    ghost remaining = { item_count (λ walk. chunks_left walk.chunks) };
+    ghost remaining = { item_count subsets_left };
 
     fn next(&mut self) -> Option<Result<ArraySubset, AllocError>> {
         match find_box(self.alloc, self.grid, &mut self.chunks) {
@@ -92,7 +99,7 @@ impl<'a> Iterator for ChunkSubsets<'a> {
     }
 }
 
-/// The chunks below a grid shape that a walk has left, row-major, each with its box. A chunk whose end passes 2^64 - 1 has no
+/// The chunks in the grid that a walk has left, row-major, each with its box. A chunk whose end passes 2^64 - 1 has no
 /// box, and is passed over.
 #[derive(Drop)]
 pub struct ChunkIndicesAndSubsets<'a> {
@@ -102,13 +109,13 @@ pub struct ChunkIndicesAndSubsets<'a> {
 }
 
 impl<'a> ChunkIndicesAndSubsets<'a> {
-    /// All chunks below the grid shape, and their boxes.
+    /// All chunks in the grid, and their boxes.
     pub fn new(
         alloc: Global,
         grid: &'a [Dimension],
     ) -> Result<ChunkIndicesAndSubsets<'a>, AllocError>
-        ensures left { IfOk result (λ walk. chunks_left walk.chunks ≡ chunk_indices (grid_of grid.now)) }
-        ensures grid { IfOk result (λ walk. walk.grid.now ≡ grid.now) }
+        ensures left { IfOk result (λ walk. pairs_left walk ≡ chunk_indices (grid_of grid.now)) }
+        ensures grid { IfOk result (λ walk. dimensions_of_pairs walk ≡ grid.now) }
     {
         let chunks = ChunkIndices::new(alloc, grid)?;
         Ok(ChunkIndicesAndSubsets {
@@ -122,9 +129,13 @@ impl<'a> ChunkIndicesAndSubsets<'a> {
 impl<'a> Iterator for ChunkIndicesAndSubsets<'a> {
     type Item = Result<(ArrayIndices, ArraySubset), AllocError>;
 
-    ghost next_gives = { λ old given new. (new.grid.now ≡ old.grid.now) × MatchOption given (PassesOver (grid_of old.grid.now) (chunks_left old.chunks) [] × (chunks_left new.chunks ≡ [])) (λ item. (chunk : List ℕ) × PassesOver (grid_of old.grid.now) (chunks_left old.chunks) (chunk ∷ chunks_left new.chunks) × IfOk item (λ pair. (pair.0.items ≡ chunk) × (chunk_box (grid_of old.grid.now) chunk ≡ Some (region_of pair.1)))) };
+    ghost next_gives = { λ old given new. let grid = grid_of (dimensions_of_pairs old) in
+        (dimensions_of_pairs new ≡ dimensions_of_pairs old)
+        × GivesNext grid (pairs_left old) (pairs_left new)
+        (λ chunk item. IfOk item (λ pair. (pair.0.items ≡ chunk)
+        × (chunk_box grid chunk ≡ Some (region_of pair.1)))) given };
 
-    ghost remaining = { item_count (λ walk. chunks_left walk.chunks) };
+    ghost remaining = { item_count pairs_left };
 
     fn next(&mut self) -> Option<Result<(ArrayIndices, ArraySubset), AllocError>> {
         match find_box(self.alloc, self.grid, &mut self.chunks) {

@@ -32,13 +32,21 @@ impl ChunkGrid {
         metadata: &MetadataV3,
         array_shape: &[u64],
     ) -> Result<ChunkGrid, PluginCreateError>
-        ensures kind { IfOk result (λ grid. kind_of (point_of metadata.now).name ≡ Some (kind_of_grid grid)) }
-        ensures edges { IfOk result (λ grid. configuration_of_point (point_of metadata.now) ≡ Some (edges_of_grid grid)) }
+        ensures kind { IfOk result
+            (λ grid. kind_of (point_of metadata.now).name ≡ Some (kind_of_grid grid)) }
+        ensures edges { IfOk result
+            (λ grid. configuration_of_point (point_of metadata.now) ≡ Some (edges_of_grid grid)) }
         ensures shape { IfOk result (λ grid. sizes_of_grid grid ≡ array_shape.now) }
-        ensures name { result ≡ Err PluginCreateError.NameUnsupported → kind_of (point_of metadata.now).name ≡ None }
-        ensures unknown { kind_of (point_of metadata.now).name ≡ None → result ≡ Err PluginCreateError.NameUnsupported }
-        ensures cause { IfErr result (λ e. e ≢ PluginCreateError.Memory → e ≢ PluginCreateError.NameUnsupported → e ≡ PluginCreateError.MetadataInvalid) }
-        ensures refused { IfErr result (λ e. e ≢ PluginCreateError.Memory → option_and_then (grid_in array_shape.now) (configuration_of_point (point_of metadata.now)) ≡ None) }
+        ensures name { result ≡ Err PluginCreateError.NameUnsupported
+            → kind_of (point_of metadata.now).name ≡ None }
+        ensures unknown { kind_of (point_of metadata.now).name ≡ None
+            → result ≡ Err PluginCreateError.NameUnsupported }
+        ensures cause { IfErr result (λ e. e ≢ PluginCreateError.Memory
+            → e ≢ PluginCreateError.NameUnsupported → e ≡ PluginCreateError.MetadataInvalid) }
+        ensures refused { IfErr result
+            (λ e. e ≢ PluginCreateError.Memory
+            → option_and_then (grid_in array_shape.now)
+            (configuration_of_point (point_of metadata.now)) ≡ None) }
     {
         let Some(kind) = ChunkGridKind::of_name(metadata.name()) else {
             return Err(PluginCreateError::NameUnsupported);
@@ -46,25 +54,25 @@ impl ChunkGrid {
         match kind {
             ChunkGridKind::Regular => {
                 match RegularChunkGrid::create(alloc, metadata, array_shape) {
-                    Ok(grid) => Ok(ChunkGrid::Regular(grid)),
+                    Ok(grid) => Ok(ChunkGrid::from(grid)),
                     Err(error) => Err(error),
                 }
             }
             ChunkGridKind::RegularBounded => {
                 match RegularBoundedChunkGrid::create(alloc, metadata, array_shape) {
-                    Ok(grid) => Ok(ChunkGrid::RegularBounded(grid)),
+                    Ok(grid) => Ok(ChunkGrid::from(grid)),
                     Err(error) => Err(error),
                 }
             }
             ChunkGridKind::Rectangular => {
                 match RectangularChunkGrid::create(alloc, metadata, array_shape) {
-                    Ok(grid) => Ok(ChunkGrid::Rectangular(grid)),
+                    Ok(grid) => Ok(ChunkGrid::from(grid)),
                     Err(error) => Err(error),
                 }
             }
             ChunkGridKind::Rectilinear => {
                 match RectilinearChunkGrid::create(alloc, metadata, array_shape) {
-                    Ok(grid) => Ok(ChunkGrid::Rectilinear(grid)),
+                    Ok(grid) => Ok(ChunkGrid::from(grid)),
                     Err(error) => Err(error),
                 }
             }
@@ -80,21 +88,61 @@ impl ChunkGrid {
         match self {
             ChunkGrid::Regular(grid) => {
                 let copy = grid.try_clone(alloc)?;
-                Ok(ChunkGrid::Regular(copy))
+                Ok(ChunkGrid::from(copy))
             }
             ChunkGrid::RegularBounded(grid) => {
                 let copy = grid.try_clone(alloc)?;
-                Ok(ChunkGrid::RegularBounded(copy))
+                Ok(ChunkGrid::from(copy))
             }
             ChunkGrid::Rectangular(grid) => {
                 let copy = grid.try_clone(alloc)?;
-                Ok(ChunkGrid::Rectangular(copy))
+                Ok(ChunkGrid::from(copy))
             }
             ChunkGrid::Rectilinear(grid) => {
                 let copy = grid.try_clone(alloc)?;
-                Ok(ChunkGrid::Rectilinear(copy))
+                Ok(ChunkGrid::from(copy))
             }
         }
+    }
+}
+
+impl From<RegularChunkGrid> for ChunkGrid {
+    ghost use Rattle.zarr_grids_chunk_grids.specs.declared.chunk_grid.ChunkGrid.TheVariants.{Regular};
+
+    ghost from_gives = { λ grid made. made ≡ Regular grid };
+
+    fn from(grid: RegularChunkGrid) -> Self {
+        Self::Regular(grid)
+    }
+}
+
+impl From<RegularBoundedChunkGrid> for ChunkGrid {
+    ghost use Rattle.zarr_grids_chunk_grids.specs.declared.chunk_grid.ChunkGrid.TheVariants.{RegularBounded};
+
+    ghost from_gives = { λ grid made. made ≡ RegularBounded grid };
+
+    fn from(grid: RegularBoundedChunkGrid) -> Self {
+        Self::RegularBounded(grid)
+    }
+}
+
+impl From<RectangularChunkGrid> for ChunkGrid {
+    ghost use Rattle.zarr_grids_chunk_grids.specs.declared.chunk_grid.ChunkGrid.TheVariants.{Rectangular};
+
+    ghost from_gives = { λ grid made. made ≡ Rectangular grid };
+
+    fn from(grid: RectangularChunkGrid) -> Self {
+        Self::Rectangular(grid)
+    }
+}
+
+impl From<RectilinearChunkGrid> for ChunkGrid {
+    ghost use Rattle.zarr_grids_chunk_grids.specs.declared.chunk_grid.ChunkGrid.TheVariants.{Rectilinear};
+
+    ghost from_gives = { λ grid made. made ≡ Rectilinear grid };
+
+    fn from(grid: RectilinearChunkGrid) -> Self {
+        Self::Rectilinear(grid)
     }
 }
 

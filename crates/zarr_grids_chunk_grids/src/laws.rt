@@ -2,6 +2,8 @@
 ghost use Rattle.std.specs.Prelude.{◌≡◌, map};
 ghost use Rattle.zarr_grids_configurations.specs.Grids.{fixed};
 ghost use Rattle.zarr_grids_configurations.specs.Views.{rectangular_view, rectilinear_view};
+ghost use Rattle.zarr_grids_chunk_grids.specs.Grids.{array_shape_of_regular, array_shape_of_rectangular, array_shape_of_rectilinear};
+ghost use Rattle.zarr_grids_chunk_grids.specs.Grids.{chunk_shape_of_regular, edges_of_rectangular, edges_of_rectilinear};
 ghost use Rattle.zarr_grids_chunk_grids.specs.Laws.{GridOfConfiguration, EqualEdgesEqualGrids, RectilinearByEdges};
 
 use crate::rectangular::RectangularChunkGrid;
@@ -20,21 +22,27 @@ pub fn equal_edges_equal_grids()
 {}
 
 /// Two `rectilinear` grids compare as equal exactly where they have equal array shapes and equal edges along each dimension,
-/// whether a run gives the edges or each is given by itself.
+/// whether a repeat gives the edges or each is given by itself.
 pub fn rectilinear_by_edges()
     ensures { RectilinearByEdges }
 {}
 
 /// A `rectangular` grid of fixed edges is the `regular` one.
 pub fn rectangular_is_regular(rectangular: &RectangularChunkGrid, regular: &RegularChunkGrid)
-    requires shape { rectangular.now.array_shape.items ≡ regular.now.array_shape.items }
-    requires edges { map rectangular_view rectangular.now.chunk_shape.items ≡ map fixed regular.now.chunk_shape.edges.items }
-    ensures { ⟦<RectangularChunkGrid as ChunkGridTraits>⟧.grid rectangular.now ≡ ⟦<RegularChunkGrid as ChunkGridTraits>⟧.grid regular.now }
+    requires shape { array_shape_of_rectangular rectangular.now
+        ≡ array_shape_of_regular regular.now }
+    requires edges { map rectangular_view (edges_of_rectangular rectangular.now)
+        ≡ map fixed (chunk_shape_of_regular regular.now) }
+    ensures { ⟦<RectangularChunkGrid as ChunkGridTraits>⟧.grid rectangular.now
+        ≡ ⟦<RegularChunkGrid as ChunkGridTraits>⟧.grid regular.now }
 {}
 
 /// A `rectilinear` grid of scalar edges is the `regular` one.
 pub fn rectilinear_is_regular(rectilinear: &RectilinearChunkGrid, regular: &RegularChunkGrid)
-    requires shape { rectilinear.now.array_shape.items ≡ regular.now.array_shape.items }
-    requires edges { map rectilinear_view rectilinear.now.chunk_shapes.items ≡ map fixed regular.now.chunk_shape.edges.items }
-    ensures { ⟦<RectilinearChunkGrid as ChunkGridTraits>⟧.grid rectilinear.now ≡ ⟦<RegularChunkGrid as ChunkGridTraits>⟧.grid regular.now }
+    requires shape { array_shape_of_rectilinear rectilinear.now
+        ≡ array_shape_of_regular regular.now }
+    requires edges { map rectilinear_view (edges_of_rectilinear rectilinear.now)
+        ≡ map fixed (chunk_shape_of_regular regular.now) }
+    ensures { ⟦<RectilinearChunkGrid as ChunkGridTraits>⟧.grid rectilinear.now
+        ≡ ⟦<RegularChunkGrid as ChunkGridTraits>⟧.grid regular.now }
 {}

@@ -15,7 +15,7 @@ pub fn positive_chunk_shape(
     grid: &[Dimension],
     chunk: &[u64],
 ) -> Result<Option<ChunkShape>, LookupError>
-    ensures found { IfOk result (λ found. option_map (λ s. s.edges.items) found ≡ shape (grid_of grid.now) chunk.now) }
+    ensures found { IfOk result (λ found. found ≡ shape (grid_of grid.now) chunk.now) }
     ensures rank { IfOk result (λ _. length chunk.now ≡ length grid.now) }
     ensures error { IfErr result (Tells (length chunk.now) (length grid.now)) }
 {

@@ -1,13 +1,14 @@
 //! What each chunk grid answers.
-ghost use Rattle.std.specs.Prelude.{◌≡◌, ℕ, List, Some, None, ◌↔◌, ◌⊎◌, ◌<◌, IsTrue, length, map, option_map, IfOk, IfErr, MatchOption};
-ghost use Rattle.zarr_grids_boxes.specs.Boxes.{product, is_in_box, last_index};
+ghost use Rattle.std.specs.Prelude.{◌≡◌, ◌<◌, length, map, option_map, IfOk, IfErr, IfSome, IfNone, MatchOption};
+ghost use Rattle.zarr_grids_boxes.specs.Boxes.{product};
 ghost use Rattle.zarr_grids_boxes.specs.Subsets.{region_of};
 ghost use Rattle.zarr_grids_chunks.specs.Grids.{Grid, grid_shape, chunk_box, chunk_indices};
-ghost use Rattle.zarr_grids_dimensions.specs.Lookups.{size_of, lies_in, in_all, chunk_inbounds, place_inbounds};
-ghost use Rattle.zarr_grids_dimensions.specs.Chunks.{origin, shape, numbers, IsElement, Meets, LiesNowhere, LiesAmong};
+ghost use Rattle.zarr_grids_dimensions.specs.Lookups.{size_of, in_all, chunk_inbounds, place_inbounds};
+ghost use Rattle.zarr_grids_dimensions.specs.Chunks.{origin, shape, numbers, FindsChunk, FindsElement};
+ghost use Rattle.zarr_grids_dimensions.specs.Chunks.{HasPlacesAmong, FirstOrLastHasNoBox, HasChunksSharing, FirstOrLastLiesNowhere};
 ghost use Rattle.zarr_grids_dimensions.specs.Dimensions.{grid_of};
 ghost use Rattle.zarr_grids_dimensions.specs.Errors.{Tells};
-ghost use Rattle.zarr_grids_chunk_grids.specs.Walks.{chunks_left};
+ghost use Rattle.zarr_grids_chunk_grids.specs.Walks.{chunks_left, subsets_left, dimensions_of_subsets, pairs_left, dimensions_of_pairs};
 
 use crate::box_walks::{ChunkIndicesAndSubsets, ChunkSubsets};
 use crate::shapes::positive_chunk_shape;
@@ -52,7 +53,7 @@ pub trait ChunkGridTraits {
         alloc: Global,
         chunk: &[u64],
     ) -> Result<Option<ChunkShape>, LookupError>
-        ensures found { IfOk result (λ found. option_map (λ s. s.edges.items) found ≡ shape (grid self.now) chunk.now) }
+        ensures found { IfOk result (λ found. found ≡ shape (grid self.now) chunk.now) }
         ensures rank { IfOk result (λ _. length chunk.now ≡ length (grid self.now)) }
         ensures error { IfErr result (Tells (length chunk.now) (length (grid self.now))) }
     {
@@ -87,7 +88,8 @@ pub trait ChunkGridTraits {
 
     /// The box of a chunk, if there is such a chunk and its end is at most 2^64 - 1 in each dimension.
     final fn subset(&self, alloc: Global, chunk: &[u64]) -> Result<Option<ArraySubset>, LookupError>
-        ensures found { IfOk result (λ found. option_map region_of found ≡ chunk_box (grid self.now) chunk.now) }
+        ensures found { IfOk result
+            (λ found. option_map region_of found ≡ chunk_box (grid self.now) chunk.now) }
         ensures rank { IfOk result (λ _. length chunk.now ≡ length (grid self.now)) }
         ensures error { IfErr result (Tells (length chunk.now) (length (grid self.now))) }
     {
@@ -100,7 +102,8 @@ pub trait ChunkGridTraits {
         alloc: Global,
         place: &[u64],
     ) -> Result<Option<ArrayIndices>, LookupError>
-        ensures found { IfOk result (λ found. (chunk : List ℕ) → (numbers found ≡ Some chunk) ↔ IsTrue (lies_in (grid self.now) chunk place.now)) }
+        ensures found { IfOk result
+            (λ found. FindsChunk (grid self.now) place.now (numbers found)) }
         ensures rank { IfOk result (λ _. length place.now ≡ length (grid self.now)) }
         ensures error { IfErr result (Tells (length place.now) (length (grid self.now))) }
     {
@@ -113,82 +116,91 @@ pub trait ChunkGridTraits {
         alloc: Global,
         place: &[u64],
     ) -> Result<Option<ArrayIndices>, LookupError>
-        ensures found { IfOk result (λ found. MatchOption found ((chunk : List ℕ) → ¬ IsTrue (lies_in (grid self.now) chunk place.now)) (λ element. IsElement (grid self.now) place.now element.items)) }
+        ensures found { IfOk result (FindsElement (grid self.now) place.now) }
         ensures rank { IfOk result (λ _. length place.now ≡ length (grid self.now)) }
         ensures error { IfErr result (Tells (length place.now) (length (grid self.now))) }
     {
         lookups::chunk_element_indices(alloc, self.dimensions(), place)
     }
 
-    /// The places of all chunks of a box of chunk indices, as one box; `None` where the first or the last chunk of a box that
-    /// is not empty has no box.
+    /// The places of all chunks of a box of chunk indices, as one box. `None` where the box has a chunk and its first or
+    /// its last chunk has no box.
     final fn chunks_subset(
         &self,
         alloc: Global,
         chunks: &ArraySubset,
     ) -> Result<Option<ArraySubset>, LookupError>
-        ensures united { IfOk result (λ found. MatchOption found (Unit {0}) (λ subset. (place : List ℕ) → IsTrue (is_in_box subset.start.items subset.shape.items place) ↔ LiesAmong (grid self.now) (region_of chunks.now) place)) }
-        ensures missing { IfOk result (λ found. MatchOption found ((chunk_box (grid self.now) chunks.now.start.items ≡ None) ⊎ (chunk_box (grid self.now) (last_index chunks.now.start.items chunks.now.shape.items) ≡ None)) (λ _. Unit {0})) }
-        ensures some { IfOk result (λ found. MatchOption found (0 < product chunks.now.shape.items) (λ subset. length subset.start.items ≡ length (grid self.now))) }
+        ensures united { IfOk result (λ found. IfSome found
+            (λ subset. HasPlacesAmong (grid self.now) (region_of chunks.now) (region_of subset))) }
+        ensures missing { IfOk result (λ found. IfNone found
+            (FirstOrLastHasNoBox (grid self.now) (region_of chunks.now))) }
+        ensures some { IfOk result (λ found. MatchOption found (0 < product chunks.now.shape.items)
+            (λ subset. length subset.start.items ≡ length (grid self.now))) }
         ensures rank { IfOk result (λ _. length chunks.now.start.items ≡ length (grid self.now)) }
-        ensures error { IfErr result (Tells (length chunks.now.start.items) (length (grid self.now))) }
+        ensures error { IfErr result
+            (Tells (length chunks.now.start.items) (length (grid self.now))) }
     {
         boxes::chunks_subset(alloc, self.dimensions(), chunks)
     }
 
-    /// The chunks that a box of places meets, as a box of chunk indices; `None` where the first or the last place of a box
-    /// that is not empty lies in no chunk.
+    /// The chunks that a box of places intersects, as a box of chunk indices. `None` where the box has a place and its
+    /// first or its last place lies in no chunk.
     final fn chunks_in_array_subset(
         &self,
         alloc: Global,
         subset: &ArraySubset,
     ) -> Result<Option<ArraySubset>, LookupError>
-        ensures met { IfOk result (λ found. MatchOption found (Unit {0}) (λ chunks. (chunk : List ℕ) → IsTrue (is_in_box chunks.start.items chunks.shape.items chunk) ↔ Meets (grid self.now) (region_of subset.now) chunk)) }
-        ensures missing { IfOk result (λ found. MatchOption found (LiesNowhere (grid self.now) subset.now.start.items ⊎ LiesNowhere (grid self.now) (last_index subset.now.start.items subset.now.shape.items)) (λ _. Unit {0})) }
-        ensures some { IfOk result (λ found. MatchOption found (0 < product subset.now.shape.items) (λ chunks. length chunks.start.items ≡ length (grid self.now))) }
+        ensures intersecting { IfOk result (λ found. IfSome found
+            (λ chunks. HasChunksSharing (grid self.now) (region_of subset.now)
+            (region_of chunks))) }
+        ensures missing { IfOk result (λ found. IfNone found
+            (FirstOrLastLiesNowhere (grid self.now) (region_of subset.now))) }
+        ensures some { IfOk result (λ found. MatchOption found (0 < product subset.now.shape.items)
+            (λ chunks. length chunks.start.items ≡ length (grid self.now))) }
         ensures rank { IfOk result (λ _. length subset.now.start.items ≡ length (grid self.now)) }
-        ensures error { IfErr result (Tells (length subset.now.start.items) (length (grid self.now))) }
+        ensures error { IfErr result
+            (Tells (length subset.now.start.items) (length (grid self.now))) }
     {
         boxes::chunks_in_array_subset(alloc, self.dimensions(), subset)
     }
 
-    /// Whether a chunk is below the grid shape, where a number of 0 in the grid shape counts as no limit. No chunk of another
-    /// dimensionality is.
+    /// Whether a chunk is in bounds. A dimension with no chunk sets no bound; a chunk of another dimensionality is out of
+    /// bounds.
     final fn chunk_indices_inbounds(&self, chunk: &[u64]) -> bool
         ensures { result ≡ in_all chunk_inbounds (grid self.now) chunk.now }
     {
         lookups::chunk_indices_inbounds(self.dimensions(), chunk)
     }
 
-    /// Whether a place is below the array shape. No place of another dimensionality is.
+    /// Whether a place lies in the array. A place of another dimensionality does not.
     final fn array_indices_inbounds(&self, place: &[u64]) -> bool
         ensures { result ≡ in_all place_inbounds (grid self.now) place.now }
     {
         lookups::array_indices_inbounds(self.dimensions(), place)
     }
 
-    /// The chunks below the grid shape, row-major.
+    /// The chunks in the grid, row-major.
     final fn iter_chunk_indices(&self, alloc: Global) -> Result<ChunkIndices, AllocError>
         ensures { IfOk result (λ walk. chunks_left walk ≡ chunk_indices (grid self.now)) }
     {
         ChunkIndices::new(alloc, self.dimensions())
     }
 
-    /// The boxes of the chunks below the grid shape, row-major. A chunk whose end passes 2^64 - 1 is passed over.
+    /// The boxes of the chunks in the grid, row-major. A chunk whose end passes 2^64 - 1 is passed over.
     final fn iter_chunk_subsets(&self, alloc: Global) -> Result<ChunkSubsets<'_>, AllocError>
-        ensures left { IfOk result (λ walk. chunks_left walk.chunks ≡ chunk_indices (grid self.now)) }
-        ensures grid { IfOk result (λ walk. grid_of walk.grid.now ≡ grid self.now) }
+        ensures left { IfOk result (λ walk. subsets_left walk ≡ chunk_indices (grid self.now)) }
+        ensures grid { IfOk result (λ walk. grid_of (dimensions_of_subsets walk) ≡ grid self.now) }
     {
         ChunkSubsets::new(alloc, self.dimensions())
     }
 
-    /// The chunks below the grid shape, row-major, each with its box. A chunk whose end passes 2^64 - 1 is passed over.
+    /// The chunks in the grid, row-major, each with its box. A chunk whose end passes 2^64 - 1 is passed over.
     final fn iter_chunk_indices_and_subsets(
         &self,
         alloc: Global,
     ) -> Result<ChunkIndicesAndSubsets<'_>, AllocError>
-        ensures left { IfOk result (λ walk. chunks_left walk.chunks ≡ chunk_indices (grid self.now)) }
-        ensures grid { IfOk result (λ walk. grid_of walk.grid.now ≡ grid self.now) }
+        ensures left { IfOk result (λ walk. pairs_left walk ≡ chunk_indices (grid self.now)) }
+        ensures grid { IfOk result (λ walk. grid_of (dimensions_of_pairs walk) ≡ grid self.now) }
     {
         ChunkIndicesAndSubsets::new(alloc, self.dimensions())
     }

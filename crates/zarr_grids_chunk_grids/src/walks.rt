@@ -1,4 +1,4 @@
-//! The walk over the chunks below a grid shape.
+//! The walk over the chunks in a grid.
 ghost use Rattle.std.specs.Prelude.{◌≡◌, List, ℕ, [], ◌∷◌, true, IsTrue, IfOk, MatchOption};
 ghost use Rattle.std.specs.Iterator.{item_count};
 ghost use Rattle.zarr_grids_boxes.specs.Boxes.{is_in_box};
@@ -10,7 +10,7 @@ use zarr_grids_boxes::indices::step;
 use zarr_grids_boxes::{ArrayIndices, ArraySubset};
 use zarr_grids_dimensions::{Dimension, lookups};
 
-/// The chunks below a grid shape that a walk has left, row-major. Each item takes memory: where there is none, the item is the
+/// The chunks in the grid that a walk has left, row-major. Each item takes memory: where there is none, the item is the
 /// error, and the walk goes on after that chunk.
 #[derive(Drop)]
 pub struct ChunkIndices {
@@ -18,13 +18,14 @@ pub struct ChunkIndices {
     alloc: Global,
     pub(crate) next: Vec<u64>,
     pub(crate) more: bool,
-    ghost within: { IsTrue more → is_in_box chunks.start.items chunks.shape.items next.items ≡ true },
+    ghost within: { IsTrue more
+        → is_in_box chunks.start.items chunks.shape.items next.items ≡ true },
 }
 
 impl ChunkIndices {
     ghost use Rattle.zarr_grids_chunk_grids.specs.Walks.{chunks_left};
 
-    /// All chunks below the grid shape.
+    /// All chunks in the grid.
     pub fn new(alloc: Global, grid: &[Dimension]) -> Result<ChunkIndices, AllocError>
         ensures { IfOk result (λ walk. chunks_left walk ≡ chunk_indices (grid_of grid.now)) }
     {
@@ -55,7 +56,9 @@ impl Iterator for ChunkIndices {
 
     type Item = Result<ArrayIndices, AllocError>;
 
-    ghost next_gives = { λ old given new. MatchOption given ((chunks_left old ≡ []) × (chunks_left new ≡ [])) (λ item. (chunk : List ℕ) × (chunks_left old ≡ chunk ∷ chunks_left new) × IfOk item (λ indices. indices.items ≡ chunk)) };
+    ghost next_gives = { λ old given new. MatchOption given ((chunks_left old ≡ [])
+        × (chunks_left new ≡ [])) (λ item. (chunk : List ℕ) × (chunks_left old
+        ≡ chunk ∷ chunks_left new) × IfOk item (λ indices. indices.items ≡ chunk)) };
 
     ghost remaining = { item_count chunks_left };
 

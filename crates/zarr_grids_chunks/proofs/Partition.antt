@@ -1,4 +1,4 @@
--- The chunks met partition a covered box.
+-- The chunks intersecting partition a covered box.
 use Rattle.std.proofs.Common.{◌≡◌, ◌∙◌, ℕ, suc, ◌+◌, ◌-◌, ◌<◌, Bool, true, false, ◌||◌, List, [], ◌∷◌, length, map, get_or, replicate, refl, sym, ap, ⊎_elim, arith, Option, Some, None, bytes_eq}
 use Rattle.std.specs.Option.{option_map_or}
 use Rattle.std.specs.List.{range_with_len, list_any}
@@ -11,7 +11,7 @@ use Rattle.zarr_grids_boxes.specs.Boxes.{Region, product, places, place_at, rave
 use Rattle.zarr_grids_boxes.proofs.Dimensions.{ravel_below}
 use Rattle.zarr_grids_boxes.proofs.Places.{places_by_number, in_box_below}
 use Rattle.zarr_grids_boxes.proofs.InBox.{place_at-number}
-use Rattle.zarr_grids_chunks.specs.Grids.{Grid, IsCovered, chunk_box, lies_in_chunk, is_met, met, chunk_indices, grid_shape}
+use Rattle.zarr_grids_chunks.specs.Grids.{Grid, IsCovered, chunk_box, lies_in_chunk, intersects, intersecting, chunk_indices, grid_shape}
 use Rattle.zarr_grids_chunks.proofs.Filters.{told, any-filter}
 use Rattle.zarr_grids_boxes.proofs.Sharing.{share_place-of}
 
@@ -50,10 +50,10 @@ length-shape : (grid : Grid) → (let zeros : List ℕ = replicate (length grid)
 length-shape [] = refl
 length-shape (d ∷ grid) = ap (λ n. suc n) (length-shape grid)
 
--- a place of a covered box lies in a chunk met
-pub met-any : (grid : Grid) (region : Region) (p : List ℕ) → IsCovered grid region → is_in_box region.start region.shape p ≡ true → list_any (lies_in_chunk grid p) (met grid region) ≡ true
-met-any grid region p covered t =
+-- a place of a covered box lies in a chunk intersecting
+pub intersecting-any : (grid : Grid) (region : Region) (p : List ℕ) → IsCovered grid region → is_in_box region.start region.shape p ≡ true → list_any (lies_in_chunk grid p) (intersecting grid region) ≡ true
+intersecting-any grid region p covered t =
     let c = covered.covered p t in
-    let shares : is_met grid region c.0 ≡ true = ap (λ o. option_map_or (λ (b : Region). share_place b.start b.shape region.start region.shape) o false) c.2.has_box ∙ share_place-of c.1.start c.1.shape region.start region.shape p c.3 t in
+    let shares : intersects grid region c.0 ≡ true = ap (λ o. option_map_or (λ (b : Region). share_place b.start b.shape region.start region.shape) o false) c.2.has_box ∙ share_place-of c.1.start c.1.shape region.start region.shape p c.3 t in
     let among = any_places (replicate (length grid) 0) (grid_shape grid) c.0 (length-shape grid) c.2.below in
-    any_at (lies_in_chunk grid p) c.0 (met grid region) (any-filter (is_met grid region) c.0 (chunk_indices grid) among shares) (lies_here grid c.0 p c.1 c.2.has_box ∙ c.3)
+    any_at (lies_in_chunk grid p) c.0 (intersecting grid region) (any-filter (intersects grid region) c.0 (chunk_indices grid) among shares) (lies_here grid c.0 p c.1 c.2.has_box ∙ c.3)

@@ -18,11 +18,12 @@ pub data Dimension : Type 0 where
   -- one chunk after another, each with an edge of its own
   varying : (size : ℕ) → (edges : List ℕ) → Dimension
 
+-- a chunk grid: a dimension for each dimension of the array
 abbrev pub Grid : Type 0
 Grid = List Dimension
 
--- the interval of a chunk number: chunk k covers [k * edge, (k + 1) * edge) (Zarr core, regular grids), or that interval clipped to the array,
--- or what lies from the sum of the first k edges to the sum of the first k + 1 (this project's profile)
+-- the interval of a chunk number: chunk k covers [k * edge, (k + 1) * edge) (Zarr core, regular grids); or that interval
+-- clipped to the array; or what lies from the sum of the first k edges to the sum of the first k + 1 (this project's profile)
 abbrev pub interval : Dimension → ℕ → Option Interval
 interval (regular size edge) k = Some (record { first = k * edge; count = edge })
 interval (clipped size edge) k = if nat_lt (k * edge) size then Some (record { first = k * edge; count = min edge (size - k * edge) }) else None
@@ -34,12 +35,13 @@ chunk_count (regular size edge) = (size + (edge - 1)) / edge
 chunk_count (clipped size edge) = (size + (edge - 1)) / edge
 chunk_count (varying size edges) = length edges
 
+-- how many chunks the grid has in each dimension
 abbrev pub grid_shape : Grid → List ℕ
 grid_shape grid = map chunk_count grid
 
 -- an interval whose end passes 2^64 - 1 has no place in a box
-abbrev pub bounded : Interval → Option Interval
-bounded i = if nat_lt (i.first + i.count) (2 ^ 64) then Some i else None
+abbrev pub addressable : Interval → Option Interval
+addressable i = if nat_lt (i.first + i.count) (2 ^ 64) then Some i else None
 
 -- one dimension more of a box
 abbrev pub onto_box : Interval → Region → Region
@@ -47,7 +49,7 @@ onto_box i box = record { start = i.first ∷ box.start; shape = i.count ∷ box
 
 -- the box of a chunk: the product of its intervals. A chunk whose end passes 2^64 - 1 has none
 abbrev pub chunk_box : Grid → List ℕ → Option Region
-chunk_box (d ∷ ds) (k ∷ ks) = option_and_then (λ i. option_map (onto_box i) (chunk_box ds ks)) (option_and_then bounded (interval d k))
+chunk_box (d ∷ ds) (k ∷ ks) = option_and_then (λ i. option_map (onto_box i) (chunk_box ds ks)) (option_and_then addressable (interval d k))
 chunk_box [] [] = Some (record { start = []; shape = [] })
 chunk_box [] (k ∷ ks) = None
 chunk_box (d ∷ ds) [] = None
@@ -56,30 +58,30 @@ chunk_box (d ∷ ds) [] = None
 abbrev pub lies_in_chunk : Grid → List ℕ → List ℕ → Bool
 lies_in_chunk grid place chunk = option_map_or (λ box. is_in_box box.start box.shape place) (chunk_box grid chunk) false
 
--- all chunk indices below the grid shape, row-major
+-- all chunk indices in the grid, row-major
 abbrev pub chunk_indices : Grid → List (List ℕ)
 chunk_indices grid = places (replicate (length grid) 0) (grid_shape grid)
 
--- a chunk below the grid shape that has a box
-pub record IsBelow (grid : Grid) (chunk : List ℕ) (box : Region) : Type 0 where
+-- a chunk in the grid that has a box
+pub record IsInGrid (grid : Grid) (chunk : List ℕ) (box : Region) : Type 0 where
   pub below : is_in_box (replicate (length grid) 0) (grid_shape grid) chunk ≡ true
   pub has_box : chunk_box grid chunk ≡ Some box
 
--- a box of places has the grid's dimensions, and each place of it lies in a chunk below the grid shape
+-- a box of places has the grid's dimensions, and each place of it lies in a chunk in the grid
 pub record IsCovered (grid : Grid) (region : Region) : Type 0 where
   pub rank : length region.start ≡ length grid
   pub covered : (place : List ℕ) → is_in_box region.start region.shape place ≡ true
-      → (chunk : List ℕ) × (box : Region) × IsBelow grid chunk box × (is_in_box box.start box.shape place ≡ true)
+      → (chunk : List ℕ) × (box : Region) × IsInGrid grid chunk box × (is_in_box box.start box.shape place ≡ true)
 
--- each chunk of a box of chunk indices lies below the grid shape and has a box
-pub record AreBelow (grid : Grid) (chunks : Region) : Type 0 where
+-- each chunk of a box of chunk indices lies in the grid and has a box
+pub record AreInGrid (grid : Grid) (chunks : Region) : Type 0 where
   pub rank : length chunks.start ≡ length grid
-  pub below : (chunk : List ℕ) → is_in_box chunks.start chunks.shape chunk ≡ true → (box : Region) × IsBelow grid chunk box
+  pub below : (chunk : List ℕ) → is_in_box chunks.start chunks.shape chunk ≡ true → (box : Region) × IsInGrid grid chunk box
 
 -- whether a chunk has a box that shares a place with a box of places
-abbrev pub is_met : Grid → Region → List ℕ → Bool
-is_met grid region chunk = option_map_or (λ box. share_place box.start box.shape region.start region.shape) (chunk_box grid chunk) false
+abbrev pub intersects : Grid → Region → List ℕ → Bool
+intersects grid region chunk = option_map_or (λ box. share_place box.start box.shape region.start region.shape) (chunk_box grid chunk) false
 
--- the chunks below the grid that share a place with a box, row-major
-abbrev pub met : Grid → Region → List (List ℕ)
-met grid region = filter (is_met grid region) (chunk_indices grid)
+-- the chunks in the grid that share a place with a box, row-major
+abbrev pub intersecting : Grid → Region → List (List ℕ)
+intersecting grid region = filter (intersects grid region) (chunk_indices grid)

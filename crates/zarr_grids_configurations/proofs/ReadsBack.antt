@@ -4,7 +4,7 @@ use Rattle.serde_json.specs.View.{items_of}
 use Rattle.zarr_grids_configurations.specs.Numbers.{sizes_of, positive_sizes}
 use Rattle.zarr_grids_configurations.specs.Grids.{fixed, bounded, exact, covering}
 use Rattle.zarr_grids_configurations.specs.Configurations as json
-use Rattle.zarr_grids_configurations.specs.Views.{rectangular_view, rectilinear_view, run_of}
+use Rattle.zarr_grids_configurations.specs.Views.{rectangular_view, rectilinear_view, repeat_of}
 use Rattle.zarr_grids_configurations.specs.Written.{size_data, element_data, rectangular_data, rectilinear_data}
 use Rattle.zarr_grids_configurations.specs.Laws.{RegularReadsBack, RectangularReadsBack, RectilinearReadsBack}
 use Rattle.zarr_grids_configurations.specs.declared.rectangular.RectangularChunkGridDimensionConfiguration.{RectangularChunkGridDimensionConfiguration}
@@ -38,15 +38,15 @@ pub rectangular-back : RectangularReadsBack
 rectangular-back given p = ap (option_and_then json.positive_edges) (rectangular-items given) ∙ ap (λ b. if b then Some (map rectangular_view given) else None) p
 
 -- ---- rectilinear
-element-back : (e : RunLengthElement) → json.run_in (element_data e) ≡ Some (run_of e)
+element-back : (e : RunLengthElement) → json.repeat_in (element_data e) ≡ Some (repeat_of e)
 element-back (Single edge) = refl
-element-back (Repeated run) = refl
+element-back (Repeated repeat) = refl
 
-elements-back : (es : List RunLengthElement) → json.runs_of (items_of (map element_data es)) ≡ Some (map run_of es)
+elements-back : (es : List RunLengthElement) → json.repeats_of (items_of (map element_data es)) ≡ Some (map repeat_of es)
 elements-back [] = refl
 elements-back (e ∷ es) =
-    ap (option_and_then (λ r. option_map (λ rs. r ∷ rs) (json.runs_of (items_of (map element_data es))))) (element-back e)
-    ∙ ap (option_map (λ rs. run_of e ∷ rs)) (elements-back es)
+    ap (option_and_then (λ r. option_map (λ rs. r ∷ rs) (json.repeats_of (items_of (map element_data es))))) (element-back e)
+    ∙ ap (option_map (λ rs. repeat_of e ∷ rs)) (elements-back es)
 
 rectilinear-edge : (given : ChunkEdgeLengths) → json.rectilinear_edges (rectilinear_data given) ≡ Some (rectilinear_view given)
 rectilinear-edge (rectilinear.Scalar edge) = refl

@@ -12,6 +12,7 @@ Refuses size given Sum = suits size given ≡ false
 Refuses size given TooManyChunks = is_countable given ≡ false
 Refuses size given Memory = Unit {0}
 
+-- a refusal for one dimension, where edges are given for it
 abbrev pub RefusesAt : ℕ → Option Edges → GridError → Type 0
 RefusesAt size None e = Unit {0}
 RefusesAt size (Some given) e = Refuses size given e

@@ -13,10 +13,12 @@ abbrev pub RegularReadsBack : Type 0
 RegularReadsBack = (edges : List ℕ) → all_positive edges ≡ true
     → (configuration_of_kind regular (regular_members edges) ≡ Some (map fixed edges)) × (configuration_of_kind regular_bounded (regular_members edges) ≡ Some (map bounded edges))
 
+-- the same of `rectangular`
 abbrev pub RectangularReadsBack : Type 0
 RectangularReadsBack = (given : List RectangularChunkGridDimensionConfiguration) → are_positive (map rectangular_view given) ≡ true
     → configuration_of_kind rectangular (rectangular_members given) ≡ Some (map rectangular_view given)
 
+-- the same of `rectilinear`
 abbrev pub RectilinearReadsBack : Type 0
 RectilinearReadsBack = (given : List ChunkEdgeLengths) → are_positive (map rectilinear_view given) ≡ true
     → configuration_of_kind rectilinear (rectilinear_members given) ≡ Some (map rectilinear_view given)

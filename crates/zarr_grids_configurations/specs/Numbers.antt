@@ -13,6 +13,7 @@ abbrev pub sizes_of : Items → Option (List ℕ)
 sizes_of no_items = Some []
 sizes_of (item d ds) = option_and_then (λ n. option_map (λ ns. n ∷ ns) (sizes_of ds)) (size_in d)
 
+-- the sizes that a JSON value lists, where it is a list of sizes
 abbrev pub sizes_in : Data → Option (List ℕ)
 sizes_in d = option_and_then sizes_of (as_array d)
 

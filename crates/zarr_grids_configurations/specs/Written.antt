@@ -9,13 +9,14 @@ use Rattle.zarr_grids_configurations.specs.declared.rectilinear.RunLengthElement
 use Rattle.zarr_grids_configurations.specs.declared.rectilinear.ChunkEdgeLengths.{ChunkEdgeLengths}
 use Rattle.zarr_grids_configurations.specs.declared.rectilinear.ChunkEdgeLengths.TheVariants as rectilinear
 
+-- a size as a JSON value
 abbrev pub size_data : ℕ → Data
 size_data n = number (unsigned n)
 
 -- a number, or a pair of an edge and a count
 abbrev pub element_data : RunLengthElement → Data
 element_data (Single edge) = size_data edge
-element_data (Repeated run) = array (items_of (size_data run.edge ∷ size_data run.count ∷ []))
+element_data (Repeated repeat) = array (items_of (size_data repeat.edge ∷ size_data repeat.count ∷ []))
 
 -- a number, or a list of numbers
 abbrev pub rectangular_data : RectangularChunkGridDimensionConfiguration → Data
@@ -27,11 +28,14 @@ abbrev pub rectilinear_data : ChunkEdgeLengths → Data
 rectilinear_data (rectilinear.Scalar edge) = size_data edge
 rectilinear_data (rectilinear.Varying elements) = array (items_of (map element_data elements.items))
 
+-- the members of a written configuration of `regular` or `regular_bounded`
 abbrev pub regular_members : List ℕ → Members
 regular_members chunk_shape = put (codes "chunk_shape") (array (items_of (map size_data chunk_shape))) no_members
 
+-- the members of a written configuration of `rectangular`
 abbrev pub rectangular_members : List RectangularChunkGridDimensionConfiguration → Members
 rectangular_members chunk_shape = put (codes "chunk_shape") (array (items_of (map rectangular_data chunk_shape))) no_members
 
+-- the members of a written configuration of `rectilinear`
 abbrev pub rectilinear_members : List ChunkEdgeLengths → Members
 rectilinear_members chunk_shapes = put (codes "kind") (string (codes "inline")) (put (codes "chunk_shapes") (array (items_of (map rectilinear_data chunk_shapes))) no_members)

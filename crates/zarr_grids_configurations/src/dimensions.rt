@@ -1,9 +1,10 @@
 //! The dimensions that given edges make of an array's shape.
 ghost use Rattle.std.specs.Prelude.{◌≡◌, ◌≢◌, ◌<◌, ◌∷◌, IfOk, IfErr, Some, None, length, map, option_and_then, slice_get};
 ghost use Rattle.zarr_grids_dimensions.specs.Dimensions.{dimension_of, grid_of};
-ghost use Rattle.zarr_grids_configurations.specs.Grids.{fixed, bounded, exact, covering, single_run, dimension_in, grid_in};
+ghost use Rattle.zarr_grids_dimensions.specs.Varying.{IsMadeOf};
+ghost use Rattle.zarr_grids_configurations.specs.Grids.{fixed, bounded, exact, covering, single_repeat, dimension_in, grid_in};
 ghost use Rattle.zarr_grids_configurations.specs.Errors.{Refuses, RefusesAt, RefusesGrid};
-ghost use Rattle.zarr_grids_configurations.specs.Views.{rectangular_view, rectilinear_view, run_of, given_view, edges_of};
+ghost use Rattle.zarr_grids_configurations.specs.Views.{rectangular_view, rectilinear_view, repeat_of, given_view, edges_of};
 
 use crate::configuration::GridConfiguration;
 use crate::error::GridError;
@@ -11,7 +12,7 @@ use crate::rectangular::RectangularChunkGridDimensionConfiguration;
 use crate::rectilinear::{ChunkEdgeLengths, RunLengthElement};
 use std::alloc::{AllocError, Global};
 use zarr_grids_dimensions::{
-    Dimension, IncompatibleDimensionalityError, Run, VaryingEdges, VaryingEdgesError,
+    Dimension, IncompatibleDimensionalityError, RepeatedEdge, VaryingEdges, VaryingEdgesError,
 };
 
 /// The edges given for each dimension.
@@ -64,7 +65,9 @@ impl<'a> GivenEdges<'a> {
     /// The dimension of a size and the edges given for dimension `k`.
     fn dimension(self, alloc: Global, size: u64, k: usize) -> Result<Dimension, GridError>
         requires { k < length (given_view self) }
-        ensures made { IfOk result (λ d. option_and_then (dimension_in size) (slice_get (given_view self.entry) k) ≡ Some (dimension_of d)) }
+        ensures made { IfOk result
+            (λ d. option_and_then (dimension_in size) (slice_get (given_view self.entry) k)
+            ≡ Some (dimension_of d)) }
         ensures refused { IfErr result (RefusesAt size (slice_get (given_view self.entry) k)) }
     {
         match self {
@@ -84,11 +87,14 @@ pub fn dimensions(
     array_shape: &[u64],
     given: GivenEdges<'_>,
 ) -> Result<Vec<Dimension>, GridError>
-    ensures made { IfOk result (λ made. grid_in array_shape.now (given_view given.entry) ≡ Some (grid_of made.items)) }
-    ensures none { IfErr result (λ e. e ≢ GridError.Memory → grid_in array_shape.now (given_view given.entry) ≡ None) }
+    ensures made { IfOk result
+        (λ made. grid_in array_shape.now (given_view given.entry) ≡ Some (grid_of made.items)) }
+    ensures none { IfErr result
+        (λ e. e ≢ GridError.Memory → grid_in array_shape.now (given_view given.entry) ≡ None) }
     ensures refused { IfErr result (RefusesGrid array_shape.now (given_view given.entry)) }
     ensures other { length (given_view given.entry) ≢ length array_shape.now
-        → result ≡ Err (GridError.Dimensionality (record { got = length (given_view given.entry); expected = length array_shape.now })) }
+        → result ≡ Err (GridError.Dimensionality
+        (record { got = length (given_view given.entry); expected = length array_shape.now })) }
 {
     let got = given.dimensionality();
     let expected = array_shape.len();
@@ -105,8 +111,10 @@ fn each_dimension(
     given: GivenEdges<'_>,
 ) -> Result<Vec<Dimension>, GridError>
     requires { length (given_view given) ≡ length array_shape.now }
-    ensures made { IfOk result (λ made. grid_in array_shape.now (given_view given.entry) ≡ Some (grid_of made.items)) }
-    ensures none { IfErr result (λ e. e ≢ GridError.Memory → grid_in array_shape.now (given_view given.entry) ≡ None) }
+    ensures made { IfOk result
+        (λ made. grid_in array_shape.now (given_view given.entry) ≡ Some (grid_of made.items)) }
+    ensures none { IfErr result
+        (λ e. e ≢ GridError.Memory → grid_in array_shape.now (given_view given.entry) ≡ None) }
     ensures refused { IfErr result (RefusesGrid array_shape.now (given_view given.entry)) }
 {
     let mut made = Vec::with_capacity(alloc, array_shape.len())?;
@@ -148,7 +156,8 @@ fn rectangular_dimension(
     size: u64,
     given: &RectangularChunkGridDimensionConfiguration,
 ) -> Result<Dimension, GridError>
-    ensures made { IfOk result (λ d. dimension_in size (rectangular_view given.now) ≡ Some (dimension_of d)) }
+    ensures made { IfOk result
+        (λ d. dimension_in size (rectangular_view given.now) ≡ Some (dimension_of d)) }
     ensures refused { IfErr result (Refuses size (rectangular_view given.now)) }
 {
     match given {
@@ -164,7 +173,8 @@ fn rectilinear_dimension(
     size: u64,
     given: &ChunkEdgeLengths,
 ) -> Result<Dimension, GridError>
-    ensures made { IfOk result (λ d. dimension_in size (rectilinear_view given.now) ≡ Some (dimension_of d)) }
+    ensures made { IfOk result
+        (λ d. dimension_in size (rectilinear_view given.now) ≡ Some (dimension_of d)) }
     ensures refused { IfErr result (Refuses size (rectilinear_view given.now)) }
 {
     match given {
@@ -181,8 +191,8 @@ fn exact_dimension(alloc: Global, size: u64, edges: &[u64]) -> Result<Dimension,
     if edges.is_empty() {
         return Err(GridError::ZeroEdge);
     }
-    let runs = single_runs(alloc, edges)?;
-    let varying = match varying_edges(alloc, size, runs) {
+    let repeats = single_repeats(alloc, edges)?;
+    let varying = match varying_edges(alloc, size, repeats) {
         Ok(varying) => varying,
         Err(error) => return Err(error),
     };
@@ -192,56 +202,64 @@ fn exact_dimension(alloc: Global, size: u64, edges: &[u64]) -> Result<Dimension,
     Ok(Dimension::Varying(varying))
 }
 
-/// The dimension of a size and runs of edges that cover it.
+/// The dimension of a size and repeats of edges that cover it.
 fn covering_dimension(
     alloc: Global,
     size: u64,
     elements: &[RunLengthElement],
 ) -> Result<Dimension, GridError>
-    ensures made { IfOk result (λ d. dimension_in size (covering (map run_of elements.now)) ≡ Some (dimension_of d)) }
-    ensures refused { IfErr result (Refuses size (covering (map run_of elements.now))) }
+    ensures made { IfOk result
+        (λ d. dimension_in size (covering (map repeat_of elements.now)) ≡ Some (dimension_of d)) }
+    ensures refused { IfErr result (Refuses size (covering (map repeat_of elements.now))) }
 {
-    let runs = element_runs(alloc, elements)?;
-    let varying = varying_edges(alloc, size, runs)?;
+    let repeats = element_repeats(alloc, elements)?;
+    let varying = varying_edges(alloc, size, repeats)?;
     Ok(Dimension::Varying(varying))
 }
 
-/// A run of one chunk for each edge.
-fn single_runs(alloc: Global, edges: &[u64]) -> Result<Vec<Run>, AllocError>
-    ensures { IfOk result (λ runs. runs.items ≡ map single_run edges.now) }
+/// A repeat of one chunk for each edge.
+fn single_repeats(alloc: Global, edges: &[u64]) -> Result<Vec<RepeatedEdge>, AllocError>
+    ensures { IfOk result (λ repeats. repeats.items ≡ map single_repeat edges.now) }
 {
     edges
         .iter()
-        .map(|edge| Run {
+        .map(|edge| RepeatedEdge {
             edge: *edge,
             count: 1,
         })
         .collect(alloc)
 }
 
-/// The runs that elements are.
-fn element_runs(alloc: Global, elements: &[RunLengthElement]) -> Result<Vec<Run>, AllocError>
-    ensures { IfOk result (λ runs. runs.items ≡ map run_of elements.now) }
+/// The repeats that elements are.
+fn element_repeats(
+    alloc: Global,
+    elements: &[RunLengthElement],
+) -> Result<Vec<RepeatedEdge>, AllocError>
+    ensures { IfOk result (λ repeats. repeats.items ≡ map repeat_of elements.now) }
 {
-    let mut runs = Vec::with_capacity(alloc, elements.len())?;
+    let mut repeats = Vec::with_capacity(alloc, elements.len())?;
     for element in elements {
-        runs.push(element.run())?;
+        repeats.push(element.repeat())?;
     }
-    Ok(runs)
+    Ok(repeats)
 }
 
-/// The runs as chunks of a dimension of this size, which they have to cover.
-fn varying_edges(alloc: Global, size: u64, runs: Vec<Run>) -> Result<VaryingEdges, GridError>
-    ensures made { IfOk result (λ varying. (varying.size ≡ size) × (varying.runs ≡ runs)) }
-    ensures refused { IfErr result (Refuses size (covering runs.items)) }
+/// The repeats as chunks of a dimension of this size, which they have to cover.
+fn varying_edges(
+    alloc: Global,
+    size: u64,
+    repeats: Vec<RepeatedEdge>,
+) -> Result<VaryingEdges, GridError>
+    ensures made { IfOk result (IsMadeOf size repeats.items) }
+    ensures refused { IfErr result (Refuses size (covering repeats.items)) }
 {
-    match VaryingEdges::new(alloc, size, runs) {
+    match VaryingEdges::new(alloc, size, repeats) {
         Ok(varying) => Ok(varying),
         Err(VaryingEdgesError::ZeroEdge) | Err(VaryingEdgesError::ZeroCount) => {
             Err(GridError::ZeroEdge)
         }
         Err(VaryingEdgesError::TooManyChunks) => Err(GridError::TooManyChunks),
         Err(VaryingEdgesError::TooShort) => Err(GridError::Sum),
-        Err(VaryingEdgesError::OutOfMemory) => Err(GridError::Memory),
+        Err(VaryingEdgesError::Memory) => Err(GridError::Memory),
     }
 }

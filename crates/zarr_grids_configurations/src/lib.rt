@@ -10,7 +10,7 @@ pub mod reading;
 pub mod rectangular;
 pub mod rectilinear;
 pub mod regular;
-pub mod writing;
+pub mod to_json;
 
 pub use configuration::{ChunkGridKind, GridConfiguration};
 pub use error::{ConfigurationError, GridError};
@@ -26,4 +26,4 @@ pub use rectilinear::{
     ChunkEdgeLengths, RectilinearChunkGridConfiguration, RunLengthElement, try_clone_rectilinear,
 };
 pub use regular::{RegularBoundedChunkGridConfiguration, RegularChunkGridConfiguration};
-pub use writing::{write_rectangular, write_rectilinear, write_regular};
+pub use to_json::{rectangular_to_json, rectilinear_to_json, regular_to_json};

@@ -1,11 +1,11 @@
 //! Configurations read from JSON.
 ghost use Rattle.std.specs.Prelude.{◌≡◌, ◌≢◌, true, false, IfOk, IfErr, Some, None, is_some, map, option_map, option_and_then};
 ghost use Rattle.serde_json.specs.View.{view, items_view, members_view};
-ghost use Rattle.zarr_grids_metadata.specs.ExtensionPoints.{extension_point, configuration_members};
+ghost use Rattle.zarr_grids_metadata.specs.ExtensionPoints.{extension_point};
 ghost use Rattle.zarr_grids_configurations.specs.Grids.{are_positive};
 ghost use Rattle.zarr_grids_configurations.specs.Numbers.{size_in};
 ghost use Rattle.zarr_grids_configurations.specs.Configurations as json;
-ghost use Rattle.zarr_grids_configurations.specs.Views.{rectangular_view, rectilinear_view, run_of, kind_view, kind_of_configuration, edges_of};
+ghost use Rattle.zarr_grids_configurations.specs.Views.{rectangular_view, rectilinear_view, repeat_of, kind_view, kind_of_configuration, edges_of};
 
 use crate::configuration::{ChunkGridKind, GridConfiguration};
 use crate::error::ConfigurationError;
@@ -18,7 +18,7 @@ use crate::regular::RegularChunkGridConfiguration;
 use serde_json::{Map, Value};
 use std::alloc::{AllocError, Global};
 use zarr_grids_boxes::ChunkShape;
-use zarr_grids_dimensions::Run;
+use zarr_grids_dimensions::RepeatedEdge;
 use zarr_grids_metadata::{ExtensionPoint, has_only, member};
 
 impl ChunkGridKind {
@@ -43,13 +43,19 @@ pub fn read_configuration(
     value: &Value,
 ) -> Result<GridConfiguration, ConfigurationError>
     ensures read { IfOk result (λ c. json.configuration_in (view value.now) ≡ Some (edges_of c)) }
-    ensures kind { IfOk result (λ c. json.kind_in (view value.now) ≡ Some (kind_of_configuration c)) }
-    ensures none { IfErr result (λ e. e ≢ ConfigurationError.Memory → json.configuration_in (view value.now) ≡ None) }
-    ensures point { result ≡ Err ConfigurationError.Point → extension_point (view value.now) ≡ None }
+    ensures kind { IfOk result
+        (λ c. json.kind_in (view value.now) ≡ Some (kind_of_configuration c)) }
+    ensures none { IfErr result
+        (λ e. e ≢ ConfigurationError.Memory → json.configuration_in (view value.now) ≡ None) }
+    ensures point { result ≡ Err ConfigurationError.Point
+        → extension_point (view value.now) ≡ None }
     ensures name { result ≡ Err ConfigurationError.Name → json.kind_in (view value.now) ≡ None }
-    ensures unnamed { result ≡ Err ConfigurationError.Name → is_some (extension_point (view value.now)) ≡ true }
-    ensures unformed { result ≡ Err ConfigurationError.Form → json.form_in (view value.now) ≡ Some false }
-    ensures zero { result ≡ Err ConfigurationError.ZeroEdge → json.form_in (view value.now) ≡ Some true }
+    ensures unnamed { result ≡ Err ConfigurationError.Name
+        → is_some (extension_point (view value.now)) ≡ true }
+    ensures unformed { result ≡ Err ConfigurationError.Form
+        → json.form_in (view value.now) ≡ Some false }
+    ensures zero { result ≡ Err ConfigurationError.ZeroEdge
+        → json.form_in (view value.now) ≡ Some true }
 {
     let Some(point) = ExtensionPoint::read(value) else {
         return Err(ConfigurationError::Point);
@@ -66,12 +72,18 @@ pub fn read_configuration_of_kind(
     kind: ChunkGridKind,
     configuration: Option<&Map<String, Value>>,
 ) -> Result<GridConfiguration, ConfigurationError>
-    ensures read { IfOk result (λ c. json.configuration_of_kind (kind_view kind) (configuration_members (option_map (λ ms. members_view ms.now.entries) configuration.entry)) ≡ Some (edges_of c)) }
+    ensures read { IfOk result (λ c. json.configuration_given (kind_view kind)
+        (option_map (λ ms. members_view ms.now.entries) configuration.entry) ≡ Some (edges_of c)) }
     ensures kind { IfOk result (λ c. kind_of_configuration c ≡ kind_view kind) }
-    ensures none { IfErr result (λ e. e ≢ ConfigurationError.Memory → json.configuration_of_kind (kind_view kind) (configuration_members (option_map (λ ms. members_view ms.now.entries) configuration.entry)) ≡ None) }
-    ensures form { IfErr result (λ e. (e ≢ ConfigurationError.Point) × (e ≢ ConfigurationError.Name)) }
-    ensures unformed { result ≡ Err ConfigurationError.Form → json.has_form (kind_view kind) (configuration_members (option_map (λ ms. members_view ms.now.entries) configuration.entry)) ≡ false }
-    ensures zero { result ≡ Err ConfigurationError.ZeroEdge → json.has_form (kind_view kind) (configuration_members (option_map (λ ms. members_view ms.now.entries) configuration.entry)) ≡ true }
+    ensures none { IfErr result
+        (λ e. e ≢ ConfigurationError.Memory → json.configuration_given (kind_view kind)
+        (option_map (λ ms. members_view ms.now.entries) configuration.entry) ≡ None) }
+    ensures form { IfErr result
+        (λ e. (e ≢ ConfigurationError.Point) × (e ≢ ConfigurationError.Name)) }
+    ensures unformed { result ≡ Err ConfigurationError.Form → json.form_given (kind_view kind)
+        (option_map (λ ms. members_view ms.now.entries) configuration.entry) ≡ false }
+    ensures zero { result ≡ Err ConfigurationError.ZeroEdge → json.form_given (kind_view kind)
+        (option_map (λ ms. members_view ms.now.entries) configuration.entry) ≡ true }
 {
     match kind {
         ChunkGridKind::Regular => match read_chunk_shape(alloc, configuration) {
@@ -99,7 +111,8 @@ pub fn read_configuration_of_kind(
 
 /// The member `chunk_shape`, where it is the only one.
 fn only_chunk_shape<'v>(members: &'v Map<String, Value>) -> Option<&'v Value>
-    ensures { option_map (λ v. view v.now) result ≡ json.only_chunk_shape (members_view members.now.entries) }
+    ensures { option_map (λ v. view v.now) result
+        ≡ json.only_chunk_shape (members_view members.now.entries) }
 {
     if has_only(members, &["chunk_shape"]) {
         member(members, "chunk_shape")
@@ -110,7 +123,8 @@ fn only_chunk_shape<'v>(members: &'v Map<String, Value>) -> Option<&'v Value>
 
 /// The member `chunk_shapes`, where beside it there is only `kind`, which is "inline".
 fn only_chunk_shapes<'v>(members: &'v Map<String, Value>) -> Option<&'v Value>
-    ensures { option_map (λ v. view v.now) result ≡ json.only_chunk_shapes (members_view members.now.entries) }
+    ensures { option_map (λ v. view v.now) result
+        ≡ json.only_chunk_shapes (members_view members.now.entries) }
 {
     if has_only(members, &["kind", "chunk_shapes"]) && is_inline(member(members, "kind")) {
         member(members, "chunk_shapes")
@@ -138,11 +152,16 @@ pub fn read_chunk_shape(
     alloc: Global,
     configuration: Option<&Map<String, Value>>,
 ) -> Result<ChunkShape, ConfigurationError>
-    ensures read { IfOk result (λ s. json.chunk_shape_of (configuration_members (option_map (λ ms. members_view ms.now.entries) configuration.entry)) ≡ Some s.edges.items) }
-    ensures none { IfErr result (λ e. e ≢ ConfigurationError.Memory → json.chunk_shape_of (configuration_members (option_map (λ ms. members_view ms.now.entries) configuration.entry)) ≡ None) }
-    ensures form { IfErr result (λ e. (e ≢ ConfigurationError.Point) × (e ≢ ConfigurationError.Name)) }
-    ensures unformed { result ≡ Err ConfigurationError.Form → json.has_form json.regular (configuration_members (option_map (λ ms. members_view ms.now.entries) configuration.entry)) ≡ false }
-    ensures zero { result ≡ Err ConfigurationError.ZeroEdge → json.has_form json.regular (configuration_members (option_map (λ ms. members_view ms.now.entries) configuration.entry)) ≡ true }
+    ensures read { IfOk result (λ s. json.chunk_shape_given
+        (option_map (λ ms. members_view ms.now.entries) configuration.entry) ≡ Some s) }
+    ensures none { IfErr result (λ e. e ≢ ConfigurationError.Memory → json.chunk_shape_given
+        (option_map (λ ms. members_view ms.now.entries) configuration.entry) ≡ None) }
+    ensures form { IfErr result
+        (λ e. (e ≢ ConfigurationError.Point) × (e ≢ ConfigurationError.Name)) }
+    ensures unformed { result ≡ Err ConfigurationError.Form → json.form_given json.regular
+        (option_map (λ ms. members_view ms.now.entries) configuration.entry) ≡ false }
+    ensures zero { result ≡ Err ConfigurationError.ZeroEdge → json.form_given json.regular
+        (option_map (λ ms. members_view ms.now.entries) configuration.entry) ≡ true }
 {
     let Some(members) = configuration else {
         return Err(ConfigurationError::Form);
@@ -165,11 +184,18 @@ pub fn read_rectangular(
     alloc: Global,
     configuration: Option<&Map<String, Value>>,
 ) -> Result<RectangularChunkGridConfiguration, ConfigurationError>
-    ensures read { IfOk result (λ c. json.configuration_of_kind json.rectangular (configuration_members (option_map (λ ms. members_view ms.now.entries) configuration.entry)) ≡ Some (map rectangular_view c.chunk_shape.items)) }
-    ensures none { IfErr result (λ e. e ≢ ConfigurationError.Memory → json.configuration_of_kind json.rectangular (configuration_members (option_map (λ ms. members_view ms.now.entries) configuration.entry)) ≡ None) }
-    ensures form { IfErr result (λ e. (e ≢ ConfigurationError.Point) × (e ≢ ConfigurationError.Name)) }
-    ensures unformed { result ≡ Err ConfigurationError.Form → json.has_form json.rectangular (configuration_members (option_map (λ ms. members_view ms.now.entries) configuration.entry)) ≡ false }
-    ensures zero { result ≡ Err ConfigurationError.ZeroEdge → json.has_form json.rectangular (configuration_members (option_map (λ ms. members_view ms.now.entries) configuration.entry)) ≡ true }
+    ensures read { IfOk result (λ c. json.configuration_given json.rectangular
+        (option_map (λ ms. members_view ms.now.entries) configuration.entry)
+        ≡ Some (map rectangular_view c.chunk_shape.items)) }
+    ensures none { IfErr result
+        (λ e. e ≢ ConfigurationError.Memory → json.configuration_given json.rectangular
+        (option_map (λ ms. members_view ms.now.entries) configuration.entry) ≡ None) }
+    ensures form { IfErr result
+        (λ e. (e ≢ ConfigurationError.Point) × (e ≢ ConfigurationError.Name)) }
+    ensures unformed { result ≡ Err ConfigurationError.Form → json.form_given json.rectangular
+        (option_map (λ ms. members_view ms.now.entries) configuration.entry) ≡ false }
+    ensures zero { result ≡ Err ConfigurationError.ZeroEdge → json.form_given json.rectangular
+        (option_map (λ ms. members_view ms.now.entries) configuration.entry) ≡ true }
 {
     let Some(members) = configuration else {
         return Err(ConfigurationError::Form);
@@ -193,7 +219,8 @@ fn rectangular_items(
     alloc: Global,
     items: &[Value],
 ) -> Result<Option<Vec<RectangularChunkGridDimensionConfiguration>>, AllocError>
-    ensures { IfOk result (λ found. option_map (λ v. map rectangular_view v.items) found ≡ json.in_each_item json.rectangular_edges (items_view items.now)) }
+    ensures { IfOk result (λ found. option_map (λ v. map rectangular_view v.items) found
+        ≡ json.in_each_item json.rectangular_edges (items_view items.now)) }
 {
     let mut found = Vec::with_capacity(alloc, items.len())?;
     for item in items {
@@ -210,7 +237,8 @@ fn rectangular_edges(
     alloc: Global,
     value: &Value,
 ) -> Result<Option<RectangularChunkGridDimensionConfiguration>, AllocError>
-    ensures { IfOk result (λ found. option_map rectangular_view found ≡ json.rectangular_edges (view value.now)) }
+    ensures { IfOk result
+        (λ found. option_map rectangular_view found ≡ json.rectangular_edges (view value.now)) }
 {
     match value {
         Value::Number(number) => match number.as_u64() {
@@ -243,11 +271,18 @@ pub fn read_rectilinear(
     alloc: Global,
     configuration: Option<&Map<String, Value>>,
 ) -> Result<RectilinearChunkGridConfiguration, ConfigurationError>
-    ensures read { IfOk result (λ c. json.configuration_of_kind json.rectilinear (configuration_members (option_map (λ ms. members_view ms.now.entries) configuration.entry)) ≡ Some (map rectilinear_view c.chunk_shapes.items)) }
-    ensures none { IfErr result (λ e. e ≢ ConfigurationError.Memory → json.configuration_of_kind json.rectilinear (configuration_members (option_map (λ ms. members_view ms.now.entries) configuration.entry)) ≡ None) }
-    ensures form { IfErr result (λ e. (e ≢ ConfigurationError.Point) × (e ≢ ConfigurationError.Name)) }
-    ensures unformed { result ≡ Err ConfigurationError.Form → json.has_form json.rectilinear (configuration_members (option_map (λ ms. members_view ms.now.entries) configuration.entry)) ≡ false }
-    ensures zero { result ≡ Err ConfigurationError.ZeroEdge → json.has_form json.rectilinear (configuration_members (option_map (λ ms. members_view ms.now.entries) configuration.entry)) ≡ true }
+    ensures read { IfOk result (λ c. json.configuration_given json.rectilinear
+        (option_map (λ ms. members_view ms.now.entries) configuration.entry)
+        ≡ Some (map rectilinear_view c.chunk_shapes.items)) }
+    ensures none { IfErr result
+        (λ e. e ≢ ConfigurationError.Memory → json.configuration_given json.rectilinear
+        (option_map (λ ms. members_view ms.now.entries) configuration.entry) ≡ None) }
+    ensures form { IfErr result
+        (λ e. (e ≢ ConfigurationError.Point) × (e ≢ ConfigurationError.Name)) }
+    ensures unformed { result ≡ Err ConfigurationError.Form → json.form_given json.rectilinear
+        (option_map (λ ms. members_view ms.now.entries) configuration.entry) ≡ false }
+    ensures zero { result ≡ Err ConfigurationError.ZeroEdge → json.form_given json.rectilinear
+        (option_map (λ ms. members_view ms.now.entries) configuration.entry) ≡ true }
 {
     let Some(members) = configuration else {
         return Err(ConfigurationError::Form);
@@ -271,7 +306,8 @@ fn rectilinear_items(
     alloc: Global,
     items: &[Value],
 ) -> Result<Option<Vec<ChunkEdgeLengths>>, AllocError>
-    ensures { IfOk result (λ found. option_map (λ v. map rectilinear_view v.items) found ≡ json.in_each_item json.rectilinear_edges (items_view items.now)) }
+    ensures { IfOk result (λ found. option_map (λ v. map rectilinear_view v.items) found
+        ≡ json.in_each_item json.rectilinear_edges (items_view items.now)) }
 {
     let mut found = Vec::with_capacity(alloc, items.len())?;
     for item in items {
@@ -285,7 +321,8 @@ fn rectilinear_items(
 
 /// The edges of one dimension: a number, or a list of edges and pairs of an edge and a count.
 fn rectilinear_edges(alloc: Global, value: &Value) -> Result<Option<ChunkEdgeLengths>, AllocError>
-    ensures { IfOk result (λ found. option_map rectilinear_view found ≡ json.rectilinear_edges (view value.now)) }
+    ensures { IfOk result
+        (λ found. option_map rectilinear_view found ≡ json.rectilinear_edges (view value.now)) }
 {
     match value {
         Value::Number(number) => match number.as_u64() {
@@ -301,7 +338,8 @@ fn rectilinear_edges(alloc: Global, value: &Value) -> Result<Option<ChunkEdgeLen
 }
 
 fn elements_of(alloc: Global, items: &[Value]) -> Result<Option<Vec<RunLengthElement>>, AllocError>
-    ensures { IfOk result (λ found. option_map (λ v. map run_of v.items) found ≡ json.runs_of (items_view items.now)) }
+    ensures { IfOk result (λ found. option_map (λ v. map repeat_of v.items) found
+        ≡ json.repeats_of (items_view items.now)) }
 {
     let mut found = Vec::with_capacity(alloc, items.len())?;
     for item in items {
@@ -315,7 +353,7 @@ fn elements_of(alloc: Global, items: &[Value]) -> Result<Option<Vec<RunLengthEle
 
 /// One edge, or a pair of an edge and a count.
 fn element_in(value: &Value) -> Option<RunLengthElement>
-    ensures { option_map run_of result ≡ json.run_in (view value.now) }
+    ensures { option_map repeat_of result ≡ json.repeat_in (view value.now) }
 {
     match value {
         Value::Number(number) => {
@@ -323,22 +361,22 @@ fn element_in(value: &Value) -> Option<RunLengthElement>
             Some(RunLengthElement::Single(edge))
         }
         Value::Array(items) => {
-            let run = pair_of(items.as_slice())?;
-            Some(RunLengthElement::Repeated(run))
+            let repeat = pair_of(items.as_slice())?;
+            Some(RunLengthElement::Repeated(repeat))
         }
         _ => None,
     }
 }
 
 #[tactic(auto, using(crate::proofs::Items::no_pair))]
-fn pair_of(items: &[Value]) -> Option<Run>
+fn pair_of(items: &[Value]) -> Option<RepeatedEdge>
     ensures { result ≡ json.pair_of (items_view items.now) }
 {
     match items {
         [edge, count] => {
             let edge = edge.as_u64()?;
             let count = count.as_u64()?;
-            Some(Run { edge, count })
+            Some(RepeatedEdge { edge, count })
         }
         _ => None,
     }

@@ -58,7 +58,8 @@ pub fn try_clone_rectangular(
     alloc: Global,
     given: &[RectangularChunkGridDimensionConfiguration],
 ) -> Result<Vec<RectangularChunkGridDimensionConfiguration>, AllocError>
-    ensures { IfOk result (λ copy. map rectangular_view copy.items ≡ map rectangular_view given.now) }
+    ensures { IfOk result
+        (λ copy. map rectangular_view copy.items ≡ map rectangular_view given.now) }
 {
     let mut copy = Vec::with_capacity(alloc, given.len())?;
     for edges in given {

@@ -1,28 +1,28 @@
 //! The configuration of `rectilinear`.
 ghost use Rattle.std.specs.Prelude.{◌≡◌, map, IfOk};
 ghost use Rattle.zarr_grids_configurations.specs.Grids.{is_positive, covering};
-ghost use Rattle.zarr_grids_configurations.specs.Views.{run_of, rectilinear_view};
+ghost use Rattle.zarr_grids_configurations.specs.Views.{repeat_of, rectilinear_view};
 
 use std::alloc::{AllocError, Global};
-use zarr_grids_dimensions::Run;
+use zarr_grids_dimensions::RepeatedEdge;
 
-/// One edge or a run of equal ones.
+/// One edge or a repeat of equal ones.
 #[derive(Clone, Copy, Debug, PartialEq, Eq)]
 pub enum RunLengthElement {
     /// One chunk of this edge.
     Single(u64),
     /// Chunks of one edge, one after another.
-    Repeated(Run),
+    Repeated(RepeatedEdge),
 }
 
 impl RunLengthElement {
-    /// The run that the element is.
-    pub fn run(self) -> Run
-        ensures { result ≡ run_of self }
+    /// The repeat that the element is.
+    pub fn repeat(self) -> RepeatedEdge
+        ensures { result ≡ repeat_of self }
     {
         match self {
-            RunLengthElement::Single(edge) => Run { edge, count: 1 },
-            RunLengthElement::Repeated(run) => run,
+            RunLengthElement::Single(edge) => RepeatedEdge { edge, count: 1 },
+            RunLengthElement::Repeated(repeat) => repeat,
         }
     }
 }
@@ -32,7 +32,7 @@ impl RunLengthElement {
 pub enum ChunkEdgeLengths {
     /// One edge for all chunks, the last of them whole.
     Scalar(u64),
-    /// Edges and runs of them.
+    /// Edges and repeats of them.
     Varying(Vec<RunLengthElement>),
 }
 
@@ -68,11 +68,11 @@ impl ChunkEdgeLengths {
 }
 
 fn are_elements_positive(elements: &[RunLengthElement]) -> bool
-    ensures { result ≡ is_positive (covering (map run_of elements.now)) }
+    ensures { result ≡ is_positive (covering (map repeat_of elements.now)) }
 {
     for element in elements {
-        let run = element.run();
-        if run.edge == 0 || run.count == 0 {
+        let repeat = element.repeat();
+        if repeat.edge == 0 || repeat.count == 0 {
             return false;
         }
     }
@@ -84,7 +84,8 @@ pub fn try_clone_rectilinear(
     alloc: Global,
     given: &[ChunkEdgeLengths],
 ) -> Result<Vec<ChunkEdgeLengths>, AllocError>
-    ensures { IfOk result (λ copy. map rectilinear_view copy.items ≡ map rectilinear_view given.now) }
+    ensures { IfOk result
+        (λ copy. map rectilinear_view copy.items ≡ map rectilinear_view given.now) }
 {
     let mut copy = Vec::with_capacity(alloc, given.len())?;
     for lengths in given {

@@ -4,7 +4,7 @@ use Rattle.std.proofs.Math.Nat.{mul-pos}
 use Rattle.std.proofs.lemmas.List.{length-map}
 use Rattle.zarr_grids_boxes.specs.Boxes.{Region, product, EndsFit}
 use Rattle.zarr_grids_boxes.proofs.Places.{both}
-use Rattle.zarr_grids_chunks.specs.Grids.{Grid, chunk_box, IsBelow}
+use Rattle.zarr_grids_chunks.specs.Grids.{Grid, chunk_box, IsInGrid}
 use Rattle.zarr_grids_dimensions.specs.declared.dimension.Dimension.{Dimension as DeclaredDimension}
 use Rattle.zarr_grids_dimensions.specs.Dimensions.{dimension_of, grid_of}
 use Rattle.zarr_grids_dimensions.specs.Lookups.{are_dimensions}
@@ -43,5 +43,5 @@ chunk_box-some_places (d ∷ ds) (k ∷ ks) box t h =
     subst (λ (b : Region). 0 < product b.shape) (sym m.is) (mul-pos (interval-positive d k m.along u.0 m.along_is) r)
 
 -- of a grid in code
-pub rank-of : (ds : List DeclaredDimension) (chunk : List ℕ) → (box : Region) × IsBelow (grid_of ds) chunk box → length chunk ≡ length ds
+pub rank-of : (ds : List DeclaredDimension) (chunk : List ℕ) → (box : Region) × IsInGrid (grid_of ds) chunk box → length chunk ≡ length ds
 rank-of ds chunk b = chunk_box-chunk_rank (grid_of ds) chunk b.0 b.1.has_box ∙ length-map ds dimension_of

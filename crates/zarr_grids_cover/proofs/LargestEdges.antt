@@ -10,21 +10,21 @@ use Rattle.std.proofs.lemmas.List.{length-map, get_or-map, take_all}
 use Rattle.zarr_grids_boxes.specs.Boxes.{Region, product, is_in_box, last_index}
 use Rattle.zarr_grids_boxes.proofs.Dimensions.{positive-drop, positive-drop_all, product-drop}
 use Rattle.zarr_grids_boxes.proofs.Places.{both}
-use Rattle.zarr_grids_chunks.specs.Grids.{Dimension, regular, clipped, varying, Grid, Interval, IsBelow, AreBelow}
+use Rattle.zarr_grids_chunks.specs.Grids.{Dimension, regular, clipped, varying, Grid, Interval, IsInGrid, AreInGrid}
 use Rattle.zarr_grids_dimensions.specs.declared.dimension.Dimension.{Dimension as DeclaredDimension}
 use Rattle.zarr_grids_dimensions.specs.declared.dimension.Dimension.TheVariants.{Regular, Clipped, Varying}
 use Rattle.zarr_grids_dimensions.specs.declared.fixed.FixedEdge.{FixedEdge}
-use Rattle.zarr_grids_dimensions.specs.declared.run.Run.{Run}
+use Rattle.zarr_grids_dimensions.specs.declared.repeat.RepeatedEdge.{RepeatedEdge}
 use Rattle.zarr_grids_dimensions.specs.declared.varying.VaryingEdges.{VaryingEdges}
 use Rattle.zarr_grids_dimensions.specs.Dimensions.{dimension_of, grid_of}
-use Rattle.zarr_grids_dimensions.specs.Runs.{expanded, counts}
+use Rattle.zarr_grids_dimensions.specs.RepeatedEdges.{expanded, counts}
 use Rattle.zarr_grids_dimensions.specs.Lookups.{all_positive, are_dimensions, in_all}
-use Rattle.zarr_grids_dimensions.proofs.Expanded.{in_run, sum-run, length-expanded, positive-at}
-use Rattle.zarr_grids_dimensions.proofs.Meeting.{has_place_some}
-use Rattle.zarr_grids_cover.specs.Below.{is_number_below}
+use Rattle.zarr_grids_dimensions.proofs.Expanded.{in_repeat, sum-repeat, length-expanded, positive-at}
+use Rattle.zarr_grids_dimensions.proofs.Intersecting.{lies_in_interval_some}
+use Rattle.zarr_grids_cover.specs.InGrid.{is_number_in_grid}
 use Rattle.zarr_grids_cover.specs.Sizes.{HasChunkOf, largest, edge_of, largest_edge, largest_edges}
 use Rattle.zarr_grids_cover.proofs.ChunkBoxes.{chunk_box-some_places}
-use Rattle.zarr_grids_cover.proofs.NumbersBelow.{below-more, last_index-at, AreBelow-each}
+use Rattle.zarr_grids_cover.proofs.NumbersInGrid.{below-more, last_index-at, AreInGrid-each}
 
 -- ---- the largest of the edges of a range
 largest-bound : (f : ℕ → ℕ) (a n m : ℕ) → ((k : ℕ) → a ≤ k → k < a + n → f k ≤ m) → largest (map f (range_with_len a n)) ≤ m
@@ -92,7 +92,7 @@ largest-varying s es a n e h l bound found =
     let y = bound m u (omega arith) in
     omega arith)
 
--- ---- the walk over runs: what is the largest of the chunks before the next run
+-- ---- the walk over repeats: what is the largest of the chunks before the next repeat
 pub record LargestBefore (es : List ℕ) (first last next edge : ℕ) : Type 0 where
   pub bound : (k : ℕ) → first ≤ k → k ≤ last → k < next → get_or es k 0 ≤ edge
   pub found : (edge ≡ 0) ⊎ ((k : ℕ) × (first ≤ k) × (k ≤ last) × (get_or es k 0 ≡ edge))
@@ -100,81 +100,81 @@ pub record LargestBefore (es : List ℕ) (first last next edge : ℕ) : Type 0 w
 pub largest-none : (es : List ℕ) (first last : ℕ) → LargestBefore es first last 0 0
 largest-none es first last = record { bound = λ k a b c. absurd (omega arith); found = inl refl }
 
--- the chunks of a run have its edge
-run-edges : (runs : List Run) (j k : ℕ) (run : Run) → j < length runs → get_or runs j run ≡ run → sum (take j (counts runs)) ≤ k → k < sum (take j (counts runs)) + run.count → get_or (expanded runs) k 0 ≡ run.edge
-run-edges runs j k run h at from to =
-    let i = in_run runs j (k - sum (take j (counts runs))) run h at (omega arith) in
-    let e : sum (take j (counts runs)) + (k - sum (take j (counts runs))) ≡ k = omega arith in
-    ap (λ m. get_or (expanded runs) m 0) (sym e) ∙ i.edge_is
+-- the chunks of a repeat have its edge
+repeat-edges : (repeats : List RepeatedEdge) (j k : ℕ) (repeat : RepeatedEdge) → j < length repeats → get_or repeats j repeat ≡ repeat → sum (take j (counts repeats)) ≤ k → k < sum (take j (counts repeats)) + repeat.count → get_or (expanded repeats) k 0 ≡ repeat.edge
+repeat-edges repeats j k repeat h at from to =
+    let i = in_repeat repeats j (k - sum (take j (counts repeats))) repeat h at (omega arith) in
+    let e : sum (take j (counts repeats)) + (k - sum (take j (counts repeats))) ≡ k = omega arith in
+    ap (λ m. get_or (expanded repeats) m 0) (sym e) ∙ i.edge_is
 
-pub largest-met : (runs : List Run) (j first last next edge : ℕ) (run : Run) → j < length runs → run ≡ get_or runs j run → next ≡ sum (take j (counts runs)) → 0 < run.count → first ≤ last → next ≤ last → first < next + run.count
-    → LargestBefore (expanded runs) first last next edge → LargestBefore (expanded runs) first last (next + run.count) (max edge run.edge)
-largest-met runs j first last next edge run h at is some order from to b = record { bound = bound; found = found } where
-  bound : (k : ℕ) → first ≤ k → k ≤ last → k < next + run.count → get_or (expanded runs) k 0 ≤ max edge run.edge
+pub largest-intersecting : (repeats : List RepeatedEdge) (j first last next edge : ℕ) (repeat : RepeatedEdge) → j < length repeats → repeat ≡ get_or repeats j repeat → next ≡ sum (take j (counts repeats)) → 0 < repeat.count → first ≤ last → next ≤ last → first < next + repeat.count
+    → LargestBefore (expanded repeats) first last next edge → LargestBefore (expanded repeats) first last (next + repeat.count) (max edge repeat.edge)
+largest-intersecting repeats j first last next edge repeat h at is some order from to b = record { bound = bound; found = found } where
+  bound : (k : ℕ) → first ≤ k → k ≤ last → k < next + repeat.count → get_or (expanded repeats) k 0 ≤ max edge repeat.edge
   bound k u v w = ⊎_elim
       (λ l. let x = b.bound k u v l in omega arith)
-      (λ l. let x = run-edges runs j k run h (sym at) (omega (arith, l)) (omega arith) in omega arith)
+      (λ l. let x = repeat-edges repeats j k repeat h (sym at) (omega (arith, l)) (omega arith) in omega arith)
       (cases_lt k next)
 
-  here : (m : ℕ) → m ≡ max first next → (k : ℕ) × (first ≤ k) × (k ≤ last) × (get_or (expanded runs) k 0 ≡ run.edge)
-  here m e = (m, omega arith, omega arith, run-edges runs j m run h (sym at) (omega arith) (omega arith))
+  here : (m : ℕ) → m ≡ max first next → (k : ℕ) × (first ≤ k) × (k ≤ last) × (get_or (expanded repeats) k 0 ≡ repeat.edge)
+  here m e = (m, omega arith, omega arith, repeat-edges repeats j m repeat h (sym at) (omega arith) (omega arith))
 
-  old : edge ≡ max edge run.edge → run.edge ≤ edge → (edge ≡ 0) ⊎ ((k : ℕ) × (first ≤ k) × (k ≤ last) × (get_or (expanded runs) k 0 ≡ edge))
-      → (max edge run.edge ≡ 0) ⊎ ((k : ℕ) × (first ≤ k) × (k ≤ last) × (get_or (expanded runs) k 0 ≡ max edge run.edge))
-  old e l f = subst (λ n. (n ≡ 0) ⊎ ((k : ℕ) × (first ≤ k) × (k ≤ last) × (get_or (expanded runs) k 0 ≡ n))) e f
+  old : edge ≡ max edge repeat.edge → repeat.edge ≤ edge → (edge ≡ 0) ⊎ ((k : ℕ) × (first ≤ k) × (k ≤ last) × (get_or (expanded repeats) k 0 ≡ edge))
+      → (max edge repeat.edge ≡ 0) ⊎ ((k : ℕ) × (first ≤ k) × (k ≤ last) × (get_or (expanded repeats) k 0 ≡ max edge repeat.edge))
+  old e l f = subst (λ n. (n ≡ 0) ⊎ ((k : ℕ) × (first ≤ k) × (k ≤ last) × (get_or (expanded repeats) k 0 ≡ n))) e f
 
-  found : (max edge run.edge ≡ 0) ⊎ ((k : ℕ) × (first ≤ k) × (k ≤ last) × (get_or (expanded runs) k 0 ≡ max edge run.edge))
+  found : (max edge repeat.edge ≡ 0) ⊎ ((k : ℕ) × (first ≤ k) × (k ≤ last) × (get_or (expanded repeats) k 0 ≡ max edge repeat.edge))
   found = ⊎_elim
-      (λ l. let e : run.edge ≡ max edge run.edge = omega (arith, l) in let i = here (max first next) refl in inr (i.0, i.1, i.2, i.3 ∙ e))
+      (λ l. let e : repeat.edge ≡ max edge repeat.edge = omega (arith, l) in let i = here (max first next) refl in inr (i.0, i.1, i.2, i.3 ∙ e))
       (λ l. old (omega (arith, l)) l b.found)
-      (cases_lt edge run.edge)
+      (cases_lt edge repeat.edge)
 
-pub largest-missed : (runs : List Run) (first last next end edge : ℕ) → (next ≤ last → first < end → ⊥)
-    → LargestBefore (expanded runs) first last next edge → LargestBefore (expanded runs) first last end edge
-largest-missed runs first last next end edge miss b = record { bound = bound; found = b.found } where
-  bound : (k : ℕ) → first ≤ k → k ≤ last → k < end → get_or (expanded runs) k 0 ≤ edge
+pub largest-missed : (repeats : List RepeatedEdge) (first last next end edge : ℕ) → (next ≤ last → first < end → ⊥)
+    → LargestBefore (expanded repeats) first last next edge → LargestBefore (expanded repeats) first last end edge
+largest-missed repeats first last next end edge miss b = record { bound = bound; found = b.found } where
+  bound : (k : ℕ) → first ≤ k → k ≤ last → k < end → get_or (expanded repeats) k 0 ≤ edge
   bound k u v w = ⊎_elim
       (λ l. b.bound k u v l)
       (λ l. absurd (miss (omega (arith, l)) (omega arith)))
       (cases_lt k next)
 
-same-at : (runs : List Run) (j : ℕ) (z y : Run) → j < length runs → get_or runs j z ≡ get_or runs j y
+same-at : (repeats : List RepeatedEdge) (j : ℕ) (z y : RepeatedEdge) → j < length repeats → get_or repeats j z ≡ get_or repeats j y
 same-at [] j z y h = absurd (omega arith)
 same-at (r ∷ rs) zero z y h = refl
 same-at (r ∷ rs) (suc j) z y h = same-at rs j z y (omega arith)
 
-count-positive : (runs : List Run) (j : ℕ) (run : Run) → j < length runs → get_or runs j run ≡ run → all_positive (counts runs) ≡ true → 0 < run.count
-count-positive runs j run h at t =
-    let l = length-map runs (λ (r : Run). r.count) in
-    let j' : j < length (counts runs) = omega arith in
-    let e : get_or (counts runs) j 0 ≡ run.count = get_or-map (λ (r : Run). r.count) runs j run 0 h ∙ ap (λ (r : Run). r.count) at in
-    let p = positive-at (counts runs) j j' t in
+count-positive : (repeats : List RepeatedEdge) (j : ℕ) (repeat : RepeatedEdge) → j < length repeats → get_or repeats j repeat ≡ repeat → all_positive (counts repeats) ≡ true → 0 < repeat.count
+count-positive repeats j repeat h at t =
+    let l = length-map repeats (λ (r : RepeatedEdge). r.count) in
+    let j' : j < length (counts repeats) = omega arith in
+    let e : get_or (counts repeats) j 0 ≡ repeat.count = get_or-map (λ (r : RepeatedEdge). r.count) repeats j repeat 0 h ∙ ap (λ (r : RepeatedEdge). r.count) at in
+    let p = positive-at (counts repeats) j j' t in
     omega arith
 
--- one run more
-pub largest-step : (runs : List Run) (j first last next edge new : ℕ) (z : Run) → j < length runs → all_positive (counts runs) ≡ true → next ≡ sum (take j (counts runs)) → first ≤ last
-    → new ≡ max edge (cond (leb next last && ltb first (next + (get_or runs j z).count)) (get_or runs j z).edge 0) → LargestBefore (expanded runs) first last next edge
-    → (next + (get_or runs j z).count ≡ sum (take (j + 1) (counts runs))) × LargestBefore (expanded runs) first last (next + (get_or runs j z).count) new
-largest-step runs j first last next edge new z h t is order e b = (total, go (leb next last && ltb first (next + (get_or runs j z).count)) refl e) where
-  at : get_or runs j z ≡ get_or runs j (get_or runs j z)
-  at = same-at runs j z (get_or runs j z) h
+-- one repeat more
+pub largest-step : (repeats : List RepeatedEdge) (j first last next edge new : ℕ) (z : RepeatedEdge) → j < length repeats → all_positive (counts repeats) ≡ true → next ≡ sum (take j (counts repeats)) → first ≤ last
+    → new ≡ max edge (cond (leb next last && ltb first (next + (get_or repeats j z).count)) (get_or repeats j z).edge 0) → LargestBefore (expanded repeats) first last next edge
+    → (next + (get_or repeats j z).count ≡ sum (take (j + 1) (counts repeats))) × LargestBefore (expanded repeats) first last (next + (get_or repeats j z).count) new
+largest-step repeats j first last next edge new z h t is order e b = (total, go (leb next last && ltb first (next + (get_or repeats j z).count)) refl e) where
+  at : get_or repeats j z ≡ get_or repeats j (get_or repeats j z)
+  at = same-at repeats j z (get_or repeats j z) h
 
-  total : next + (get_or runs j z).count ≡ sum (take (j + 1) (counts runs))
+  total : next + (get_or repeats j z).count ≡ sum (take (j + 1) (counts repeats))
   total =
-      let s : sum (take (j + 1) (counts runs)) ≡ sum (take j (counts runs)) + (get_or runs j z).count = rw add-one (sum-run (λ (r : Run). r.count) runs j (get_or runs j z) h (sym at)) in
+      let s : sum (take (j + 1) (counts repeats)) ≡ sum (take j (counts repeats)) + (get_or repeats j z).count = rw add-one (sum-repeat (λ (r : RepeatedEdge). r.count) repeats j (get_or repeats j z) h (sym at)) in
       omega arith
 
-  go : (c : Bool) → (leb next last && ltb first (next + (get_or runs j z).count)) ≡ c → new ≡ max edge (cond c (get_or runs j z).edge 0) → LargestBefore (expanded runs) first last (next + (get_or runs j z).count) new
+  go : (c : Bool) → (leb next last && ltb first (next + (get_or repeats j z).count)) ≡ c → new ≡ max edge (cond c (get_or repeats j z).edge 0) → LargestBefore (expanded repeats) first last (next + (get_or repeats j z).count) new
   go true q n =
       let x = both _ _ q in
-      subst (λ m. LargestBefore (expanded runs) first last (next + (get_or runs j z).count) m) (sym n)
-      (largest-met runs j first last next edge (get_or runs j z) h at is (count-positive runs j (get_or runs j z) h (sym at) t) order (leb-true next last x.0) (ltb-true first (next + (get_or runs j z).count) x.1) b)
+      subst (λ m. LargestBefore (expanded repeats) first last (next + (get_or repeats j z).count) m) (sym n)
+      (largest-intersecting repeats j first last next edge (get_or repeats j z) h at is (count-positive repeats j (get_or repeats j z) h (sym at) t) order (leb-true next last x.0) (ltb-true first (next + (get_or repeats j z).count) x.1) b)
   go false q n =
       let m : edge ≡ new = omega arith in
-      subst (λ m. LargestBefore (expanded runs) first last (next + (get_or runs j z).count) m) m
-      (largest-missed runs first last next (next + (get_or runs j z).count) edge (λ u v. false≢true (sym q ∙ and_from _ _ (le-leb next last u) (lt-ltb first (next + (get_or runs j z).count) v))) b)
+      subst (λ m. LargestBefore (expanded repeats) first last (next + (get_or repeats j z).count) m) m
+      (largest-missed repeats first last next (next + (get_or repeats j z).count) edge (λ u v. false≢true (sym q ∙ and_from _ _ (le-leb next last u) (lt-ltb first (next + (get_or repeats j z).count) v))) b)
 
--- after all runs
+-- after all repeats
 pub largest-all : (es : List ℕ) (first last next edge : ℕ) → first ≤ last → last < next → LargestBefore es first last next edge
     → ((k : ℕ) → first ≤ k → k ≤ last → get_or es k 0 ≤ edge) × ((k : ℕ) × (first ≤ k) × (k ≤ last) × (get_or es k 0 ≡ edge))
 largest-all es first last next edge order l b = (
@@ -185,18 +185,18 @@ largest-all es first last next edge order l b = (
       b.found,
 )
 
-pub largest-end : (runs : List Run) (j first last next edge : ℕ) → length runs ≤ j → next ≡ sum (take j (counts runs)) → first ≤ last → last < length (expanded runs) → LargestBefore (expanded runs) first last next edge
-    → ((k : ℕ) → first ≤ k → k ≤ last → get_or (expanded runs) k 0 ≤ edge) × ((k : ℕ) × (first ≤ k) × (k ≤ last) × (get_or (expanded runs) k 0 ≡ edge))
-largest-end runs j first last next edge h is order below b =
-    let l = length-map runs (λ (r : Run). r.count) in
-    let n : length (counts runs) ≤ j = omega arith in
-    let e : sum (take j (counts runs)) ≡ sum (counts runs) = ap (λ (ns : List ℕ). sum ns) (take_all j (counts runs) n) in
-    let s = length-expanded runs in
-    largest-all (expanded runs) first last next edge order (omega arith) b
+pub largest-end : (repeats : List RepeatedEdge) (j first last next edge : ℕ) → length repeats ≤ j → next ≡ sum (take j (counts repeats)) → first ≤ last → last < length (expanded repeats) → LargestBefore (expanded repeats) first last next edge
+    → ((k : ℕ) → first ≤ k → k ≤ last → get_or (expanded repeats) k 0 ≤ edge) × ((k : ℕ) × (first ≤ k) × (k ≤ last) × (get_or (expanded repeats) k 0 ≡ edge))
+largest-end repeats j first last next edge h is order below b =
+    let l = length-map repeats (λ (r : RepeatedEdge). r.count) in
+    let n : length (counts repeats) ≤ j = omega arith in
+    let e : sum (take j (counts repeats)) ≡ sum (counts repeats) = ap (λ (ns : List ℕ). sum ns) (take_all j (counts repeats) n) in
+    let s = length-expanded repeats in
+    largest-all (expanded repeats) first last next edge order (omega arith) b
 
 -- ---- in all dimensions: the most places
 -- no chunk of the box has more
-most-bound : (grid : Grid) (ss xs ks : List ℕ) (box : Region) → is_in_box ss xs ks ≡ true → IsBelow grid ks box → product box.shape ≤ product (largest_edges grid ss xs)
+most-bound : (grid : Grid) (ss xs ks : List ℕ) (box : Region) → is_in_box ss xs ks ≡ true → IsInGrid grid ks box → product box.shape ≤ product (largest_edges grid ss xs)
 most-bound [] ss xs [] box i b = let e : record { start = []; shape = [] } ≡ box = let q = b.has_box in cc in subst (λ (r : Region). product r.shape ≤ 1) e (omega arith)
 most-bound [] ss xs (k ∷ ks) box i b = absurd (false≢true b.below)
 most-bound (d ∷ ds) ss xs [] box i b = absurd (false≢true b.below)
@@ -217,7 +217,7 @@ most-bound (d ∷ ds) (s ∷ ss) (x ∷ xs) (k ∷ ks) box i b =
 record Most (grid : Grid) (ss xs : List ℕ) : Type 0 where
   chunk : List ℕ
   among : is_in_box ss xs chunk ≡ true
-  has : (box : Region) → IsBelow grid chunk box → product box.shape ≡ product (largest_edges grid ss xs)
+  has : (box : Region) → IsInGrid grid chunk box → product box.shape ≡ product (largest_edges grid ss xs)
 
 most-found : (grid : Grid) (ss xs : List ℕ) → length ss ≡ length grid → length xs ≡ length ss → 0 < product xs → Most grid ss xs
 most-found [] [] [] l m p = record { chunk = []; among = refl; has = λ box b. let e : record { start = []; shape = [] } ≡ box = let q = b.has_box in cc in sym (ap (λ (r : Region). product r.shape) e) }
@@ -239,7 +239,7 @@ most-found (d ∷ ds) (s ∷ ss) (x ∷ xs) l m p =
     }
 
 -- some chunk is as large as asked exactly where the largest edges' product is
-pub most-HasChunkOf : (grid : Grid) (ss xs : List ℕ) (count : ℕ) → length xs ≡ length ss → 0 < product xs → AreBelow grid (record { start = ss; shape = xs }) → count ≤ product (largest_edges grid ss xs) → HasChunkOf grid (record { start = ss; shape = xs }) count
+pub most-HasChunkOf : (grid : Grid) (ss xs : List ℕ) (count : ℕ) → length xs ≡ length ss → 0 < product xs → AreInGrid grid (record { start = ss; shape = xs }) → count ≤ product (largest_edges grid ss xs) → HasChunkOf grid (record { start = ss; shape = xs }) count
 most-HasChunkOf grid ss xs count m p a h =
     let f = most-found grid ss xs a.rank m p in
     let b = a.below f.chunk f.among in
@@ -250,10 +250,10 @@ pub HasChunkOf-most : (grid : Grid) (ss xs : List ℕ) (count : ℕ) → HasChun
 HasChunkOf-most grid ss xs count (chunk, box, b, i, h) = let m = most-bound grid ss xs chunk box i b in omega arith
 
 pub HasChunkOf-some : (grid : Grid) (ss xs : List ℕ) (count : ℕ) → HasChunkOf grid (record { start = ss; shape = xs }) count → 0 < product xs
-HasChunkOf-some grid ss xs count (chunk, box, b, i, h) = has_place_some ss xs chunk i
+HasChunkOf-some grid ss xs count (chunk, box, b, i, h) = lies_in_interval_some ss xs chunk i
 
 -- the product is positive
-pub most-positive : (grid : Grid) (ss xs : List ℕ) → are_dimensions grid ≡ true → length xs ≡ length ss → 0 < product xs → AreBelow grid (record { start = ss; shape = xs }) → 0 < product (largest_edges grid ss xs)
+pub most-positive : (grid : Grid) (ss xs : List ℕ) → are_dimensions grid ≡ true → length xs ≡ length ss → 0 < product xs → AreInGrid grid (record { start = ss; shape = xs }) → 0 < product (largest_edges grid ss xs)
 most-positive grid ss xs t m p a =
     let f = most-found grid ss xs a.rank m p in
     let b = a.below f.chunk f.among in
@@ -318,14 +318,14 @@ all-at f (c ∷ ds) (n ∷ ns) zero d h e t = ap (λ b. f (dimension_of b) n) e 
 all-at f (c ∷ ds) (n ∷ ns) (suc k) d h e t = all-at f ds ns k d (omega arith) e (both _ _ t).1
 
 -- the last chunk number of the box, in one dimension
-pub last-below : (ds : List DeclaredDimension) (ss xs : List ℕ) (k : ℕ) (d : DeclaredDimension) → k < length ds → length xs ≡ length ss → 0 < product xs → d ≡ get_or ds k d → AreBelow (grid_of ds) (record { start = ss; shape = xs })
-    → is_number_below (dimension_of d) (get_or ss k 0 + (get_or xs k 0 - 1)) ≡ true
+pub last-below : (ds : List DeclaredDimension) (ss xs : List ℕ) (k : ℕ) (d : DeclaredDimension) → k < length ds → length xs ≡ length ss → 0 < product xs → d ≡ get_or ds k d → AreInGrid (grid_of ds) (record { start = ss; shape = xs })
+    → is_number_in_grid (dimension_of d) (get_or ss k 0 + (get_or xs k 0 - 1)) ≡ true
 last-below ds ss xs k d h m p e a =
     let r : length ss ≡ length ds = a.rank ∙ length-map ds dimension_of in
-    ap (λ n. is_number_below (dimension_of d) n) (last_index-at ss xs k (omega arith) m) ∙ all-at is_number_below ds (last_index ss xs) k d h e (AreBelow-each (grid_of ds) ss xs m p a)
+    ap (λ n. is_number_in_grid (dimension_of d) n) (last_index-at ss xs k (omega arith) m) ∙ all-at is_number_in_grid ds (last_index ss xs) k d h e (AreInGrid-each (grid_of ds) ss xs m p a)
 
 -- ---- what the comparison answers for a box that is not empty, of its start and shape as slices
-pub answers-most : (ds : List DeclaredDimension) (ss xs starts sizes : List ℕ) (count most : ℕ) → starts ≡ ss → sizes ≡ xs → length xs ≡ length ss → (product xs ≡ 0 → ⊥) → AreBelow (grid_of ds) (record { start = ss; shape = xs }) → count < 2 ^ 64
+pub answers-most : (ds : List DeclaredDimension) (ss xs starts sizes : List ℕ) (count most : ℕ) → starts ≡ ss → sizes ≡ xs → length xs ≡ length ss → (product xs ≡ 0 → ⊥) → AreInGrid (grid_of ds) (record { start = ss; shape = xs }) → count < 2 ^ 64
     → most ≡ min (product (largest_edges (grid_of ds) starts sizes)) (2 ^ 64 - 1)
     → (leb count most ≡ true → HasChunkOf (grid_of ds) (record { start = ss; shape = xs }) count) × (HasChunkOf (grid_of ds) (record { start = ss; shape = xs }) count → leb count most ≡ true)
 answers-most ds ss xs starts sizes count most a b m some below small is =
@@ -343,13 +343,13 @@ regular-largest d fixed a n is h = subst (λ e. fixed.edge ≡ largest_edge (dim
 pub clipped-largest : (d : DeclaredDimension) (fixed : FixedEdge) (a n edge : ℕ) → d ≡ Clipped fixed → 0 < n → edge ≡ edge_of (dimension_of d) a → edge ≡ largest_edge (dimension_of d) a n
 clipped-largest d fixed a n edge is h e = e ∙ subst (λ c. edge_of (dimension_of c) a ≡ largest_edge (dimension_of c) a n) (sym is) (largest-clipped fixed.size fixed.edge a n h)
 
-pub varying-largest : (d : DeclaredDimension) (edges : VaryingEdges) (runs : List Run) (a n edge : ℕ) → d ≡ Varying edges → runs ≡ edges.runs.items → 0 < n → is_number_below (dimension_of d) (a + (n - 1)) ≡ true
-    → ((k : ℕ) → a ≤ k → k ≤ a + (n - 1) → get_or (expanded runs) k 0 ≤ edge) → ((k : ℕ) × (a ≤ k) × (k ≤ a + (n - 1)) × (get_or (expanded runs) k 0 ≡ edge)) → edge ≡ largest_edge (dimension_of d) a n
-varying-largest d edges runs a n edge is at h t bound found =
-    let b : a + (n - 1) < length (expanded edges.runs.items) = ltb-true (a + (n - 1)) (length (expanded edges.runs.items)) (both _ _ (subst (λ c. is_number_below (dimension_of c) (a + (n - 1)) ≡ true) is t)).0 in
-    let x : (k : ℕ) → a ≤ k → k ≤ a + (n - 1) → get_or (expanded edges.runs.items) k 0 ≤ edge = subst (λ rs. (k : ℕ) → a ≤ k → k ≤ a + (n - 1) → get_or (expanded rs) k 0 ≤ edge) at bound in
-    let y : (k : ℕ) × (a ≤ k) × (k ≤ a + (n - 1)) × (get_or (expanded edges.runs.items) k 0 ≡ edge) = subst (λ rs. (k : ℕ) × (a ≤ k) × (k ≤ a + (n - 1)) × (get_or (expanded rs) k 0 ≡ edge)) at found in
-    subst (λ c. edge ≡ largest_edge (dimension_of c) a n) (sym is) (largest-varying edges.size (expanded edges.runs.items) a n edge h b x y)
+pub varying-largest : (d : DeclaredDimension) (edges : VaryingEdges) (repeats : List RepeatedEdge) (a n edge : ℕ) → d ≡ Varying edges → repeats ≡ edges.repeats.items → 0 < n → is_number_in_grid (dimension_of d) (a + (n - 1)) ≡ true
+    → ((k : ℕ) → a ≤ k → k ≤ a + (n - 1) → get_or (expanded repeats) k 0 ≤ edge) → ((k : ℕ) × (a ≤ k) × (k ≤ a + (n - 1)) × (get_or (expanded repeats) k 0 ≡ edge)) → edge ≡ largest_edge (dimension_of d) a n
+varying-largest d edges repeats a n edge is at h t bound found =
+    let b : a + (n - 1) < length (expanded edges.repeats.items) = ltb-true (a + (n - 1)) (length (expanded edges.repeats.items)) (both _ _ (subst (λ c. is_number_in_grid (dimension_of c) (a + (n - 1)) ≡ true) is t)).0 in
+    let x : (k : ℕ) → a ≤ k → k ≤ a + (n - 1) → get_or (expanded edges.repeats.items) k 0 ≤ edge = subst (λ rs. (k : ℕ) → a ≤ k → k ≤ a + (n - 1) → get_or (expanded rs) k 0 ≤ edge) at bound in
+    let y : (k : ℕ) × (a ≤ k) × (k ≤ a + (n - 1)) × (get_or (expanded edges.repeats.items) k 0 ≡ edge) = subst (λ rs. (k : ℕ) × (a ≤ k) × (k ≤ a + (n - 1)) × (get_or (expanded rs) k 0 ≡ edge)) at found in
+    subst (λ c. edge ≡ largest_edge (dimension_of c) a n) (sym is) (largest-varying edges.size (expanded edges.repeats.items) a n edge h b x y)
 
-pub varying-few : (edges : VaryingEdges) (runs : List Run) → runs ≡ edges.runs.items → sum (counts runs) < 2 ^ 64
-varying-few edges runs at = let l = length-expanded edges.runs.items in let f = edges.few in subst (λ rs. sum (counts rs) < 2 ^ 64) (sym at) (omega arith)
+pub varying-few : (edges : VaryingEdges) (repeats : List RepeatedEdge) → repeats ≡ edges.repeats.items → sum (counts repeats) < 2 ^ 64
+varying-few edges repeats at = let l = length-expanded edges.repeats.items in let f = edges.few in subst (λ rs. sum (counts rs) < 2 ^ 64) (sym at) (omega arith)

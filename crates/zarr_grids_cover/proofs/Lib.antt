@@ -1,6 +1,6 @@
 pub mod ChunkBoxes
 pub mod ChunkLaws
-pub mod ChunksMet
+pub mod ChunksIntersecting
 pub mod LargestEdges
-pub mod NumbersBelow
+pub mod NumbersInGrid
 pub mod PlacesKept

@@ -1,4 +1,4 @@
-pub mod Below
+pub mod InGrid
 pub mod Laws
-pub mod Met
+pub mod Intersecting
 pub mod Sizes

@@ -2,12 +2,12 @@
 use Rattle.std.specs.Prelude.{◌≡◌, ℕ, ◌≤◌, List, [], ◌∷◌, map, max, true, unwrap_or}
 use Rattle.std.specs.List.{range_with_len}
 use Rattle.zarr_grids_boxes.specs.Boxes.{Region, product, is_in_box}
-use Rattle.zarr_grids_chunks.specs.Grids.{Dimension, Grid, IsBelow}
+use Rattle.zarr_grids_chunks.specs.Grids.{Dimension, Grid, IsInGrid}
 use Rattle.zarr_grids_dimensions.specs.Chunks.{count_of}
 
--- some chunk of a box of chunk indices lies below the grid shape and has at least this many places
+-- some chunk of a box of chunk indices lies in the grid and has at least this many places
 abbrev pub HasChunkOf : Grid → Region → ℕ → Type 0
-HasChunkOf grid chunks count = (chunk : List ℕ) × (box : Region) × IsBelow grid chunk box × (is_in_box chunks.start chunks.shape chunk ≡ true) × (count ≤ product box.shape)
+HasChunkOf grid chunks count = (chunk : List ℕ) × (box : Region) × IsInGrid grid chunk box × (is_in_box chunks.start chunks.shape chunk ≡ true) × (count ≤ product box.shape)
 
 -- the largest number of a list
 abbrev pub largest : List ℕ → ℕ

@@ -1,14 +1,14 @@
-//! What an array asks of its grid: which chunks and boxes lie below the grid shape, where a chunk lies and how large it is,
-//! and the chunks that a box of places meets.
+//! What an array asks of its grid: which chunks and boxes lie in the grid, where a chunk lies and how large it is,
+//! and the chunks that a box of places intersects.
 #![tactic(auto)]
 
-pub mod below;
 pub mod chunk;
+pub mod in_grid;
+pub mod intersecting;
 pub mod laws;
-pub mod met;
 pub mod sizes;
 
-pub use below::{are_below, covers, is_below};
-pub use chunk::{chunk_region, write_chunk_box};
-pub use met::chunks_met;
+pub use chunk::{chunk_box_into, chunk_region};
+pub use in_grid::{are_in_grid, covers, is_in_grid};
+pub use intersecting::chunks_intersecting;
 pub use sizes::has_chunk_of;

@@ -5,10 +5,10 @@ use Rattle.std.specs.Option.{option_map_or}
 use Rattle.std.proofs.lemmas.Bool.{lt-ltb, leb-true, false≢true}
 use Rattle.zarr_grids_boxes.proofs.Places.{both}
 use Rattle.zarr_grids_chunks.specs.Grids.{Dimension, Grid, Interval, interval}
-use Rattle.zarr_grids_dimensions.specs.Lookups.{has_place, in_interval, lies_in}
+use Rattle.zarr_grids_dimensions.specs.Lookups.{lies_in_interval, interval_has, chunk_has}
 use Rattle.zarr_grids_dimensions.specs.Chunks.{first_of, in_each, origin}
 
-pub lies-length : (grid : Grid) (chunk place : List ℕ) → lies_in grid chunk place ≡ true → length chunk ≡ length grid
+pub lies-length : (grid : Grid) (chunk place : List ℕ) → chunk_has grid chunk place ≡ true → length chunk ≡ length grid
 lies-length [] [] [] h = refl
 lies-length [] [] (p ∷ ps) h = absurd (cc)
 lies-length [] (k ∷ ks) ps h = absurd (cc)
@@ -22,9 +22,9 @@ pub record FirstOf (d : Dimension) (k p : ℕ) : Type 0 where
   pub is : first_of d k ≡ Some first
   pub from : first ≤ p
 
-pub in-first : (d : Dimension) (k p : ℕ) → p < 2 ^ 64 → in_interval d k p ≡ true → FirstOf d k p
+pub in-first : (d : Dimension) (k p : ℕ) → p < 2 ^ 64 → interval_has d k p ≡ true → FirstOf d k p
 in-first d k p s h = go (interval d k) refl h where
-  go : (o : Option Interval) → interval d k ≡ o → option_map_or (has_place p) o false ≡ true → FirstOf d k p
+  go : (o : Option Interval) → interval d k ≡ o → option_map_or (lies_in_interval p) o false ≡ true → FirstOf d k p
   go None e t = absurd (false≢true t)
   go (Some i) e t =
       let x = both _ _ t in
@@ -42,7 +42,7 @@ pub record OriginOf (grid : Grid) (chunk place : List ℕ) : Type 0 where
   pub same : length first ≡ length place
   pub from : (j : ℕ) → j < length place → get_or first j 0 ≤ get_or place j 0
 
-pub lies-origin : (grid : Grid) (chunk place : List ℕ) → ((j : ℕ) → j < length place → get_or place j 0 < 2 ^ 64) → lies_in grid chunk place ≡ true → OriginOf grid chunk place
+pub lies-origin : (grid : Grid) (chunk place : List ℕ) → ((j : ℕ) → j < length place → get_or place j 0 < 2 ^ 64) → chunk_has grid chunk place ≡ true → OriginOf grid chunk place
 lies-origin [] [] [] s h = record { first = []; is = refl; same = refl; from = λ j g. absurd (omega arith) }
 lies-origin [] [] (p ∷ ps) s h = absurd (cc)
 lies-origin [] (k ∷ ks) ps s h = absurd (cc)
@@ -63,7 +63,7 @@ lies-origin (d ∷ ds) (k ∷ ks) (p ∷ ps) s h =
       from n p ns ps a f (suc j) g = f j (omega arith)
 
 -- the origin that a lookup found
-pub first-below : (grid : Grid) (chunk place first : List ℕ) → ((j : ℕ) → j < length place → get_or place j 0 < 2 ^ 64) → lies_in grid chunk place ≡ true → origin grid chunk ≡ Some first
+pub first-below : (grid : Grid) (chunk place first : List ℕ) → ((j : ℕ) → j < length place → get_or place j 0 < 2 ^ 64) → chunk_has grid chunk place ≡ true → origin grid chunk ≡ Some first
     → (length first ≡ length place) × ((j : ℕ) → j < length place → get_or first j 0 ≤ get_or place j 0)
 first-below grid chunk place first s h o =
     let r = lies-origin grid chunk place s h in
@@ -72,5 +72,5 @@ first-below grid chunk place first s h o =
     (ap (λ ns. length ns) (sym e) ∙ r.same, subst (λ ns. (j : ℕ) → j < length place → get_or ns j 0 ≤ get_or place j 0) e r.from)
 
 -- a lookup finds one
-pub some-origin : (grid : Grid) (chunk place : List ℕ) → ((j : ℕ) → j < length place → get_or place j 0 < 2 ^ 64) → lies_in grid chunk place ≡ true → None ≡ origin grid chunk → ⊥
+pub some-origin : (grid : Grid) (chunk place : List ℕ) → ((j : ℕ) → j < length place → get_or place j 0 < 2 ^ 64) → chunk_has grid chunk place ≡ true → None ≡ origin grid chunk → ⊥
 some-origin grid chunk place s h o = let i = (lies-origin grid chunk place s h).is in absurd (cc)

@@ -5,7 +5,7 @@ pub mod EachWalk
 pub mod Elements
 pub mod Expanded
 pub mod FixedIntervals
-pub mod Meeting
+pub mod Intersecting
 pub mod Monotone
 pub mod OneChunk
 pub mod PlaceWalk

@@ -6,7 +6,7 @@ use Rattle.std.proofs.lemmas.Bool.{ltb-true}
 use Rattle.std.proofs.lemmas.Nat.{le-div}
 use Rattle.zarr_grids_boxes.proofs.Places.{both}
 use Rattle.zarr_grids_chunks.specs.Grids.{Dimension, regular, clipped, varying}
-use Rattle.zarr_grids_dimensions.specs.Lookups.{all_positive, is_dimension, in_interval}
+use Rattle.zarr_grids_dimensions.specs.Lookups.{all_positive, is_dimension, interval_has}
 use Rattle.zarr_grids_dimensions.proofs.Running.{sum-cons, sum-later, sum-earlier}
 use Rattle.zarr_grids_dimensions.proofs.Expanded.{positive-at}
 use Rattle.zarr_grids_dimensions.proofs.VaryingIntervals.{InVarying, in_varying, varying_in}
@@ -26,7 +26,7 @@ varying_later es k m p q a b h l =
     let f = a.from in let t = b.to in
     omega arith
 
-pub monotone : (d : Dimension) (k m p q : ℕ) → in_interval d k p ≡ true → in_interval d m q ≡ true → p ≤ q → k ≤ m
+pub monotone : (d : Dimension) (k m p q : ℕ) → interval_has d k p ≡ true → interval_has d m q ≡ true → p ≤ q → k ≤ m
 monotone (regular s e) k m p q a b h = fixed_monotone e k m p q (regular_in s e k p a) (regular_in s e m q b) h
 monotone (clipped s e) k m p q a b h = fixed_monotone e k m p q (clipped_in s e k p a).fixed (clipped_in s e m q b).fixed h
 monotone (varying s es) k m p q a b h = let f = varying_later es k m p q (varying_in s es k p a) (varying_in s es m q b) h in omega (arith, f)
@@ -38,7 +38,7 @@ first_fixed e k m q pos b h =
     let f = b.from in
     (record { from = omega arith; to = omega arith }, omega arith)
 
-pub first_place : (d : Dimension) (k m q : ℕ) → is_dimension d ≡ true → in_interval d m q ≡ true → k ≤ m → (f : ℕ) × (in_interval d k f ≡ true) × (f ≤ q)
+pub first_place : (d : Dimension) (k m q : ℕ) → is_dimension d ≡ true → interval_has d m q ≡ true → k ≤ m → (f : ℕ) × (interval_has d k f ≡ true) × (f ≤ q)
 first_place (regular s e) k m q t b h = let r = first_fixed e k m q (ltb-true 0 e t) (regular_in s e m q b) h in (k * e, in_regular s e k (k * e) r.0, r.1)
 first_place (clipped s e) k m q t b h =
     let i = clipped_in s e m q b in
@@ -72,7 +72,7 @@ fixed_least e k p pos i = let f = i.from in let g = mul-one k e pos in omega ari
   mul-one : (k e : ℕ) → 0 < e → k ≤ k * e
   mul-one k e pos = grind arith
 
-pub number_least : (d : Dimension) (k p : ℕ) → is_dimension d ≡ true → in_interval d k p ≡ true → k ≤ p
+pub number_least : (d : Dimension) (k p : ℕ) → is_dimension d ≡ true → interval_has d k p ≡ true → k ≤ p
 number_least (regular s e) k p t a = fixed_least e k p (ltb-true 0 e t) (regular_in s e k p a)
 number_least (clipped s e) k p t a = fixed_least e k p (ltb-true 0 e t) (clipped_in s e k p a).fixed
 number_least (varying s es) k p t a =

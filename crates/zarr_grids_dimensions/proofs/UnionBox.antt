@@ -5,8 +5,8 @@ use Rattle.std.proofs.lemmas.Bool.{le-leb, lt-ltb, leb-true, ltb-true, false≢t
 use Rattle.zarr_grids_boxes.specs.Boxes.{Region, product, is_in_box, EndsFit, last_index}
 use Rattle.zarr_grids_boxes.proofs.Dimensions.{positive-drop}
 use Rattle.zarr_grids_boxes.proofs.Places.{both}
-use Rattle.zarr_grids_chunks.specs.Grids.{Dimension, Grid, Interval, interval, bounded, onto_box, chunk_box}
-use Rattle.zarr_grids_dimensions.specs.Lookups.{lies_in, are_dimensions}
+use Rattle.zarr_grids_chunks.specs.Grids.{Dimension, Grid, Interval, interval, addressable, onto_box, chunk_box}
+use Rattle.zarr_grids_dimensions.specs.Lookups.{chunk_has, are_dimensions}
 use Rattle.zarr_grids_dimensions.specs.Chunks.{LiesAmong, lengths_to}
 use Rattle.zarr_grids_dimensions.proofs.Union.{Ends, ends-order, among-of, of-among}
 
@@ -27,7 +27,7 @@ box-more d ds k ks box h = go (interval d k) refl h where
   last i true None e f g t = absurd (cc)
   last i true (Some r) e f g t = record { along = i; rest = r; along_is = e; fit = ltb-true (i.first + i.count) (2 ^ 64) f; rest_is = g; is = cc }
 
-  go : (o : Option Interval) → interval d k ≡ o → option_and_then (λ i. option_map (onto_box i) (chunk_box ds ks)) (option_and_then bounded o) ≡ Some box → BoxMore d ds k ks box
+  go : (o : Option Interval) → interval d k ≡ o → option_and_then (λ i. option_map (onto_box i) (chunk_box ds ks)) (option_and_then addressable o) ≡ Some box → BoxMore d ds k ks box
   go None e t = absurd (cc)
   go (Some i) e t = last i (ltb (i.first + i.count) (2 ^ 64)) (chunk_box ds ks) e refl refl t
 
@@ -48,7 +48,7 @@ pub record Joined (grid : Grid) (fs ns : List ℕ) (b1 b2 : Region) : Type 0 whe
 united-more : (d : Dimension) (ds : Grid) (a n : ℕ) (fs ns : List ℕ) (i j : Interval) (r1 r2 : Region) → Ends d a n i j → ((p : List ℕ) → United ds fs ns r1 r2 p)
     → (p : List ℕ) → United (d ∷ ds) (a ∷ fs) (n ∷ ns) (onto_box i r1) (onto_box j r2) p
 united-more d ds a n fs ns i j r1 r2 e r [] = (λ h. absurd (false≢true h), λ m. absurd (no m.0 m.2)) where
-  no : (c : List ℕ) → lies_in (d ∷ ds) c [] ≡ true → ⊥
+  no : (c : List ℕ) → chunk_has (d ∷ ds) c [] ≡ true → ⊥
   no [] t = false≢true t
   no (k ∷ ks) t = false≢true t
 united-more d ds a n fs ns i j r1 r2 e r (q ∷ p) = (onward, λ m. back m.0 m.1 m.2) where
@@ -62,7 +62,7 @@ united-more d ds a n fs ns i j r1 r2 e r (q ∷ p) = (onward, λ m. back m.0 m.1
       let y = lt-ltb c.chunk (a + n) c.to in
       (c.chunk ∷ rest.0, rw (x, y, rest.1) refl, rw (c.lies, rest.2) refl)
 
-  back : (c : List ℕ) → is_in_box (a ∷ fs) (n ∷ ns) c ≡ true → lies_in (d ∷ ds) c (q ∷ p) ≡ true → is_in_box (onto_box i r1).start (lengths_to (onto_box i r1).start (onto_box j r2).start (onto_box j r2).shape) (q ∷ p) ≡ true
+  back : (c : List ℕ) → is_in_box (a ∷ fs) (n ∷ ns) c ≡ true → chunk_has (d ∷ ds) c (q ∷ p) ≡ true → is_in_box (onto_box i r1).start (lengths_to (onto_box i r1).start (onto_box j r2).start (onto_box j r2).shape) (q ∷ p) ≡ true
   back [] h g = absurd (false≢true h)
   back (k ∷ ks) h g =
       let u = both _ _ h in
@@ -104,7 +104,7 @@ joined [] [] [] b1 b2 t pos l i j =
       united : (p : List ℕ) → United [] [] [] (record { start = []; shape = [] }) (record { start = []; shape = [] }) p
       united [] = (λ h. ([], refl, refl), λ m. refl)
       united (q ∷ p) = (λ h. absurd (false≢true h), λ m. absurd (no m.0 m.2)) where
-        no : (c : List ℕ) → lies_in [] c (q ∷ p) ≡ true → ⊥
+        no : (c : List ℕ) → chunk_has [] c (q ∷ p) ≡ true → ⊥
         no [] t = false≢true t
         no (k ∷ ks) t = false≢true t
 

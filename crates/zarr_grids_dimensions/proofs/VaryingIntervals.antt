@@ -7,7 +7,7 @@ use Rattle.std.proofs.lemmas.List.Sums.{sum_by_more_le}
 use Rattle.std.proofs.lemmas.Bool.{le-leb, lt-ltb, leb-true, ltb-true, false≢true}
 use Rattle.zarr_grids_boxes.proofs.Places.{both}
 use Rattle.zarr_grids_chunks.specs.Grids.{Interval, varying, interval}
-use Rattle.zarr_grids_dimensions.specs.Lookups.{has_place, in_interval}
+use Rattle.zarr_grids_dimensions.specs.Lookups.{lies_in_interval, interval_has}
 use Rattle.zarr_grids_dimensions.proofs.Running.{sum-later}
 use Rattle.zarr_grids_dimensions.proofs.Expanded.{IsChunkAt}
 
@@ -15,11 +15,11 @@ pub interval-at : (size : ℕ) (es : List ℕ) (k first edge : ℕ) → IsChunkA
 interval-at size es k first edge i = rw (lt-ltb k (length es) i.below, i.first_is, i.edge_is) refl
 
 -- a place of an interval lies in it
-pub has_place-of : (p first count : ℕ) → first ≤ p → p < first + count → has_place p (record { first = first; count = count }) ≡ true
-has_place-of p first count a b = rw (le-leb first p a, lt-ltb p (first + count) b) refl
+pub lies_in_interval-of : (p first count : ℕ) → first ≤ p → p < first + count → lies_in_interval p (record { first = first; count = count }) ≡ true
+lies_in_interval-of p first count a b = rw (le-leb first p a, lt-ltb p (first + count) b) refl
 
-pub in_varying : (size : ℕ) (es : List ℕ) (k p first edge : ℕ) → IsChunkAt es k first edge → first ≤ p → p < first + edge → in_interval (varying size es) k p ≡ true
-in_varying size es k p first edge i a b = ap (λ o. option_map_or (has_place p) o false) (interval-at size es k first edge i) ∙ has_place-of p first edge a b
+pub in_varying : (size : ℕ) (es : List ℕ) (k p first edge : ℕ) → IsChunkAt es k first edge → first ≤ p → p < first + edge → interval_has (varying size es) k p ≡ true
+in_varying size es k p first edge i a b = ap (λ o. option_map_or (lies_in_interval p) o false) (interval-at size es k first edge i) ∙ lies_in_interval-of p first edge a b
 
 -- where a place of a chunk lies
 pub record InVarying (es : List ℕ) (k p : ℕ) : Type 0 where
@@ -27,12 +27,12 @@ pub record InVarying (es : List ℕ) (k p : ℕ) : Type 0 where
   pub from : sum (take k es) ≤ p
   pub to : p < sum (take k es) + get_or es k 0
 
-pub varying_in : (size : ℕ) (es : List ℕ) (k p : ℕ) → in_interval (varying size es) k p ≡ true → InVarying es k p
+pub varying_in : (size : ℕ) (es : List ℕ) (k p : ℕ) → interval_has (varying size es) k p ≡ true → InVarying es k p
 varying_in size es k p h = go (ltb k (length es)) refl h where
   i : Interval
   i = record { first = sum (take k es); count = get_or es k 0 }
 
-  go : (b : Bool) → ltb k (length es) ≡ b → option_map_or (has_place p) (if b then Some (let i : Interval = record { first = sum (take k es); count = get_or es k 0 } in i) else None) false ≡ true → InVarying es k p
+  go : (b : Bool) → ltb k (length es) ≡ b → option_map_or (lies_in_interval p) (if b then Some (let i : Interval = record { first = sum (take k es); count = get_or es k 0 } in i) else None) false ≡ true → InVarying es k p
   go false e t = absurd (false≢true t)
   go true e t = let x = both _ _ t in record { below = ltb-true k (length es) e; from = leb-true _ p x.0; to = ltb-true p _ x.1 }
 

@@ -4,7 +4,8 @@ pub mod Errors
 pub mod Intervals
 pub mod Laws
 pub mod Lookups
-pub mod Runs
-pub mod RunsLeft
+pub mod RepeatedEdges
+pub mod RepeatsLeft
 pub mod Same
 pub mod SameEquivalence
+pub mod Varying

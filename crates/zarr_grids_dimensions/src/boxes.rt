@@ -1,9 +1,9 @@
 //! Boxes of places and boxes of chunks.
-ghost use Rattle.std.specs.Prelude.{◌≡◌, ℕ, List, ◌↔◌, ◌⊎◌, ◌+◌, ◌<◌, ◌≤◌, ◌^◌, IsTrue, length, slice_index, IfOk, IfErr, MatchOption};
+ghost use Rattle.std.specs.Prelude.{◌≡◌, ℕ, List, ◌+◌, ◌<◌, ◌≤◌, ◌^◌, IsTrue, length, slice_index, IfOk, IfErr, IfSome, IfNone, MatchOption};
 ghost use Rattle.zarr_grids_boxes.specs.Boxes.{product, is_in_box, EndsFit, last_index};
 ghost use Rattle.zarr_grids_boxes.specs.Subsets.{region_of};
-ghost use Rattle.zarr_grids_chunks.specs.Grids.{chunk_box};
-ghost use Rattle.zarr_grids_dimensions.specs.Chunks.{Meets, LiesNowhere, LiesAmong, counts_to, lengths_to};
+ghost use Rattle.zarr_grids_dimensions.specs.Chunks.{HasChunksSharing, HasPlacesAmong, FirstOrLastLiesNowhere, FirstOrLastHasNoBox};
+ghost use Rattle.zarr_grids_dimensions.specs.Chunks.{counts_to, lengths_to};
 ghost use Rattle.zarr_grids_dimensions.specs.Dimensions.{grid_of};
 ghost use Rattle.zarr_grids_dimensions.specs.Errors.{Tells};
 
@@ -14,16 +14,19 @@ use std::alloc::{AllocError, Global};
 use zarr_grids_boxes::ArraySubset;
 use zarr_grids_boxes::walk::has_no_place;
 
-/// The chunks that a box of places meets, as a box of chunk indices; `None` where the first or the last place of a box
-/// that is not empty lies in no chunk.
+/// The chunks that a box of places intersects, as a box of chunk indices. `None` where the box has a place and its
+/// first or its last place lies in no chunk.
 pub fn chunks_in_array_subset(
     alloc: Global,
     grid: &[Dimension],
     subset: &ArraySubset,
 ) -> Result<Option<ArraySubset>, LookupError>
-    ensures met { IfOk result (λ found. MatchOption found (Unit {0}) (λ chunks. (chunk : List ℕ) → IsTrue (is_in_box chunks.start.items chunks.shape.items chunk) ↔ Meets (grid_of grid.now) (region_of subset.now) chunk)) }
-    ensures missing { IfOk result (λ found. MatchOption found (LiesNowhere (grid_of grid.now) subset.now.start.items ⊎ LiesNowhere (grid_of grid.now) (last_index subset.now.start.items subset.now.shape.items)) (λ _. Unit {0})) }
-    ensures some { IfOk result (λ found. MatchOption found (0 < product subset.now.shape.items) (λ chunks. length chunks.start.items ≡ length grid.now)) }
+    ensures intersecting { IfOk result (λ found. IfSome found
+        (λ chunks. HasChunksSharing (grid_of grid.now) (region_of subset.now) (region_of chunks))) }
+    ensures missing { IfOk result (λ found. IfNone found
+        (FirstOrLastLiesNowhere (grid_of grid.now) (region_of subset.now))) }
+    ensures some { IfOk result (λ found. MatchOption found (0 < product subset.now.shape.items)
+        (λ chunks. length chunks.start.items ≡ length grid.now)) }
     ensures rank { IfOk result (λ _. length subset.now.start.items ≡ length grid.now) }
     ensures error { IfErr result (Tells (length subset.now.start.items) (length grid.now)) }
 {
@@ -33,25 +36,28 @@ pub fn chunks_in_array_subset(
     if has_no_place(&subset.shape) {
         return match empty_subset(alloc, grid.len()) {
             Ok(empty) => Ok(Some(empty)),
-            Err(error) => Err(LookupError::OutOfMemory(error)),
+            Err(error) => Err(LookupError::Memory(error)),
         };
     }
     match find_chunks(alloc, grid, &subset.start, &subset.shape) {
         Ok(found) => Ok(found),
-        Err(error) => Err(LookupError::OutOfMemory(error)),
+        Err(error) => Err(LookupError::Memory(error)),
     }
 }
 
-/// The places of all chunks of a box of chunk indices, as one box; `None` where the first or the last chunk of a box that
-/// is not empty has no box.
+/// The places of all chunks of a box of chunk indices, as one box. `None` where the box has a chunk and its first or
+/// its last chunk has no box.
 pub fn chunks_subset(
     alloc: Global,
     grid: &[Dimension],
     chunks: &ArraySubset,
 ) -> Result<Option<ArraySubset>, LookupError>
-    ensures united { IfOk result (λ found. MatchOption found (Unit {0}) (λ subset. (place : List ℕ) → IsTrue (is_in_box subset.start.items subset.shape.items place) ↔ LiesAmong (grid_of grid.now) (region_of chunks.now) place)) }
-    ensures missing { IfOk result (λ found. MatchOption found ((chunk_box (grid_of grid.now) chunks.now.start.items ≡ None) ⊎ (chunk_box (grid_of grid.now) (last_index chunks.now.start.items chunks.now.shape.items) ≡ None)) (λ _. Unit {0})) }
-    ensures some { IfOk result (λ found. MatchOption found (0 < product chunks.now.shape.items) (λ subset. length subset.start.items ≡ length grid.now)) }
+    ensures united { IfOk result (λ found. IfSome found
+        (λ subset. HasPlacesAmong (grid_of grid.now) (region_of chunks.now) (region_of subset))) }
+    ensures missing { IfOk result (λ found. IfNone found
+        (FirstOrLastHasNoBox (grid_of grid.now) (region_of chunks.now))) }
+    ensures some { IfOk result (λ found. MatchOption found (0 < product chunks.now.shape.items)
+        (λ subset. length subset.start.items ≡ length grid.now)) }
     ensures rank { IfOk result (λ _. length chunks.now.start.items ≡ length grid.now) }
     ensures error { IfErr result (Tells (length chunks.now.start.items) (length grid.now)) }
 {
@@ -61,12 +67,12 @@ pub fn chunks_subset(
     if has_no_place(&chunks.shape) {
         return match empty_subset(alloc, grid.len()) {
             Ok(empty) => Ok(Some(empty)),
-            Err(error) => Err(LookupError::OutOfMemory(error)),
+            Err(error) => Err(LookupError::Memory(error)),
         };
     }
     match find_union(alloc, grid, &chunks.start, &chunks.shape) {
         Ok(found) => Ok(found),
-        Err(error) => Err(LookupError::OutOfMemory(error)),
+        Err(error) => Err(LookupError::Memory(error)),
     }
 }
 
@@ -74,14 +80,15 @@ pub fn chunks_subset(
 fn empty_subset(alloc: Global, dimensionality: usize) -> Result<ArraySubset, AllocError>
     requires { 0 < dimensionality }
     ensures rank { IfOk result (λ subset. length subset.start.items ≡ dimensionality) }
-    ensures empty { IfOk result (λ subset. (place : List ℕ) → ¬ IsTrue (is_in_box subset.start.items subset.shape.items place)) }
+    ensures empty { IfOk result (λ subset. (place : List ℕ)
+        → ¬ IsTrue (is_in_box subset.start.items subset.shape.items place)) }
 {
     let start = vec![in alloc; 0u64; dimensionality]?;
     let shape = vec![in alloc; 0u64; dimensionality]?;
     Ok(ArraySubset { start, shape })
 }
 
-/// The chunks that a box with the grid's dimensions meets, which has a place.
+/// The chunks that a box with the grid's dimensions intersects, which has a place.
 fn find_chunks(
     alloc: Global,
     grid: &[Dimension],
@@ -92,9 +99,12 @@ fn find_chunks(
     requires same { length shape.now ≡ length start.now }
     requires some { 0 < product shape.now }
     requires fit { EndsFit start.now shape.now }
-    ensures met { IfOk result (λ found. MatchOption found (Unit {0}) (λ chunks. (chunk : List ℕ) → IsTrue (is_in_box chunks.start.items chunks.shape.items chunk) ↔ Meets (grid_of grid.now) (record { start = start.now; shape = shape.now }) chunk)) }
-    ensures missing { IfOk result (λ found. MatchOption found (LiesNowhere (grid_of grid.now) start.now ⊎ LiesNowhere (grid_of grid.now) (last_index start.now shape.now)) (λ _. Unit {0})) }
-    ensures rank { IfOk result (λ found. MatchOption found (Unit {0}) (λ chunks. length chunks.start.items ≡ length grid.now)) }
+    ensures intersecting { IfOk result (λ found. IfSome found (λ chunks. HasChunksSharing
+        (grid_of grid.now) (record { start = start.now; shape = shape.now }) (region_of chunks))) }
+    ensures missing { IfOk result (λ found. IfNone found (FirstOrLastLiesNowhere
+        (grid_of grid.now) (record { start = start.now; shape = shape.now }))) }
+    ensures rank { IfOk result (λ found. IfSome found
+        (λ chunks. length chunks.start.items ≡ length grid.now)) }
 {
     let found_first = find_chunk(alloc, grid, start)?;
     let Some(first) = found_first else {
@@ -129,7 +139,8 @@ fn last_place(alloc: Global, start: &[u64], shape: &[u64]) -> Result<Vec<u64>, A
 /// How many numbers there are from each first to each last.
 fn count_to(alloc: Global, firsts: &[u64], lasts: &[u64]) -> Result<Vec<u64>, AllocError>
     requires same { length lasts.now ≡ length firsts.now }
-    requires order { (k : ℕ) → k < length firsts.now → slice_index firsts.now k ≤ slice_index lasts.now k }
+    requires order { (k : ℕ) → k < length firsts.now
+        → slice_index firsts.now k ≤ slice_index lasts.now k }
     requires fit { (k : ℕ) → k < length firsts.now → slice_index lasts.now k + 1 < 2 ^ 64 }
     ensures { IfOk result (λ counts. counts.items ≡ counts_to firsts.now lasts.now) }
 {
@@ -151,9 +162,12 @@ fn find_union(
     requires same { length shape.now ≡ length start.now }
     requires some { 0 < product shape.now }
     requires fit { EndsFit start.now shape.now }
-    ensures united { IfOk result (λ found. MatchOption found (Unit {0}) (λ subset. (place : List ℕ) → IsTrue (is_in_box subset.start.items subset.shape.items place) ↔ LiesAmong (grid_of grid.now) (record { start = start.now; shape = shape.now }) place)) }
-    ensures missing { IfOk result (λ found. MatchOption found ((chunk_box (grid_of grid.now) start.now ≡ None) ⊎ (chunk_box (grid_of grid.now) (last_index start.now shape.now) ≡ None)) (λ _. Unit {0})) }
-    ensures rank { IfOk result (λ found. MatchOption found (Unit {0}) (λ subset. length subset.start.items ≡ length grid.now)) }
+    ensures united { IfOk result (λ found. IfSome found (λ subset. HasPlacesAmong
+        (grid_of grid.now) (record { start = start.now; shape = shape.now }) (region_of subset))) }
+    ensures missing { IfOk result (λ found. IfNone found (FirstOrLastHasNoBox
+        (grid_of grid.now) (record { start = start.now; shape = shape.now }))) }
+    ensures rank { IfOk result (λ found. IfSome found
+        (λ subset. length subset.start.items ≡ length grid.now)) }
 {
     let found_first = find_subset(alloc, grid, start)?;
     let Some(first) = found_first else {
@@ -184,7 +198,8 @@ fn length_to(
 ) -> Result<Vec<u64>, AllocError>
     requires starts { length starts.now ≡ length firsts.now }
     requires counts { length counts.now ≡ length firsts.now }
-    requires order { (k : ℕ) → k < length firsts.now → slice_index firsts.now k ≤ slice_index starts.now k }
+    requires order { (k : ℕ) → k < length firsts.now
+        → slice_index firsts.now k ≤ slice_index starts.now k }
     requires fit { EndsFit starts.now counts.now }
     ensures { IfOk result (λ lengths. lengths.items ≡ lengths_to firsts.now starts.now counts.now) }
 {

@@ -1,13 +1,13 @@
 //! One dimension of a chunk grid.
-ghost use Rattle.std.specs.Prelude.{◌≡◌, ℕ, ◌↔◌, IsTrue, IfOk, IsErr, option_map, option_and_then};
-ghost use Rattle.zarr_grids_chunks.specs.Grids.{regular, clipped, interval, chunk_count, bounded};
-ghost use Rattle.zarr_grids_dimensions.specs.Lookups.{size_of, in_interval, chunk_inbounds, place_inbounds};
-ghost use Rattle.zarr_grids_dimensions.specs.Chunks.{first_of, count_of};
+ghost use Rattle.std.specs.Prelude.{◌≡◌, ◌↔◌, IfOk, IsErr, option_map, option_and_then};
+ghost use Rattle.zarr_grids_chunks.specs.Grids.{regular, clipped, interval, chunk_count, addressable};
+ghost use Rattle.zarr_grids_dimensions.specs.Lookups.{size_of, chunk_inbounds, place_inbounds};
+ghost use Rattle.zarr_grids_dimensions.specs.Chunks.{first_of, count_of, FindsChunkAlong};
 ghost use Rattle.zarr_grids_dimensions.specs.Dimensions.{dimension_of};
-ghost use Rattle.zarr_grids_dimensions.specs.Intervals.{interval_of, bounded_of};
+ghost use Rattle.zarr_grids_dimensions.specs.Intervals.{interval_of, addressable_of};
 
 use crate::fixed::{FixedEdge, ZeroEdgeError};
-use crate::interval::{BoundedInterval, ChunkInterval};
+use crate::interval::{AddressableInterval, ChunkInterval};
 use crate::varying::VaryingEdges;
 use std::alloc::{AllocError, Global};
 
@@ -65,7 +65,7 @@ impl Dimension {
         }
     }
 
-    /// How many chunks the grid shape counts.
+    /// How many chunks the array has along this dimension, which is its number in the grid shape.
     pub fn chunk_count(&self) -> u64
         ensures { result ≡ chunk_count (dimension_of self.now) }
     {
@@ -78,7 +78,7 @@ impl Dimension {
 
     /// The chunk that a place lies in, whether or not the chunk's end passes 2^64 - 1.
     pub fn chunk_of(&self, place: u64) -> Option<u64>
-        ensures { (chunk : ℕ) → (result ≡ Some chunk) ↔ IsTrue (in_interval (dimension_of self.now) chunk place) }
+        ensures { FindsChunkAlong (dimension_of self.now) place result }
     {
         match self {
             Dimension::Regular(fixed) => fixed.chunk_of(place),
@@ -99,10 +99,11 @@ impl Dimension {
     }
 
     /// Where a chunk lies, if its end is at most 2^64 - 1.
-    pub fn bounded(&self, chunk: u64) -> Option<BoundedInterval>
-        ensures { option_map bounded_of result ≡ option_and_then bounded (interval (dimension_of self.now) chunk) }
+    pub fn addressable(&self, chunk: u64) -> Option<AddressableInterval>
+        ensures { option_map addressable_of result
+            ≡ option_and_then addressable (interval (dimension_of self.now) chunk) }
     {
-        self.interval(chunk)?.bounded()
+        self.interval(chunk)?.addressable()
     }
 
     /// A chunk's first place, if there is such a chunk and it is at most 2^64 - 1.
@@ -124,7 +125,7 @@ impl Dimension {
         Some(interval.count)
     }
 
-    /// Whether a chunk number is below the count of chunks. A count of 0 counts as no limit here.
+    /// Whether a chunk number is below the number of chunks. Where there is no chunk, every number counts as in bounds.
     pub fn chunk_inbounds(&self, chunk: u64) -> bool
         ensures { result ≡ chunk_inbounds (dimension_of self.now) chunk }
     {

@@ -6,8 +6,8 @@ ghost use Rattle.zarr_grids_dimensions.specs.Same.{same_dimension, same_grid};
 use crate::dimension::Dimension;
 use crate::same_edges::have_same_edges;
 
-/// Chunks of varying edges are compared edge by edge, however runs hold them: a run of two chunks is two runs of one. One edge of
-/// all chunks equals no list of edges, since chunks of one edge go on past the array and a list ends.
+/// Varying edges are compared edge by edge, whatever repeats hold them: a repeat of two chunks equals two repeats of
+/// one. Chunks of one edge equal no list of edges, since they go on past the array and a list ends.
 impl PartialEq for Dimension {
     ghost use Rattle.std.specs.Cmp.{on_per, partial_equiv_from_equiv};
     ghost use Rattle.zarr_grids_dimensions.specs.Dimensions.{dimension_of};
@@ -31,7 +31,7 @@ impl Eq for Dimension {
     ghost laws = { on_equiv dimension_of same_dimension_equiv };
 }
 
-/// Whether two grids are equal in each dimension. Takes as many steps as both have runs.
+/// Whether two grids are equal in each dimension. It takes time in proportion to how many repeats they have.
 pub fn is_same_grid(grid: &[Dimension], other: &[Dimension]) -> bool
     ensures { result ≡ same_grid (grid_of grid.now) (grid_of other.now) }
 {
@@ -52,7 +52,7 @@ fn is_same_dimension(dimension: &Dimension, other: &Dimension) -> bool
         },
         Dimension::Varying(edges) => match other {
             Dimension::Varying(other) => {
-                edges.size() == other.size() && have_same_edges(edges.runs(), other.runs())
+                edges.size() == other.size() && have_same_edges(edges.repeats(), other.repeats())
             }
             _ => false,
         },

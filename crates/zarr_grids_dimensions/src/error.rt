@@ -20,5 +20,5 @@ pub enum LookupError {
     Dimensionality(IncompatibleDimensionalityError),
     /// Memory ran out.
     #[error("out of memory")]
-    OutOfMemory(AllocError),
+    Memory(AllocError),
 }

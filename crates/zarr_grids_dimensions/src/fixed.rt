@@ -1,7 +1,7 @@
 //! A dimension's size and its chunks' one edge.
-ghost use Rattle.std.specs.Prelude.{◌≡◌, ℕ, ◌↔◌, ◌+◌, ◌-◌, ◌*◌, ◌/◌, ◌<◌, IsTrue, IfOk, IsErr, option_map};
+ghost use Rattle.std.specs.Prelude.{◌≡◌, ◌↔◌, ◌+◌, ◌-◌, ◌*◌, ◌/◌, ◌<◌, IfOk, IsErr, option_map};
 ghost use Rattle.zarr_grids_chunks.specs.Grids.{regular, clipped, interval};
-ghost use Rattle.zarr_grids_dimensions.specs.Lookups.{in_interval};
+ghost use Rattle.zarr_grids_dimensions.specs.Chunks.{FindsChunkAlong};
 ghost use Rattle.zarr_grids_dimensions.specs.Intervals.{interval_of};
 
 use crate::interval::ChunkInterval;
@@ -21,7 +21,7 @@ pub struct FixedEdge {
 pub struct ZeroEdgeError;
 
 impl FixedEdge {
-    /// This size and edge.
+    /// Chunks of this edge along a dimension of this size. An edge of 0 is the error.
     pub fn new(size: u64, edge: u64) -> Result<FixedEdge, ZeroEdgeError>
         ensures made { IfOk result (λ fixed. (fixed.size ≡ size) × (fixed.edge ≡ edge)) }
         ensures zero { IsErr result ↔ (edge ≡ 0) }
@@ -44,14 +44,14 @@ impl FixedEdge {
 
     /// The chunk that a place lies in, where chunks go on past the array.
     pub fn chunk_of(&self, place: u64) -> Option<u64>
-        ensures { (chunk : ℕ) → (result ≡ Some chunk) ↔ IsTrue (in_interval (regular self.now.size self.now.edge) chunk place) }
+        ensures { FindsChunkAlong (regular self.now.size self.now.edge) place result }
     {
         Some(place / self.edge)
     }
 
     /// The chunk that a place lies in, where chunks are clipped to the array.
     pub fn clipped_chunk_of(&self, place: u64) -> Option<u64>
-        ensures { (chunk : ℕ) → (result ≡ Some chunk) ↔ IsTrue (in_interval (clipped self.now.size self.now.edge) chunk place) }
+        ensures { FindsChunkAlong (clipped self.now.size self.now.edge) place result }
     {
         if place >= self.size {
             return None;
@@ -73,7 +73,8 @@ impl FixedEdge {
 
     /// Where a chunk lies that is clipped to the array.
     pub fn clipped_interval(&self, chunk: u64) -> Option<ChunkInterval>
-        ensures { option_map interval_of result ≡ interval (clipped self.now.size self.now.edge) chunk }
+        ensures { option_map interval_of result
+            ≡ interval (clipped self.now.size self.now.edge) chunk }
     {
         let first = chunk as u128 * self.edge as u128;
         if first >= self.size as u128 {

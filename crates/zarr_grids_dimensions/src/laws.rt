@@ -21,7 +21,7 @@ pub fn chunks_apart()
     ensures { ChunksApart }
 {}
 
-/// Each place below the array shape lies in exactly one chunk, which is below the grid shape.
+/// Each place of the array lies in exactly one chunk, which is in the grid.
 pub fn place_in_one_chunk()
     ensures { PlaceInOneChunk }
 {}

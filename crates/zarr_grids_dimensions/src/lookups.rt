@@ -1,10 +1,10 @@
 //! Lookups in grids of any dimensions.
-ghost use Rattle.std.specs.Prelude.{◌≡◌, ℕ, List, ◌↔◌, ◌<◌, ◌≤◌, ◌-◌, IsTrue, length, slice_index, map, option_map, IfOk, IfErr, MatchOption};
+ghost use Rattle.std.specs.Prelude.{◌≡◌, ℕ, ◌<◌, ◌≤◌, ◌-◌, length, slice_index, map, option_map, IfOk, IfErr};
 ghost use Rattle.zarr_grids_boxes.specs.Boxes.{each2};
 ghost use Rattle.zarr_grids_boxes.specs.Subsets.{region_of};
 ghost use Rattle.zarr_grids_chunks.specs.Grids.{grid_shape, chunk_box};
-ghost use Rattle.zarr_grids_dimensions.specs.Lookups.{size_of, lies_in, in_all, chunk_inbounds, place_inbounds};
-ghost use Rattle.zarr_grids_dimensions.specs.Chunks.{origin, shape, numbers, IsElement};
+ghost use Rattle.zarr_grids_dimensions.specs.Lookups.{size_of, in_all, chunk_inbounds, place_inbounds};
+ghost use Rattle.zarr_grids_dimensions.specs.Chunks.{origin, shape, numbers, FindsChunk, FindsElement};
 ghost use Rattle.zarr_grids_dimensions.specs.Dimensions.{grid_of};
 ghost use Rattle.zarr_grids_dimensions.specs.Errors.{Tells};
 
@@ -41,7 +41,7 @@ pub fn chunk_indices(
     grid: &[Dimension],
     place: &[u64],
 ) -> Result<Option<Vec<u64>>, LookupError>
-    ensures found { IfOk result (λ found. (chunk : List ℕ) → (numbers found ≡ Some chunk) ↔ IsTrue (lies_in (grid_of grid.now) chunk place.now)) }
+    ensures found { IfOk result (λ found. FindsChunk (grid_of grid.now) place.now (numbers found)) }
     ensures rank { IfOk result (λ _. length place.now ≡ length grid.now) }
     ensures error { IfErr result (Tells (length place.now) (length grid.now)) }
 {
@@ -50,7 +50,7 @@ pub fn chunk_indices(
     }
     match find_chunk(alloc, grid, place) {
         Ok(found) => Ok(found),
-        Err(error) => Err(LookupError::OutOfMemory(error)),
+        Err(error) => Err(LookupError::Memory(error)),
     }
 }
 
@@ -69,7 +69,7 @@ pub fn chunk_origin(
     }
     match find_origin(alloc, grid, chunk) {
         Ok(found) => Ok(found),
-        Err(error) => Err(LookupError::OutOfMemory(error)),
+        Err(error) => Err(LookupError::Memory(error)),
     }
 }
 
@@ -88,7 +88,7 @@ pub fn chunk_shape(
     }
     match find_shape(alloc, grid, chunk) {
         Ok(found) => Ok(found),
-        Err(error) => Err(LookupError::OutOfMemory(error)),
+        Err(error) => Err(LookupError::Memory(error)),
     }
 }
 
@@ -98,7 +98,7 @@ pub fn chunk_element_indices(
     grid: &[Dimension],
     place: &[u64],
 ) -> Result<Option<Vec<u64>>, LookupError>
-    ensures found { IfOk result (λ found. MatchOption found ((chunk : List ℕ) → ¬ IsTrue (lies_in (grid_of grid.now) chunk place.now)) (λ element. IsElement (grid_of grid.now) place.now element.items)) }
+    ensures found { IfOk result (FindsElement (grid_of grid.now) place.now) }
     ensures rank { IfOk result (λ _. length place.now ≡ length grid.now) }
     ensures error { IfErr result (Tells (length place.now) (length grid.now)) }
 {
@@ -107,7 +107,7 @@ pub fn chunk_element_indices(
     }
     match find_element(alloc, grid, place) {
         Ok(found) => Ok(found),
-        Err(error) => Err(LookupError::OutOfMemory(error)),
+        Err(error) => Err(LookupError::Memory(error)),
     }
 }
 
@@ -117,7 +117,8 @@ pub fn subset(
     grid: &[Dimension],
     chunk: &[u64],
 ) -> Result<Option<ArraySubset>, LookupError>
-    ensures found { IfOk result (λ found. option_map region_of found ≡ chunk_box (grid_of grid.now) chunk.now) }
+    ensures found { IfOk result
+        (λ found. option_map region_of found ≡ chunk_box (grid_of grid.now) chunk.now) }
     ensures rank { IfOk result (λ _. length chunk.now ≡ length grid.now) }
     ensures error { IfErr result (Tells (length chunk.now) (length grid.now)) }
 {
@@ -126,12 +127,12 @@ pub fn subset(
     }
     match find_subset(alloc, grid, chunk) {
         Ok(found) => Ok(found),
-        Err(error) => Err(LookupError::OutOfMemory(error)),
+        Err(error) => Err(LookupError::Memory(error)),
     }
 }
 
-/// Whether a chunk is below the grid shape, where a number of 0 in the grid shape counts as no limit. No chunk of another
-/// dimensionality is.
+/// Whether a chunk is in bounds. A dimension with no chunk sets no bound; a chunk of another dimensionality is out of
+/// bounds.
 pub fn chunk_indices_inbounds(grid: &[Dimension], chunk: &[u64]) -> bool
     ensures { result ≡ in_all chunk_inbounds (grid_of grid.now) chunk.now }
 {
@@ -141,7 +142,7 @@ pub fn chunk_indices_inbounds(grid: &[Dimension], chunk: &[u64]) -> bool
     are_chunks_inbounds(grid, chunk)
 }
 
-/// Whether a place is below the array shape. No place of another dimensionality is.
+/// Whether a place lies in the array. A place of another dimensionality does not.
 pub fn array_indices_inbounds(grid: &[Dimension], place: &[u64]) -> bool
     ensures { result ≡ in_all place_inbounds (grid_of grid.now) place.now }
 {
@@ -166,7 +167,7 @@ pub(crate) fn find_chunk(
     place: &[u64],
 ) -> Result<Option<Vec<u64>>, AllocError>
     requires { length place.now ≡ length grid.now }
-    ensures { IfOk result (λ found. (chunk : List ℕ) → (numbers found ≡ Some chunk) ↔ IsTrue (lies_in (grid_of grid.now) chunk place.now)) }
+    ensures { IfOk result (λ found. FindsChunk (grid_of grid.now) place.now (numbers found)) }
 {
     let mut found = Vec::with_capacity(alloc, grid.len())?;
     for k in 0..grid.len() {
@@ -223,12 +224,13 @@ pub(crate) fn find_subset(
     chunk: &[u64],
 ) -> Result<Option<ArraySubset>, AllocError>
     requires { length chunk.now ≡ length grid.now }
-    ensures { IfOk result (λ found. option_map region_of found ≡ chunk_box (grid_of grid.now) chunk.now) }
+    ensures { IfOk result
+        (λ found. option_map region_of found ≡ chunk_box (grid_of grid.now) chunk.now) }
 {
     let mut start = Vec::with_capacity(alloc, grid.len())?;
     let mut shape = Vec::with_capacity(alloc, grid.len())?;
     for k in 0..grid.len() {
-        let Some(interval) = grid[k].bounded(chunk[k]) else {
+        let Some(interval) = grid[k].addressable(chunk[k]) else {
             return Ok(None);
         };
         start.push(interval.first)?;
@@ -237,7 +239,7 @@ pub(crate) fn find_subset(
     Ok(Some(ArraySubset { start, shape }))
 }
 
-/// Whether a chunk with the grid's dimensions is below the grid shape.
+/// Whether a chunk with the grid's dimensions is in bounds.
 fn are_chunks_inbounds(grid: &[Dimension], chunk: &[u64]) -> bool
     requires { length chunk.now ≡ length grid.now }
     ensures { result ≡ in_all chunk_inbounds (grid_of grid.now) chunk.now }
@@ -250,7 +252,7 @@ fn are_chunks_inbounds(grid: &[Dimension], chunk: &[u64]) -> bool
     true
 }
 
-/// Whether a place with the grid's dimensions is below the array shape.
+/// Whether a place with the grid's dimensions lies in the array.
 fn are_places_inbounds(grid: &[Dimension], place: &[u64]) -> bool
     requires { length place.now ≡ length grid.now }
     ensures { result ≡ in_all place_inbounds (grid_of grid.now) place.now }
@@ -270,7 +272,7 @@ fn find_element(
     place: &[u64],
 ) -> Result<Option<Vec<u64>>, AllocError>
     requires { length place.now ≡ length grid.now }
-    ensures { IfOk result (λ found. MatchOption found ((chunk : List ℕ) → ¬ IsTrue (lies_in (grid_of grid.now) chunk place.now)) (λ element. IsElement (grid_of grid.now) place.now element.items)) }
+    ensures { IfOk result (FindsElement (grid_of grid.now) place.now) }
 {
     let found = find_chunk(alloc, grid, place)?;
     let Some(chunk) = found else {
@@ -287,7 +289,8 @@ fn find_element(
 /// Each number less the other list's.
 fn differences(alloc: Global, numbers: &[u64], others: &[u64]) -> Result<Vec<u64>, AllocError>
     requires same { length others.now ≡ length numbers.now }
-    requires less { (k : ℕ) → k < length numbers.now → slice_index others.now k ≤ slice_index numbers.now k }
+    requires less { (k : ℕ) → k < length numbers.now
+        → slice_index others.now k ≤ slice_index numbers.now k }
     ensures { IfOk result (λ found. found.items ≡ each2 (λ n o. n - o) numbers.now others.now) }
 {
     let mut found = Vec::with_capacity(alloc, numbers.len())?;

@@ -1,19 +1,19 @@
-//! Whether lists of runs stand for the same edges.
+//! Whether lists of repeats stand for the same edges.
 ghost use Rattle.std.specs.Prelude.{◌≡◌, ◌++◌, ◌<◌, ◌≤◌, true, Some, length, replicate, bytes_eq};
 ghost use Rattle.zarr_grids_dimensions.specs.Lookups.{all_positive};
-ghost use Rattle.zarr_grids_dimensions.specs.Runs.{expanded, counts};
-ghost use Rattle.zarr_grids_dimensions.specs.RunsLeft.{edges_left, runs_left};
+ghost use Rattle.zarr_grids_dimensions.specs.RepeatedEdges.{expanded, counts};
+ghost use Rattle.zarr_grids_dimensions.specs.RepeatsLeft.{edges_left, repeats_left};
 
-use crate::run::Run;
-use crate::runs_left::RunsLeft;
+use crate::repeat::RepeatedEdge;
+use crate::repeats_left::RepeatsLeft;
 
-/// Whether the chunks of two lists of runs have the same edges, one after another.
-pub(crate) fn have_same_edges(runs: &[Run], others: &[Run]) -> bool
-    requires positive { all_positive (counts runs.now) ≡ true }
+/// Whether two lists of repeats stand for the same edges, one after another.
+pub(crate) fn have_same_edges(repeats: &[RepeatedEdge], others: &[RepeatedEdge]) -> bool
+    requires positive { all_positive (counts repeats.now) ≡ true }
     requires others_positive { all_positive (counts others.now) ≡ true }
-    ensures { result ≡ bytes_eq (expanded runs.now) (expanded others.now) }
+    ensures { result ≡ bytes_eq (expanded repeats.now) (expanded others.now) }
 {
-    let (mut left, mut other_left) = (RunsLeft::of(runs), RunsLeft::of(others));
+    let (mut left, mut other_left) = (RepeatsLeft::of(repeats), RepeatsLeft::of(others));
     while let (Some(mine), Some(theirs)) = (left, other_left) {
         if mine.first.edge != theirs.first.edge {
             return false;
@@ -25,15 +25,15 @@ pub(crate) fn have_same_edges(runs: &[Run], others: &[Run]) -> bool
     left.is_none() && other_left.is_none()
 }
 
-impl<'a> RunsLeft<'a> {
-    /// All of a list of runs. `None` where there is none.
-    fn of(runs: &'a [Run]) -> Option<RunsLeft<'a>>
-        requires { all_positive (counts runs.now) ≡ true }
-        ensures edges { edges_left result ≡ expanded runs.now }
-        ensures count { runs_left result ≡ length runs.now }
+impl<'a> RepeatsLeft<'a> {
+    /// All of a list of repeats. `None` where there is none.
+    fn of(repeats: &'a [RepeatedEdge]) -> Option<RepeatsLeft<'a>>
+        requires { all_positive (counts repeats.now) ≡ true }
+        ensures edges { edges_left result ≡ expanded repeats.now }
+        ensures count { repeats_left result ≡ length repeats.now }
     {
-        match runs {
-            [first, later @ ..] => Some(RunsLeft {
+        match repeats {
+            [first, later @ ..] => Some(RepeatsLeft {
                 first: *first,
                 later,
             }),
@@ -41,19 +41,21 @@ impl<'a> RunsLeft<'a> {
         }
     }
 
-    /// What is left without `count` chunks of the first run.
-    fn without(self, count: u64) -> Option<RunsLeft<'a>>
+    /// What is left without `count` chunks of the first repeat.
+    fn without(self, count: u64) -> Option<RepeatsLeft<'a>>
         requires { count ≤ self.first.count }
-        ensures edges { edges_left (Some self.entry) ≡ replicate count self.entry.first.edge ++ edges_left result }
-        ensures fewer { count ≡ self.entry.first.count → runs_left result < runs_left (Some self.entry) }
-        ensures no_more { runs_left result ≤ runs_left (Some self.entry) }
+        ensures edges { edges_left (Some self.entry)
+            ≡ replicate count self.entry.first.edge ++ edges_left result }
+        ensures fewer { count ≡ self.entry.first.count
+            → repeats_left result < repeats_left (Some self.entry) }
+        ensures no_more { repeats_left result ≤ repeats_left (Some self.entry) }
     {
         let left = self.first.count - count;
         if left == 0 {
-            return RunsLeft::of(self.later);
+            return RepeatsLeft::of(self.later);
         }
-        Some(RunsLeft {
-            first: Run {
+        Some(RepeatsLeft {
+            first: RepeatedEdge {
                 edge: self.first.edge,
                 count: left,
             },

@@ -2,13 +2,14 @@
 ghost use Rattle.std.specs.Prelude.{◌+◌, ◌<◌, ◌≤◌, length, slice_index};
 ghost use Rattle.std.specs.List.Sorted.{IsNonDecreasing};
 
-/// The index of a start that is at most `value`. Of ordered starts it is the last such one.
+/// The index of a start that is at most `value`: the last one, where the starts are in order.
 pub(crate) fn last_at_most(starts: &[u64], value: u64) -> usize
     requires some { 0 < length starts.now }
     requires first { slice_index starts.now 0 ≤ value }
     ensures within { result < length starts.now }
     ensures at_most { slice_index starts.now result ≤ value }
-    ensures next { IsNonDecreasing starts.now → result + 1 < length starts.now → value < slice_index starts.now (result + 1) }
+    ensures next { IsNonDecreasing starts.now → result + 1 < length starts.now
+        → value < slice_index starts.now (result + 1) }
 {
     let mut low = 0;
     let mut left = starts.len();

@@ -7,8 +7,8 @@ use Rattle.std.proofs.lemmas.Bool.{ne_eqb, not-true, not_from_false, or_parts}
 use Rattle.zarr_grids_keys.specs.declared.document_name.DocumentName.{DocumentName}
 use Rattle.zarr_grids_keys.specs.declared.document_name.DocumentName.TheVariants.{ZarrJson, ZArray, ZAttrs}
 use Rattle.zarr_grids_keys.specs.Documents.{document_name, document_key}
-use Rattle.zarr_grids_keys.specs.Keys.{KeyEncoding, default, v2, suffixed, numbers_after, default_key, encoded_key, key_below, chunk_key, is_separator, has_separator, has_plain_suffix}
-use Rattle.zarr_grids_keys.proofs.KeyLemmas.{is_separator-cases, key_below-injective}
+use Rattle.zarr_grids_keys.specs.Keys.{KeyEncoding, default, v2, suffixed, numbers_after, default_key, encoded_key, key_under, chunk_key, is_separator, has_separator, has_flat_suffix}
+use Rattle.zarr_grids_keys.proofs.KeyLemmas.{is_separator-cases, key_under-injective}
 
 -- c, a digit, or a byte between them
 abbrev pub IsHead : ℕ → Type 0
@@ -74,9 +74,9 @@ last_head-append : (z : ℕ) (xs ys : List ℕ) → last_head z (xs ++ ys) ≡ l
 last_head-append z [] ys = refl
 last_head-append z (x ∷ xs) ys = last_head-append (head_step z x) xs ys
 
--- below a path it is that of the name
-last_head-key_below : (path name : List ℕ) → last_head 47 (key_below path name) ≡ last_head 47 name
-last_head-key_below path name =
+-- under a path it is that of the name
+last_head-key_under : (path name : List ℕ) → last_head 47 (key_under path name) ≡ last_head 47 name
+last_head-key_under path name =
     elim (bytes_eq path (codes "/")) as (λ b. last_head 47 (cond b name (drop 1 path ++ 47 ∷ name)) ≡ last_head 47 name) [
       | true ↦ refl
       | false ↦ last_head-append 47 (drop 1 path) (47 ∷ name)
@@ -89,11 +89,11 @@ head_step-first : (x : ℕ) → IsHead x → head_step 47 x ≡ x
 head_step-first x h = ap (λ b. cond b 47 x) (ne_eqb x 47 (λ f. omega (arith, f, h.0)))
 
 -- no byte but a slash changes it
-last_head-plain : (z : ℕ) (xs : List ℕ) → IsHead z → IsTrue (not (list_any (λ byte. byte == 47) xs)) → last_head z xs ≡ z
-last_head-plain z [] h p = refl
-last_head-plain z (x ∷ xs) h p =
+last_head-flat : (z : ℕ) (xs : List ℕ) → IsHead z → IsTrue (not (list_any (λ byte. byte == 47) xs)) → last_head z xs ≡ z
+last_head-flat z [] h p = refl
+last_head-flat z (x ∷ xs) h p =
     let f = or_parts (x == 47) (list_any (λ byte. byte == 47) xs) (not-true (x == 47 || list_any (λ byte. byte == 47) xs) p) in
-    ap (λ y. last_head y xs) (head_step-other z x h f.0) ∙ last_head-plain z xs h (not_from_false (list_any (λ byte. byte == 47) xs) f.1)
+    ap (λ y. last_head y xs) (head_step-other z x h f.0) ∙ last_head-flat z xs h (not_from_false (list_any (λ byte. byte == 47) xs) f.1)
 
 last_head-heads : (z : ℕ) (xs : List ℕ) → IsHead z → AreHeads xs → last_head z xs ≡ z
 last_head-heads z [] h p = refl
@@ -117,13 +117,13 @@ last_head-numbers separator z (n ∷ ns) s h =
     subst IsHead (sym (last_head-append z (separator ∷ decimal n) (numbers_after separator ns))) i
 
 -- of a chunk's key it is c or a digit
-last_head-encoded_key : (keys : KeyEncoding) (chunk : List ℕ) → IsTrue (has_plain_suffix keys) → IsTrue (has_separator keys) → IsHead (last_head 47 (encoded_key keys chunk))
+last_head-encoded_key : (keys : KeyEncoding) (chunk : List ℕ) → IsTrue (has_flat_suffix keys) → IsTrue (has_separator keys) → IsHead (last_head 47 (encoded_key keys chunk))
 last_head-encoded_key (default separator) chunk p s = last_head-numbers separator 99 chunk s (omega arith, omega arith)
 last_head-encoded_key (v2 separator) [] p s = (omega arith, omega arith)
 last_head-encoded_key (v2 separator) (n ∷ ns) p s = subst IsHead (sym (last_head-append 47 (decimal n) (numbers_after separator ns))) (last_head-numbers separator (last_head 47 (decimal n)) ns s (last_head-first (decimal n) (decimal-head n)))
 last_head-encoded_key (suffixed separator suffix) chunk p s =
     let h = last_head-numbers separator 99 chunk s (omega arith, omega arith) in
-    subst IsHead (sym (last_head-append 47 (default_key separator chunk) suffix ∙ last_head-plain (last_head 47 (default_key separator chunk)) suffix h p)) h
+    subst IsHead (sym (last_head-append 47 (default_key separator chunk) suffix ∙ last_head-flat (last_head 47 (default_key separator chunk)) suffix h p)) h
 
 -- of a document's key it is neither
 last_head-document_name : (name : DocumentName) → IsHead (last_head 47 (document_name name)) → ⊥
@@ -132,10 +132,10 @@ last_head-document_name ZArray h = omega (arith, h.0)
 last_head-document_name ZAttrs h = omega (arith, h.0)
 
 -- no chunk's key is that of a document
-pub chunk_key-no_document : (p q : List ℕ) (keys : KeyEncoding) (chunk : List ℕ) (name : DocumentName) → IsTrue (has_plain_suffix keys) → IsTrue (has_separator keys) → chunk_key p keys chunk ≡ document_key q name → ⊥
-chunk_key-no_document p q keys chunk name plain s e =
-    let f = sym (last_head-key_below p (encoded_key keys chunk)) ∙ ap (last_head 47) e ∙ last_head-key_below q (document_name name) in
-    last_head-document_name name (subst IsHead f (last_head-encoded_key keys chunk plain s))
+pub chunk_key-no_document : (p q : List ℕ) (keys : KeyEncoding) (chunk : List ℕ) (name : DocumentName) → IsTrue (has_flat_suffix keys) → IsTrue (has_separator keys) → chunk_key p keys chunk ≡ document_key q name → ⊥
+chunk_key-no_document p q keys chunk name flat s e =
+    let f = sym (last_head-key_under p (encoded_key keys chunk)) ∙ ap (last_head 47) e ∙ last_head-key_under q (document_name name) in
+    last_head-document_name name (subst IsHead f (last_head-encoded_key keys chunk flat s))
 
 -- ---- at the start
 
@@ -162,4 +162,4 @@ BeginsWithHead-document_name ZAttrs h = omega (arith, h.0)
 
 -- no chunk's key is that of a document of its array
 pub chunk_key-no_own_document : (path : List ℕ) (keys : KeyEncoding) (chunk : List ℕ) (name : DocumentName) → chunk_key path keys chunk ≡ document_key path name → ⊥
-chunk_key-no_own_document path keys chunk name e = BeginsWithHead-document_name name (subst BeginsWithHead (key_below-injective path (encoded_key keys chunk) (document_name name) e) (BeginsWithHead-encoded_key keys chunk))
+chunk_key-no_own_document path keys chunk name e = BeginsWithHead-document_name name (subst BeginsWithHead (key_under-injective path (encoded_key keys chunk) (document_name name) e) (BeginsWithHead-encoded_key keys chunk))

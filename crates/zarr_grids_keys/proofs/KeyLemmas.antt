@@ -11,9 +11,9 @@ use Rattle.zarr_grids_boxes.specs.Boxes.{IsSmall}
 use Rattle.zarr_grids_keys.specs.declared.document_name.DocumentName.{DocumentName}
 use Rattle.zarr_grids_keys.specs.declared.document_name.DocumentName.TheVariants.{ZarrJson, ZArray, ZAttrs}
 use Rattle.zarr_grids_keys.specs.Documents.{document_name, document_key}
-use Rattle.zarr_grids_keys.specs.Keys.{KeyEncoding, default, v2, suffixed, numbers_after, default_key, encoded_key, key_below, chunk_key, is_separator, is_v2, has_separator}
+use Rattle.zarr_grids_keys.specs.Keys.{KeyEncoding, default, v2, suffixed, numbers_after, default_key, encoded_key, key_under, chunk_key, is_separator, is_v2, has_separator}
 use Rattle.zarr_grids_keys.specs.Paths.{is_node_path}
-use Rattle.zarr_grids_keys.proofs.RelatedLemmas.{stem, stem-injective, key_below-stem}
+use Rattle.zarr_grids_keys.proofs.RelatedLemmas.{stem, stem-injective, key_under-stem}
 
 -- nothing, or a text that begins with a byte below the digits
 IsRest : List ℕ → Type 0
@@ -73,9 +73,9 @@ encoded_key-injective (v2 separator) (c ∷ cs) [] h l p q e = absurd (omega ari
 encoded_key-injective (v2 separator) (c ∷ cs) (d ∷ ds) h l p q e = numbers_after-injective separator (c ∷ cs) (d ∷ ds) (separator_below_digits separator h) p q (ap (λ z. separator ∷ z) e)
 encoded_key-injective (suffixed separator suffix) c d h l p q e = default_key-injective separator c d h p q (append_cancel_right (default_key separator c) (default_key separator d) suffix e)
 
--- names with one key below a path are one
-pub key_below-injective : (path x y : List ℕ) → key_below path x ≡ key_below path y → x ≡ y
-key_below-injective path x y e =
+-- names with one key under a path are one
+pub key_under-injective : (path x y : List ℕ) → key_under path x ≡ key_under path y → x ≡ y
+key_under-injective path x y e =
     elim (bytes_eq path (codes "/")) as (λ b. cond b x (drop 1 path ++ 47 ∷ x) ≡ cond b y (drop 1 path ++ 47 ∷ y) → x ≡ y) [
       | true ↦ λ f. f
       | false ↦ λ f. let g = append_cancel_left (drop 1 path) (47 ∷ x) (47 ∷ y) f in cc
@@ -83,7 +83,7 @@ key_below-injective path x y e =
 
 -- chunks with one key are one
 pub chunk_key-injective : (path : List ℕ) (keys : KeyEncoding) (c d : List ℕ) → IsTrue (has_separator keys) → length c ≡ length d → IsSmall c → IsSmall d → chunk_key path keys c ≡ chunk_key path keys d → c ≡ d
-chunk_key-injective path keys c d h l p q e = encoded_key-injective keys c d h l p q (key_below-injective path (encoded_key keys c) (encoded_key keys d) e)
+chunk_key-injective path keys c d h l p q e = encoded_key-injective keys c d h l p q (key_under-injective path (encoded_key keys c) (encoded_key keys d) e)
 
 -- chunks with one key of an encoding other than `v2` are one, of as many dimensions or not
 pub encoded_key-default : (keys : KeyEncoding) (c d : List ℕ) → is_v2 keys ≡ false → IsTrue (has_separator keys) → IsSmall c → IsSmall d → encoded_key keys c ≡ encoded_key keys d → c ≡ d
@@ -92,7 +92,7 @@ encoded_key-default (v2 separator) c d v h p q e = absurd (cc)
 encoded_key-default (suffixed separator suffix) c d v h p q e = default_key-injective separator c d h p q (append_cancel_right (default_key separator c) (default_key separator d) suffix e)
 
 pub chunk_key-default : (path : List ℕ) (keys : KeyEncoding) (c d : List ℕ) → is_v2 keys ≡ false → IsTrue (has_separator keys) → IsSmall c → IsSmall d → chunk_key path keys c ≡ chunk_key path keys d → c ≡ d
-chunk_key-default path keys c d v h p q e = encoded_key-default keys c d v h p q (key_below-injective path (encoded_key keys c) (encoded_key keys d) e)
+chunk_key-default path keys c d v h p q e = encoded_key-default keys c d v h p q (key_under-injective path (encoded_key keys c) (encoded_key keys d) e)
 
 -- the last byte of a text, or the given number if the text is empty
 abbrev pub last_byte : ℕ → List ℕ → ℕ
@@ -103,17 +103,17 @@ last_byte-append : (z : ℕ) (xs ys : List ℕ) → last_byte z (xs ++ ys) ≡ l
 last_byte-append z [] ys = refl
 last_byte-append z (x ∷ xs) ys = last_byte-append x xs ys
 
--- a store key ends as the name below the path does
-last_byte-key_below : (path name : List ℕ) → last_byte 47 (key_below path name) ≡ last_byte 47 name
-last_byte-key_below path name =
+-- a store key ends as the name under the path does
+last_byte-key_under : (path name : List ℕ) → last_byte 47 (key_under path name) ≡ last_byte 47 name
+last_byte-key_under path name =
     elim (bytes_eq path (codes "/")) as (λ b. last_byte 47 (cond b name (drop 1 path ++ 47 ∷ name)) ≡ last_byte 47 name) [
       | true ↦ refl
       | false ↦ last_byte-append 47 (drop 1 path) (47 ∷ name)
     ]
 
 -- keys that are one have names with one last byte
-same_last_byte : (p q x y : List ℕ) → key_below p x ≡ key_below q y → last_byte 47 x ≡ last_byte 47 y
-same_last_byte p q x y e = sym (last_byte-key_below p x) ∙ ap (last_byte 47) e ∙ last_byte-key_below q y
+same_last_byte : (p q x y : List ℕ) → key_under p x ≡ key_under q y → last_byte 47 x ≡ last_byte 47 y
+same_last_byte p q x y e = sym (last_byte-key_under p x) ∙ ap (last_byte 47) e ∙ last_byte-key_under q y
 
 -- names of documents with one last byte are one
 document_name-by_last : (name other : DocumentName) → last_byte 47 (document_name name) ≡ last_byte 47 (document_name other) → name ≡ other
@@ -131,5 +131,5 @@ document_name-by_last ZAttrs ZAttrs e = refl
 pub document_key-injective : (p q : List ℕ) (name other : DocumentName) → IsTrue (is_node_path p) → IsTrue (is_node_path q) → document_key p name ≡ document_key q other → (p ≡ q) × (name ≡ other)
 document_key-injective p q name other hp hq e =
     let same : name ≡ other = document_name-by_last name other (same_last_byte p q (document_name name) (document_name other) e) in
-    let f = sym (key_below-stem p (document_name name) hp) ∙ ap (λ key. 47 ∷ key) e ∙ key_below-stem q (document_name other) hq ∙ ap (λ n. stem q ++ 47 ∷ document_name n) (sym same) in
+    let f = sym (key_under-stem p (document_name name) hp) ∙ ap (λ key. 47 ∷ key) e ∙ key_under-stem q (document_name other) hq ∙ ap (λ n. stem q ++ 47 ∷ document_name n) (sym same) in
     (stem-injective p q hp hq (append_cancel_right (stem p) (stem q) (47 ∷ document_name name) f), same)

@@ -1,8 +1,9 @@
+pub mod DocumentsUnder
 pub mod HeadLemmas
 pub mod KeyLemmas
-pub mod LowerDocuments
 pub mod ParentLemmas
 pub mod PathLemmas
 pub mod RangeLemmas
+pub mod ReadsBack
 pub mod RelatedLemmas
 pub mod Rows

@@ -12,7 +12,7 @@ use Rattle.std.proofs.lemmas.Slice.Eq.{bytes_eq-Decides}
 use Rattle.zarr_grids_keys.specs.Paths.{is_node_path, begins_with_slash, ends_with_slash, has_double_slash}
 use Rattle.zarr_grids_keys.specs.Related.{is_under, or_root, parent_path, IsReached, here, further}
 use Rattle.zarr_grids_keys.proofs.PathLemmas.{is_node_path-first}
-use Rattle.zarr_grids_keys.proofs.RelatedLemmas.{IsBelow, IsBelow-not_nil, IsBelow-trans, comparable, stem, is_under-from, is_under-parts, stem-injective}
+use Rattle.zarr_grids_keys.proofs.RelatedLemmas.{IsUnder, IsUnder-not_nil, IsUnder-trans, comparable, stem, is_under-from, is_under-parts, stem-injective}
 
 -- no byte after a place is a slash
 abbrev pub NoSlashAfter : List ℕ → ℕ → Type 0
@@ -159,10 +159,10 @@ splits p r h =
 stem-other : (p : List ℕ) → bytes_eq p (codes "/") ≡ false → stem p ≡ p
 stem-other p r = cond-false (bytes_eq p (codes "/")) _ _ r
 
--- what lies above a path lies above its parent or is it
+-- what is above a path is above its parent or is it
 above-parent : (a p parent name : List ℕ) → bytes_eq p (codes "/") ≡ false → IsTrue (is_node_path a) → IsTrue (is_node_path p) → IsSplit p parent name → is_under a p ≡ true → (bytes_eq a parent || is_under a parent) ≡ true
 above-parent a p parent name r ha hp s u =
-    let g = subst (IsBelow (stem a)) (stem-other p r) (is_under-parts a p ha hp u) in
+    let g = subst (IsUnder (stem a)) (stem-other p r) (is_under-parts a p ha hp u) in
     elim (comparable (stem a) (stem parent) g.0 name (sym g.1 ∙ s.joined)) [
       | inl e ↦ or_left (bytes_eq a parent) (is_under a parent) ((bytes_eq-Decides a parent).1 (stem-injective a parent ha s.is_path e))
       | inr b ↦ elim b [
@@ -177,17 +177,17 @@ above-parent a p parent name r ha hp s u =
 
 parent-above : (a p parent name : List ℕ) → bytes_eq p (codes "/") ≡ false → IsTrue (is_node_path a) → IsTrue (is_node_path p) → IsSplit p parent name → (bytes_eq a parent || is_under a parent) ≡ true → is_under a p ≡ true
 parent-above a p parent name r ha hp s h =
-    let below : IsBelow (stem parent) (stem p) = (name, stem-other p r ∙ s.joined) in
+    let below : IsUnder (stem parent) (stem p) = (name, stem-other p r ∙ s.joined) in
     elim (or_cases (bytes_eq a parent) (is_under a parent) h) [
-      | inl e ↦ is_under-from a p ha hp (subst (λ z. IsBelow (stem z) (stem p)) (sym ((bytes_eq-Decides a parent).0 e)) below)
-      | inr u ↦ is_under-from a p ha hp (IsBelow-trans (stem a) (stem parent) (stem p) (is_under-parts a parent ha s.is_path u) below)
+      | inl e ↦ is_under-from a p ha hp (subst (λ z. IsUnder (stem z) (stem p)) (sym ((bytes_eq-Decides a parent).0 e)) below)
+      | inr u ↦ is_under-from a p ha hp (IsUnder-trans (stem a) (stem parent) (stem p) (is_under-parts a parent ha s.is_path u) below)
     ]
 
--- nothing lies above `/`
+-- nothing is above `/`
 pub is_under-root : (a : List ℕ) → IsTrue (is_node_path a) → is_under a (codes "/") ≡ false
-is_under-root a h = false_from_ne_true (is_under a (codes "/")) (λ e. IsBelow-not_nil (stem a) (is_under-parts a (codes "/") h refl e))
+is_under-root a h = false_from_ne_true (is_under a (codes "/")) (λ e. IsUnder-not_nil (stem a) (is_under-parts a (codes "/") h refl e))
 
--- what lies above a path: nothing above `/`, else its parent and what lies above that
+-- what is above a path: nothing above `/`, else its parent and what is above that
 pub is_under-parent : (p a : List ℕ) → IsTrue (is_node_path p) → IsTrue (is_node_path a) → MatchOption (parent_path p) (is_under a p ≡ false) (λ parent. is_under a p ≡ (bytes_eq a parent || is_under a parent))
 is_under-parent p a hp ha =
     elim (cases_Bool (bytes_eq p (codes "/"))) [

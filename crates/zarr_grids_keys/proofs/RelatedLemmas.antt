@@ -1,4 +1,4 @@
--- Node paths above and below one another.
+-- Node paths above and under one another.
 use Rattle.std.proofs.Common.{◌≡◌, ◌≢◌, ◌∙◌, ℕ, Bool, true, false, not, cond, IsTrue, ◌&&◌, ◌||◌, nat_eq, List, [], ◌∷◌, ◌++◌, length, drop, take, refl, sym, ap, subst, arith, codes, ◌⊎◌, inl, inr, append_assoc}
 use Rattle.std.specs.Bool.{Decides}
 use Rattle.std.specs.List.{starts_with}
@@ -7,20 +7,20 @@ use Rattle.std.proofs.lemmas.Bool.{both_ways, cond-false, eq-eqb, false_from_ne_
 use Rattle.std.proofs.lemmas.Bool.Decides.{Decides-at, Decides-eqb, Decides-like, nat_tests, same_from_decides}
 use Rattle.std.proofs.lemmas.List.{append-nil, append_cancel_left, take-append-drop, take_at}
 use Rattle.std.proofs.lemmas.Slice.Eq.{bytes_eq-Decides, starts_is}
-use Rattle.zarr_grids_keys.specs.Keys.{key_below}
+use Rattle.zarr_grids_keys.specs.Keys.{key_under}
 use Rattle.zarr_grids_keys.specs.Paths.{is_node_path, begins_with_slash}
 use Rattle.zarr_grids_keys.specs.Related.{is_under, is_related}
 use Rattle.zarr_grids_keys.proofs.PathLemmas.{is_node_path-first}
 
 -- a text begins with another and a slash
-abbrev pub IsBelow : List ℕ → List ℕ → Type 0
-IsBelow s t = (rest : List ℕ) × (t ≡ s ++ 47 ∷ rest)
+abbrev pub IsUnder : List ℕ → List ℕ → Type 0
+IsUnder s t = (rest : List ℕ) × (t ≡ s ++ 47 ∷ rest)
 
-pub IsBelow-cons : (a b : ℕ) (s t : List ℕ) → a ≡ b → IsBelow s t → IsBelow (a ∷ s) (b ∷ t)
-IsBelow-cons a b s t e u = (u.0, ap (λ x. x ∷ t) (sym e) ∙ ap (λ xs. a ∷ xs) u.1)
+pub IsUnder-cons : (a b : ℕ) (s t : List ℕ) → a ≡ b → IsUnder s t → IsUnder (a ∷ s) (b ∷ t)
+IsUnder-cons a b s t e u = (u.0, ap (λ x. x ∷ t) (sym e) ∙ ap (λ xs. a ∷ xs) u.1)
 
--- of two texts that one text begins with, each with a slash after it, one lies below the other if they differ
-pub comparable : (s t x y : List ℕ) → s ++ 47 ∷ x ≡ t ++ 47 ∷ y → (s ≡ t) ⊎ (IsBelow s t ⊎ IsBelow t s)
+-- of two texts that one text begins with, each with a slash after it, one is under the other if they differ
+pub comparable : (s t x y : List ℕ) → s ++ 47 ∷ x ≡ t ++ 47 ∷ y → (s ≡ t) ⊎ (IsUnder s t ⊎ IsUnder t s)
 comparable [] [] x y e = inl refl
 comparable [] (b ∷ t) x y e = let f : 47 ≡ b = cc in inr (inl (t, ap (λ z. z ∷ t) (sym f)))
 comparable (a ∷ s) [] x y e = let f : a ≡ 47 = cc in inr (inr (s, ap (λ z. z ∷ s) f))
@@ -29,39 +29,39 @@ comparable (a ∷ s) (b ∷ t) x y e =
     let g : s ++ 47 ∷ x ≡ t ++ 47 ∷ y = cc in
     elim (comparable s t x y g) [
       | inl h ↦ inl (ap (λ z. z ∷ s) f ∙ ap (λ zs. b ∷ zs) h)
-      | inr h ↦ inr (elim h [ inl u ↦ inl (IsBelow-cons a b s t f u) | inr u ↦ inr (IsBelow-cons b a t s (sym f) u) ])
+      | inr h ↦ inr (elim h [ inl u ↦ inl (IsUnder-cons a b s t f u) | inr u ↦ inr (IsUnder-cons b a t s (sym f) u) ])
     ]
 
-pub IsBelow-trans : (s t u : List ℕ) → IsBelow s t → IsBelow t u → IsBelow s u
-IsBelow-trans s t u g h = (g.0 ++ 47 ∷ h.0, h.1 ∙ ap (λ z. z ++ 47 ∷ h.0) g.1 ∙ append_assoc s (47 ∷ g.0) (47 ∷ h.0))
+pub IsUnder-trans : (s t u : List ℕ) → IsUnder s t → IsUnder t u → IsUnder s u
+IsUnder-trans s t u g h = (g.0 ++ 47 ∷ h.0, h.1 ∙ ap (λ z. z ++ 47 ∷ h.0) g.1 ∙ append_assoc s (47 ∷ g.0) (47 ∷ h.0))
 
 -- `starts_with` at a text and a slash
-starts_with-Decides : (s t : List ℕ) → Decides (starts_with nat_eq t (s ++ 47 ∷ [])) (IsBelow s t)
+starts_with-Decides : (s t : List ℕ) → Decides (starts_with nat_eq t (s ++ 47 ∷ [])) (IsUnder s t)
 starts_with-Decides s t =
     let h = starts_is Decides-eqb t (s ++ 47 ∷ []) (starts_with nat_eq t (s ++ 47 ∷ [])) refl in (
       λ e. (drop (length (s ++ 47 ∷ [])) t, h.0 e ∙ append_assoc s (47 ∷ []) (drop (length (s ++ 47 ∷ [])) t)),
       λ g. h.1 g.0 (g.1 ∙ sym (append_assoc s (47 ∷ []) g.0)),
     )
 
--- what lies below a path other than `/` begins with it and a slash
-pub is_under-Decides : (p q : List ℕ) → p ≢ codes "/" → Decides (is_under p q) (IsBelow p q)
+-- what is under a path other than `/` begins with it and a slash
+pub is_under-Decides : (p q : List ℕ) → p ≢ codes "/" → Decides (is_under p q) (IsUnder p q)
 is_under-Decides p q n =
     let r : bytes_eq p (codes "/") ≡ false = false_from_ne_true (bytes_eq p (codes "/")) (λ e. n ((bytes_eq-Decides p (codes "/")).0 e)) in
     Decides-at (is_under p q) (starts_with nat_eq q (p ++ 47 ∷ [])) (cond-false (bytes_eq p (codes "/")) _ _ r) (starts_with-Decides p q)
 
 -- a text followed by a slash and more is longer than that text
-IsBelow-irrefl : (s : List ℕ) → IsBelow s s → ⊥
-IsBelow-irrefl s g = let e = append_cancel_left s [] (47 ∷ g.0) (append-nil s ∙ g.1) in absurd (cc)
+IsUnder-irrefl : (s : List ℕ) → IsUnder s s → ⊥
+IsUnder-irrefl s g = let e = append_cancel_left s [] (47 ∷ g.0) (append-nil s ∙ g.1) in absurd (cc)
 
-pub IsBelow-not_nil : (s : List ℕ) → IsBelow s [] → ⊥
-IsBelow-not_nil [] g = let e = g.1 in absurd (cc)
-IsBelow-not_nil (x ∷ xs) g = let e = g.1 in absurd (cc)
+pub IsUnder-not_nil : (s : List ℕ) → IsUnder s [] → ⊥
+IsUnder-not_nil [] g = let e = g.1 in absurd (cc)
+IsUnder-not_nil (x ∷ xs) g = let e = g.1 in absurd (cc)
 
--- a text lies below another, above it, or is that text
+-- a text is under another, above it, or is that text
 abbrev pub AreAlong : List ℕ → List ℕ → Type 0
-AreAlong s t = (s ≡ t) ⊎ (IsBelow s t ⊎ IsBelow t s)
+AreAlong s t = (s ≡ t) ⊎ (IsUnder s t ⊎ IsUnder t s)
 
--- what stands before the slash in what lies below a path
+-- what stands before the slash in what is under a path
 abbrev pub stem : List ℕ → List ℕ
 stem path = cond (bytes_eq path (codes "/")) [] path
 
@@ -69,36 +69,36 @@ is_node_path-cons : (p : List ℕ) → IsTrue (is_node_path p) → (rest : List 
 is_node_path-cons [] h = absurd (cc)
 is_node_path-cons (x ∷ xs) h = let e : x ≡ 47 = (is_node_path-first (x ∷ xs) h).1 in (xs, ap (λ z. z ∷ xs) e)
 
-not_root-under : (p : List ℕ) → IsTrue (is_node_path p) → IsBelow p (codes "/") → ⊥
+not_root-under : (p : List ℕ) → IsTrue (is_node_path p) → IsUnder p (codes "/") → ⊥
 not_root-under p h g =
     let f = is_node_path-cons p h in
     let e : 47 ∷ [] ≡ 47 ∷ (f.0 ++ 47 ∷ g.0) = g.1 ∙ ap (λ z. z ++ 47 ∷ g.0) f.1 in
-    IsBelow-not_nil f.0 (g.0, cc)
+    IsUnder-not_nil f.0 (g.0, cc)
 
--- on node paths, below is below by stems
-pub is_under-parts : (p q : List ℕ) → IsTrue (is_node_path p) → IsTrue (is_node_path q) → is_under p q ≡ true → IsBelow (stem p) (stem q)
+-- on node paths, under is under by stems
+pub is_under-parts : (p q : List ℕ) → IsTrue (is_node_path p) → IsTrue (is_node_path q) → is_under p q ≡ true → IsUnder (stem p) (stem q)
 is_under-parts p q hp hq =
-    elim (bytes_eq p (codes "/")) as (λ b. cond b (not (bytes_eq q (codes "/"))) (starts_with nat_eq q (p ++ 47 ∷ [])) ≡ true → IsBelow (cond b [] p) (stem q)) [
-      | true ↦ elim (bytes_eq q (codes "/")) as (λ b. not b ≡ true → IsBelow [] (cond b [] q)) [
+    elim (bytes_eq p (codes "/")) as (λ b. cond b (not (bytes_eq q (codes "/"))) (starts_with nat_eq q (p ++ 47 ∷ [])) ≡ true → IsUnder (cond b [] p) (stem q)) [
+      | true ↦ elim (bytes_eq q (codes "/")) as (λ b. not b ≡ true → IsUnder [] (cond b [] q)) [
         | true ↦ λ e. absurd (cc)
         | false ↦ λ _. is_node_path-cons q hq
       ]
-      | false ↦ elim (bytes_eq q (codes "/")) as (λ b. bytes_eq q (codes "/") ≡ b → starts_with nat_eq q (p ++ 47 ∷ []) ≡ true → IsBelow p (cond b [] q)) [
-        | true ↦ λ r e. absurd (not_root-under p hp (subst (IsBelow p) ((bytes_eq-Decides q (codes "/")).0 r) ((starts_with-Decides p q).0 e)))
+      | false ↦ elim (bytes_eq q (codes "/")) as (λ b. bytes_eq q (codes "/") ≡ b → starts_with nat_eq q (p ++ 47 ∷ []) ≡ true → IsUnder p (cond b [] q)) [
+        | true ↦ λ r e. absurd (not_root-under p hp (subst (IsUnder p) ((bytes_eq-Decides q (codes "/")).0 r) ((starts_with-Decides p q).0 e)))
         | false ↦ λ _ e. (starts_with-Decides p q).0 e
       ] refl
     ]
 
 -- and back
-pub is_under-from : (p q : List ℕ) → IsTrue (is_node_path p) → IsTrue (is_node_path q) → IsBelow (stem p) (stem q) → is_under p q ≡ true
+pub is_under-from : (p q : List ℕ) → IsTrue (is_node_path p) → IsTrue (is_node_path q) → IsUnder (stem p) (stem q) → is_under p q ≡ true
 is_under-from p q hp hq =
-    elim (bytes_eq p (codes "/")) as (λ b. IsBelow (cond b [] p) (stem q) → cond b (not (bytes_eq q (codes "/"))) (starts_with nat_eq q (p ++ 47 ∷ [])) ≡ true) [
-      | true ↦ elim (bytes_eq q (codes "/")) as (λ b. IsBelow [] (cond b [] q) → not b ≡ true) [
-        | true ↦ λ g. absurd (IsBelow-not_nil [] g)
+    elim (bytes_eq p (codes "/")) as (λ b. IsUnder (cond b [] p) (stem q) → cond b (not (bytes_eq q (codes "/"))) (starts_with nat_eq q (p ++ 47 ∷ [])) ≡ true) [
+      | true ↦ elim (bytes_eq q (codes "/")) as (λ b. IsUnder [] (cond b [] q) → not b ≡ true) [
+        | true ↦ λ g. absurd (IsUnder-not_nil [] g)
         | false ↦ λ _. refl
       ]
-      | false ↦ elim (bytes_eq q (codes "/")) as (λ b. IsBelow p (cond b [] q) → starts_with nat_eq q (p ++ 47 ∷ []) ≡ true) [
-        | true ↦ λ g. absurd (IsBelow-not_nil p g)
+      | false ↦ elim (bytes_eq q (codes "/")) as (λ b. IsUnder p (cond b [] q) → starts_with nat_eq q (p ++ 47 ∷ []) ≡ true) [
+        | true ↦ λ g. absurd (IsUnder-not_nil p g)
         | false ↦ λ g. (starts_with-Decides p q).1 g
       ]
     ]
@@ -144,18 +144,18 @@ is_related-from p q hp hq a =
       ]
     ]
 
--- a store key below a path, with its slash
-pub key_below-stem : (p x : List ℕ) → IsTrue (is_node_path p) → 47 ∷ key_below p x ≡ stem p ++ 47 ∷ x
-key_below-stem p x h =
+-- a store key under a path, with its slash
+pub key_under-stem : (p x : List ℕ) → IsTrue (is_node_path p) → 47 ∷ key_under p x ≡ stem p ++ 47 ∷ x
+key_under-stem p x h =
     elim (bytes_eq p (codes "/")) as (λ b. 47 ∷ cond b x (drop 1 p ++ 47 ∷ x) ≡ cond b [] p ++ 47 ∷ x) [
       | true ↦ refl
       | false ↦ let f = is_node_path-cons p h in subst (λ t. 47 ∷ (drop 1 t ++ 47 ∷ x) ≡ t ++ 47 ∷ x) (sym f.1) refl
     ]
 
--- store keys below unrelated paths differ
-pub key_below-unrelated : (p q x y : List ℕ) → IsTrue (is_node_path p) → IsTrue (is_node_path q) → is_related p q ≡ false → key_below p x ≡ key_below q y → ⊥
-key_below-unrelated p q x y hp hq u e =
-    let f = sym (key_below-stem p x hp) ∙ ap (λ z. 47 ∷ z) e ∙ key_below-stem q y hq in
+-- store keys under unrelated paths differ
+pub key_under-unrelated : (p q x y : List ℕ) → IsTrue (is_node_path p) → IsTrue (is_node_path q) → is_related p q ≡ false → key_under p x ≡ key_under q y → ⊥
+key_under-unrelated p q x y hp hq u e =
+    let f = sym (key_under-stem p x hp) ∙ ap (λ z. 47 ∷ z) e ∙ key_under-stem q y hq in
     both_ways (is_related p q) u (is_related-from p q hp hq (comparable (stem p) (stem q) x y f))
 
 pub is_related-refl : (p : List ℕ) → IsTrue (is_related p p)
@@ -175,18 +175,18 @@ pub is_related-comm : (p q : List ℕ) → is_related p q ≡ is_related q p
 is_related-comm p q = ap (λ b. b || is_under p q || is_under q p) (bytes_eq-sym p q) ∙ or_swap (bytes_eq q p) (is_under p q) (is_under q p)
 
 pub is_under-trans : (p q r : List ℕ) → IsTrue (is_node_path p) → IsTrue (is_node_path q) → IsTrue (is_node_path r) → IsTrue (is_under p q) → IsTrue (is_under q r) → IsTrue (is_under p r)
-is_under-trans p q r hp hq hr u v = is_under-from p r hp hr (IsBelow-trans (stem p) (stem q) (stem r) (is_under-parts p q hp hq u) (is_under-parts q r hq hr v))
+is_under-trans p q r hp hq hr u v = is_under-from p r hp hr (IsUnder-trans (stem p) (stem q) (stem r) (is_under-parts p q hp hq u) (is_under-parts q r hq hr v))
 
 pub is_under-irrefl : (p : List ℕ) → IsTrue (is_node_path p) → is_under p p ≡ false
-is_under-irrefl p h = false_from_ne_true (is_under p p) (λ e. IsBelow-irrefl (stem p) (is_under-parts p p h h e))
+is_under-irrefl p h = false_from_ne_true (is_under p p) (λ e. IsUnder-irrefl (stem p) (is_under-parts p p h h e))
 
 -- what is above a path is along with all that is along with that path
-AreAlong-above : (s t u : List ℕ) → IsBelow s t → AreAlong t u → AreAlong s u
+AreAlong-above : (s t u : List ℕ) → IsUnder s t → AreAlong t u → AreAlong s u
 AreAlong-above s t u g a =
     elim a [
-      | inl e ↦ inr (inl (subst (IsBelow s) e g))
+      | inl e ↦ inr (inl (subst (IsUnder s) e g))
       | inr b ↦ elim b [
-        | inl v ↦ inr (inl (IsBelow-trans s t u g v))
+        | inl v ↦ inr (inl (IsUnder-trans s t u g v))
         | inr v ↦ comparable s u g.0 v.0 (sym g.1 ∙ v.1)
       ]
     ]
@@ -211,6 +211,6 @@ other-front p s e h =
     let g = (starts_with-Decides p s).0 h in
     both_ways (bytes_eq (take (length p) s) p) e (bytes_eq-same (take (length p) s) p (ap (take (length p)) g.1 ∙ take_at p (47 ∷ g.0) (length p) refl))
 
--- a text that doesn't begin with a path is not below it
+-- a text that doesn't begin with a path is not under it
 pub is_under-other : (p s : List ℕ) → bytes_eq p (codes "/") ≡ false → bytes_eq (take (length p) s) p ≡ false → false ≡ is_under p s
 is_under-other p s r e = sym (cond-false (bytes_eq p (codes "/")) _ _ r ∙ false_from_ne_true (starts_with nat_eq s (p ++ 47 ∷ [])) (other-front p s e))

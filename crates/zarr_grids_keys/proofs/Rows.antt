@@ -44,8 +44,8 @@ siblings_unrelated = refl
 pub parent_of_root : parent_path (codes "/") ≡ None
 parent_of_root = refl
 
-pub parent_below_root : parent_path (codes "/ab") ≡ Some (codes "/")
-parent_below_root = refl
+pub parent_under_root : parent_path (codes "/ab") ≡ Some (codes "/")
+parent_under_root = refl
 
 pub parent_of_deep : parent_path (codes "/ab/c/de") ≡ Some (codes "/ab/c")
 parent_of_deep = refl
@@ -53,8 +53,8 @@ parent_of_deep = refl
 pub document_at_root : document_key (codes "/") ZarrJson ≡ codes "zarr.json"
 document_at_root = refl
 
-pub document_below : document_key (codes "/a/b") ZarrJson ≡ codes "a/b/zarr.json"
-document_below = refl
+pub document_under_path : document_key (codes "/a/b") ZarrJson ≡ codes "a/b/zarr.json"
+document_under_path = refl
 
 pub array_of_version_2 : document_key (codes "/a") ZArray ≡ codes "a/.zarray"
 array_of_version_2 = refl

@@ -2,7 +2,7 @@
 use Rattle.std.specs.Prelude.{ℕ, List, codes}
 use Rattle.zarr_grids_keys.specs.declared.document_name.DocumentName.{DocumentName}
 use Rattle.zarr_grids_keys.specs.declared.document_name.DocumentName.TheVariants.{ZarrJson, ZArray, ZAttrs}
-use Rattle.zarr_grids_keys.specs.Keys.{key_below}
+use Rattle.zarr_grids_keys.specs.Keys.{key_under}
 
 -- the name of a document
 abbrev pub document_name : DocumentName → List ℕ
@@ -12,4 +12,4 @@ document_name ZAttrs = codes ".zattrs"
 
 -- the store key of a document of the node at a path (Zarr core: the document of `/a/b` stands under a/b/zarr.json, that of `/` under zarr.json)
 abbrev pub document_key : List ℕ → DocumentName → List ℕ
-document_key path name = key_below path (document_name name)
+document_key path name = key_under path (document_name name)

@@ -23,13 +23,13 @@ encoded_key (v2 separator) [] = codes "0"
 encoded_key (v2 separator) (index ∷ rest) = decimal index ++ numbers_after separator rest
 encoded_key (suffixed separator suffix) chunk = default_key separator chunk ++ suffix
 
--- the store key of a name below a node path: at the root the name alone, else the path without its first slash, a slash and the name
-abbrev pub key_below : List ℕ → List ℕ → List ℕ
-key_below path name = if bytes_eq path (codes "/") then name else drop 1 path ++ 47 ∷ name
+-- the store key of a name under a node path: at the root the name alone, else the path without its first slash, a slash and the name
+abbrev pub key_under : List ℕ → List ℕ → List ℕ
+key_under path name = if bytes_eq path (codes "/") then name else drop 1 path ++ 47 ∷ name
 
 -- the store key of a chunk of the array at a path
 abbrev pub chunk_key : List ℕ → KeyEncoding → List ℕ → List ℕ
-chunk_key path keys chunk = key_below path (encoded_key keys chunk)
+chunk_key path keys chunk = key_under path (encoded_key keys chunk)
 
 -- whether a byte is a separator: a slash or a dot
 abbrev pub is_separator : ℕ → Bool
@@ -48,7 +48,7 @@ is_v2 (v2 separator) = true
 is_v2 (suffixed separator suffix) = false
 
 -- whether a suffix holds no slash
-abbrev pub has_plain_suffix : KeyEncoding → Bool
-has_plain_suffix (default separator) = true
-has_plain_suffix (v2 separator) = true
-has_plain_suffix (suffixed separator suffix) = not (list_any (λ byte. byte == 47) suffix)
+abbrev pub has_flat_suffix : KeyEncoding → Bool
+has_flat_suffix (default separator) = true
+has_flat_suffix (v2 separator) = true
+has_flat_suffix (suffixed separator suffix) = not (list_any (λ byte. byte == 47) suffix)

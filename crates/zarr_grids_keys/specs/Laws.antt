@@ -7,7 +7,7 @@ use Rattle.std.specs.Ordering.{nat_cmp}
 use Rattle.zarr_grids_boxes.specs.Boxes.{IsSmall}
 use Rattle.zarr_grids_keys.specs.declared.document_name.DocumentName.{DocumentName}
 use Rattle.zarr_grids_keys.specs.Documents.{document_key}
-use Rattle.zarr_grids_keys.specs.Keys.{KeyEncoding, key_below, chunk_key, is_v2, has_separator, has_plain_suffix}
+use Rattle.zarr_grids_keys.specs.Keys.{KeyEncoding, key_under, chunk_key, is_v2, has_separator, has_flat_suffix}
 use Rattle.zarr_grids_keys.specs.Paths.{is_node_path}
 use Rattle.zarr_grids_keys.specs.Related.{is_under, is_related, parent_path, IsReached}
 
@@ -15,22 +15,22 @@ use Rattle.zarr_grids_keys.specs.Related.{is_under, is_related, parent_path, IsR
 abbrev pub KeysDiffer : Type 0
 KeysDiffer = (path : List ℕ) (keys : KeyEncoding) (c d : List ℕ) → IsTrue (has_separator keys) → length c ≡ length d → IsSmall c → IsSmall d → chunk_key path keys c ≡ chunk_key path keys d → c ≡ d
 
--- chunks whose keys below one path are equal are equal, whatever their numbers of dimensions are, where the encoding is not `v2`
+-- chunks whose keys under one path are equal are equal, whatever their numbers of dimensions are, where the encoding is not `v2`
 abbrev pub DefaultKeysDiffer : Type 0
 DefaultKeysDiffer = (path : List ℕ) (keys : KeyEncoding) (c d : List ℕ) → is_v2 keys ≡ false → IsTrue (has_separator keys) → IsSmall c → IsSmall d → chunk_key path keys c ≡ chunk_key path keys d → c ≡ d
 
--- no matter what the names are, the store keys below two unrelated node paths differ
+-- no matter what the names are, the store keys under two unrelated node paths differ
 abbrev pub UnrelatedKeysDiffer : Type 0
-UnrelatedKeysDiffer = (p q x y : List ℕ) → IsTrue (is_node_path p) → IsTrue (is_node_path q) → is_related p q ≡ false → key_below p x ≡ key_below q y → ⊥
+UnrelatedKeysDiffer = (p q x y : List ℕ) → IsTrue (is_node_path p) → IsTrue (is_node_path q) → is_related p q ≡ false → key_under p x ≡ key_under q y → ⊥
 
 -- no key of a chunk of an array is the key of a document of any node, where the suffix of the keys holds no slash
 abbrev pub ChunksAreNoDocuments : Type 0
-ChunksAreNoDocuments = (p q : List ℕ) (keys : KeyEncoding) (chunk : List ℕ) (name : DocumentName) → IsTrue (has_plain_suffix keys) → IsTrue (has_separator keys) → chunk_key p keys chunk ≡ document_key q name → ⊥
+ChunksAreNoDocuments = (p q : List ℕ) (keys : KeyEncoding) (chunk : List ℕ) (name : DocumentName) → IsTrue (has_flat_suffix keys) → IsTrue (has_separator keys) → chunk_key p keys chunk ≡ document_key q name → ⊥
 
--- a key of a chunk that is the key of a document has a suffix with a slash, and the node of the document lies below the array
-abbrev pub OnlyLowerDocuments : Type 0
-OnlyLowerDocuments = (p q : List ℕ) (keys : KeyEncoding) (chunk : List ℕ) (name : DocumentName) → IsTrue (is_node_path p) → IsTrue (is_node_path q) → IsTrue (has_separator keys) → chunk_key p keys chunk ≡ document_key q name
-    → IsTrue (is_under p q) × (has_plain_suffix keys ≡ false)
+-- a key of a chunk that is the key of a document has a suffix with a slash, and the node of the document is under the array
+abbrev pub OnlyDocumentsUnder : Type 0
+OnlyDocumentsUnder = (p q : List ℕ) (keys : KeyEncoding) (chunk : List ℕ) (name : DocumentName) → IsTrue (is_node_path p) → IsTrue (is_node_path q) → IsTrue (has_separator keys) → chunk_key p keys chunk ≡ document_key q name
+    → IsTrue (is_under p q) × (has_flat_suffix keys ≡ false)
 
 -- whatever the suffix is, no key of a chunk of an array is the key of a document of that array
 abbrev pub NoChunkIsOwnDocument : Type 0
@@ -52,23 +52,23 @@ RelatedIsReflexive = (p : List ℕ) → IsTrue (is_related p p)
 abbrev pub RelatedAbove : Type 0
 RelatedAbove = (p q r : List ℕ) → IsTrue (is_node_path p) → IsTrue (is_node_path q) → IsTrue (is_node_path r) → IsTrue (is_under p q) → IsTrue (is_related q r) → IsTrue (is_related p r)
 
--- a node path below one that lies below another lies below that other
+-- a node path under one that is under another is under that other
 abbrev pub UnderIsTransitive : Type 0
 UnderIsTransitive = (p q r : List ℕ) → IsTrue (is_node_path p) → IsTrue (is_node_path q) → IsTrue (is_node_path r) → IsTrue (is_under p q) → IsTrue (is_under q r) → IsTrue (is_under p r)
 
--- no node path lies below itself
+-- no node path is under itself
 abbrev pub UnderIsStrict : Type 0
 UnderIsStrict = (p : List ℕ) → IsTrue (is_node_path p) → is_under p p ≡ false
 
--- what lies below a path other than `/` begins with that path and a slash, and all that begins so lies below it
+-- what is under a path other than `/` begins with that path and a slash, and all that begins so is under it
 abbrev pub UnderBeginsWithPath : Type 0
 UnderBeginsWithPath = (p q : List ℕ) → p ≢ codes "/" → IsTrue (is_under p q) ↔ ((rest : List ℕ) × (q ≡ p ++ 47 ∷ rest))
 
--- in the order of bytes, what lies below a path other than `/` stands from the path and a slash up to the path and a 0, the byte after the slash, and nothing else stands there
+-- in the order of bytes, what is under a path other than `/` stands from the path and a slash up to the path and a 0, the byte after the slash, and nothing else stands there
 abbrev pub UnderIsRange : Type 0
 UnderIsRange = (p q : List ℕ) → p ≢ codes "/" → IsTrue (is_under p q) ↔ IsInRange (slice_cmp nat_cmp) (Included (p ++ codes "/")) (Excluded (p ++ codes "0")) q
 
--- above a node path lie its parent and what lies above that, and nothing lies above `/`
+-- above a node path are its parent and what is above that, and nothing is above `/`
 abbrev pub AboveByParent : Type 0
 AboveByParent = (path above : List ℕ) → IsTrue (is_node_path path) → IsTrue (is_node_path above) → MatchOption (parent_path path) (is_under above path ≡ false) (λ parent. is_under above path ≡ (bytes_eq above parent || is_under above parent))
 

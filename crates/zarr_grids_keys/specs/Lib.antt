@@ -1,7 +1,9 @@
 pub mod Documents
+pub mod EncodingMetadata
 pub mod Encodings
 pub mod Keys
 pub mod Laws
+pub mod MetadataLaws
 pub mod Paths
 pub mod Related
 pub mod Separators

@@ -1,10 +1,12 @@
 -- Node paths.
 use Rattle.std.specs.Prelude.{ℕ, List, [], ◌∷◌, codes, bytes_eq, Bool, false, not, ◌&&◌, ◌||◌, ◌==◌}
 
+-- whether the first byte of a text is "/"
 abbrev pub begins_with_slash : List ℕ → Bool
 begins_with_slash [] = false
 begins_with_slash (x ∷ xs) = x == 47
 
+-- whether the last byte of a text is "/"
 abbrev pub ends_with_slash : List ℕ → Bool
 ends_with_slash [] = false
 ends_with_slash (x ∷ []) = x == 47

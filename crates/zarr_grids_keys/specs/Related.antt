@@ -1,12 +1,12 @@
--- When two node paths are related, and which path lies right above one.
+-- When two node paths are related, and which path is right above one.
 use Rattle.std.specs.Prelude.{◌≡◌, ℕ, List, [], ◌∷◌, ◌++◌, codes, bytes_eq, nat_eq, Bool, not, ◌||◌, ◌==◌, Option, Some, None, if◌then◌else◌}
 use Rattle.std.specs.List.{starts_with, before_last}
 
--- whether the second path lies below the first: below `/` lies every other path, below another path what begins with it and a slash
+-- whether the second path is under the first: under `/` is every other path, under another path what begins with it and a slash
 abbrev pub is_under : List ℕ → List ℕ → Bool
 is_under path other = if bytes_eq path (codes "/") then not (bytes_eq other (codes "/")) else starts_with nat_eq other (path ++ codes "/")
 
--- whether two paths are equal, or one lies below the other
+-- whether two paths are equal, or one is under the other
 abbrev pub is_related : List ℕ → List ℕ → Bool
 is_related path other = bytes_eq path other || is_under path other || is_under other path
 

@@ -4,14 +4,27 @@ ghost use Rattle.std.specs.String.{string_bytes};
 ghost use Rattle.zarr_grids_keys.specs.Paths.{begins_with_slash, ends_with_slash, has_double_slash, is_node_path};
 
 use std::alloc::{AllocError, Global};
+use std::marker::Model;
 use thiserror::Error;
 
 /// The path of a node: `/`, or a slash and names between single slashes (Zarr core specification,
 /// "Node paths").
-#[derive(Debug, PartialEq, Eq, Drop)]
+#[derive(Debug, Drop)]
 pub struct NodePath {
     text: String,
-    pub ghost path: { IsTrue (is_node_path (string_bytes text)) },
+}
+
+/// A contract sees it as its text.
+impl Model for NodePath {
+    ghost use Rattle.std.specs.Prelude.{IsTrue, ℕ, List};
+    ghost use Rattle.std.specs.String.{string_bytes};
+    ghost use Rattle.zarr_grids_keys.specs.Paths.{is_node_path};
+
+    ghost Value = { List ℕ };
+
+    ghost view = { λ path. string_bytes path.text };
+
+    ghost invariant = { λ path. IsTrue (is_node_path (string_bytes path.text)) };
 }
 
 /// A text is no node path.
@@ -22,7 +35,7 @@ pub struct NodePathError;
 impl NodePath {
     /// The node path that a text is.
     pub fn new(text: String) -> Result<Self, NodePathError>
-        ensures text { IfOk result (λ path. path.text ≡ text) }
+        ensures text { IfOk result (λ path. path ≡ string_bytes text) }
         ensures refused { IsErr result ↔ (is_node_path (string_bytes text) ≡ false) }
     {
         if !is_node_path(text.as_str()) {
@@ -33,7 +46,7 @@ impl NodePath {
 
     /// The path as a text.
     pub fn as_str(&self) -> &str
-        ensures text { result.now ≡ string_bytes self.now.text }
+        ensures text { result.now ≡ self.now }
         ensures node_path { IsTrue (is_node_path result.now) }
     {
         self.text.as_str()
@@ -41,11 +54,31 @@ impl NodePath {
 
     /// An equal path, in memory of its own.
     pub fn try_clone(&self, alloc: Global) -> Result<Self, AllocError>
-        ensures { IfOk result (λ copy. string_bytes copy.text ≡ string_bytes self.now.text) }
+        ensures { IfOk result (λ copy. copy ≡ self.now) }
     {
         let text = String::from_str(alloc, self.text.as_str())?;
         Ok(NodePath { text })
     }
+}
+
+impl PartialEq for NodePath {
+    ghost use Rattle.std.specs.Prelude.{bytes_eq};
+    ghost use Rattle.std.specs.Cmp.{partial_equiv_from_equiv};
+    ghost use Rattle.std.specs.Cmp.Lexicographic.{nat_list_eq_equiv};
+
+    ghost eq = { bytes_eq };
+
+    ghost laws = { partial_equiv_from_equiv nat_list_eq_equiv };
+
+    fn eq(&self, other: &NodePath) -> bool {
+        self.as_str() == other.as_str()
+    }
+}
+
+impl Eq for NodePath {
+    ghost use Rattle.std.specs.Cmp.Lexicographic.{nat_list_eq_equiv};
+
+    ghost laws = { nat_list_eq_equiv };
 }
 
 /// Whether a text is a node path: `/`, or a slash and names between single slashes.

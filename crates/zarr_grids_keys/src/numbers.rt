@@ -14,7 +14,8 @@ pub(crate) fn push_numbers(
     separator: ChunkKeySeparator,
     chunk: &[u64],
 ) -> Result<(), AllocError>
-    ensures { OnOk result (string_bytes key.new ≡ string_bytes key.old ++ numbers_after (separator_byte separator) chunk.now) }
+    ensures { OnOk result (string_bytes key.new
+        ≡ string_bytes key.old ++ numbers_after (separator_byte separator) chunk.now) }
 {
     let separator = separator.as_str();
     let mut digits = Buffer::new();

@@ -1,11 +1,11 @@
-//! Node paths above and below one another.
+//! Node paths above and under one another.
 ghost use Rattle.std.specs.Prelude.{◌≡◌, ◌<◌, IsTrue, None, Some, IfSome, MatchOption, length};
 ghost use Rattle.zarr_grids_keys.specs.Paths.{is_node_path};
 ghost use Rattle.zarr_grids_keys.specs.Related.{is_under, is_related, parent_path};
 
 use crate::node_path::begins_with_slash;
 
-/// Whether two node paths are equal, or one lies below the other. `/a` and `/a/b` are related, `/a`
+/// Whether two node paths are equal, or one is under the other. `/a` and `/a/b` are related, `/a`
 /// and `/ab` are not, and each path is related to `/`.
 pub fn are_related(path: &str, other: &str) -> bool
     ensures { result ≡ is_related path.now other.now }
@@ -13,7 +13,7 @@ pub fn are_related(path: &str, other: &str) -> bool
     path == other || is_under(path, other) || is_under(other, path)
 }
 
-/// Whether the second path lies below the first.
+/// Whether the second path is under the first.
 fn is_under(path: &str, other: &str) -> bool
     ensures { result ≡ is_under path.now other.now }
 {

@@ -4,6 +4,7 @@ use Rattle.serde_json.specs.Data.{Data, null, boolean, number, string, array, ob
 use Rattle.serde_json.specs.Find.{get_member, as_bool, as_str, as_object}
 use Rattle.zarr_grids_metadata.specs.Members.{has_only}
 
+-- an extension point: a name, an optional configuration, and whether a reader has to understand it (Zarr core, extension points)
 pub record ExtensionPoint : Type 0 where
   pub name : List ℕ
   pub configuration : Option Members

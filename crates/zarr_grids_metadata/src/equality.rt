@@ -34,7 +34,8 @@ fn equal_points(a: ExtensionPoint<'_>, b: ExtensionPoint<'_>) -> bool
 }
 
 fn equal_configurations(a: Option<&Map<String, Value>>, b: Option<&Map<String, Value>>) -> bool
-    ensures { result ≡ equal_configurations (option_map (λ members. members_view members.now.entries) a.entry)
+    ensures { result ≡ equal_configurations
+        (option_map (λ members. members_view members.now.entries) a.entry)
         (option_map (λ members. members_view members.now.entries) b.entry) }
 {
     match a {

@@ -91,7 +91,8 @@ impl<'v> ExtensionPoint<'v> {
     }
 
     fn of_members(members: &'v Map<String, Value>) -> Option<ExtensionPoint<'v>>
-        ensures { option_map point_view result ≡ point_of_members (members_view members.now.entries) }
+        ensures { option_map point_view result
+            ≡ point_of_members (members_view members.now.entries) }
     {
         if !has_only(members, &["name", "configuration", "must_understand"]) {
             return None;
@@ -152,8 +153,9 @@ fn put_configuration(
     alloc: Global,
     configuration: Option<&Map<String, Value>>,
 ) -> Result<(), AllocError>
-    ensures { OnOk result (members_view members.new.entries
-        ≡ put_configuration (option_map (λ members. members_view members.now.entries) configuration.entry) (members_view members.old.entries)) }
+    ensures { OnOk result (members_view members.new.entries ≡ put_configuration
+        (option_map (λ members. members_view members.now.entries) configuration.entry)
+        (members_view members.old.entries)) }
 {
     match configuration {
         Some(configuration) => {

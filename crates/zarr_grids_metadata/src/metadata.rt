@@ -36,7 +36,8 @@ impl MetadataV3 {
 
     /// A name with a configuration, which must be understood.
     pub fn new_with_configuration(name: String, configuration: Map<String, Value>) -> MetadataV3
-        ensures { point_of result ≡ configured (string_bytes name) (members_view configuration.entries) }
+        ensures { point_of result
+            ≡ configured (string_bytes name) (members_view configuration.entries) }
     {
         let mut metadata = MetadataV3::new(name);
         metadata.configuration = Some(configuration);
@@ -48,7 +49,8 @@ impl MetadataV3 {
     /// is no extension point; `Memory` where an allocation failed.
     pub fn from_text(alloc: Global, text: &str) -> Result<MetadataV3, PluginCreateError>
         ensures ok { IfOk result (λ metadata. point_in_text text.now ≡ Ok (point_of metadata)) }
-        ensures err { IfErr result (λ e. e ≢ PluginCreateError.Memory → point_in_text text.now ≡ Err e) }
+        ensures err { IfErr result (λ e. e ≢ PluginCreateError.Memory
+            → point_in_text text.now ≡ Err e) }
     {
         match Value::from_str(alloc, text) {
             Ok(value) => match MetadataV3::from_value(alloc, &value)? {
@@ -66,7 +68,8 @@ impl MetadataV3 {
     /// The extension point that a JSON value is: a bare name, or an object with a name. `Err` only
     /// where an allocation failed.
     pub fn from_value(alloc: Global, value: &Value) -> Result<Option<MetadataV3>, AllocError>
-        ensures { IfOk result (λ found. option_map point_of found ≡ extension_point (view value.now)) }
+        ensures { IfOk result
+            (λ found. option_map point_of found ≡ extension_point (view value.now)) }
     {
         match ExtensionPoint::read(value) {
             Some(point) => Ok(Some(MetadataV3::from_point(alloc, point)?)),

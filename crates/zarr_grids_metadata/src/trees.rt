@@ -50,7 +50,8 @@ fn same_items(items: &Vec<Value>, others: &Vec<Value>) -> bool
 #[cycle(same_tree)]
 fn same_members(members: &Map<String, Value>, others: &Map<String, Value>) -> bool
     ensures { Decides result
-        (SameTree (object (members_view members.now.entries)) (object (members_view others.now.entries))) }
+        (SameTree (object (members_view members.now.entries))
+        (object (members_view others.now.entries))) }
 {
     let mut rest = others.iter();
     for (name, member) in members.iter() {

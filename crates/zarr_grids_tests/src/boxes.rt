@@ -1,198 +1,164 @@
-//! Boxes, counts and places with values worked out by hand.
-mod cutting;
-mod making;
-mod numbers;
-
-use std::alloc::Global;
-use std::process::Abort;
+//! Boxes, their places and the numbers of places, with values worked out by hand.
+use crate::samples::{LAST, area, assert_area, assert_found, edges};
 use std::test::Fail;
-use zarr_grids_boxes::walk::{count_places, has_no_place, write_place};
-use zarr_grids_boxes::{ArraySubset, ArraySubsetError};
+use zarr_grids::{
+    ArraySubset, ArraySubsetError, chunk_shape_to_array_shape, ravel_indices, unravel_index,
+};
 
-const LAST: u64 = 18446744073709551615;
-
-/// The box with this start and shape.
-fn make(
-    alloc: Global,
-    start: &[u64],
-    shape: &[u64],
-) -> Result<Result<ArraySubset, ArraySubsetError>, Fail> {
-    let start = start.to_vec(alloc)?;
-    let shape = shape.to_vec(alloc)?;
-    Ok(ArraySubset::new_with_start_shape(start, shape))
+#[test]
+fn a_box_is_made_of_ranges(rt: HostRuntime) -> Result<(), Fail> {
+    let ranges = [2..4, 7..7, 9..3, LAST..0];
+    let subset = ArraySubset::new_with_ranges(rt.alloc(), &ranges)?;
+    assert_area(&rt, &subset, &[2, 7, 9, LAST], &[2, 0, 0, 0]);
+    Ok(())
 }
 
 #[test]
-fn makes_boxes(rt: HostRuntime) -> Result<(), Fail> {
+fn a_box_of_a_shape_begins_at_zero(rt: HostRuntime) -> Result<(), Fail> {
     let alloc = rt.alloc();
-    let cases: [(&[u64], &[u64], bool); 8] = [
-        (&[], &[], false),
-        (&[3], &[4], false),
-        (&[0, 7], &[5, 0], true),
-        (&[1, 2, 3], &[4, 5, 6], false),
-        (&[0], &[LAST], false),
-        (&[LAST], &[0], true),
-        (&[LAST - 1, 1], &[1, LAST - 1], false),
-        (&[LAST, LAST, LAST], &[0, 0, 0], true),
+    let subset = ArraySubset::new_with_shape(alloc, vec![in alloc; 4u64, LAST]?)?;
+    assert_area(&rt, &subset, &[0, 0], &[4, LAST]);
+    let empty = ArraySubset::new_empty(alloc, 2)?;
+    assert_area(&rt, &empty, &[0, 0], &[0, 0]);
+    Ok(())
+}
+
+#[test]
+fn a_box_ends_at_the_last_number_at_most(rt: HostRuntime) -> Result<(), Fail> {
+    let alloc = rt.alloc();
+    let start = vec![in alloc; LAST, LAST - 1]?;
+    let fits = ArraySubset::new_with_start_shape(start, vec![in alloc; 0u64, 1]?)?;
+    assert_eq!(rt; fits.end_exc(alloc)?.as_slice(), [LAST, LAST].as_slice());
+    let passes = ArraySubset::new_with_start_shape(vec![in alloc; LAST]?, vec![in alloc; 1u64]?);
+    assert_eq!(rt; passes.err(), Some(ArraySubsetError::EndPasses));
+    Ok(())
+}
+
+#[test]
+fn a_box_with_a_place_has_a_last_one(rt: HostRuntime) -> Result<(), Fail> {
+    let alloc = rt.alloc();
+    assert_found(&rt, area(alloc, &[1, 2], &[3, 4])?.end_inc(alloc)?, &[3, 5]);
+    assert_found(&rt, area(alloc, &[], &[])?.end_inc(alloc)?, &[]);
+    assert!(rt; area(alloc, &[1, 2], &[3, 0])?.end_inc(alloc)?.is_none());
+    Ok(())
+}
+
+#[test]
+fn a_box_is_equal_to_its_copy(rt: HostRuntime) -> Result<(), Fail> {
+    let alloc = rt.alloc();
+    let subset = area(alloc, &[1, 2], &[3, 4])?;
+    assert!(rt; subset.try_clone(alloc)? == subset);
+    assert!(rt; subset != area(alloc, &[1, 2], &[3, 5])?);
+    Ok(())
+}
+
+#[test]
+fn boxes_overlap_in_the_places_of_both(rt: HostRuntime) -> Result<(), Fail> {
+    let alloc = rt.alloc();
+    let one = area(alloc, &[0, 0], &[4, 4])?;
+    let other = area(alloc, &[2, 3], &[4, 4])?;
+    assert_area(&rt, &one.overlap(alloc, &other)?, &[2, 3], &[2, 1]);
+    let apart = area(alloc, &[7, 0], &[1, 1])?;
+    assert_area(&rt, &one.overlap(alloc, &apart)?, &[7, 0], &[0, 1]);
+    Ok(())
+}
+
+#[test]
+fn a_box_is_bounded_by_an_end(rt: HostRuntime) -> Result<(), Fail> {
+    let alloc = rt.alloc();
+    let subset = area(alloc, &[1, 2], &[3, 4])?;
+    assert_area(&rt, &subset.bound(alloc, &[3, 10])?, &[1, 2], &[2, 4]);
+    assert_area(&rt, &subset.bound(alloc, &[0, 4])?, &[0, 2], &[0, 2]);
+    Ok(())
+}
+
+#[test]
+fn a_box_is_moved_by_an_offset(rt: HostRuntime) -> Result<(), Fail> {
+    let alloc = rt.alloc();
+    let subset = area(alloc, &[5, 7], &[2, 3])?;
+    assert_area(&rt, &subset.relative_to(alloc, &[1, 7])?, &[4, 0], &[2, 3]);
+    let refused = subset.relative_to(alloc, &[5, 8]);
+    assert_eq!(rt; refused.err(), Some(ArraySubsetError::NotRelative));
+    Ok(())
+}
+
+#[test]
+fn a_box_walks_its_places_row_major(rt: HostRuntime) -> Result<(), Fail> {
+    let alloc = rt.alloc();
+    let subset = area(alloc, &[10, 20], &[2, 2])?;
+    let mut walk = subset.indices(alloc)?;
+    for want in [[10u64, 20], [10, 21], [11, 20], [11, 21]] {
+        let place = walk.next().ok_or("no place")??;
+        assert_eq!(rt; place.as_slice(), want.as_slice());
+    }
+    assert!(rt; walk.next().is_none());
+    Ok(())
+}
+
+#[test]
+fn a_walk_of_a_large_box_begins_at_once(rt: HostRuntime) -> Result<(), Fail> {
+    let alloc = rt.alloc();
+    let large = area(alloc, &[0, 3], &[LAST, LAST - 3])?;
+    let place = large.indices(alloc)?.next().ok_or("no place")??;
+    assert_eq!(rt; place.as_slice(), [0u64, 3].as_slice());
+    Ok(())
+}
+
+#[test]
+fn a_box_walks_the_numbers_of_its_places(rt: HostRuntime) -> Result<(), Fail> {
+    let alloc = rt.alloc();
+    let subset = area(alloc, &[1, 1], &[2, 2])?;
+    let numbers: Vec<u64> = subset.linearised_indices(&[4, 3])?.collect(alloc)?;
+    assert_eq!(rt; numbers.as_slice(), [4u64, 5, 7, 8].as_slice());
+    Ok(())
+}
+
+#[test]
+fn a_place_has_a_row_major_number(rt: HostRuntime) -> Result<(), Fail> {
+    let alloc = rt.alloc();
+    let rows: [(u64, &[u64], &[u64]); 5] = [
+        (5, &[1, 2], &[2, 3]),
+        (17, &[1, 1, 1], &[2, 3, 4]),
+        (0, &[], &[]),
+        (7, &[0, 0, 7], &[LAST, LAST, 9]),
+        (LAST, &[4294967295, 4294967295], &[4294967296, 4294967296]),
     ];
-    for (start, shape, is_empty) in cases {
-        let subset = make(alloc, start, shape)??;
-        assert_eq!(rt; subset.start.as_slice(), start);
-        assert_eq!(rt; subset.shape.as_slice(), shape);
-        assert_eq!(rt; subset.dimensionality(), start.len());
-        assert_eq!(rt; subset.is_empty(), is_empty, "at {start:?} {shape:?}");
+    for (number, place, shape) in rows {
+        assert_eq!(rt; ravel_indices(place, shape), Some(number));
+        assert_found(&rt, unravel_index(alloc, number, shape)?, place);
     }
     Ok(())
 }
 
 #[test]
-fn refuses_boxes(rt: HostRuntime) -> Result<(), Fail> {
-    let alloc = rt.alloc();
-    let cases: [(&[u64], &[u64], ArraySubsetError); 8] = [
-        (&[], &[1], ArraySubsetError::LengthsDiffer),
-        (&[1], &[], ArraySubsetError::LengthsDiffer),
-        (&[1, 2], &[3, 4, 5], ArraySubsetError::LengthsDiffer),
-        (&[LAST], &[1, 1], ArraySubsetError::LengthsDiffer),
-        (&[LAST], &[1], ArraySubsetError::EndPasses),
-        (&[1], &[LAST], ArraySubsetError::EndPasses),
-        (&[0, 0, LAST], &[1, 0, LAST], ArraySubsetError::EndPasses),
-        (&[2, 0], &[LAST - 1, 0], ArraySubsetError::EndPasses),
-    ];
-    for (start, shape, want) in cases {
-        match make(alloc, start, shape)? {
-            Ok(_) => panic!(rt; "made {start:?} {shape:?}"),
-            Err(error) => assert_eq!(rt; error, want, "at {start:?} {shape:?}"),
-        }
-    }
+fn a_place_outside_a_shape_has_no_number(rt: HostRuntime) -> Result<(), Fail> {
+    assert_eq!(rt; ravel_indices(&[0, 3], &[2, 3]), None);
+    assert_eq!(rt; ravel_indices(&[1, 1], &[2, LAST]), None);
+    assert!(rt; unravel_index(rt.alloc(), 6, &[2, 3])?.is_none());
     Ok(())
 }
 
 #[test]
-fn says_refusals(rt: HostRuntime) -> Result<(), Fail> {
+fn a_chunk_shape_is_copied(rt: HostRuntime) -> Result<(), Fail> {
     let alloc = rt.alloc();
-    let differ = format!(in alloc; "{}", ArraySubsetError::LengthsDiffer)?;
-    let passes = format!(in alloc; "{}", ArraySubsetError::EndPasses)?;
-    assert_eq!(rt;
-        differ.as_str(),
-        "the start and the shape have different lengths"
-    );
-    assert_eq!(rt; passes.as_str(), "the box ends past 2^64 - 1");
+    let shape = edges(alloc, &[2, 3])?;
+    assert!(rt; shape.try_clone(alloc)? == shape);
+    let sizes = chunk_shape_to_array_shape(alloc, &shape)?;
+    assert_eq!(rt; sizes.as_slice(), [2u64, 3].as_slice());
     Ok(())
 }
 
 #[test]
-fn tells_boxes_without_places(rt: HostRuntime) {
-    let with: [&[u64]; 5] = [&[], &[1], &[LAST], &[2, 3], &[LAST, LAST, 1]];
-    for shape in with {
-        assert!(rt; !has_no_place(shape), "at {shape:?}");
-    }
-    let without: [&[u64]; 6] = [
-        &[0],
-        &[0, 5],
-        &[5, 0],
-        &[5, 0, 6],
-        &[LAST, LAST, 0],
-        &[0, 0],
+fn a_refusal_of_a_box_is_said(rt: HostRuntime) -> Result<(), Fail> {
+    let rows = [
+        (
+            ArraySubsetError::LengthsDiffer,
+            "the start and the shape have different lengths",
+        ),
+        (ArraySubsetError::EndPasses, "the box ends past 2^64 - 1"),
     ];
-    for shape in without {
-        assert!(rt; has_no_place(shape), "at {shape:?}");
-    }
-}
-
-#[test]
-fn counts_places(rt: HostRuntime) {
-    let counted: [(&[u64], u64); 13] = [
-        (&[], 1),
-        (&[7], 7),
-        (&[3, 4], 12),
-        (&[2, 3, 5], 30),
-        (&[1, 1, 1, 1], 1),
-        (&[0], 0),
-        (&[LAST, LAST, 0], 0),
-        (&[0, LAST, LAST], 0),
-        (&[LAST, 0, LAST], 0),
-        (&[4611686018427387904], 4611686018427387904),
-        (&[4611686018427387904, 1], 4611686018427387904),
-        (&[9223372036854775807], 9223372036854775807),
-        (&[49, 188232082384791343], 9223372036854775807),
-    ];
-    for (shape, want) in counted {
-        assert_eq!(rt; count_places(shape), Some(want), "at {shape:?}");
-    }
-}
-
-#[test]
-fn counts_no_more_than_fit(rt: HostRuntime) {
-    let uncounted: [&[u64]; 8] = [
-        &[9223372036854775808],
-        &[2, 4611686018427387904],
-        &[2097152, 2097152, 2097152],
-        &[LAST],
-        &[4294967296, 4294967296],
-        &[9223372036854775808, 2],
-        &[LAST, LAST],
-        &[4294967296, 4294967296, 5],
-    ];
-    for shape in uncounted {
-        assert_eq!(rt; count_places(shape), None, "at {shape:?}");
-    }
-}
-
-/// Asserts that the box's places, by their numbers, are these.
-fn assert_places(
-    rt: &impl Abort,
-    alloc: Global,
-    start: &[u64],
-    shape: &[u64],
-    want: &[&[u64]],
-) -> Result<(), Fail> {
-    let subset = make(alloc, start, shape)??;
-    let count = count_places(&subset.shape).ok_or("no count")?;
-    assert!(rt; count == want.len() as u64);
-    let mut place = vec![in alloc; 99u64; subset.start.len()]?;
-    for n in 0..count {
-        write_place(&subset.start, &subset.shape, count, n, &mut place);
-        assert_eq!(rt; place.as_slice(), want[n as usize], "at {n}");
+    for (error, want) in rows {
+        assert_eq!(rt; format!(in rt.alloc(); "{error}")?.as_str(), want);
     }
     Ok(())
-}
-
-#[test]
-fn writes_places(rt: HostRuntime) -> Result<(), Fail> {
-    let alloc = rt.alloc();
-    assert_places(&rt, alloc, &[], &[], &[&[]])?;
-    assert_places(&rt, alloc, &[0], &[0], &[])?;
-    assert_places(&rt, alloc, &[5], &[3], &[&[5], &[6], &[7]])?;
-    let square: [&[u64]; 6] = [
-        &[10, 20],
-        &[10, 21],
-        &[10, 22],
-        &[11, 20],
-        &[11, 21],
-        &[11, 22],
-    ];
-    assert_places(&rt, alloc, &[10, 20], &[2, 3], &square)?;
-    let upright: [&[u64]; 6] = [&[0, 8], &[0, 9], &[1, 8], &[1, 9], &[2, 8], &[2, 9]];
-    assert_places(&rt, alloc, &[0, 8], &[3, 2], &upright)?;
-    let end: [&[u64]; 2] = [&[LAST - 2, 0], &[LAST - 1, 0]];
-    assert_places(&rt, alloc, &[LAST - 2, 0], &[2, 1], &end)
-}
-
-#[test]
-fn writes_places_of_three_dimensions(rt: HostRuntime) -> Result<(), Fail> {
-    let want: [&[u64]; 12] = [
-        &[1, 0, 7],
-        &[1, 0, 8],
-        &[1, 1, 7],
-        &[1, 1, 8],
-        &[1, 2, 7],
-        &[1, 2, 8],
-        &[2, 0, 7],
-        &[2, 0, 8],
-        &[2, 1, 7],
-        &[2, 1, 8],
-        &[2, 2, 7],
-        &[2, 2, 8],
-    ];
-    assert_places(&rt, rt.alloc(), &[1, 0, 7], &[2, 3, 2], &want)
 }

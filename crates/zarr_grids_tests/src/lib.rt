@@ -1,11 +1,15 @@
-//! Tests of boxes, of the runs of cells that two boxes share, of lookups in grids, and of what an array asks of its grid.
+//! Tests of boxes, chunk grids, chunk keys and the metadata of both by the public names of `zarr_grids`.
 #![tactic(auto)]
 
 #[cfg(test)]
 mod boxes;
 #[cfg(test)]
-mod cover;
+mod grids;
 #[cfg(test)]
-mod dimensions;
+mod keys;
 #[cfg(test)]
-mod runs;
+mod metadata;
+#[cfg(test)]
+mod samples;
+#[cfg(test)]
+mod scans;

@@ -3,7 +3,7 @@ use Rattle.std.proofs.Common.{◌≡◌, ◌∙◌, ℕ, zero, suc, ◌+◌, ◌
 use Rattle.std.proofs.lemmas.List.{length-map}
 use Rattle.zarr_grids_boxes.specs.Boxes.{Region, product, EndsFit, IsSmall}
 use Rattle.zarr_grids_boxes.proofs.Places.{both}
-use Rattle.zarr_grids_chunks.specs.Grids.{Grid, IsBelow, IsCovered, AreBelow, chunk_box}
+use Rattle.zarr_grids_chunks.specs.Grids.{Grid, IsInGrid, IsCovered, AreInGrid, chunk_box}
 use Rattle.zarr_grids_dimensions.specs.Lookups.{are_dimensions}
 use Rattle.zarr_grids_dimensions.specs.Dimensions.{dimension_of}
 use Rattle.zarr_grids_dimensions.proofs.Declared.{always_dimensions}
@@ -66,7 +66,7 @@ box_of_chunk document chunk box h =
 pub covered_rank : (document : ArrayDocument) (region : Region) → IsCovered (meaning_of document).grid region → length region.start ≡ length document.grid.items
 covered_rank document region covered = covered.rank ∙ length_grid document
 
-pub below_rank : (document : ArrayDocument) (chunks : Region) → AreBelow (meaning_of document).grid chunks → length chunks.start ≡ length document.grid.items
+pub below_rank : (document : ArrayDocument) (chunks : Region) → AreInGrid (meaning_of document).grid chunks → length chunks.start ≡ length document.grid.items
 below_rank document chunks below = below.rank ∙ length_grid document
 
 -- ---- two chunks have two keys
@@ -81,7 +81,7 @@ separated (Default encoding) = slash_or_dot encoding.separator
 separated (V2 encoding) = slash_or_dot encoding.separator
 separated (DefaultSuffix encoding) = slash_or_dot encoding.separator
 
-pub key_apart : (path : List ℕ) (document : ArrayDocument) (c d : List ℕ) (box other : Region) → IsBelow (meaning_of document).grid c box → IsBelow (meaning_of document).grid d other → (d ≡ c → ⊥)
+pub key_apart : (path : List ℕ) (document : ArrayDocument) (c d : List ℕ) (box other : Region) → IsInGrid (meaning_of document).grid c box → IsInGrid (meaning_of document).grid d other → (d ≡ c → ⊥)
     → chunk_key path (meaning_of document).keys d ≡ chunk_key path (meaning_of document).keys c → ⊥
 key_apart path document c d box other below over ne e =
     let first = box_of_chunk document d other over.has_box in

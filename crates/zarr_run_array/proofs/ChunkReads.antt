@@ -4,9 +4,9 @@ use Rattle.std.specs.List.{flat_map, list_any}
 use Rattle.std.specs.FinMap.{get}
 use Rattle.zarr_grids_boxes.specs.Boxes.{Region, product, places, is_in_box}
 use Rattle.zarr_grids_boxes.specs.Laid.{laid, HasWidth, overlaid}
-use Rattle.zarr_grids_chunks.specs.Grids.{Grid, IsBelow, IsCovered, chunk_box, lies_in_chunk, met}
+use Rattle.zarr_grids_chunks.specs.Grids.{Grid, IsInGrid, IsCovered, chunk_box, lies_in_chunk, intersecting}
 use Rattle.zarr_grids_chunks.proofs.Filters.{told}
-use Rattle.zarr_grids_chunks.proofs.Partition.{lies_here, met-any}
+use Rattle.zarr_grids_chunks.proofs.Partition.{lies_here, intersecting-any}
 use Rattle.zarr_grids_keys.specs.Keys.{chunk_key}
 use Rattle.zarr_codecs_cells.specs.Cells.{uint8, Cell}
 use Rattle.zarr_codecs_chain.specs.Chain.{bytes, ChunkStands}
@@ -36,7 +36,7 @@ absent_fill x stored cells box p l st none t =
 
 -- a value of a wrong length stands for nothing
 pub wrong_length : (path : List ℕ) (document : ArrayDocument) (store : StoreMap) (cells : List ℕ → Cell) (chunk value : List ℕ) (box : Region)
-    → StoreStands path (meaning_of document) store cells → AreValues uint8 cells → IsBelow (meaning_of document).grid chunk box → get store (chunk_key path (meaning_of document).keys chunk) ≡ Some value → length value ≡ product box.shape * 1
+    → StoreStands path (meaning_of document) store cells → AreValues uint8 cells → IsInGrid (meaning_of document).grid chunk box → get store (chunk_key path (meaning_of document).keys chunk) ≡ Some value → length value ≡ product box.shape * 1
 wrong_length path document store cells chunk value box st v below found =
     ap length (value_laid document.fill_value _ cells value box (st chunk box below) found) ∙ length-laid cells 1 box.start box.shape (box_of_chunk document chunk box below.has_box).rank (values_width cells v)
 
@@ -88,5 +88,5 @@ pub laid_start : (grid : Grid) (region : Region) (cells : List ℕ → Cell) (x 
 laid_start grid region cells x l = laid-fill x region.start region.shape l
 
 pub laid_all : (grid : Grid) (region : Region) (cells : List ℕ → Cell) (fill : Cell) → length region.start ≡ length region.shape → IsCovered grid region
-    → laid (read_so_far grid (met grid region) cells fill) region.start region.shape ≡ laid cells region.start region.shape
-laid_all grid region cells fill l covered = laid-in_box _ _ region.start region.shape l (λ p t. ap (λ b. if b then cells p else fill) (met-any grid region p covered t))
+    → laid (read_so_far grid (intersecting grid region) cells fill) region.start region.shape ≡ laid cells region.start region.shape
+laid_all grid region cells fill l covered = laid-in_box _ _ region.start region.shape l (λ p t. ap (λ b. if b then cells p else fill) (intersecting-any grid region p covered t))

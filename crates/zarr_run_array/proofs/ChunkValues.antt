@@ -6,7 +6,7 @@ use Rattle.std.proofs.lemmas.Bool.{le-leb, lt-ltb, leb-true, ltb-true}
 use Rattle.zarr_grids_boxes.specs.Boxes.{Region, product, places, is_in_box}
 use Rattle.zarr_grids_boxes.specs.Laid.{laid, overlaid}
 use Rattle.zarr_grids_boxes.proofs.Places.{both}
-use Rattle.zarr_grids_chunks.specs.Grids.{IsBelow}
+use Rattle.zarr_grids_chunks.specs.Grids.{IsInGrid}
 use Rattle.zarr_grids_chunks.proofs.Filters.{told}
 use Rattle.zarr_grids_keys.specs.Keys.{chunk_key}
 use Rattle.zarr_codecs_cells.specs.Cells.{uint8, Cell}
@@ -76,7 +76,7 @@ free_laid region box given cells x n bs value stored r m l vg is e put free st =
     (told (contains_box region.start region.shape box.start box.shape))
 
 -- ---- one chunk written
-pub wrote_changed : (path : List ℕ) (document : ArrayDocument) (region : Region) (bs : List ℕ) (s : Bool) (chunk : List ℕ) (box : Region) (count : ℕ) (old new : StoreMap) → IsBelow (meaning_of document).grid chunk box
+pub wrote_changed : (path : List ℕ) (document : ArrayDocument) (region : Region) (bs : List ℕ) (s : Bool) (chunk : List ℕ) (box : Region) (count : ℕ) (old new : StoreMap) → IsInGrid (meaning_of document).grid chunk box
     → ChangedValue region box bs s document.fill_value count (chunk_key path (meaning_of document).keys chunk) old new → WroteChunks path (meaning_of document) region bs s (chunk ∷ []) old new
 wrote_changed path document region bs s chunk box count old new below changed =
     let P : StoreMap → Type 0 = λ m. WroteChunks path (meaning_of document) region bs s (chunk ∷ []) old m in
@@ -84,7 +84,7 @@ wrote_changed path document region bs s chunk box count old new below changed =
     (λ given cells vg vc is st. changed_laid region box given cells document.fill_value bs changed.before changed.after _ vg vc is changed.changes changed.found (st chunk box below)))
 
 pub wrote_new : (path : List ℕ) (document : ArrayDocument) (region : Region) (bs : List ℕ) (s : Bool) (chunk value : List ℕ) (box : Region) (count : ℕ) (old new : StoreMap)
-    → length region.shape ≡ length region.start → length box.start ≡ length region.start → count ≡ product box.shape → IsBelow (meaning_of document).grid chunk box
+    → length region.shape ≡ length region.start → length box.start ≡ length region.start → count ≡ product box.shape → IsInGrid (meaning_of document).grid chunk box
     → (contains_box region.start region.shape box.start box.shape ≡ false → get old (chunk_key path (meaning_of document).keys chunk) ≡ None)
     → IsPutOver region box bs (replicate count document.fill_value) value → new ≡ put s document.fill_value old (chunk_key path (meaning_of document).keys chunk) value
     → WroteChunks path (meaning_of document) region bs s (chunk ∷ []) old new

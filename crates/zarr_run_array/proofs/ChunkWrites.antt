@@ -7,9 +7,9 @@ use Rattle.std.proofs.lemmas.Slice.Eq.{bytes_eq-Decides}
 use Rattle.std.proofs.lemmas.Bool.{false≢true}
 use Rattle.zarr_grids_boxes.specs.Boxes.{Region, places, is_in_box}
 use Rattle.zarr_grids_boxes.specs.Laid.{laid, HasWidth, overlaid}
-use Rattle.zarr_grids_chunks.specs.Grids.{Grid, IsBelow, IsCovered, chunk_box, lies_in_chunk, met}
+use Rattle.zarr_grids_chunks.specs.Grids.{Grid, IsInGrid, IsCovered, chunk_box, lies_in_chunk, intersecting}
 use Rattle.zarr_grids_chunks.proofs.Filters.{told}
-use Rattle.zarr_grids_chunks.proofs.Partition.{lies_here, met-any}
+use Rattle.zarr_grids_chunks.proofs.Partition.{lies_here, intersecting-any}
 use Rattle.zarr_grids_cover.proofs.ChunkLaws.{chunks_apart}
 use Rattle.zarr_grids_keys.specs.Keys.{chunk_key}
 use Rattle.zarr_codecs_cells.specs.Cells.{uint8, Cell, is_value}
@@ -27,7 +27,7 @@ use Rattle.zarr_run_array.proofs.Standing.{values_width, map-in_box, put_same, p
 
 -- ---- one chunk written
 pub one_chunk : (path : List ℕ) (document : ArrayDocument) (region : Region) (given cells : List ℕ → Cell) (chunk : List ℕ) (box : Region) (s : Bool) (old : StoreMap) (value : List ℕ)
-    → AreValues uint8 given → AreValues uint8 cells → IsBelow (meaning_of document).grid chunk box
+    → AreValues uint8 given → AreValues uint8 cells → IsInGrid (meaning_of document).grid chunk box
     → value ≡ laid (overlaid region.start region.shape given cells) box.start box.shape
     → StoreStands path (meaning_of document) old cells
     → StoreStands path (meaning_of document) (put s document.fill_value old (chunk_key path (meaning_of document).keys chunk) value) (with_chunks (meaning_of document).grid region (chunk ∷ []) given cells)
@@ -92,10 +92,10 @@ with_chunks-none grid region given cells p = ap (λ b. if b then given p else ce
 pub with_chunks-values : (grid : Grid) (region : Region) (cs : List (List ℕ)) (given cells : List ℕ → Cell) → AreValues uint8 given → AreValues uint8 cells → AreValues uint8 (with_chunks grid region cs given cells)
 with_chunks-values grid region cs given cells vg vc p = elim (is_in_box region.start region.shape p && list_any (lies_in_chunk grid p) cs) as (λ t. is_value uint8 (if t then given p else cells p) ≡ true) [ true ↦ vg p | false ↦ vc p ]
 
--- ---- all chunks met hold the whole box
-pub with_chunks-met : (grid : Grid) (region : Region) (given cells : List ℕ → Cell) (p : List ℕ) → IsCovered grid region
-    → with_chunks grid region (met grid region) given cells p ≡ (if is_in_box region.start region.shape p then given p else cells p)
-with_chunks-met grid region given cells p covered = ⊎_elim
-    (λ t. ap (λ b. if is_in_box region.start region.shape p && b then given p else cells p) (met-any grid region p covered t) ∙ ap (λ b. if b then given p else cells p) (and-true (is_in_box region.start region.shape p)))
-    (λ t. ap (λ b. if b && list_any (lies_in_chunk grid p) (met grid region) then given p else cells p) t ∙ sym (ap (λ b. if b then given p else cells p) t))
+-- ---- all chunks intersecting hold the whole box
+pub with_chunks-intersecting : (grid : Grid) (region : Region) (given cells : List ℕ → Cell) (p : List ℕ) → IsCovered grid region
+    → with_chunks grid region (intersecting grid region) given cells p ≡ (if is_in_box region.start region.shape p then given p else cells p)
+with_chunks-intersecting grid region given cells p covered = ⊎_elim
+    (λ t. ap (λ b. if is_in_box region.start region.shape p && b then given p else cells p) (intersecting-any grid region p covered t) ∙ ap (λ b. if b then given p else cells p) (and-true (is_in_box region.start region.shape p)))
+    (λ t. ap (λ b. if b && list_any (lies_in_chunk grid p) (intersecting grid region) then given p else cells p) t ∙ sym (ap (λ b. if b then given p else cells p) t))
     (told (is_in_box region.start region.shape p))

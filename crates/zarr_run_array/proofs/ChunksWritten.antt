@@ -4,7 +4,7 @@ use Rattle.std.specs.FinMap.{get}
 use Rattle.std.proofs.lemmas.Bool.{false≢true}
 use Rattle.zarr_grids_boxes.specs.Boxes.{Region, product}
 use Rattle.zarr_grids_boxes.specs.Laid.{laid, overlaid}
-use Rattle.zarr_grids_chunks.specs.Grids.{IsBelow}
+use Rattle.zarr_grids_chunks.specs.Grids.{IsInGrid}
 use Rattle.zarr_grids_keys.specs.Keys.{chunk_key}
 use Rattle.zarr_codecs_cells.specs.Cells.{uint8, Cell}
 use Rattle.zarr_array_documents.specs.Documents.{Document}
@@ -29,7 +29,7 @@ put_keys path document s chunk old value = record {
   at : (d : List ℕ) → is_listed (chunk ∷ []) d ≡ true → get (put s document.fill_value old (chunk_key path (meaning_of document).keys chunk) value) (chunk_key path (meaning_of document).keys d) ≡ found_put s document.fill_value value
   at d l = ap (λ k. get (put s document.fill_value old (chunk_key path (meaning_of document).keys chunk) value) (chunk_key path (meaning_of document).keys k)) (listed_one chunk d l) ∙ put_same s document.fill_value old (chunk_key path (meaning_of document).keys chunk) value
 
-pub wrote_one : (path : List ℕ) (document : ArrayDocument) (region : Region) (bs : List ℕ) (s : Bool) (chunk : List ℕ) (box : Region) (old : StoreMap) (value : List ℕ) → IsBelow (meaning_of document).grid chunk box
+pub wrote_one : (path : List ℕ) (document : ArrayDocument) (region : Region) (bs : List ℕ) (s : Bool) (chunk : List ℕ) (box : Region) (old : StoreMap) (value : List ℕ) → IsInGrid (meaning_of document).grid chunk box
     → ((given cells : List ℕ → Cell) → AreValues uint8 given → AreValues uint8 cells → bs ≡ laid given region.start region.shape → StoreStands path (meaning_of document) old cells → value ≡ laid (overlaid region.start region.shape given cells) box.start box.shape)
     → WroteChunks path (meaning_of document) region bs s (chunk ∷ []) old (put s document.fill_value old (chunk_key path (meaning_of document).keys chunk) value)
 wrote_one path document region bs s chunk box old value below h = record {
@@ -47,7 +47,7 @@ wrote_none path document region bs s store = record {
 }
 
 -- ---- one more chunk
-more_keys : (path : List ℕ) (document : ArrayDocument) (s : Bool) (cs : List (List ℕ)) (c : List ℕ) (box : Region) (mid new : StoreMap) → IsBelow (meaning_of document).grid c box
+more_keys : (path : List ℕ) (document : ArrayDocument) (s : Bool) (cs : List (List ℕ)) (c : List ℕ) (box : Region) (mid new : StoreMap) → IsInGrid (meaning_of document).grid c box
     → ((key : List ℕ) → ((d : List ℕ) → is_listed (c ∷ []) d ≡ true → key ≢ chunk_key path (meaning_of document).keys d) → get new key ≡ get mid key)
     → HasKeys path (meaning_of document) s cs mid → HasKeys path (meaning_of document) s (c ∷ []) new → HasKeys path (meaning_of document) s (cs ++ c ∷ []) new
 more_keys path document s cs c box mid new below others first next = record {
@@ -60,10 +60,10 @@ more_keys path document s cs c box mid new below others first next = record {
       (λ (ne, l). first.erased e d other over l w (sym (kept d other over ne) ∙ found))
       (listed_more cs c d l);
 } where
-  kept : (d : List ℕ) (other : Region) → IsBelow (meaning_of document).grid d other → (d ≡ c → ⊥) → get new (chunk_key path (meaning_of document).keys d) ≡ get mid (chunk_key path (meaning_of document).keys d)
+  kept : (d : List ℕ) (other : Region) → IsInGrid (meaning_of document).grid d other → (d ≡ c → ⊥) → get new (chunk_key path (meaning_of document).keys d) ≡ get mid (chunk_key path (meaning_of document).keys d)
   kept d other over ne = others _ (λ k l e. key_apart path document c d box other below over ne (e ∙ ap (chunk_key path (meaning_of document).keys) (listed_one c k l)))
 
-pub wrote_more : (path : List ℕ) (document : ArrayDocument) (region : Region) (bs : List ℕ) (s : Bool) (cs : List (List ℕ)) (c : List ℕ) (box : Region) (old mid new : StoreMap) → IsBelow (meaning_of document).grid c box
+pub wrote_more : (path : List ℕ) (document : ArrayDocument) (region : Region) (bs : List ℕ) (s : Bool) (cs : List (List ℕ)) (c : List ℕ) (box : Region) (old mid new : StoreMap) → IsInGrid (meaning_of document).grid c box
     → WroteChunks path (meaning_of document) region bs s cs old mid → WroteChunks path (meaning_of document) region bs s (c ∷ []) mid new → WroteChunks path (meaning_of document) region bs s (cs ++ c ∷ []) old new
 wrote_more path document region bs s cs c box old mid new below first next = record {
   stands = λ given cells vg vc is st.

@@ -10,7 +10,7 @@ use Rattle.zarr_grids_boxes.specs.Boxes.{Region, product, places, place_at}
 use Rattle.zarr_grids_boxes.specs.Laid.{laid, overlaid}
 use Rattle.zarr_grids_boxes.proofs.Places.{places_by_number, take_places}
 use Rattle.zarr_grids_boxes.proofs.InBox.{in_box-place_at}
-use Rattle.zarr_grids_chunks.specs.Grids.{Grid, IsBelow, AreBelow, chunk_box, lies_in_chunk}
+use Rattle.zarr_grids_chunks.specs.Grids.{Grid, IsInGrid, AreInGrid, chunk_box, lies_in_chunk}
 use Rattle.zarr_grids_chunks.proofs.Filters.{told}
 use Rattle.zarr_grids_chunks.proofs.Partition.{lies_here}
 use Rattle.zarr_grids_keys.specs.Keys.{chunk_key}
@@ -27,7 +27,7 @@ use Rattle.zarr_run_array.proofs.Listed.{list_any-append, listed_more, before_li
 use Rattle.zarr_run_array.proofs.Standing.{laid-fill, laid-in_box}
 use Rattle.zarr_run_array.proofs.ChunkBoxes.{box_of_chunk}
 use Rattle.zarr_run_array.proofs.ChunkWrites.{one_chunk, stands_same}
-use Rattle.zarr_run_array.proofs.MetChunks.{first_chunks, first_chunks-more}
+use Rattle.zarr_run_array.proofs.IntersectingChunks.{first_chunks, first_chunks-more}
 
 -- ---- one key taken out
 get-removed : (m : StoreMap) (k q : List ℕ) → get (remove m k) q ≡ cond (bytes_eq q k) None (get m q)
@@ -86,7 +86,7 @@ erased_none path document store = record {
 }
 
 -- ---- one more chunk
-erased_stands : (path : List ℕ) (document : ArrayDocument) (cs : List (List ℕ)) (c : List ℕ) (box : Region) (mid : StoreMap) (cells : List ℕ → Cell) → document.fill_value < 256 → IsBelow (meaning_of document).grid c box
+erased_stands : (path : List ℕ) (document : ArrayDocument) (cs : List (List ℕ)) (c : List ℕ) (box : Region) (mid : StoreMap) (cells : List ℕ → Cell) → document.fill_value < 256 → IsInGrid (meaning_of document).grid c box
     → AreValues uint8 cells → StoreStands path (meaning_of document) mid (without_chunks (meaning_of document).grid cs (meaning_of document).fill cells)
     → StoreStands path (meaning_of document) (remove mid (chunk_key path (meaning_of document).keys c)) (without_chunks (meaning_of document).grid (cs ++ c ∷ []) (meaning_of document).fill cells)
 erased_stands path document cs c box mid cells small below v st =
@@ -102,7 +102,7 @@ erased_stands path document cs c box mid cells small below v st =
     stands_same path (meaning_of document) (remove mid key) (with_chunks grid box (c ∷ []) (λ p. fill) m) (without_chunks grid (cs ++ c ∷ []) fill cells) (λ p. without_chunks-more grid cs c box fill cells p below.has_box)
     (subst P (put_fill document.fill_value n mid key) one)
 
-pub erased_more : (path : List ℕ) (document : ArrayDocument) (cs : List (List ℕ)) (c : List ℕ) (box : Region) (old mid : StoreMap) → document.fill_value < 256 → IsBelow (meaning_of document).grid c box
+pub erased_more : (path : List ℕ) (document : ArrayDocument) (cs : List (List ℕ)) (c : List ℕ) (box : Region) (old mid : StoreMap) → document.fill_value < 256 → IsInGrid (meaning_of document).grid c box
     → ErasedChunks path (meaning_of document) cs old mid → ErasedChunks path (meaning_of document) (cs ++ c ∷ []) old (remove mid (chunk_key path (meaning_of document).keys c))
 erased_more path document cs c box old mid small below first = record {
   stands = λ cells v st. erased_stands path document cs c box mid cells small below v (first.stands cells v st);
@@ -121,7 +121,7 @@ pub first_chunks-taken : (chunks : Region) (n : ℕ) → length chunks.start ≡
 first_chunks-taken chunks n l h = sym (take_places chunks.start chunks.shape n l h)
 
 -- the next chunk
-pub erased_next : (path : List ℕ) (document : ArrayDocument) (chunks : Region) (n : ℕ) (chunk : List ℕ) (old mid new : StoreMap) → length chunks.start ≡ length chunks.shape → AreBelow (meaning_of document).grid chunks
+pub erased_next : (path : List ℕ) (document : ArrayDocument) (chunks : Region) (n : ℕ) (chunk : List ℕ) (old mid new : StoreMap) → length chunks.start ≡ length chunks.shape → AreInGrid (meaning_of document).grid chunks
     → n < product chunks.shape → chunk ≡ place_at chunks.start chunks.shape n → document.fill_value < 256
     → new ≡ remove mid (chunk_key path (meaning_of document).keys chunk)
     → ErasedChunks path (meaning_of document) (first_chunks chunks n) old mid → ErasedChunks path (meaning_of document) (first_chunks chunks (n + 1)) old new

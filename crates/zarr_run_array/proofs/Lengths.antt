@@ -3,9 +3,9 @@ use Rattle.std.proofs.Common.{◌≡◌, ◌∙◌, ℕ, ◌*◌, ◌<◌, ◌�
 use Rattle.std.specs.FinMap.{get}
 use Rattle.std.proofs.lemmas.Bool.{false≢true}
 use Rattle.zarr_grids_boxes.specs.Boxes.{Region, product}
-use Rattle.zarr_grids_chunks.specs.Grids.{IsBelow, chunk_box, met}
+use Rattle.zarr_grids_chunks.specs.Grids.{IsInGrid, chunk_box, intersecting}
 use Rattle.zarr_grids_chunks.proofs.Filters.{told}
-use Rattle.zarr_grids_cover.specs.Met.{AreMet}
+use Rattle.zarr_grids_cover.specs.Intersecting.{AreIntersecting}
 use Rattle.zarr_grids_keys.specs.Keys.{chunk_key}
 use Rattle.zarr_codecs_cells.specs.Cells.{byte_width}
 use Rattle.zarr_array_documents.specs.Documents.{Document}
@@ -13,19 +13,19 @@ use Rattle.zarr_array_documents.specs.Meanings.{meaning_of}
 use Rattle.zarr_array_documents.specs.declared.document.ArrayDocument.{ArrayDocument}
 use Rattle.zarr_array_stores.specs.StoreMaps.{StoreMap}
 use Rattle.zarr_run_array.specs.Contents.{HasDamage, HasPartDamage, HasLength, WroteChunks, contains_box, is_listed}
-use Rattle.zarr_run_array.proofs.Listed.{listed_more, met_listed}
+use Rattle.zarr_run_array.proofs.Listed.{listed_more, intersecting_listed}
 use Rattle.zarr_run_array.proofs.ChunkBoxes.{key_apart}
-use Rattle.zarr_run_array.proofs.MetChunks.{first_chunks, first_chunks-below}
+use Rattle.zarr_run_array.proofs.IntersectingChunks.{first_chunks, first_chunks-below}
 
 -- what is stored for these chunks has the right length, but for boxes that were passed over
 pub record AreSized (passed : Region → Bool) (path : List ℕ) (document : Document) (chunks : List (List ℕ)) (store : StoreMap) : Type 0 where
-  pub sized : (chunk : List ℕ) (box : Region) (value : List ℕ) → IsBelow document.grid chunk box → is_listed chunks chunk ≡ true → passed box ≡ false → get store (chunk_key path document.keys chunk) ≡ Some value
+  pub sized : (chunk : List ℕ) (box : Region) (value : List ℕ) → IsInGrid document.grid chunk box → is_listed chunks chunk ≡ true → passed box ≡ false → get store (chunk_key path document.keys chunk) ≡ Some value
       → length value ≡ product box.shape * byte_width document.type
 
 pub sized_none : (passed : Region → Bool) (path : List ℕ) (document : Document) (store : StoreMap) → AreSized passed path document [] store
 sized_none passed path document store = record { sized = λ d box value below l. absurd (false≢true l) }
 
-pub sized_more : (passed : Region → Bool) (path : List ℕ) (document : ArrayDocument) (cs : List (List ℕ)) (c : List ℕ) (box : Region) (store : StoreMap) → IsBelow (meaning_of document).grid c box
+pub sized_more : (passed : Region → Bool) (path : List ℕ) (document : ArrayDocument) (cs : List (List ℕ)) (c : List ℕ) (box : Region) (store : StoreMap) → IsInGrid (meaning_of document).grid c box
     → (passed box ≡ false → (value : List ℕ) → get store (chunk_key path (meaning_of document).keys c) ≡ Some value → length value ≡ product box.shape * 1)
     → AreSized passed path (meaning_of document) cs store → AreSized passed path (meaning_of document) (cs ++ c ∷ []) store
 sized_more passed path document cs c box store below here first = record {
@@ -38,8 +38,8 @@ sized_more passed path document cs c box store below here first = record {
       (listed_more cs c d l);
 }
 
--- the next chunk met
-pub sized_next : (passed : Region → Bool) (path : List ℕ) (document : ArrayDocument) (cs : List (List ℕ)) (count : ℕ) (chunk : List ℕ) (box : Region) (store : StoreMap) → IsBelow (meaning_of document).grid chunk box → count ≡ product box.shape
+-- the next chunk intersecting
+pub sized_next : (passed : Region → Bool) (path : List ℕ) (document : ArrayDocument) (cs : List (List ℕ)) (count : ℕ) (chunk : List ℕ) (box : Region) (store : StoreMap) → IsInGrid (meaning_of document).grid chunk box → count ≡ product box.shape
     → (passed box ≡ false → HasLength path (meaning_of document) chunk count store)
     → AreSized passed path (meaning_of document) cs store → AreSized passed path (meaning_of document) (cs ++ chunk ∷ []) store
 sized_next passed path document cs count chunk box store below k here first =
@@ -48,7 +48,7 @@ sized_next passed path document cs count chunk box store below k here first =
 
 -- the length that a chunk has once others were written is the one that it had, if not that of one of them
 pub length_before : (passed : Region → Bool) (path : List ℕ) (document : ArrayDocument) (region chunks : Region) (bs : List ℕ) (s : Bool) (n count : ℕ) (chunk : List ℕ) (box : Region) (old mid : StoreMap) → length chunks.start ≡ length chunks.shape
-    → AreMet (meaning_of document).grid region chunks → n < product chunks.shape → IsBelow (meaning_of document).grid chunk box → count ≡ product box.shape
+    → AreIntersecting (meaning_of document).grid region chunks → n < product chunks.shape → IsInGrid (meaning_of document).grid chunk box → count ≡ product box.shape
     → WroteChunks path (meaning_of document) region bs s (first_chunks chunks n) old mid → AreSized passed path (meaning_of document) (first_chunks chunks n) old
     → (passed box ≡ false → HasLength path (meaning_of document) chunk count mid) → passed box ≡ false → HasLength path (meaning_of document) chunk count old
 length_before passed path document region chunks bs s n count chunk box old mid l m h below k wrote first later p value found =
@@ -61,10 +61,10 @@ length_before passed path document region chunks bs s n count chunk box old mid 
     key_apart path document d chunk other.0 box other.1 below (λ q. false≢true (sym t ∙ ap (is_listed (first_chunks chunks n)) q ∙ t2)) same) ∙ found))
     (told (is_listed (first_chunks chunks n) chunk))
 
--- all chunks met
-pub no_damage : (path : List ℕ) (document : Document) (region : Region) (store : StoreMap) → AreSized (λ box. false) path document (met document.grid region) store → HasDamage path document region store → ⊥
-no_damage path document region store all d = d.wrong (all.sized d.chunk d.box d.value d.below (met_listed document.grid region d.chunk d.box d.below d.shares) refl d.found)
+-- all chunks intersecting
+pub no_damage : (path : List ℕ) (document : Document) (region : Region) (store : StoreMap) → AreSized (λ box. false) path document (intersecting document.grid region) store → HasDamage path document region store → ⊥
+no_damage path document region store all d = d.wrong (all.sized d.chunk d.box d.value d.below (intersecting_listed document.grid region d.chunk d.box d.below d.shares) refl d.found)
 
-pub no_part_damage : (path : List ℕ) (document : Document) (region : Region) (store : StoreMap) → AreSized (λ box. contains_box region.start region.shape box.start box.shape) path document (met document.grid region) store
+pub no_part_damage : (path : List ℕ) (document : Document) (region : Region) (store : StoreMap) → AreSized (λ box. contains_box region.start region.shape box.start box.shape) path document (intersecting document.grid region) store
     → HasPartDamage path document region store → ⊥
-no_part_damage path document region store all d = d.wrong (all.sized d.chunk d.box d.value d.below (met_listed document.grid region d.chunk d.box d.below d.shares) d.part d.found)
+no_part_damage path document region store all d = d.wrong (all.sized d.chunk d.box d.value d.below (intersecting_listed document.grid region d.chunk d.box d.below d.shares) d.part d.found)

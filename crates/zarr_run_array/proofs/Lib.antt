@@ -5,6 +5,6 @@ pub mod ChunkWrites
 pub mod ChunksWritten
 pub mod ChunkReads
 pub mod ChunkValues
-pub mod MetChunks
+pub mod IntersectingChunks
 pub mod Lengths
 pub mod Erased

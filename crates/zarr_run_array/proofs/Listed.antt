@@ -4,7 +4,7 @@ use Rattle.std.specs.List.{range_with_len, list_any}
 use Rattle.std.proofs.lemmas.Slice.Eq.{bytes_eq-Decides}
 use Rattle.std.proofs.lemmas.Bool.{false≢true}
 use Rattle.zarr_grids_boxes.specs.Boxes.{Region}
-use Rattle.zarr_grids_chunks.specs.Grids.{Grid, IsBelow, is_met, met, chunk_indices, grid_shape}
+use Rattle.zarr_grids_chunks.specs.Grids.{Grid, IsInGrid, intersects, intersecting, chunk_indices, grid_shape}
 use Rattle.zarr_grids_chunks.proofs.Filters.{told, any-filter}
 use Rattle.zarr_grids_chunks.proofs.Partition.{any_places}
 use Rattle.zarr_run_array.specs.Contents.{is_listed}
@@ -59,6 +59,6 @@ length-shape : (grid : Grid) → (let zeros : List ℕ = replicate (length grid)
 length-shape [] = refl
 length-shape (d ∷ grid) = ap (λ n. suc n) (length-shape grid)
 
--- a chunk that is met is listed
-pub met_listed : (grid : Grid) (region : Region) (chunk : List ℕ) (box : Region) → IsBelow grid chunk box → is_met grid region chunk ≡ true → is_listed (met grid region) chunk ≡ true
-met_listed grid region chunk box below shares = any-filter (is_met grid region) chunk (chunk_indices grid) (any_places (replicate (length grid) 0) (grid_shape grid) chunk (length-shape grid) below.below) shares
+-- a chunk that is intersecting is listed
+pub intersecting_listed : (grid : Grid) (region : Region) (chunk : List ℕ) (box : Region) → IsInGrid grid chunk box → intersects grid region chunk ≡ true → is_listed (intersecting grid region) chunk ≡ true
+intersecting_listed grid region chunk box below shares = any-filter (intersects grid region) chunk (chunk_indices grid) (any_places (replicate (length grid) 0) (grid_shape grid) chunk (length-shape grid) below.below) shares

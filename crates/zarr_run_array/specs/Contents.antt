@@ -4,7 +4,7 @@ use Rattle.std.specs.List.{list_all, list_any}
 use Rattle.std.specs.FinMap.{get, insert, remove}
 use Rattle.zarr_grids_boxes.specs.Boxes.{Region, product, places}
 use Rattle.zarr_grids_boxes.specs.Laid.{laid, HasWidth, overlaid}
-use Rattle.zarr_grids_chunks.specs.Grids.{Grid, IsBelow, is_met, lies_in_chunk}
+use Rattle.zarr_grids_chunks.specs.Grids.{Grid, IsInGrid, intersects, lies_in_chunk}
 use Rattle.zarr_grids_keys.specs.Keys.{chunk_key}
 use Rattle.zarr_codecs_cells.specs.Cells.{DataType, Cell, is_value, byte_width}
 use Rattle.zarr_codecs_chain.specs.Chain.{ChunkStands, Stands}
@@ -18,13 +18,13 @@ abbrev pub AreValues : DataType → (List ℕ → Cell) → Type 0
 AreValues type cells = (place : List ℕ) → is_value type (cells place) ≡ true
 
 -- what is stored for each chunk that shares a place with a box stands for its cells
-abbrev pub MetStand : List ℕ → Document → Region → StoreMap → (List ℕ → Cell) → Type 0
-MetStand path document region store cells = (chunk : List ℕ) (box : Region) → IsBelow document.grid chunk box → is_met document.grid region chunk ≡ true
+abbrev pub IntersectingStand : List ℕ → Document → Region → StoreMap → (List ℕ → Cell) → Type 0
+IntersectingStand path document region store cells = (chunk : List ℕ) (box : Region) → IsInGrid document.grid chunk box → intersects document.grid region chunk ≡ true
     → ChunkStands document.chain document.fill (get store (chunk_key path document.keys chunk)) (map cells (places box.start box.shape))
 
 -- bytes are the cells of a box, whatever cells the chunks that share a place with it stand for
 pub record ReadsBox (path : List ℕ) (document : Document) (region : Region) (store : StoreMap) (bytes : List ℕ) : Type 0 where
-  pub lists : (cells : List ℕ → Cell) → AreValues document.type cells → MetStand path document region store cells → bytes ≡ laid cells region.start region.shape
+  pub lists : (cells : List ℕ → Cell) → AreValues document.type cells → IntersectingStand path document region store cells → bytes ≡ laid cells region.start region.shape
 
 -- whether a chunk is one of these
 abbrev pub is_listed : List (List ℕ) → List ℕ → Bool
@@ -32,8 +32,8 @@ is_listed chunks chunk = list_any (bytes_eq chunk) chunks
 
 -- each of these chunks has a key where empty chunks are stored; where they aren't, no key has a value that stands for fill values alone
 pub record HasKeys (path : List ℕ) (document : Document) (store_empty : Bool) (chunks : List (List ℕ)) (store : StoreMap) : Type 0 where
-  pub stored : store_empty ≡ true → (chunk : List ℕ) (box : Region) → IsBelow document.grid chunk box → is_listed chunks chunk ≡ true → is_some (get store (chunk_key path document.keys chunk)) ≡ true
-  pub erased : store_empty ≡ false → (chunk : List ℕ) (box : Region) → IsBelow document.grid chunk box → is_listed chunks chunk ≡ true
+  pub stored : store_empty ≡ true → (chunk : List ℕ) (box : Region) → IsInGrid document.grid chunk box → is_listed chunks chunk ≡ true → is_some (get store (chunk_key path document.keys chunk)) ≡ true
+  pub erased : store_empty ≡ false → (chunk : List ℕ) (box : Region) → IsInGrid document.grid chunk box → is_listed chunks chunk ≡ true
       → (value : List ℕ) → get store (chunk_key path document.keys chunk) ≡ Some value → ¬ Stands document.chain value (replicate (product box.shape) document.fill)
 
 -- whatever cells the old store stood for, the new one stands for them with the box's cells in these chunks replaced; no other key changed
@@ -47,8 +47,8 @@ pub record WroteChunks (path : List ℕ) (document : Document) (region : Region)
 pub record HasDamage (path : List ℕ) (document : Document) (region : Region) (store : StoreMap) : Type 0 where
   pub chunk : List ℕ
   pub box : Region
-  pub below : IsBelow document.grid chunk box
-  pub shares : is_met document.grid region chunk ≡ true
+  pub below : IsInGrid document.grid chunk box
+  pub shares : intersects document.grid region chunk ≡ true
   pub value : List ℕ
   pub found : get store (chunk_key path document.keys chunk) ≡ Some value
   pub wrong : length value ≢ product box.shape * byte_width document.type
@@ -65,8 +65,8 @@ contains_box (s ∷ ss) (x ∷ xs) (t ∷ ts) [] = true
 pub record HasPartDamage (path : List ℕ) (document : Document) (region : Region) (store : StoreMap) : Type 0 where
   pub chunk : List ℕ
   pub box : Region
-  pub below : IsBelow document.grid chunk box
-  pub shares : is_met document.grid region chunk ≡ true
+  pub below : IsInGrid document.grid chunk box
+  pub shares : intersects document.grid region chunk ≡ true
   pub part : contains_box region.start region.shape box.start box.shape ≡ false
   pub value : List ℕ
   pub found : get store (chunk_key path document.keys chunk) ≡ Some value
@@ -102,7 +102,7 @@ pub record IsDamaged (path : List ℕ) (document : Document) (chunk : List ℕ) 
 
 -- each chunk that shares a place with a box has fewer than 2^63 places
 abbrev pub HasSmallChunks : Grid → Region → Type 0
-HasSmallChunks grid region = (chunk : List ℕ) (box : Region) → IsBelow grid chunk box → is_met grid region chunk ≡ true → product box.shape < 2 ^ 63
+HasSmallChunks grid region = (chunk : List ℕ) (box : Region) → IsInGrid grid chunk box → intersects grid region chunk ≡ true → product box.shape < 2 ^ 63
 
 -- what is stored for a chunk has this length
 abbrev pub HasLength : List ℕ → Document → List ℕ → ℕ → StoreMap → Type 0

@@ -5,7 +5,7 @@ ghost use Rattle.std.specs.FinMap.{get};
 ghost use Rattle.zarr_grids_boxes.specs.Boxes.{product, places, EndsFit};
 ghost use Rattle.zarr_grids_boxes.specs.Laid.{laid, overlaid, HasWidth};
 ghost use Rattle.zarr_grids_boxes.specs.Subsets.{region_of};
-ghost use Rattle.zarr_grids_chunks.specs.Grids.{IsBelow};
+ghost use Rattle.zarr_grids_chunks.specs.Grids.{IsInGrid};
 ghost use Rattle.zarr_grids_keys.specs.Keys.{chunk_key};
 ghost use Rattle.zarr_grids_keys.specs.Paths.{is_node_path};
 ghost use Rattle.zarr_codecs_cells.specs.Cells.{Cell};
@@ -17,8 +17,8 @@ use std::alloc::{AllocError, Global};
 use zarr_array_documents::ArrayDocument;
 use zarr_array_stores::MemoryStore;
 use zarr_grids_boxes::ArraySubset;
-use zarr_grids_keys::write_chunk_key;
-use zarr_grids_runs::{is_all, overlay};
+use zarr_grids_keys::chunk_key_into;
+use zarr_grids_overlay::{Extent, is_all, overlay};
 
 /// Why a chunk is not read or written.
 #[derive(Clone, Copy, Debug, PartialEq, Eq)]
@@ -42,7 +42,7 @@ pub(crate) fn read_chunk(
     target: &mut [u8],
 ) -> Result<(), ChunkFault>
     requires path { IsTrue (is_node_path path.now) }
-    requires below { IsBelow (meaning_of document.now).grid chunk.now (record { start = origin.now; shape = chunk_shape.now }) }
+    requires below { IsInGrid (meaning_of document.now).grid chunk.now (record { start = origin.now; shape = chunk_shape.now }) }
     requires origin { length origin.now ≡ length region.now.start.items }
     requires chunk_shape { length chunk_shape.now ≡ length region.now.start.items }
     requires count { count ≡ product chunk_shape.now }
@@ -86,7 +86,11 @@ fn place_value(
     }
     let start = region.start.as_slice();
     let shape = region.shape.as_slice();
-    overlay(target, start, shape, value, origin, chunk_shape, 1);
+    let from = Extent {
+        start: origin,
+        shape: chunk_shape,
+    };
+    overlay(target, Extent { start, shape }, value, from, 1);
     Ok(())
 }
 
@@ -101,7 +105,7 @@ pub(crate) fn write_key(
     ensures ok { OnOk result (string_bytes key.new ≡ chunk_key path.now (meaning_of document.now).keys chunk.now) }
     ensures err { IfErr result (λ e. e ≡ ChunkFault.Memory) }
 {
-    match write_chunk_key(key, path, &document.keys, chunk) {
+    match chunk_key_into(key, path, &document.keys, chunk) {
         Ok(()) => Ok(()),
         Err(_) => Err(ChunkFault::Memory),
     }
@@ -124,7 +128,7 @@ pub(crate) fn write_chunk(
     key: &mut String,
 ) -> Result<(), ChunkFault>
     requires path { IsTrue (is_node_path path.now) }
-    requires below { IsBelow (meaning_of document.now).grid chunk.now (record { start = origin.now; shape = chunk_shape.now }) }
+    requires below { IsInGrid (meaning_of document.now).grid chunk.now (record { start = origin.now; shape = chunk_shape.now }) }
     requires origin { length origin.now ≡ length region.now.start.items }
     requires chunk_shape { length chunk_shape.now ≡ length region.now.start.items }
     requires count { count ≡ product chunk_shape.now }
@@ -247,7 +251,11 @@ fn put_cells(
     }
     let start = region.start.as_slice();
     let shape = region.shape.as_slice();
-    overlay(value, origin, chunk_shape, bytes, start, shape, 1);
+    let into = Extent {
+        start: origin,
+        shape: chunk_shape,
+    };
+    overlay(value, into, bytes, Extent { start, shape }, 1);
     Some(!store_empty && is_all(value, document.fill_value))
 }
 
@@ -277,7 +285,11 @@ fn put_new_value(
     let start = region.start.as_slice();
     let shape = region.shape.as_slice();
     let mut value = fill_value_bytes(alloc, document.fill_value, count)?;
-    overlay(&mut value, origin, chunk_shape, bytes, start, shape, 1);
+    let into = Extent {
+        start: origin,
+        shape: chunk_shape,
+    };
+    overlay(&mut value, into, bytes, Extent { start, shape }, 1);
     match put_value(store, key, document.fill_value, store_empty, value) {
         Ok(()) => Ok(()),
         Err(_) => Err(ChunkFault::Memory),

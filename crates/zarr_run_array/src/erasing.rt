@@ -3,7 +3,7 @@ ghost use Rattle.std.specs.Prelude.{◌≡◌, ◌<◌, take, IsTrue, OnOk, OnEr
 ghost use Rattle.std.specs.FinMap.{remove};
 ghost use Rattle.zarr_grids_boxes.specs.Boxes.{product, places};
 ghost use Rattle.zarr_grids_boxes.specs.Subsets.{region_of};
-ghost use Rattle.zarr_grids_chunks.specs.Grids.{AreBelow};
+ghost use Rattle.zarr_grids_chunks.specs.Grids.{AreInGrid};
 ghost use Rattle.zarr_grids_keys.specs.Keys.{chunk_key};
 ghost use Rattle.zarr_grids_keys.specs.Paths.{is_node_path};
 ghost use Rattle.zarr_array_documents.specs.Meanings.{meaning_of};
@@ -15,7 +15,7 @@ use std::alloc::Global;
 use zarr_array_documents::ArrayDocument;
 use zarr_array_stores::MemoryStore;
 use zarr_grids_boxes::ArraySubset;
-use zarr_grids_boxes::walk::write_place;
+use zarr_grids_boxes::walk::place_into;
 
 /// Memory was wanting for an erasure; `applied` of its chunks had been erased before.
 #[derive(Clone, Copy, Debug, PartialEq, Eq)]
@@ -34,7 +34,7 @@ pub fn erase_chunks(
     store: &mut MemoryStore,
 ) -> Result<(), EraseFault>
     requires path { IsTrue (is_node_path path.now) }
-    requires below { AreBelow (meaning_of document.now).grid (region_of chunks.now) }
+    requires below { AreInGrid (meaning_of document.now).grid (region_of chunks.now) }
     requires count { count ≡ product chunks.now.shape.items }
     ensures ok { OnOk result (ErasedChunks path.now (meaning_of document.now) (places chunks.now.start.items chunks.now.shape.items) store.old store.new) }
     ensures erased { IfErr result (λ fault. ErasedChunks path.now (meaning_of document.now) (take fault.applied (places chunks.now.start.items chunks.now.shape.items)) store.old store.new) }
@@ -52,7 +52,7 @@ pub fn erase_chunks(
     let first = chunks.start.as_slice();
     let shape = chunks.shape.as_slice();
     for n in 0..count {
-        write_place(first, shape, count, n, chunk);
+        place_into(first, shape, count, n, chunk);
         match erase_chunk(path, document, chunk, &mut room.key, store) {
             Ok(()) => {}
             Err(_) => return Err(EraseFault { applied: n }),

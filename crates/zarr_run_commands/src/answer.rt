@@ -13,7 +13,7 @@ use zarr_codecs_cells::ArrayBytes;
 use zarr_run_model::Cause;
 
 /// Appends the compact JSON text of a reply. After an error a part of it may stand there.
-pub fn write_answer(text: &mut Vec<u8>, reply: &Reply) -> Result<(), AllocError>
+pub fn push_answer(text: &mut Vec<u8>, reply: &Reply) -> Result<(), AllocError>
     ensures ok { (type : DataType) → OnOk result (text.new.items
         ≡ text.old.items ++ compact_text (answer_json type (answered reply.now))) }
     ensures err { OnErr result (Begins text.old.items text.new.items) }
@@ -26,24 +26,25 @@ pub fn write_answer(text: &mut Vec<u8>, reply: &Reply) -> Result<(), AllocError>
 }
 
 fn write_cells(text: &mut Vec<u8>, cells: &ArrayBytes) -> Result<(), AllocError>
-    ensures ok { OnOk result (text.new.items ≡ text.old.items ++ cells_text (payload_of cells.now)) }
+    ensures ok { OnOk result (text.new.items
+        ≡ text.old.items ++ cells_text (payload_of cells.now)) }
     ensures err { OnErr result (Begins text.old.items text.new.items) }
 {
     let ArrayBytes::Fixed(bytes) = cells;
     text.extend_from_slice(b"{\"cells\":[")?;
-    write_numbers(text, bytes.as_slice())?;
+    push_numbers(text, bytes.as_slice())?;
     text.extend_from_slice(b"]}")
 }
 
 /// Appends numbers with commas between them.
-fn write_numbers(text: &mut Vec<u8>, numbers: &[u8]) -> Result<(), AllocError>
+fn push_numbers(text: &mut Vec<u8>, numbers: &[u8]) -> Result<(), AllocError>
     ensures ok { OnOk result (text.new.items ≡ text.old.items ++ listed numbers.now) }
     ensures err { OnErr result (Begins text.old.items text.new.items) }
 {
     let Some((first, others)) = numbers.split_first() else {
         return Ok(());
     };
-    write_number(text, *first)?;
+    push_number(text, *first)?;
     write_further(text, others)
 }
 
@@ -54,12 +55,12 @@ fn write_further(text: &mut Vec<u8>, numbers: &[u8]) -> Result<(), AllocError>
 {
     for number in numbers {
         text.push(b',')?;
-        write_number(text, *number)?;
+        push_number(text, *number)?;
     }
     Ok(())
 }
 
-fn write_number(text: &mut Vec<u8>, number: u8) -> Result<(), AllocError>
+fn push_number(text: &mut Vec<u8>, number: u8) -> Result<(), AllocError>
     ensures ok { OnOk result (text.new.items ≡ text.old.items ++ decimal number) }
     ensures err { OnErr result (text.new.items ≡ text.old.items) }
 {
@@ -74,11 +75,11 @@ fn write_refusal(text: &mut Vec<u8>, cause: Cause, applied: u64) -> Result<(), A
     let mut buffer = Buffer::new();
     text.extend_from_slice(b"{\"applied\":")?;
     text.extend_from_slice(buffer.format(applied).as_bytes())?;
-    write_cause(text, cause)
+    push_cause(text, cause)
 }
 
 /// Appends the member with the cause, and the object's end.
-fn write_cause(text: &mut Vec<u8>, cause: Cause) -> Result<(), AllocError>
+fn push_cause(text: &mut Vec<u8>, cause: Cause) -> Result<(), AllocError>
     ensures ok { OnOk result (text.new.items ≡ text.old.items ++ cause_text cause) }
     ensures err { OnErr result (Begins text.old.items text.new.items) }
 {

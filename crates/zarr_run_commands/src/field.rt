@@ -74,7 +74,8 @@ pub(crate) fn region(
     alloc: Global,
     line: &Map<String, Value>,
 ) -> Result<Option<ArraySubset>, AllocError>
-    ensures { IfOk result (λ found. option_map region_of found ≡ box_of (members_view line.now.entries)) }
+    ensures { IfOk result (λ found.
+        option_map region_of found ≡ box_of (members_view line.now.entries)) }
 {
     match member(line, "box") {
         Some(Value::Array(pairs)) => read_region(alloc, pairs.as_slice()),
@@ -83,7 +84,8 @@ pub(crate) fn region(
 }
 
 fn read_region(alloc: Global, pairs: &[Value]) -> Result<Option<ArraySubset>, AllocError>
-    ensures { IfOk result (λ found. option_map region_of found ≡ region_of_pairs (items_view pairs.now)) }
+    ensures { IfOk result (λ found.
+        option_map region_of found ≡ region_of_pairs (items_view pairs.now)) }
 {
     let mut start = Vec::with_capacity(alloc, pairs.len())?;
     let mut shape = Vec::with_capacity(alloc, pairs.len())?;
@@ -122,7 +124,8 @@ pub(crate) fn chunk(
     alloc: Global,
     line: &Map<String, Value>,
 ) -> Result<Option<Vec<u64>>, AllocError>
-    ensures { IfOk result (λ found. option_map (λ v. v.items) found ≡ chunk_of (members_view line.now.entries)) }
+    ensures { IfOk result (λ found.
+        option_map (λ v. v.items) found ≡ chunk_of (members_view line.now.entries)) }
 {
     match member(line, "chunk") {
         Some(Value::Array(indices)) => read_indices(alloc, indices.as_slice()),
@@ -131,7 +134,8 @@ pub(crate) fn chunk(
 }
 
 fn read_indices(alloc: Global, indices: &[Value]) -> Result<Option<Vec<u64>>, AllocError>
-    ensures { IfOk result (λ found. option_map (λ v. v.items) found ≡ sizes_of (items_view indices.now)) }
+    ensures { IfOk result (λ found.
+        option_map (λ v. v.items) found ≡ sizes_of (items_view indices.now)) }
 {
     let mut chunk = Vec::with_capacity(alloc, indices.len())?;
     for index in indices {

@@ -8,6 +8,6 @@ pub mod line;
 mod members;
 mod operation;
 
-pub use answer::write_answer;
+pub use answer::push_answer;
 pub use command::{Command, CommandCells, Reply};
 pub use line::read_command;

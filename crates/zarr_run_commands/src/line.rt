@@ -78,7 +78,8 @@ fn reopen(mut line: Map<String, Value>) -> Option<Command>
 }
 
 fn write_box(alloc: Global, mut line: Map<String, Value>) -> Result<Option<Command>, AllocError>
-    ensures { IfOk result (λ said. option_map asked said ≡ request_by Operation.WriteBox (members_view line.entries)) }
+    ensures { IfOk result (λ said. option_map asked said
+        ≡ request_by Operation.WriteBox (members_view line.entries)) }
 {
     let Some(options) = field::options(&line) else {
         return Ok(None);
@@ -101,7 +102,8 @@ fn write_box(alloc: Global, mut line: Map<String, Value>) -> Result<Option<Comma
 }
 
 fn write_chunk(alloc: Global, mut line: Map<String, Value>) -> Result<Option<Command>, AllocError>
-    ensures { IfOk result (λ said. option_map asked said ≡ request_by Operation.WriteChunk (members_view line.entries)) }
+    ensures { IfOk result (λ said. option_map asked said
+        ≡ request_by Operation.WriteChunk (members_view line.entries)) }
 {
     let Some(options) = field::options(&line) else {
         return Ok(None);
@@ -124,7 +126,8 @@ fn write_chunk(alloc: Global, mut line: Map<String, Value>) -> Result<Option<Com
 }
 
 fn read_box(alloc: Global, mut line: Map<String, Value>) -> Result<Option<Command>, AllocError>
-    ensures { IfOk result (λ said. option_map asked said ≡ request_by Operation.ReadBox (members_view line.entries)) }
+    ensures { IfOk result (λ said. option_map asked said
+        ≡ request_by Operation.ReadBox (members_view line.entries)) }
 {
     let Some(options) = field::options(&line) else {
         return Ok(None);
@@ -143,7 +146,8 @@ fn read_box(alloc: Global, mut line: Map<String, Value>) -> Result<Option<Comman
 }
 
 fn read_chunk(alloc: Global, mut line: Map<String, Value>) -> Result<Option<Command>, AllocError>
-    ensures { IfOk result (λ said. option_map asked said ≡ request_by Operation.ReadChunk (members_view line.entries)) }
+    ensures { IfOk result (λ said. option_map asked said
+        ≡ request_by Operation.ReadChunk (members_view line.entries)) }
 {
     let Some(options) = field::options(&line) else {
         return Ok(None);
@@ -162,7 +166,8 @@ fn read_chunk(alloc: Global, mut line: Map<String, Value>) -> Result<Option<Comm
 }
 
 fn erase_chunks(alloc: Global, mut line: Map<String, Value>) -> Result<Option<Command>, AllocError>
-    ensures { IfOk result (λ said. option_map asked said ≡ request_by Operation.EraseChunks (members_view line.entries)) }
+    ensures { IfOk result (λ said. option_map asked said
+        ≡ request_by Operation.EraseChunks (members_view line.entries)) }
 {
     let Some(chunks) = field::region(alloc, &line)? else {
         return Ok(None);

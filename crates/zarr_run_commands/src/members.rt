@@ -8,18 +8,22 @@ use serde_json::{Map, Value};
 
 /// Takes the member with this name out.
 pub(crate) fn take(members: &mut Map<String, Value>, name: &str) -> Option<Value>
-    ensures value { option_map view result ≡ get_member name.now (members_view members.old.entries) }
+    ensures value { option_map view result
+        ≡ get_member name.now (members_view members.old.entries) }
     ensures others { (other : List ℕ) → bytes_eq other name.now ≡ false
-        → get_member other (members_view members.new.entries) ≡ get_member other (members_view members.old.entries) }
+        → get_member other (members_view members.new.entries)
+        ≡ get_member other (members_view members.old.entries) }
 {
     members.remove(name)
 }
 
 /// Takes the member with this name out, where it is a text.
 pub(crate) fn take_text(members: &mut Map<String, Value>, name: &str) -> Option<String>
-    ensures value { option_map string_bytes result ≡ needed as_str name.now (members_view members.old.entries) }
+    ensures value { option_map string_bytes result
+        ≡ needed as_str name.now (members_view members.old.entries) }
     ensures others { (other : List ℕ) → bytes_eq other name.now ≡ false
-        → get_member other (members_view members.new.entries) ≡ get_member other (members_view members.old.entries) }
+        → get_member other (members_view members.new.entries)
+        ≡ get_member other (members_view members.old.entries) }
 {
     match take(members, name) {
         Some(Value::String(text)) => Some(text),

@@ -8,7 +8,7 @@ use Rattle.zarr_run_session.specs.declared.session.Session.{Session}
 use Rattle.zarr_run_session.specs.Sessions.{IsIn}
 use Rattle.zarr_run_lines.specs.declared.lines.LinesFault.{LinesFault}
 use Rattle.zarr_run_lines.specs.declared.lines.LinesFault.TheVariants.{Read}
-use Rattle.zarr_run_lines.specs.Lines.{lines_of, LineStep, Leaves, StandsAfterSome, RunsSome, RunsAll, IsWithinLimits}
+use Rattle.zarr_run_lines.specs.Lines.{lines_of, LineStep, Answers, Leaves, StandsAfterSome, RunsSome, RunsAll, IsWithinLimits}
 use Rattle.zarr_run_lines.specs.Reading.{IsLeft, TakesLine, Progress}
 use Rattle.zarr_run_lines.proofs.LinesLemmas.{lines_of-first, runs-more}
 
@@ -128,8 +128,8 @@ on-fault (Err e) session input old new is stands = (new, is, stands)
 
 -- a fault line
 pub on-no-command : {T E : Type 0} (r : Result T E) (session : Session) (line pending pending' : List ℕ) (old : World) → IsIn session old → Says line None
-    → pending' ≡ (if is_ok r then pending ++ (codes "{\"fault\":\"line\"}" ++ 10 ∷ []) else pending) → OnOk r ((new : World) × IsIn session new × (text : List ℕ) × LineStep old line text new × (pending' ≡ pending ++ (text ++ 10 ∷ [])))
-on-no-command (Ok x) session line pending pending' old is says grew = (old, is, codes "{\"fault\":\"line\"}", (None, says, (refl, refl)), grew)
+    → pending' ≡ (if is_ok r then pending ++ (codes "{\"fault\":\"line\"}" ++ 10 ∷ []) else pending) → OnOk r ((new : World) × IsIn session new × Answers old line new pending pending')
+on-no-command (Ok x) session line pending pending' old is says grew = (old, is, (codes "{\"fault\":\"line\"}", (None, says, (refl, refl)), grew))
 on-no-command (Err e) session line pending pending' old is says grew = tt
 
 -- a session after a fault in reading

@@ -37,6 +37,10 @@ LineDoes old (Some request) text new = (answer : Answer) × Step old request ans
 abbrev pub LineStep : World → List ℕ → List ℕ → World → Type 0
 LineStep old line text new = (said : Option Request) × Says line said × LineDoes old said text new
 
+-- from old, a line may lead to new and have the answer whose line was appended to what was there before
+abbrev pub Answers : World → List ℕ → World → List ℕ → List ℕ → Type 0
+Answers old line new before after = (text : List ℕ) × LineStep old line text new × (after ≡ before ++ (text ++ 10 ∷ []))
+
 -- a line that was not answered left the world alone or has run
 abbrev pub Leaves : World → List ℕ → World → Type 0
 Leaves old line new = (new ≡ old) ⊎ ((text : List ℕ) × LineStep old line text new)

@@ -1,5 +1,5 @@
 //! Answers that wait to be written.
-ghost use Rattle.std.specs.Prelude.{◌≡◌, ℕ, List, [], ◌∷◌, ◌++◌, IfErr, OnOk, OnErr};
+ghost use Rattle.std.specs.Prelude.{◌≡◌, [], ◌∷◌, ◌++◌, IfErr, OnOk, OnErr};
 ghost use Rattle.std.specs.Io.KnownBytes.{Keeps, append_known};
 ghost use Rattle.serde_json.specs.Written.{compact_text};
 ghost use Rattle.zarr_codecs_cells.specs.Cells.{DataType};
@@ -7,12 +7,12 @@ ghost use Rattle.zarr_run_model.specs.Worlds.{World};
 ghost use Rattle.zarr_run_commands.specs.Answers.{answer_json};
 ghost use Rattle.zarr_run_commands.specs.Commands.{answered};
 ghost use Rattle.zarr_run_session.specs.Sessions.{IsIn};
-ghost use Rattle.zarr_run_lines.specs.Lines.{LineStep, Leaves};
+ghost use Rattle.zarr_run_lines.specs.Lines.{Answers, Leaves};
 
 use crate::lines::LinesFault;
 use std::alloc::{AllocError, Global};
 use std::io::{BufReader, Read, Write};
-use zarr_run_commands::{Reply, read_command, write_answer};
+use zarr_run_commands::{Reply, push_answer, read_command};
 use zarr_run_session::Session;
 
 /// How many bytes of answers wait at most before they are written.
@@ -23,7 +23,7 @@ fn append_reply(pending: &mut Vec<u8>, reply: &Reply) -> Result<(), AllocError>
     ensures { (type : DataType) → OnOk result (pending.new.items
         ≡ pending.old.items ++ (compact_text (answer_json type (answered reply.now)) ++ 10 ∷ [])) }
 {
-    write_answer(pending, reply)?;
+    push_answer(pending, reply)?;
     pending.push(b'\n')?;
     Ok(())
 }
@@ -35,9 +35,10 @@ fn run_command(
     line: &[u8],
     pending: &mut Vec<u8>,
 ) -> Result<(), AllocError>
-    ensures ok { (old : World) → IsIn session.old old → OnOk result ((new : World) × IsIn session.new new
-        × (text : List ℕ) × LineStep old line.now text new × (pending.new.items ≡ pending.old.items ++ (text ++ 10 ∷ []))) }
-    ensures err { (old : World) → IsIn session.old old → OnErr result ((new : World) × IsIn session.new new × Leaves old line.now new) }
+    ensures ok { (old : World) → IsIn session.old old → OnOk result ((new : World)
+        × IsIn session.new new × Answers old line.now new pending.old.items pending.new.items) }
+    ensures err { (old : World) → IsIn session.old old
+        → OnErr result ((new : World) × IsIn session.new new × Leaves old line.now new) }
 {
     let Some(command) = read_command(alloc, line)? else {
         return pending.extend_from_slice(b"{\"fault\":\"line\"}\n");
@@ -56,9 +57,10 @@ pub(crate) fn answer_line(
     line: &[u8],
     pending: &mut Vec<u8>,
 ) -> Result<(), LinesFault>
-    ensures ok { (old : World) → IsIn session.old old → OnOk result ((new : World) × IsIn session.new new
-        × (text : List ℕ) × LineStep old line.now text new × (pending.new.items ≡ pending.old.items ++ (text ++ 10 ∷ []))) }
-    ensures err { (old : World) → IsIn session.old old → OnErr result ((new : World) × IsIn session.new new × Leaves old line.now new) }
+    ensures ok { (old : World) → IsIn session.old old → OnOk result ((new : World)
+        × IsIn session.new new × Answers old line.now new pending.old.items pending.new.items) }
+    ensures err { (old : World) → IsIn session.old old
+        → OnErr result ((new : World) × IsIn session.new new × Leaves old line.now new) }
     ensures fault { IfErr result (λ fault. fault ≡ LinesFault.Memory) }
 {
     let before = pending.len();
@@ -76,7 +78,8 @@ pub(crate) fn write_pending<W: Write>(
     writer: &mut W,
     pending: &mut Vec<u8>,
 ) -> Result<(), LinesFault>
-    ensures kept { OnOk result (Keeps (append_known (W.contents writer.old) pending.old.items) (append_known (W.contents writer.new) pending.new.items)) }
+    ensures kept { OnOk result (Keeps (append_known (W.contents writer.old) pending.old.items)
+        (append_known (W.contents writer.new) pending.new.items)) }
     ensures empty { OnOk result (pending.new.items ≡ []) }
     ensures fault { IfErr result (λ fault. fault ≡ LinesFault.Write) }
 {
@@ -93,7 +96,8 @@ pub(crate) fn write_before_wait<R: Read, W: Write>(
     writer: &mut W,
     pending: &mut Vec<u8>,
 ) -> Result<(), LinesFault>
-    ensures kept { OnOk result (Keeps (append_known (W.contents writer.old) pending.old.items) (append_known (W.contents writer.new) pending.new.items)) }
+    ensures kept { OnOk result (Keeps (append_known (W.contents writer.old) pending.old.items)
+        (append_known (W.contents writer.new) pending.new.items)) }
     ensures fault { IfErr result (λ fault. fault ≡ LinesFault.Write) }
 {
     if pending.len() < PENDING_BYTES && reader.buffer().contains(&b'\n') {

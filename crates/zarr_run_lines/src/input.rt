@@ -62,7 +62,8 @@ fn read_fault(error: &Error) -> LinesFault {
 /// Reads through the next line feed, or to the end.
 fn read_piece<B: BufRead>(reader: &mut B, line: &mut Vec<u8>) -> Result<usize, LinesFault>
     ensures count { IfOk result (λ n. length line.new.items ≡ n) }
-    ensures bytes { OnOk result (IfSome (B.remaining reader.old) (λ xs. line.new.items ≡ take_through 10 xs)) }
+    ensures bytes { OnOk result
+        (IfSome (B.remaining reader.old) (λ xs. line.new.items ≡ take_through 10 xs)) }
     ensures rest { OnOk result (DropsThrough (B.remaining reader.old) (B.remaining reader.new) 10) }
 {
     line.clear();
@@ -87,10 +88,13 @@ pub(crate) fn next_line<B: BufRead>(
     limits: &mut Limits,
     line: &mut Vec<u8>,
 ) -> Result<bool, LinesFault>
-    ensures line { IfOk result (λ more. IsTrue more → (rest : List ℕ) → IsLeft (B.remaining reader.old) limits.old.bytes rest
-        → TakesLine (B.remaining reader.old) limits.old.bytes (B.remaining reader.new) limits.new.bytes line.new.items rest) }
+    ensures line { IfOk result (λ more. IsTrue more → (rest : List ℕ)
+        → IsLeft (B.remaining reader.old) limits.old.bytes rest
+        → TakesLine (B.remaining reader.old) limits.old.bytes
+        (B.remaining reader.new) limits.new.bytes line.new.items rest) }
     ensures lines { IfOk result (λ more. IsTrue more → limits.new.lines + 1 ≡ limits.old.lines) }
-    ensures end { IfOk result (λ more. more ≡ false → (rest : List ℕ) → IsLeft (B.remaining reader.old) limits.old.bytes rest → rest ≡ []) }
+    ensures end { IfOk result (λ more. more ≡ false → (rest : List ℕ)
+        → IsLeft (B.remaining reader.old) limits.old.bytes rest → rest ≡ []) }
 {
     let count = read_piece(reader, line)?;
     if count == 0 {

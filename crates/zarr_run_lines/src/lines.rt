@@ -32,12 +32,15 @@ pub fn run_lines<R: Read + Drop, W: Write>(
     reader: R,
     writer: &mut W,
 ) -> Result<(), LinesFault>
-    ensures ok { (old : World) → IsIn session.old old → OnOk result ((new : World) × IsIn session.new new
+    ensures ok { (old : World) → IsIn session.old old → OnOk result ((new : World)
+        × IsIn session.new new
         × RunsAll (R.remaining reader) (W.contents writer.old) (W.contents writer.new) old new) }
-    ensures limits { (old : World) → IsIn session.old old → OnOk result (IfSome (R.remaining reader) IsWithinLimits) }
-    ensures err { (old : World) → IsIn session.old old → OnErr result ((new : World) × IsIn session.new new
-        × StandsAfterSome (R.remaining reader) old new) }
-    ensures read { (old : World) → IsIn session.old old → IfErr result (λ fault. fault ≡ LinesFault.Read → (new : World) × IsIn session.new new
+    ensures limits { (old : World) → IsIn session.old old
+        → OnOk result (IfSome (R.remaining reader) IsWithinLimits) }
+    ensures err { (old : World) → IsIn session.old old → OnErr result ((new : World)
+        × IsIn session.new new × StandsAfterSome (R.remaining reader) old new) }
+    ensures read { (old : World) → IsIn session.old old
+        → IfErr result (λ fault. fault ≡ LinesFault.Read → (new : World) × IsIn session.new new
         × RunsSome (R.remaining reader) (W.contents writer.old) (W.contents writer.new) old new) }
 {
     let mut pending = Vec::new(alloc);
@@ -60,13 +63,17 @@ fn answer_lines<R: Read + Drop, W: Write>(
     pending: &mut Vec<u8>,
 ) -> Result<(), LinesFault>
     requires { pending.old.items ≡ [] }
-    ensures ok { (old : World) → IsIn session.old old → OnOk result ((new : World) × IsIn session.new new
-        × RunsAll (R.remaining reader) (W.contents writer.old) (append_known (W.contents writer.new) pending.new.items) old new) }
-    ensures limits { (old : World) → IsIn session.old old → OnOk result (IfSome (R.remaining reader) IsWithinLimits) }
-    ensures err { (old : World) → IsIn session.old old → OnErr result ((new : World) × IsIn session.new new
-        × StandsAfterSome (R.remaining reader) old new) }
-    ensures read { (old : World) → IsIn session.old old → IfErr result (λ fault. fault ≡ LinesFault.Read → (new : World) × IsIn session.new new
-        × RunsSome (R.remaining reader) (W.contents writer.old) (append_known (W.contents writer.new) pending.new.items) old new) }
+    ensures ok { (old : World) → IsIn session.old old → OnOk result ((new : World)
+        × IsIn session.new new × RunsAll (R.remaining reader) (W.contents writer.old)
+        (append_known (W.contents writer.new) pending.new.items) old new) }
+    ensures limits { (old : World) → IsIn session.old old
+        → OnOk result (IfSome (R.remaining reader) IsWithinLimits) }
+    ensures err { (old : World) → IsIn session.old old → OnErr result ((new : World)
+        × IsIn session.new new × StandsAfterSome (R.remaining reader) old new) }
+    ensures read { (old : World) → IsIn session.old old
+        → IfErr result (λ fault. fault ≡ LinesFault.Read → (new : World) × IsIn session.new new
+        × RunsSome (R.remaining reader) (W.contents writer.old)
+        (append_known (W.contents writer.new) pending.new.items) old new) }
 {
     let mut reader = limited(alloc, reader)?;
     let mut limits = Limits::new();

@@ -2,7 +2,7 @@
 use Rattle.std.specs.Prelude.{◌≡◌, ◌⊎◌, ℕ, ◌*◌, ◌^◌, ◌<◌, ◌≤◌, List, [], ◌∷◌, ◌++◌, map, take, length, true, false, Option, Some, None, Ok, IsErr}
 use Rattle.serde_json.specs.Data.{Data}
 use Rattle.zarr_grids_boxes.specs.Boxes.{Region, product, places, is_in_box}
-use Rattle.zarr_grids_chunks.specs.Grids.{Grid, IsBelow, AreBelow, IsCovered, met, is_met}
+use Rattle.zarr_grids_chunks.specs.Grids.{Grid, IsInGrid, AreInGrid, IsCovered, intersecting, intersects}
 use Rattle.zarr_grids_keys.specs.Paths.{is_node_path}
 use Rattle.zarr_codecs_cells.specs.Cells.{DataType, Cell, byte_width, Payload, cells_in}
 use Rattle.zarr_codecs_cells.specs.Json.{GivenCells, given_in}
@@ -16,10 +16,10 @@ use Rattle.zarr_run_model.specs.Worlds.{Held, World, held_at, is_taken, begun, w
 
 -- ---- what commands mean
 
--- the box of cells that a command means: the box itself, where its places are covered, or the box of a chunk below the grid shape
+-- the box of cells that a command means: the box itself, where its places are covered, or the box of a chunk in the grid
 abbrev pub IsTarget : Grid → Target → Region → Type 0
 IsTarget grid (in_box region) box = (box ≡ region) × IsCovered grid region
-IsTarget grid (in_chunk chunk) box = IsBelow grid chunk box
+IsTarget grid (in_chunk chunk) box = IsInGrid grid chunk box
 
 -- ---- when a cause may be answered
 
@@ -30,12 +30,12 @@ IsTooLarge type shape = 2 ^ 63 ≤ product shape * byte_width type
 -- a box of places, or a chunk that shares a place with it, is too large
 abbrev pub HasTooLarge : Document → Region → Type 0
 HasTooLarge document region = IsTooLarge document.type region.shape
-    ⊎ ((chunk : List ℕ) × (box : Region) × IsBelow document.grid chunk box × (is_met document.grid region chunk ≡ true) × IsTooLarge document.type box.shape)
+    ⊎ ((chunk : List ℕ) × (box : Region) × IsInGrid document.grid chunk box × (intersects document.grid region chunk ≡ true) × IsTooLarge document.type box.shape)
 
 -- a box of chunk indices has 2^63 chunks or more, or a chunk that is too large
 abbrev pub HasTooLargeChunk : Document → Region → Type 0
 HasTooLargeChunk document chunks = (2 ^ 63 ≤ product chunks.shape)
-    ⊎ ((chunk : List ℕ) × (box : Region) × IsBelow document.grid chunk box × (is_in_box chunks.start chunks.shape chunk ≡ true) × IsTooLarge document.type box.shape)
+    ⊎ ((chunk : List ℕ) × (box : Region) × IsInGrid document.grid chunk box × (is_in_box chunks.start chunks.shape chunk ≡ true) × IsTooLarge document.type box.shape)
 
 -- what a write gives: as many values of the type as the box has places
 abbrev pub Gives : Document → Region → GivenCells → List Cell → Type 0
@@ -76,8 +76,8 @@ ReadRefuses (Some h) target c = ⊥
 abbrev pub EraseRefuses : Option Held → Region → Cause → Type 0
 EraseRefuses None chunks cause.NoArray = Unit {0}
 EraseRefuses None chunks c = ⊥
-EraseRefuses (Some h) chunks cause.Region = ¬ AreBelow h.document.grid chunks
-EraseRefuses (Some h) chunks cause.Size = AreBelow h.document.grid chunks × HasTooLargeChunk h.document chunks
+EraseRefuses (Some h) chunks cause.Region = ¬ AreInGrid h.document.grid chunks
+EraseRefuses (Some h) chunks cause.Size = AreInGrid h.document.grid chunks × HasTooLargeChunk h.document chunks
 EraseRefuses (Some h) chunks c = ⊥
 
 -- a command on an array: the path comes first, and want of memory may come anywhere
@@ -123,7 +123,7 @@ pub record Writes (path : List ℕ) (target : Target) (given : GivenCells) (old 
   pub fits : ¬ HasTooLarge held.document box
   pub updates : new ≡ with_table path (updated held.document.fill held.table (changes box values)) old
 
--- of the cells of a box, those stand in the table that lie in the first n chunks met; n is less than their number
+-- of the cells of a box, those stand in the table that lie in the first n chunks intersecting; n is less than their number
 pub record WritesFirst (n : ℕ) (path : List ℕ) (target : Target) (given : GivenCells) (old new : World) : Type 0 where
   pub held : Held
   pub found : held_at path old ≡ Some held
@@ -131,8 +131,8 @@ pub record WritesFirst (n : ℕ) (path : List ℕ) (target : Target) (given : Gi
   pub is : IsTarget held.document.grid target box
   pub values : List Cell
   pub gives : Gives held.document box given values
-  pub fewer : n < length (met held.document.grid box)
-  pub updates : new ≡ with_table path (updated held.document.fill held.table (changes_in held.document.grid (take n (met held.document.grid box)) (changes box values))) old
+  pub fewer : n < length (intersecting held.document.grid box)
+  pub updates : new ≡ with_table path (updated held.document.fill held.table (changes_in held.document.grid (take n (intersecting held.document.grid box)) (changes box values))) old
 
 -- a payload is the table's cells of a box, row-major
 pub record Reads (path : List ℕ) (target : Target) (payload : Payload) (world : World) : Type 0 where
@@ -149,7 +149,7 @@ pub record Erases (path : List ℕ) (chunks : Region) (old new : World) : Type 0
   pub node : is_node_path path ≡ true
   pub held : Held
   pub found : held_at path old ≡ Some held
-  pub below : AreBelow held.document.grid chunks
+  pub below : AreInGrid held.document.grid chunks
   pub fits : ¬ HasTooLargeChunk held.document chunks
   pub updates : new ≡ with_table path (updated held.document.fill held.table (fills held.document.grid held.document.fill (places chunks.start chunks.shape))) old
 
@@ -157,7 +157,7 @@ pub record Erases (path : List ℕ) (chunks : Region) (old new : World) : Type 0
 pub record ErasesFirst (n : ℕ) (path : List ℕ) (chunks : Region) (old new : World) : Type 0 where
   pub held : Held
   pub found : held_at path old ≡ Some held
-  pub below : AreBelow held.document.grid chunks
+  pub below : AreInGrid held.document.grid chunks
   pub fewer : n < product chunks.shape
   pub updates : new ≡ with_table path (updated held.document.fill held.table (fills held.document.grid held.document.fill (take n (places chunks.start chunks.shape)))) old
 

@@ -9,6 +9,7 @@ use Rattle.zarr_grids_boxes.specs.Boxes.{Region, places}
 use Rattle.zarr_grids_chunks.specs.Grids.{Grid, chunk_box, lies_in_chunk}
 use Rattle.zarr_codecs_cells.specs.Cells.{Cell}
 
+-- the table of an array: a finite map from places to the cells that differ from the fill value
 abbrev pub Table : Type 0
 Table = FinMap (slice_cmp nat_cmp) Cell
 

@@ -3,7 +3,7 @@ use Rattle.std.specs.Prelude.{◌≡◌, ℕ, List, [], ◌∷◌, map, bytes_eq
 use Rattle.std.specs.List.{list_any}
 use Rattle.std.specs.FinMap.{get, empty}
 use Rattle.zarr_grids_boxes.specs.Boxes.{Region, places}
-use Rattle.zarr_grids_chunks.specs.Grids.{IsBelow}
+use Rattle.zarr_grids_chunks.specs.Grids.{IsInGrid}
 use Rattle.zarr_grids_keys.specs.Keys.{chunk_key}
 use Rattle.zarr_grids_keys.specs.Related.{is_related}
 use Rattle.zarr_codecs_cells.specs.Cells.{Cell}
@@ -29,7 +29,7 @@ abbrev pub held_at : List ℕ → World → Option Held
 held_at path [] = None
 held_at path (h ∷ hs) = if bytes_eq path h.path then Some h else held_at path hs
 
--- whether a path is related to that of an array that is held: they are equal, or one lies below the other
+-- whether a path is related to that of an array that is held: they are equal, or one is under the other
 abbrev pub is_taken : List ℕ → World → Bool
 is_taken path world = list_any (λ h. is_related path h.path) world
 
@@ -52,7 +52,7 @@ abbrev pub with_order : List ℕ → SubchunkWriteOrder → World → World
 with_order path order [] = []
 with_order path order (h ∷ hs) = if bytes_eq path h.path then record h { order = order } ∷ hs else h ∷ with_order path order hs
 
--- for each chunk below the grid shape that has a box, what is stored under its key stands for the cells of its box
+-- for each chunk in the grid that has a box, what is stored under its key stands for the cells of its box
 abbrev pub StoreStands : List ℕ → Document → StoreMap → (List ℕ → Cell) → Type 0
-StoreStands path document store cells = (chunk : List ℕ) (box : Region) → IsBelow document.grid chunk box
+StoreStands path document store cells = (chunk : List ℕ) (box : Region) → IsInGrid document.grid chunk box
     → ChunkStands document.chain document.fill (get store (chunk_key path document.keys chunk)) (map cells (places box.start box.shape))

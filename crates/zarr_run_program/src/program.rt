@@ -19,7 +19,8 @@ pub(crate) fn run_program<R: Read + Drop, W: Write, E: Write>(
     writer: &mut W,
     errors: &mut E,
 ) -> ExitCode
-    ensures success { exit_status result ≡ 0 → (new : World) × RunsAll (R.remaining reader) (W.contents writer.old) (W.contents writer.new) [] new }
+    ensures success { exit_status result ≡ 0 → (new : World)
+        × RunsAll (R.remaining reader) (W.contents writer.old) (W.contents writer.new) [] new }
     ensures silence { exit_status result ≡ 0 → errors.new ≡ errors.old }
     ensures failure { exit_status result ≢ 0 → exit_status result ≡ 1 }
 {

@@ -7,24 +7,24 @@ use Rattle.zarr_grids_boxes.specs.Boxes.{Region, product, places, place_at, is_i
 use Rattle.zarr_grids_boxes.specs.Laid.{laid, overlaid}
 use Rattle.zarr_grids_boxes.proofs.InBox.{in_box-place_at, length-places}
 use Rattle.zarr_grids_boxes.proofs.Places.{places_by_number}
-use Rattle.zarr_grids_chunks.specs.Grids.{Grid, IsBelow, IsCovered, is_met, met, chunk_indices}
+use Rattle.zarr_grids_chunks.specs.Grids.{Grid, IsInGrid, IsCovered, intersects, intersecting, chunk_indices}
 use Rattle.zarr_grids_chunks.proofs.Filters.{told, filter-any}
 use Rattle.zarr_grids_boxes.proofs.Sharing.{share_place-of, share_place-has}
 use Rattle.zarr_grids_chunks.proofs.Partition.{any_places}
 use Rattle.zarr_grids_dimensions.proofs.Declared.{always_dimensions}
-use Rattle.zarr_grids_dimensions.proofs.Meeting.{has_place_some}
-use Rattle.zarr_grids_cover.specs.Met.{AreMet}
+use Rattle.zarr_grids_dimensions.proofs.Intersecting.{lies_in_interval_some}
+use Rattle.zarr_grids_cover.specs.Intersecting.{AreIntersecting}
 use Rattle.zarr_grids_cover.specs.Sizes.{HasChunkOf}
-use Rattle.zarr_grids_cover.proofs.ChunkLaws.{IsBelow-covered, IsBelow-met}
+use Rattle.zarr_grids_cover.proofs.ChunkLaws.{IsInGrid-covered, IsInGrid-intersecting}
 use Rattle.zarr_codecs_cells.specs.Cells.{Cell}
 use Rattle.zarr_array_documents.specs.Documents.{Document}
 use Rattle.zarr_array_documents.specs.Meanings.{meaning_of}
 use Rattle.zarr_array_documents.specs.declared.document.ArrayDocument.{ArrayDocument}
 use Rattle.zarr_array_stores.specs.StoreMaps.{StoreMap}
 use Rattle.zarr_run_array.specs.Contents.{ReadsBox, WroteChunks, HasSmallChunks, is_listed}
-use Rattle.zarr_run_array.proofs.ChunkWrites.{stands_same, with_chunks-met}
+use Rattle.zarr_run_array.proofs.ChunkWrites.{stands_same, with_chunks-intersecting}
 use Rattle.zarr_run_array.proofs.ChunksWritten.{wrote_none}
-use Rattle.zarr_run_array.proofs.Listed.{met_listed, listed_number}
+use Rattle.zarr_run_array.proofs.Listed.{intersecting_listed, listed_number}
 use Rattle.zarr_run_model.specs.Steps.{HasTooLarge}
 use Rattle.zarr_run_model.specs.Changes.{with_chunks}
 use Rattle.zarr_run_model.specs.declared.cause.Cause.{Cause}
@@ -44,18 +44,18 @@ laid_empty cells ss es l z = ap (λ ps. let f : List (List ℕ) → List ℕ = �
 pub reads_empty : (path : List ℕ) (document : Document) (region : Region) (store : StoreMap) (bytes : List ℕ) → length region.shape ≡ length region.start → product region.shape ≡ 0 → bytes ≡ [] → ReadsBox path document region store bytes
 reads_empty path document region store bytes l z e = record { lists = λ cells v st. e ∙ sym (laid_empty cells region.start region.shape (sym l) z) }
 
--- an empty box has no place, and meets no chunk
+-- an empty box has no place, and intersects no chunk
 pub empty_box : (ss es p : List ℕ) → product es ≡ 0 → is_in_box ss es p ≡ true → ⊥
-empty_box ss es p z h = let some = has_place_some ss es p h in absurd (omega arith)
+empty_box ss es p z h = let some = lies_in_interval_some ss es p h in absurd (omega arith)
 
 shares_none : (region box : Region) → product region.shape ≡ 0 → share_place box.start box.shape region.start region.shape ≡ true → ⊥
 shares_none region box z s = let p = share_place-has box.start box.shape region.start region.shape s in empty_box region.start region.shape p.0 z p.2
 
-meets_none : (document : Document) (region : Region) (chunk : List ℕ) (box : Region) → product region.shape ≡ 0 → IsBelow document.grid chunk box → is_met document.grid region chunk ≡ true → ⊥
-meets_none document region chunk box z below shares = shares_none region box z (sym (ap (λ o. option_map_or (λ (b : Region). share_place b.start b.shape region.start region.shape) o false) below.has_box) ∙ shares)
+intersects_none : (document : Document) (region : Region) (chunk : List ℕ) (box : Region) → product region.shape ≡ 0 → IsInGrid document.grid chunk box → intersects document.grid region chunk ≡ true → ⊥
+intersects_none document region chunk box z below shares = shares_none region box z (sym (ap (λ o. option_map_or (λ (b : Region). share_place b.start b.shape region.start region.shape) o false) below.has_box) ∙ shares)
 
-none_met : (document : Document) (region : Region) (chunk : List ℕ) (box : Region) → product region.shape ≡ 0 → IsBelow document.grid chunk box → is_listed (met document.grid region) chunk ≡ true → ⊥
-none_met document region chunk box z below l = meets_none document region chunk box z below (filter-any (is_met document.grid region) chunk (chunk_indices document.grid) l)
+none_intersecting : (document : Document) (region : Region) (chunk : List ℕ) (box : Region) → product region.shape ≡ 0 → IsInGrid document.grid chunk box → is_listed (intersecting document.grid region) chunk ≡ true → ⊥
+none_intersecting document region chunk box z below l = intersects_none document region chunk box z below (filter-any (intersects document.grid region) chunk (chunk_indices document.grid) l)
 
 pub wrote_empty : (path : List ℕ) (document : Document) (region : Region) (bytes : List ℕ) (s : Bool) (store : StoreMap) → product region.shape ≡ 0 → WroteBox path document region bytes s store store
 wrote_empty path document region bytes s store z = record {
@@ -63,8 +63,8 @@ wrote_empty path document region bytes s store z = record {
       (λ p. ⊎_elim (λ t. absurd (empty_box region.start region.shape p z t)) (λ t. sym (ap (λ b. if b then given p else cells p) t)) (told (is_in_box region.start region.shape p))) st;
   others = λ key ne. refl;
   keys = record {
-    stored = λ e d box below l. absurd (none_met document region d box z below l);
-    erased = λ e d box below l. absurd (none_met document region d box z below l);
+    stored = λ e d box below l. absurd (none_intersecting document region d box z below l);
+    erased = λ e d box below l. absurd (none_intersecting document region d box z below l);
   };
 }
 
@@ -79,28 +79,28 @@ one_byte n g = let o : n * 1 ≡ n = omega arith in omega arith
 pub region_too_large : (document : ArrayDocument) (region : Region) → (product region.shape < 2 ^ 63 → ⊥) → HasTooLarge (meaning_of document) region
 region_too_large document region h = inl (one_byte (product region.shape) (large (product region.shape) h))
 
--- ---- the chunks met
--- a chunk that is met lies in the box of the chunks met
-met_in_box : (grid : Grid) (region chunks : Region) (chunk : List ℕ) (box : Region) → length chunks.start ≡ length chunks.shape → AreMet grid region chunks → IsBelow grid chunk box → is_met grid region chunk ≡ true → is_in_box chunks.start chunks.shape chunk ≡ true
-met_in_box grid region chunks chunk box l m below shares =
+-- ---- the chunks intersecting
+-- a chunk that is intersecting lies in the box of the chunks intersecting
+intersecting_in_box : (grid : Grid) (region chunks : Region) (chunk : List ℕ) (box : Region) → length chunks.start ≡ length chunks.shape → AreIntersecting grid region chunks → IsInGrid grid chunk box → intersects grid region chunk ≡ true → is_in_box chunks.start chunks.shape chunk ≡ true
+intersecting_in_box grid region chunks chunk box l m below shares =
     let numbered = sym (places_by_number chunks.start chunks.shape l) ∙ m.listed in
-    let listed = ap (λ (cs : List (List ℕ)). is_listed cs chunk) numbered ∙ met_listed grid region chunk box below shares in
+    let listed = ap (λ (cs : List (List ℕ)). is_listed cs chunk) numbered ∙ intersecting_listed grid region chunk box below shares in
     let n = listed_number (place_at chunks.start chunks.shape) 0 (product chunks.shape) chunk listed in
     let b = n.1 in
     let i : n.0 < product chunks.shape = omega arith in
     ap (is_in_box chunks.start chunks.shape) n.2 ∙ in_box-place_at chunks.start chunks.shape n.0 l i
 
--- and a chunk of that box is met
-box_meets : (grid : Grid) (region chunks : Region) (chunk : List ℕ) → length chunks.start ≡ length chunks.shape → AreMet grid region chunks → is_in_box chunks.start chunks.shape chunk ≡ true → is_met grid region chunk ≡ true
-box_meets grid region chunks chunk l m h = filter-any (is_met grid region) chunk (chunk_indices grid) (ap (list_any (bytes_eq chunk)) (sym m.listed) ∙ any_places chunks.start chunks.shape chunk l h)
+-- and a chunk of that box is intersecting
+box_intersects : (grid : Grid) (region chunks : Region) (chunk : List ℕ) → length chunks.start ≡ length chunks.shape → AreIntersecting grid region chunks → is_in_box chunks.start chunks.shape chunk ≡ true → intersects grid region chunk ≡ true
+box_intersects grid region chunks chunk l m h = filter-any (intersects grid region) chunk (chunk_indices grid) (ap (list_any (bytes_eq chunk)) (sym m.listed) ∙ any_places chunks.start chunks.shape chunk l h)
 
-pub no_large_chunk : (grid : Grid) (region chunks : Region) → length chunks.start ≡ length chunks.shape → AreMet grid region chunks → (HasChunkOf grid chunks (2 ^ 63) → ⊥) → HasSmallChunks grid region
-no_large_chunk grid region chunks l m none = λ chunk box below shares. ⊎_elim (λ h. h) (λ h. absurd (none (chunk, box, below, met_in_box grid region chunks chunk box l m below shares, h))) (cases_lt (product box.shape) (2 ^ 63))
+pub no_large_chunk : (grid : Grid) (region chunks : Region) → length chunks.start ≡ length chunks.shape → AreIntersecting grid region chunks → (HasChunkOf grid chunks (2 ^ 63) → ⊥) → HasSmallChunks grid region
+no_large_chunk grid region chunks l m none = λ chunk box below shares. ⊎_elim (λ h. h) (λ h. absurd (none (chunk, box, below, intersecting_in_box grid region chunks chunk box l m below shares, h))) (cases_lt (product box.shape) (2 ^ 63))
 
-pub large_chunk : (document : ArrayDocument) (region chunks : Region) → length chunks.start ≡ length chunks.shape → AreMet (meaning_of document).grid region chunks → HasChunkOf (meaning_of document).grid chunks (2 ^ 63) → HasTooLarge (meaning_of document) region
-large_chunk document region chunks l m (chunk, box, below, among, count) = inr (chunk, box, below, box_meets (meaning_of document).grid region chunks chunk l m among, one_byte (product box.shape) count)
+pub large_chunk : (document : ArrayDocument) (region chunks : Region) → length chunks.start ≡ length chunks.shape → AreIntersecting (meaning_of document).grid region chunks → HasChunkOf (meaning_of document).grid chunks (2 ^ 63) → HasTooLarge (meaning_of document) region
+large_chunk document region chunks l m (chunk, box, below, among, count) = inr (chunk, box, below, box_intersects (meaning_of document).grid region chunks chunk l m among, one_byte (product box.shape) count)
 
--- why the chunks met are not taken is why a box is not read, and why it is not written
+-- why the chunks intersecting are not taken is why a box is not read, and why it is not written
 pub read_refused : (path : List ℕ) (document : Document) (region : Region) (store : StoreMap) (c : Cause) → ChunksRefused document region c → ReadRefused path document region store c
 read_refused path document region store cause.Size why = why
 read_refused path document region store cause.Memory why = tt
@@ -135,10 +135,10 @@ write_refused path document region bytes store cause.Damage sized why = absurd w
 pub wrote_no_chunk : (path : List ℕ) (document : Document) (region : Region) (bytes : List ℕ) (s : Bool) (store : StoreMap) → WroteFirst path document region bytes s 0 store store
 wrote_no_chunk path document region bytes s store = record { wrote = wrote_none path document region bytes s store; fewer = λ h. absurd (h refl); sized = λ h. absurd (h refl); kept = λ h. refl }
 
-pub wrote_whole : (path : List ℕ) (document : Document) (region : Region) (bytes : List ℕ) (s : Bool) (old new : StoreMap) → IsCovered document.grid region → WroteChunks path document region bytes s (met document.grid region) old new → WroteBox path document region bytes s old new
+pub wrote_whole : (path : List ℕ) (document : Document) (region : Region) (bytes : List ℕ) (s : Bool) (old new : StoreMap) → IsCovered document.grid region → WroteChunks path document region bytes s (intersecting document.grid region) old new → WroteBox path document region bytes s old new
 wrote_whole path document region bytes s old new covered h = record {
-  stands = λ given cells vg vc is st. stands_same path document new (with_chunks document.grid region (met document.grid region) given cells) (overlaid region.start region.shape given cells)
-      (λ p. with_chunks-met document.grid region given cells p covered) (h.stands given cells vg vc is st);
+  stands = λ given cells vg vc is st. stands_same path document new (with_chunks document.grid region (intersecting document.grid region) given cells) (overlaid region.start region.shape given cells)
+      (λ p. with_chunks-intersecting document.grid region given cells p covered) (h.stands given cells vg vc is st);
   others = h.others;
   keys = h.keys;
 }
@@ -153,11 +153,11 @@ fits_small document region a small (inr (chunk, box, below, shares, large)) = no
 
 pub fits_empty : (document : ArrayDocument) (region : Region) → product region.shape ≡ 0 → HasTooLarge (meaning_of document) region → ⊥
 fits_empty document region z (inl h) = not_large (product region.shape) (omega arith) h
-fits_empty document region z (inr (chunk, box, below, shares, large)) = meets_none (meaning_of document) region chunk box z below shares
+fits_empty document region z (inr (chunk, box, below, shares, large)) = intersects_none (meaning_of document) region chunk box z below shares
 
 -- ---- the box of one chunk
-pub chunk_covered : (document : ArrayDocument) (chunk : List ℕ) (box : Region) → IsBelow (meaning_of document).grid chunk box → IsCovered (meaning_of document).grid box
-chunk_covered document chunk box below = IsBelow-covered (meaning_of document).grid chunk box below
+pub chunk_covered : (document : ArrayDocument) (chunk : List ℕ) (box : Region) → IsInGrid (meaning_of document).grid chunk box → IsCovered (meaning_of document).grid box
+chunk_covered document chunk box below = IsInGrid-covered (meaning_of document).grid chunk box below
 
-pub chunk_met : (document : ArrayDocument) (chunk : List ℕ) (box : Region) → IsBelow (meaning_of document).grid chunk box → met (meaning_of document).grid box ≡ chunk ∷ []
-chunk_met document chunk box below = IsBelow-met (meaning_of document).grid chunk box (always_dimensions document.grid.items) below
+pub chunk_intersecting : (document : ArrayDocument) (chunk : List ℕ) (box : Region) → IsInGrid (meaning_of document).grid chunk box → intersecting (meaning_of document).grid box ≡ chunk ∷ []
+chunk_intersecting document chunk box below = IsInGrid-intersecting (meaning_of document).grid chunk box (always_dimensions document.grid.items) below

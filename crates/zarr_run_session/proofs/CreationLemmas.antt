@@ -16,7 +16,7 @@ use Rattle.zarr_grids_keys.specs.Related.{is_related}
 use Rattle.zarr_grids_keys.specs.declared.document_name.DocumentName.TheVariants.{ZarrJson, ZArray}
 use Rattle.zarr_grids_keys.proofs.HeadLemmas.{chunk_key-no_own_document}
 use Rattle.zarr_grids_keys.proofs.KeyLemmas.{document_key-injective}
-use Rattle.zarr_grids_keys.proofs.RelatedLemmas.{is_related-comm, is_related-refl, key_below-unrelated}
+use Rattle.zarr_grids_keys.proofs.RelatedLemmas.{is_related-comm, is_related-refl, key_under-unrelated}
 use Rattle.zarr_codecs_cells.specs.Cells.{Cell, uint8, is_value}
 use Rattle.zarr_codecs_chain.specs.Chain.{bytes, ChunkStands}
 use Rattle.zarr_codecs_chain.specs.declared.order.SubchunkWriteOrder.{SubchunkWriteOrder}
@@ -42,7 +42,7 @@ use Rattle.zarr_run_session.specs.Replies.{answer_of}
 use Rattle.zarr_run_session.specs.Sessions.{Arrays, array_at, IsHeld, Agrees, IsKeyOf, Holds}
 use Rattle.zarr_run_session.specs.declared.held.HeldArray.{HeldArray}
 use Rattle.zarr_run_session.proofs.ArrayLemmas.{placed_same, placed_at}
-use Rattle.zarr_run_session.proofs.HoldsLemmas.{agreed_none, agrees_some, agrees_kept, held_kept, holds_same, taken_in_world, free_in_world, node_in_world, unrelated_held, nothing_below, put_here, put_other, none_from}
+use Rattle.zarr_run_session.proofs.HoldsLemmas.{agreed_none, agrees_some, agrees_kept, held_kept, holds_same, taken_in_world, free_in_world, node_in_world, unrelated_held, nothing_under, put_here, put_other, none_from}
 use Rattle.zarr_run_session.proofs.WorldLemmas.{held_at-before, held_at-new, held_at-others, held_at-path, apart_more}
 
 -- no array is held at a free path
@@ -75,7 +75,7 @@ module _ (path : List ℕ) (d : Data) (order : SubchunkWriteOrder) (old new : Ar
   chunk_none chunk =
       let key = chunk_key path (meaning_of c.prepared.array.document).keys chunk in
       get_other key (chunk_key-no_own_document path (meaning_of c.prepared.array.document).keys chunk ZarrJson)
-      ∙ none_from (get store key) (nothing_below old store w path k c.node c.free (encoded_key (meaning_of c.prepared.array.document).keys chunk))
+      ∙ none_from (get store key) (nothing_under old store w path k c.node c.free (encoded_key (meaning_of c.prepared.array.document).keys chunk))
 
   held_next : IsHeld c.prepared.array store' (begun path (meaning_of c.prepared.array.document) order)
   held_next = record {
@@ -103,7 +103,7 @@ module _ (path : List ℕ) (d : Data) (order : SubchunkWriteOrder) (old new : Ar
       let ne : q ≢ path = λ e. false≢true (sym t ∙ (bytes_eq-Decides q path).1 e) in
       agrees_kept store store' (array_at old q) (array_at new q) (held_at q w) (held_at q (w ++ begun path (meaning_of c.prepared.array.document) order ∷ [])) (c.others q ne) (held_at-others q w (begun path (meaning_of c.prepared.array.document) order) ne) (k.agree q)
       (λ a h e held. held_kept a store store' h held
-      (λ chunk. get_other (chunk_key h.path h.document.keys chunk) (key_below-unrelated h.path path (encoded_key h.document.keys chunk) (document_name ZarrJson) (node_in_world old store w q h k e) c.node (unrelated q h e)))
+      (λ chunk. get_other (chunk_key h.path h.document.keys chunk) (key_under-unrelated h.path path (encoded_key h.document.keys chunk) (document_name ZarrJson) (node_in_world old store w q h k e) c.node (unrelated q h e)))
       (get_other (document_key h.path ZarrJson) (λ f. ne (held_at-path q w h e ∙ (document_key-injective h.path path ZarrJson ZarrJson (node_in_world old store w q h k e) c.node f).0))))
 
   key_next : (key value : List ℕ) → get store' key ≡ Some value → (b : Bool) → bytes_eq key (document_key path ZarrJson) ≡ b
@@ -133,8 +133,8 @@ create_refused path d order old store cause.Path why w k = (why, refl, refl)
 create_refused path d order old store cause.PathTaken why w k = ⊎_elim
     (λ t. ((why.0, taken_in_world old store w path k t), refl, refl))
     (λ f. ⊎_elim
-    (λ here. let value = some_of (get store (document_key path ZarrJson)) here in absurd (nothing_below old store w path k why.0 f.0 (document_name ZarrJson) value.0 value.1))
-    (λ here. let value = some_of (get store (document_key path ZArray)) here in absurd (nothing_below old store w path k why.0 f.0 (document_name ZArray) value.0 value.1))
+    (λ here. let value = some_of (get store (document_key path ZarrJson)) here in absurd (nothing_under old store w path k why.0 f.0 (document_name ZarrJson) value.0 value.1))
+    (λ here. let value = some_of (get store (document_key path ZArray)) here in absurd (nothing_under old store w path k why.0 f.0 (document_name ZArray) value.0 value.1))
     f.1)
     why.1
 create_refused path d order old store cause.Document why w k = ((why.0, free_in_world old store w path k why.1, why.2), refl, refl)

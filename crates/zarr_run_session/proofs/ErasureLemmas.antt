@@ -5,7 +5,7 @@ use Rattle.std.specs.Option.{option_map_or}
 use Rattle.std.proofs.lemmas.Bool.{lt-ltb}
 use Rattle.zarr_grids_boxes.specs.Boxes.{Region, product, places, is_in_box}
 use Rattle.zarr_grids_boxes.proofs.InBox.{length-places}
-use Rattle.zarr_grids_chunks.specs.Grids.{AreBelow, chunk_box, lies_in_chunk}
+use Rattle.zarr_grids_chunks.specs.Grids.{AreInGrid, chunk_box, lies_in_chunk}
 use Rattle.zarr_grids_cover.specs.Sizes.{HasChunkOf}
 use Rattle.zarr_grids_keys.specs.Paths.{is_node_path}
 use Rattle.zarr_codecs_cells.specs.Cells.{Cell, uint8, is_value}
@@ -94,7 +94,7 @@ table_after_erasure array chunks old new table small erased t =
       either : (p : List ℕ) → is_value uint8 (without_chunks (meaning_of array.document).grid chunks (meaning_of array.document).fill (cell (meaning_of array.document).fill table) p) ≡ true
       either p = elim (list_any (lies_in_chunk (meaning_of array.document).grid p) chunks) as (λ b. is_value uint8 (if b then (meaning_of array.document).fill else cell (meaning_of array.document).fill table p) ≡ true) [ true ↦ lt-ltb array.document.fill_value 256 small | false ↦ t.values p ]
 
-pub erase_done : (array : HeldArray) (old new : StoreMap) (chunks : Region) (table : Table) → array.document.fill_value < 256 → AreBelow (meaning_of array.document).grid chunks → (HasTooLargeChunk (meaning_of array.document) chunks → ⊥)
+pub erase_done : (array : HeldArray) (old new : StoreMap) (chunks : Region) (table : Table) → array.document.fill_value < 256 → AreInGrid (meaning_of array.document).grid chunks → (HasTooLargeChunk (meaning_of array.document) chunks → ⊥)
     → ErasedChunks (string_bytes array.path) (meaning_of array.document) (places chunks.start chunks.shape) old new → IsTableOf array old table
     → (after : Table) × Step (held_with array table ∷ []) (erase (string_bytes array.path) chunks) done (held_with array after ∷ []) × IsTableOf array new after
 erase_done array old new chunks table small below fits erased t =
@@ -112,7 +112,7 @@ erase_done array old new chunks table small below fits erased t =
     )
 
 -- an erasure that stopped for want of memory
-pub erase_stopped : (array : HeldArray) (old new : StoreMap) (chunks : Region) (n : ℕ) (table : Table) → array.document.fill_value < 256 → AreBelow (meaning_of array.document).grid chunks → n < product chunks.shape
+pub erase_stopped : (array : HeldArray) (old new : StoreMap) (chunks : Region) (n : ℕ) (table : Table) → array.document.fill_value < 256 → AreInGrid (meaning_of array.document).grid chunks → n < product chunks.shape
     → ErasedChunks (string_bytes array.path) (meaning_of array.document) (take n (places chunks.start chunks.shape)) old new → IsTableOf array old table
     → (after : Table) × Step (held_with array table ∷ []) (erase (string_bytes array.path) chunks) (refused cause.Memory n) (held_with array after ∷ []) × IsTableOf array new after
 erase_stopped array old new chunks n table small below fewer erased t =
@@ -133,13 +133,13 @@ erase_stopped array old new chunks n table small below fewer erased t =
     )
 
 -- ---- an erasure that is refused
-pub erase_not_below : (array : HeldArray) (store : StoreMap) (chunks : Region) (table : Table) → (AreBelow (meaning_of array.document).grid chunks → ⊥) → IsTableOf array store table
+pub erase_not_below : (array : HeldArray) (store : StoreMap) (chunks : Region) (table : Table) → (AreInGrid (meaning_of array.document).grid chunks → ⊥) → IsTableOf array store table
     → (after : Table) × Step (held_with array table ∷ []) (erase (string_bytes array.path) chunks) (refused cause.Region 0) (held_with array after ∷ []) × IsTableOf array store after
 erase_not_below array store chunks table h t =
     let P : Option Held → Type 0 = λ o. EraseRefuses o chunks cause.Region in
     (table, ((array.node, subst P (sym (held_at-here array table)) h), inl (refl, refl)), t)
 
-pub erase_too_large : (array : HeldArray) (store : StoreMap) (chunks : Region) (table : Table) → AreBelow (meaning_of array.document).grid chunks → HasTooLargeChunk (meaning_of array.document) chunks → IsTableOf array store table
+pub erase_too_large : (array : HeldArray) (store : StoreMap) (chunks : Region) (table : Table) → AreInGrid (meaning_of array.document).grid chunks → HasTooLargeChunk (meaning_of array.document) chunks → IsTableOf array store table
     → (after : Table) × Step (held_with array table ∷ []) (erase (string_bytes array.path) chunks) (refused cause.Size 0) (held_with array after ∷ []) × IsTableOf array store after
 erase_too_large array store chunks table below h t =
     let P : Option Held → Type 0 = λ o. EraseRefuses o chunks cause.Size in

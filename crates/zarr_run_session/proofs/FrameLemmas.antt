@@ -6,12 +6,12 @@ use Rattle.std.proofs.lemmas.Slice.Eq.{bytes_eq-Decides}
 use Rattle.serde_json.specs.View.{view}
 use Rattle.zarr_grids_boxes.specs.Boxes.{places}
 use Rattle.zarr_grids_keys.specs.Documents.{document_key, document_name}
-use Rattle.zarr_grids_keys.specs.Keys.{KeyEncoding, encoded_key, key_below, chunk_key}
+use Rattle.zarr_grids_keys.specs.Keys.{KeyEncoding, encoded_key, key_under, chunk_key}
 use Rattle.zarr_grids_keys.specs.Paths.{is_node_path}
 use Rattle.zarr_grids_keys.specs.Related.{is_related}
 use Rattle.zarr_grids_keys.specs.declared.document_name.DocumentName.TheVariants.{ZarrJson}
 use Rattle.zarr_grids_keys.proofs.HeadLemmas.{chunk_key-no_own_document}
-use Rattle.zarr_grids_keys.proofs.RelatedLemmas.{key_below-unrelated}
+use Rattle.zarr_grids_keys.proofs.RelatedLemmas.{key_under-unrelated}
 use Rattle.zarr_codecs_cells.specs.Cells.{is_value}
 use Rattle.zarr_codecs_chain.specs.Chain.{ChunkStands}
 use Rattle.zarr_array_documents.specs.Documents.{Document}
@@ -52,10 +52,10 @@ touches_chunks array chunks old new others = record { key = λ key. ⊎_elim (λ
 pub touches_none : (array : HeldArray) (store : StoreMap) → Touches array store store
 touches_none array store = record { key = λ key. inr refl }
 
--- what stands below an unrelated path stays
-kept_below : (array : HeldArray) (old new : StoreMap) (q name : List ℕ) → Touches array old new → IsTrue (is_node_path q) → is_related (string_bytes array.path) q ≡ false → get new (key_below q name) ≡ get old (key_below q name)
-kept_below array old new q name touches node apart =
-    ⊎_elim (λ s. absurd (key_below-unrelated (string_bytes array.path) q (encoded_key (meaning_of array.document).keys s.0) name array.node node apart (sym s.1))) (λ e. e) (touches.key (key_below q name))
+-- what stands under an unrelated path stays
+kept_under : (array : HeldArray) (old new : StoreMap) (q name : List ℕ) → Touches array old new → IsTrue (is_node_path q) → is_related (string_bytes array.path) q ≡ false → get new (key_under q name) ≡ get old (key_under q name)
+kept_under array old new q name touches node apart =
+    ⊎_elim (λ s. absurd (key_under-unrelated (string_bytes array.path) q (encoded_key (meaning_of array.document).keys s.0) name array.node node apart (sym s.1))) (λ e. e) (touches.key (key_under q name))
 
 -- the array's own document stays
 document_kept : (array : HeldArray) (old new : StoreMap) → Touches array old new → get new (document_key (string_bytes array.path) ZarrJson) ≡ get old (document_key (string_bytes array.path) ZarrJson)
@@ -77,9 +77,9 @@ other_held array a old new h touches apart k =
       values = k.values;
       stands = λ chunk box below.
           let P : Option (List ℕ) → Type 0 = λ o. ChunkStands h.document.chain h.document.fill o (map (cell h.document.fill h.table) (places box.start box.shape)) in
-          subst P (sym (kept_below array old new h.path (encoded_key h.document.keys chunk) touches node apart)) (k.stands chunk box below);
+          subst P (sym (kept_under array old new h.path (encoded_key h.document.keys chunk) touches node apart)) (k.stands chunk box below);
       says = k.says;
-      stored = stored_after a old new h.path (kept_below array old new h.path (document_name ZarrJson) touches node apart) k.stored;
+      stored = stored_after a old new h.path (kept_under array old new h.path (document_name ZarrJson) touches node apart) k.stored;
     }
 
 same_held : (array : HeldArray) (store : StoreMap) (h : Held) (t : Table) → IsHeld array store h → record h { table = t } ≡ held_with array t

@@ -8,14 +8,14 @@ use Rattle.std.proofs.lemmas.Slice.Eq.{bytes_eq-Decides}
 use Rattle.zarr_grids_boxes.specs.Boxes.{places}
 use Rattle.zarr_grids_keys.specs.Documents.{document_key, document_name}
 use Rattle.zarr_grids_keys.specs.Encodings.{keys_of}
-use Rattle.zarr_grids_keys.specs.Keys.{KeyEncoding, chunk_key, encoded_key, key_below, has_separator, has_plain_suffix}
+use Rattle.zarr_grids_keys.specs.Keys.{KeyEncoding, chunk_key, encoded_key, key_under, has_separator, has_flat_suffix}
 use Rattle.zarr_grids_keys.specs.Paths.{is_node_path}
 use Rattle.zarr_grids_keys.specs.Related.{is_related}
 use Rattle.zarr_grids_keys.specs.declared.document_name.DocumentName.{DocumentName}
 use Rattle.zarr_grids_keys.specs.declared.document_name.DocumentName.TheVariants.{ZarrJson}
 use Rattle.zarr_grids_keys.proofs.KeyLemmas.{document_key-injective}
-use Rattle.zarr_grids_keys.proofs.LowerDocuments.{chunk_key-lower_document}
-use Rattle.zarr_grids_keys.proofs.RelatedLemmas.{key_below-unrelated}
+use Rattle.zarr_grids_keys.proofs.DocumentsUnder.{chunk_key-document_under}
+use Rattle.zarr_grids_keys.proofs.RelatedLemmas.{key_under-unrelated}
 use Rattle.zarr_codecs_chain.specs.Chain.{ChunkStands}
 use Rattle.zarr_array_documents.specs.Documents.{Document}
 use Rattle.zarr_array_stores.specs.StoreMaps.{StoreMap}
@@ -23,7 +23,7 @@ use Rattle.zarr_run_array.proofs.ChunkBoxes.{separated}
 use Rattle.zarr_run_model.specs.Tables.{cell}
 use Rattle.zarr_run_model.specs.Worlds.{Held, World, held_at, is_taken}
 use Rattle.zarr_run_session.specs.Openings.{KeepsArrays}
-use Rattle.zarr_run_session.specs.Related.{IsTakenIn, IsFreeIn, IsBelowSlashed}
+use Rattle.zarr_run_session.specs.Related.{IsTakenIn, IsFreeIn, IsUnderSlashed}
 use Rattle.zarr_run_session.specs.Sessions.{Arrays, array_at, IsHeld, Agrees, Holds}
 use Rattle.zarr_run_session.specs.declared.held.HeldArray.{HeldArray}
 use Rattle.zarr_run_session.proofs.ArrayLemmas.{some_same}
@@ -112,17 +112,17 @@ none_some : {A : Type 0} (o : Option A) (a : A) → o ≡ None → o ≡ Some a 
 none_some o a e s = cc
 
 -- an array that is held has a chunk whose key is that of a document of a path: it is held above, and its keys have a suffix with a slash
-slashed_above : (arrays : Arrays) (store : StoreMap) (w : World) (path : List ℕ) (h : Held) (chunk : List ℕ) (name : DocumentName) → Holds arrays store w → IsTrue (is_node_path path) → held_at h.path w ≡ Some h → chunk_key h.path h.document.keys chunk ≡ document_key path name → IsBelowSlashed arrays path
+slashed_above : (arrays : Arrays) (store : StoreMap) (w : World) (path : List ℕ) (h : Held) (chunk : List ℕ) (name : DocumentName) → Holds arrays store w → IsTrue (is_node_path path) → held_at h.path w ≡ Some h → chunk_key h.path h.document.keys chunk ≡ document_key path name → IsUnderSlashed arrays path
 slashed_above arrays store w path h chunk name k node e same =
     let a = agreed_some store (array_at arrays h.path) (held_at h.path w) h (k.agree h.path) e in
     let there = held_node a.0 store h a.2 in
     let keys : h.document.keys ≡ keys_of a.0.document.keys = ap (λ (d : Document). d.keys) a.2.document in
     let S : KeyEncoding → Type 0 = λ x. IsTrue (has_separator x) in
-    let lower = chunk_key-lower_document h.path path h.document.keys chunk name there node (subst S (sym keys) (separated a.0.document.keys)) same in
-    record { other = h.path; array = a.0; node = there; found = a.1; under = lower.0; slashed = ap has_plain_suffix (sym keys) ∙ lower.1 }
+    let lower = chunk_key-document_under h.path path h.document.keys chunk name there node (subst S (sym keys) (separated a.0.document.keys)) same in
+    record { other = h.path; array = a.0; node = there; found = a.1; under = lower.0; slashed = ap has_flat_suffix (sym keys) ∙ lower.1 }
 
 -- no document is stored at a path where no array is held, and above which none is held whose keys have a suffix with a slash
-pub no_document : (arrays : Arrays) (store : StoreMap) (w : World) (path : List ℕ) → Holds arrays store w → IsTrue (is_node_path path) → held_at path w ≡ None → (IsBelowSlashed arrays path → ⊥) → (name : DocumentName) (value : List ℕ) → get store (document_key path name) ≡ Some value → ⊥
+pub no_document : (arrays : Arrays) (store : StoreMap) (w : World) (path : List ℕ) → Holds arrays store w → IsTrue (is_node_path path) → held_at path w ≡ None → (IsUnderSlashed arrays path → ⊥) → (name : DocumentName) (value : List ℕ) → get store (document_key path name) ≡ Some value → ⊥
 no_document arrays store w path k node none plain name value e =
     let key = k.keys (document_key path name) value e in
     ⊎_elim
@@ -130,15 +130,15 @@ no_document arrays store w path k node none plain name value e =
     (λ chunk. plain (slashed_above arrays store w path key.0 chunk.0 name k node key.1 (sym chunk.1)))
     key.2
 
--- nothing is stored below a path that is unrelated to those of all arrays
-pub nothing_below : (arrays : Arrays) (store : StoreMap) (w : World) (path : List ℕ) → Holds arrays store w → IsTrue (is_node_path path) → IsFreeIn arrays path → (name value : List ℕ) → get store (key_below path name) ≡ Some value → ⊥
-nothing_below arrays store w path k node free name value e =
-    let key = k.keys (key_below path name) value e in
+-- nothing is stored under a path that is unrelated to those of all arrays
+pub nothing_under : (arrays : Arrays) (store : StoreMap) (w : World) (path : List ℕ) → Holds arrays store w → IsTrue (is_node_path path) → IsFreeIn arrays path → (name value : List ℕ) → get store (key_under path name) ≡ Some value → ⊥
+nothing_under arrays store w path k node free name value e =
+    let key = k.keys (key_under path name) value e in
     let there = node_in_world arrays store w key.0.path key.0 k key.1 in
     let apart = unrelated_held arrays store w path k free key.0.path key.0 key.1 in
     ⊎_elim
-    (λ same. key_below-unrelated path key.0.path name (document_name ZarrJson) node there apart same)
-    (λ other. key_below-unrelated path key.0.path name (encoded_key key.0.document.keys other.0) node there apart other.1)
+    (λ same. key_under-unrelated path key.0.path name (document_name ZarrJson) node there apart same)
+    (λ other. key_under-unrelated path key.0.path name (encoded_key key.0.document.keys other.0) node there apart other.1)
     key.2
 
 -- ---- one key put

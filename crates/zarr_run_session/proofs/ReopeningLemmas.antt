@@ -18,7 +18,7 @@ use Rattle.zarr_run_model.specs.declared.cause.Cause.{Cause}
 use Rattle.zarr_run_model.specs.declared.cause.Cause.TheVariants as cause
 use Rattle.zarr_run_session.specs.Causes.{cause_of_document}
 use Rattle.zarr_run_session.specs.Openings.{Reopened, IsNoDocument, LeavesArrays, KeepsOtherArrays}
-use Rattle.zarr_run_session.specs.Related.{IsBelowSlashed}
+use Rattle.zarr_run_session.specs.Related.{IsUnderSlashed}
 use Rattle.zarr_run_session.specs.Reopenings.{OpeningRefused}
 use Rattle.zarr_run_session.specs.Replies.{answer_of}
 use Rattle.zarr_run_session.specs.Sessions.{Arrays, array_at, HasDocument, IsHeld, Agrees, IsKeyOf, Holds}
@@ -138,7 +138,7 @@ not_opened path tree store e d h = (
       subst P (some_same tree other (sym d.reads ∙ r)) (why_err tree e h),
 )
 
-open_refused-as : (arrays : Arrays) (path : List ℕ) (store : StoreMap) (tree : Data) (e : DocumentError) → (IsBelowSlashed arrays path → ⊥) → HasDocument path tree store → (e ≢ document.Memory → read_document tree ≡ Err e) → OpeningRefused arrays path store (cause_of_document e)
+open_refused-as : (arrays : Arrays) (path : List ℕ) (store : StoreMap) (tree : Data) (e : DocumentError) → (IsUnderSlashed arrays path → ⊥) → HasDocument path tree store → (e ≢ document.Memory → read_document tree ≡ Err e) → OpeningRefused arrays path store (cause_of_document e)
 open_refused-as arrays path store tree document.Memory plain d why = tt
 open_refused-as arrays path store tree document.Depth plain d why = (plain, not_opened path tree store document.Depth d (why (λ h. absurd (cc h))))
 open_refused-as arrays path store tree document.Float plain d why = (plain, not_opened path tree store document.Float d (why (λ h. absurd (cc h))))
@@ -153,7 +153,7 @@ open_refused-as arrays path store tree document.StorageTransformers plain d why 
 open_refused-as arrays path store tree document.ChunkKeyEncoding plain d why = (plain, not_opened path tree store document.ChunkKeyEncoding d (why (λ h. absurd (cc h))))
 open_refused-as arrays path store tree document.DimensionNames plain d why = (plain, not_opened path tree store document.DimensionNames d (why (λ h. absurd (cc h))))
 
-pub open_refused : (arrays : Arrays) (path : List ℕ) (store : StoreMap) (tree : Data) (e : DocumentError) (c : Cause) → c ≡ cause_of_document e → (IsBelowSlashed arrays path → ⊥) → HasDocument path tree store → (e ≢ document.Memory → read_document tree ≡ Err e) → OpeningRefused arrays path store c
+pub open_refused : (arrays : Arrays) (path : List ℕ) (store : StoreMap) (tree : Data) (e : DocumentError) (c : Cause) → c ≡ cause_of_document e → (IsUnderSlashed arrays path → ⊥) → HasDocument path tree store → (e ≢ document.Memory → read_document tree ≡ Err e) → OpeningRefused arrays path store c
 open_refused arrays path store tree e c is plain d why =
     let P : Cause → Type 0 = λ c. OpeningRefused arrays path store c in
     subst P (sym is) (open_refused-as arrays path store tree e plain d why)

@@ -5,7 +5,7 @@ use Rattle.std.proofs.lemmas.Bool.{false≢true, lt-ltb, eqb-true}
 use Rattle.std.proofs.lemmas.Slice.Eq.{bytes_eq-Decides}
 use Rattle.zarr_grids_boxes.specs.Boxes.{Region, product, places, each2, ravel, is_in_box}
 use Rattle.zarr_grids_boxes.specs.Laid.{laid, overlaid}
-use Rattle.zarr_grids_chunks.specs.Grids.{IsCovered, met}
+use Rattle.zarr_grids_chunks.specs.Grids.{IsCovered, intersecting}
 use Rattle.zarr_grids_chunks.proofs.Filters.{told}
 use Rattle.zarr_grids_keys.specs.Paths.{is_node_path}
 use Rattle.zarr_codecs_cells.specs.Cells.{Cell, uint8, is_value, fixed}
@@ -83,12 +83,12 @@ table_after array region bs s old new table l v n wrote t =
       overlaid_values p = elim (is_in_box region.start region.shape p) as (λ b. is_value uint8 (if b then given_cells region bs p else cell (meaning_of array.document).fill table p) ≡ true) [ true ↦ given_values region bs v p | false ↦ t.values p ]
 
 pub table_after_some : (array : HeldArray) (region : Region) (bs : List ℕ) (s : Bool) (n : ℕ) (old new : StoreMap) (table : Table) → length region.start ≡ length region.shape → list_all (is_value uint8) (one_byte_cells bs) ≡ true → length bs ≡ product region.shape
-    → WroteChunks (string_bytes array.path) (meaning_of array.document) region bs s (take n (met (meaning_of array.document).grid region)) old new → IsTableOf array old table
-    → IsTableOf array new (updated (meaning_of array.document).fill table (changes_in (meaning_of array.document).grid (take n (met (meaning_of array.document).grid region)) (changes region (one_byte_cells bs))))
+    → WroteChunks (string_bytes array.path) (meaning_of array.document) region bs s (take n (intersecting (meaning_of array.document).grid region)) old new → IsTableOf array old table
+    → IsTableOf array new (updated (meaning_of array.document).fill table (changes_in (meaning_of array.document).grid (take n (intersecting (meaning_of array.document).grid region)) (changes region (one_byte_cells bs))))
 table_after_some array region bs s n old new table l v m wrote t =
     let fill = (meaning_of array.document).fill in
     let grid = (meaning_of array.document).grid in
-    let chunks = take n (met grid region) in
+    let chunks = take n (intersecting grid region) in
     let same : (p : List ℕ) → with_chunks grid region chunks (given_cells region bs) (cell fill table) p ≡ cell fill (updated fill table (changes_in grid chunks (changes region (one_byte_cells bs)))) p =
     λ p. sym (cell-chunks fill table grid region (one_byte_cells bs) chunks (0 ∷ []) p l (length-cells bs ∙ m)) in
     record {
@@ -122,11 +122,11 @@ write_done array old new region g bs options s table fits l target means is v n 
     )
 
 -- ---- a write that is refused
-write_cause : (array : HeldArray) (region : Region) (g : GivenCells) (bs : List ℕ) (options : CodecOptions) (table next : Table) (new : StoreMap) (c : Cause) → (target : Target) → IsTarget (meaning_of array.document).grid target region → given_in uint8 g ≡ Some (one_byte_cells bs)
+push_cause : (array : HeldArray) (region : Region) (g : GivenCells) (bs : List ℕ) (options : CodecOptions) (table next : Table) (new : StoreMap) (c : Cause) → (target : Target) → IsTarget (meaning_of array.document).grid target region → given_in uint8 g ≡ Some (one_byte_cells bs)
     → IsTableOf array new next → BytesRefused (string_bytes array.path) (meaning_of array.document) region bs new c → MayRefuse (held_with array table ∷ []) (write (string_bytes array.path) target g options) c
-write_cause array region g bs options table next new cause.Memory target means is t why = tt
-write_cause array region g bs options table next new cause.Damage target means is t why = absurd (no_damage array region new next t why)
-write_cause array region g bs options table next new cause.Data target means is t why =
+push_cause array region g bs options table next new cause.Memory target means is t why = tt
+push_cause array region g bs options table next new cause.Damage target means is t why = absurd (no_damage array region new next t why)
+push_cause array region g bs options table next new cause.Data target means is t why =
     let P : Option Held → Type 0 = λ o. WriteRefuses o target g cause.Data in (
       array.node,
       subst P (sym (held_at-here array table)) (
@@ -138,18 +138,18 @@ write_cause array region g bs options table next new cause.Data target means is 
             why (sym (length-cells bs) ∙ sym (ap length e) ∙ gives.1),
       ),
     )
-write_cause array region g bs options table next new cause.Size target means is t why =
+push_cause array region g bs options table next new cause.Size target means is t why =
     let P : Option Held → Type 0 = λ o. WriteRefuses o target g cause.Size in
     (array.node, subst P (sym (held_at-here array table)) (region, means, (one_byte_cells bs, (is, length-cells bs ∙ why.0)), why.1))
-write_cause array region g bs options table next new cause.Path target means is t why = absurd why
-write_cause array region g bs options table next new cause.PathTaken target means is t why = absurd why
-write_cause array region g bs options table next new cause.NoArray target means is t why = absurd why
-write_cause array region g bs options table next new cause.Document target means is t why = absurd why
-write_cause array region g bs options table next new cause.Region target means is t why = absurd why
-write_cause array region g bs options table next new cause.Fit target means is t why = absurd why
-write_cause array region g bs options table next new cause.Codec target means is t why = absurd why
-write_cause array region g bs options table next new cause.Store target means is t why = absurd why
-write_cause array region g bs options table next new cause.DocumentChanged target means is t why = absurd why
+push_cause array region g bs options table next new cause.Path target means is t why = absurd why
+push_cause array region g bs options table next new cause.PathTaken target means is t why = absurd why
+push_cause array region g bs options table next new cause.NoArray target means is t why = absurd why
+push_cause array region g bs options table next new cause.Document target means is t why = absurd why
+push_cause array region g bs options table next new cause.Region target means is t why = absurd why
+push_cause array region g bs options table next new cause.Fit target means is t why = absurd why
+push_cause array region g bs options table next new cause.Codec target means is t why = absurd why
+push_cause array region g bs options table next new cause.Store target means is t why = absurd why
+push_cause array region g bs options table next new cause.DocumentChanged target means is t why = absurd why
 
 -- no chunk was written
 table_kept : (array : HeldArray) (region : Region) (bs : List ℕ) (s : Bool) (old new : StoreMap) (table : Table) → length region.start ≡ length region.shape → list_all (is_value uint8) (one_byte_cells bs) ≡ true
@@ -174,14 +174,14 @@ pub write_refused : (array : HeldArray) (old new : StoreMap) (region : Region) (
     → (after : Table) × Step (held_with array table ∷ []) (write (string_bytes array.path) target g options) (refused c n) (held_with array after ∷ []) × IsTableOf array new after
 write_refused array old new region g bs options s c zero table l target means is v first why t =
     let none = table_kept array region bs s old new table l v first t in
-    (table, (write_cause array region g bs options table table new c target means is none why, inl (refl, refl)), none)
+    (table, (push_cause array region g bs options table table new c target means is none why, inl (refl, refl)), none)
 write_refused array old new region g bs options s c (suc m) table l target means is v first why t =
     let some : suc m ≢ 0 = λ e. absurd (cc e) in
-    let next = updated (meaning_of array.document).fill table (changes_in (meaning_of array.document).grid (take (suc m) (met (meaning_of array.document).grid region)) (changes region (one_byte_cells bs))) in
+    let next = updated (meaning_of array.document).fill table (changes_in (meaning_of array.document).grid (take (suc m) (intersecting (meaning_of array.document).grid region)) (changes region (one_byte_cells bs))) in
     let after = table_after_some array region bs s (suc m) old new table l v (first.sized some) first.wrote t in (
       next,
       (
-        write_cause array region g bs options table next new c target means is after why,
+        push_cause array region g bs options table next new c target means is after why,
         inr (record {
           held = held_with array table;
           found = held_at-here array table;

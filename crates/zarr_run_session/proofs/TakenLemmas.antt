@@ -19,12 +19,12 @@ use Rattle.std.proofs.lemmas.Bool.Decides.{nat_tests}
 use Rattle.std.proofs.lemmas.Map.Text.{is_eq-slice_cmp}
 use Rattle.std.proofs.lemmas.Slice.Eq.{bytes_eq-Decides}
 use Rattle.zarr_grids_keys.specs.Encodings.{keys_of}
-use Rattle.zarr_grids_keys.specs.Keys.{has_plain_suffix}
+use Rattle.zarr_grids_keys.specs.Keys.{has_flat_suffix}
 use Rattle.zarr_grids_keys.specs.Paths.{is_node_path}
 use Rattle.zarr_grids_keys.specs.Related.{is_under, is_related, parent_path}
 use Rattle.zarr_grids_keys.proofs.ParentLemmas.{is_under-parent, is_under-by_parent}
 use Rattle.zarr_grids_keys.proofs.RangeLemmas.{is_under-range}
-use Rattle.zarr_run_session.specs.Related.{IsTakenIn, IsFreeIn, IsFreeAbove, IsFreeBelow, IsSlashedAt, IsBelowSlashed}
+use Rattle.zarr_run_session.specs.Related.{IsTakenIn, IsFreeIn, IsFreeAbove, IsFreeUnder, IsSlashedAt, IsUnderSlashed}
 use Rattle.zarr_run_session.specs.Sessions.{Arrays, array_at}
 use Rattle.zarr_run_session.specs.declared.held.HeldArray.{HeldArray}
 use Rattle.zarr_run_session.proofs.ArrayLemmas.{some_same}
@@ -35,8 +35,8 @@ same_bytes p = (bytes_eq-Decides p p).1 refl
 pub related_same : (p q : List ℕ) → p ≡ q → IsTrue (is_related p q)
 related_same p q e = or_left (bytes_eq p q || is_under p q) (is_under q p) (or_left (bytes_eq p q) (is_under p q) ((bytes_eq-Decides p q).1 e))
 
-pub related_below : (p q : List ℕ) → IsTrue (is_under p q) → IsTrue (is_related p q)
-related_below p q u = or_left (bytes_eq p q || is_under p q) (is_under q p) (or_right (bytes_eq p q) (is_under p q) u)
+pub related_under : (p q : List ℕ) → IsTrue (is_under p q) → IsTrue (is_related p q)
+related_under p q u = or_left (bytes_eq p q || is_under p q) (is_under q p) (or_right (bytes_eq p q) (is_under p q) u)
 
 pub related_above : (p q : List ℕ) → IsTrue (is_under q p) → IsTrue (is_related p q)
 related_above p q u = or_right (bytes_eq p q || is_under p q) (is_under q p) u
@@ -55,13 +55,13 @@ none_some o a e s = cc
 pub taken_at : (arrays : Arrays) (path other : List ℕ) → is_some (array_at arrays other) ≡ true → IsTrue (is_related path other) → IsTakenIn arrays path
 taken_at arrays path other e r = let s = some_of (array_at arrays other) e in record { other = other; array = s.0; found = s.1; related = r }
 
--- no array at the path, above it or below it
-pub free_of : (arrays : Arrays) (path : List ℕ) → is_some (array_at arrays path) ≡ false → IsFreeAbove arrays path → IsFreeBelow arrays path → IsFreeIn arrays path
-free_of arrays path none above below = λ other array node found.
+-- no array at the path, above it or under it
+pub free_of : (arrays : Arrays) (path : List ℕ) → is_some (array_at arrays path) ≡ false → IsFreeAbove arrays path → IsFreeUnder arrays path → IsFreeIn arrays path
+free_of arrays path none above under = λ other array node found.
     or_from (bytes_eq path other || is_under path other) (is_under other path)
     (or_from (bytes_eq path other) (is_under path other)
     (false_from_ne_true (bytes_eq path other) (λ t. none_of (array_at arrays path) none array (ap (array_at arrays) ((bytes_eq-Decides path other).0 t) ∙ found)))
-    (below other array found))
+    (under other array found))
     (above other array node found)
 
 -- ---- above
@@ -110,26 +110,26 @@ pub free_above : (arrays : Arrays) (path lower : List ℕ) → IsReachedFrom (Is
 free_above arrays path lower r e = λ other array node found. none_above (IsHeldAt arrays) path lower r e other node (array, found)
 
 -- ---- an array above whose keys have a suffix with a slash
-pub slashed_parent : (arrays : Arrays) (path lower parent : List ℕ) → IsReachedFrom (IsSlashedAt arrays) path lower → parent_path lower ≡ Some parent → IsTrue (is_node_path parent) → IsSlashedAt arrays parent → IsBelowSlashed arrays path
+pub slashed_parent : (arrays : Arrays) (path lower parent : List ℕ) → IsReachedFrom (IsSlashedAt arrays) path lower → parent_path lower ≡ Some parent → IsTrue (is_node_path parent) → IsSlashedAt arrays parent → IsUnderSlashed arrays path
 slashed_parent arrays path lower parent r e node s = record { other = parent; array = s.0; node = node; found = s.1; under = parent_above (IsSlashedAt arrays) path lower parent r e node; slashed = s.2 }
 
-pub none_slashed : (arrays : Arrays) (path lower : List ℕ) → IsReachedFrom (IsSlashedAt arrays) path lower → parent_path lower ≡ None → IsBelowSlashed arrays path → ⊥
+pub none_slashed : (arrays : Arrays) (path lower : List ℕ) → IsReachedFrom (IsSlashedAt arrays) path lower → parent_path lower ≡ None → IsUnderSlashed arrays path → ⊥
 none_slashed arrays path lower r e b = both_ways (is_under b.other path) (none_above (IsSlashedAt arrays) path lower r e b.other b.node (b.array, b.found, b.slashed)) b.under
 
 not_true : (b : Bool) → IsTrue (not b) → b ≡ false
 not_true true t = absurd (false≢true t)
 not_true false t = refl
 
-pub slashed_some : (arrays : Arrays) (path : List ℕ) (array : HeldArray) (plain : Bool) → array_at arrays path ≡ Some array → plain ≡ has_plain_suffix (keys_of array.document.keys) → IsTrue (not plain) ↔ IsSlashedAt arrays path
+pub slashed_some : (arrays : Arrays) (path : List ℕ) (array : HeldArray) (plain : Bool) → array_at arrays path ≡ Some array → plain ≡ has_flat_suffix (keys_of array.document.keys) → IsTrue (not plain) ↔ IsSlashedAt arrays path
 slashed_some arrays path array plain found e = (
   λ t. (array, found, sym e ∙ not_true plain t),
-  λ s. ap not (e ∙ ap (λ (x : HeldArray). has_plain_suffix (keys_of x.document.keys)) (some_same array s.0 (sym found ∙ s.1)) ∙ s.2),
+  λ s. ap not (e ∙ ap (λ (x : HeldArray). has_flat_suffix (keys_of x.document.keys)) (some_same array s.0 (sym found ∙ s.1)) ∙ s.2),
 )
 
 pub slashed_none : (arrays : Arrays) (path : List ℕ) → array_at arrays path ≡ None → IsTrue false ↔ IsSlashedAt arrays path
 slashed_none arrays path none = (λ t. absurd (false≢true t), λ s. absurd (none_some (array_at arrays path) s.0 none s.1))
 
--- ---- below
+-- ---- under
 -- a path where an array is held is the text of a key
 pub key_at : (es : List (String Global × HeldArray)) (q : List ℕ) (array : HeldArray) → lookup (tree.is_at (λ k. slice_cmp nat_cmp q (string_bytes k))) es ≡ Some array → (k : String Global) × (q ≡ string_bytes k)
 key_at [] q array e = absurd (cc)
@@ -150,18 +150,18 @@ forward path low high e f = ap is_gt (ap (λ xs. slice_cmp nat_cmp xs (string_by
 abbrev IsBetween : List ℕ → List ℕ → List ℕ → Type 0
 IsBetween low high q = IsInRange (slice_cmp nat_cmp) (Included low) (Excluded high) q
 
--- an array in the range lies below the path
-pub taken_below : (arrays : Arrays) (path : List ℕ) (low high : String Global) (k : String Global) (array : HeldArray) → string_bytes low ≡ path ++ codes "/" → string_bytes high ≡ path ++ codes "0" → path ≢ codes "/"
+-- an array in the range is under the path
+pub taken_under : (arrays : Arrays) (path : List ℕ) (low high : String Global) (k : String Global) (array : HeldArray) → string_bytes low ≡ path ++ codes "/" → string_bytes high ≡ path ++ codes "0" → path ≢ codes "/"
     → IsInRange string_cmp (Included low) (Excluded high) k → tree.get string_cmp arrays k ≡ Some array → IsTakenIn arrays path
-taken_below arrays path low high k array e f ne h found =
+taken_under arrays path low high k array e f ne h found =
     let P : List ℕ → Type 0 = λ xs. IsBetween xs (string_bytes high) (string_bytes k) in
     let Q : List ℕ → Type 0 = λ xs. IsBetween (path ++ codes "/") xs (string_bytes k) in
-    record { other = string_bytes k; array = array; found = found; related = related_below path (string_bytes k) ((is_under-range path (string_bytes k) ne).1 (subst Q f (subst P e h))) }
+    record { other = string_bytes k; array = array; found = found; related = related_under path (string_bytes k) ((is_under-range path (string_bytes k) ne).1 (subst Q f (subst P e h))) }
 
--- where no key is in the range, no array lies below the path
-pub free_below : (arrays : Arrays) (path : List ℕ) (low high : String Global) → string_bytes low ≡ path ++ codes "/" → string_bytes high ≡ path ++ codes "0" → path ≢ codes "/"
-    → ((k : String Global) → IsInRange string_cmp (Included low) (Excluded high) k → tree.get string_cmp arrays k ≡ None) → IsFreeBelow arrays path
-free_below arrays path low high e f ne none = λ other array found. false_from_ne_true (is_under path other) (λ u.
+-- where no key is in the range, no array is under the path
+pub free_under : (arrays : Arrays) (path : List ℕ) (low high : String Global) → string_bytes low ≡ path ++ codes "/" → string_bytes high ≡ path ++ codes "0" → path ≢ codes "/"
+    → ((k : String Global) → IsInRange string_cmp (Included low) (Excluded high) k → tree.get string_cmp arrays k ≡ None) → IsFreeUnder arrays path
+free_under arrays path low high e f ne none = λ other array found. false_from_ne_true (is_under path other) (λ u.
     let k = key_at arrays.entries other array found in
     let P : List ℕ → Type 0 = λ xs. IsBetween xs (string_bytes high) (string_bytes k.0) in
     let Q : List ℕ → Type 0 = λ xs. IsBetween (path ++ codes "/") xs (string_bytes k.0) in
@@ -184,18 +184,18 @@ taken_first arrays path low high f s t o e g ne r m some =
     let x = next_some f s t o m some in
     let P : Option (String Global × HeldArray) → Type 0 = λ y. IfSome y (IsEntryInRange string_cmp (Included low) (Excluded high) arrays) in
     let h : IsEntryInRange string_cmp (Included low) (Excluded high) arrays x.0 = subst P x.1 r.1 in
-    taken_below arrays path low high x.0.0 x.0.1 e g ne h.0 h.1
+    taken_under arrays path low high x.0.0 x.0.1 e g ne h.0 h.1
 
 pub free_first : {B : Type 0} (arrays : Arrays) (path : List ℕ) (low high : String Global) (f : B → String Global × HeldArray) (s t : List (String Global × HeldArray)) (o : Option B) → string_bytes low ≡ path ++ codes "/" → string_bytes high ≡ path ++ codes "0" → path ≢ codes "/"
-    → IsRangeOf string_cmp (Included low) (Excluded high) arrays s → MatchOption o ((s ≡ []) × (t ≡ [])) (λ x. s ≡ f x ∷ t) → is_some o ≡ false → IsFreeBelow arrays path
-free_first arrays path low high f s t o e g ne r m none = free_below arrays path low high e g ne (r.5 (next_none f s t o m none))
+    → IsRangeOf string_cmp (Included low) (Excluded high) arrays s → MatchOption o ((s ≡ []) × (t ≡ [])) (λ x. s ≡ f x ∷ t) → is_some o ≡ false → IsFreeUnder arrays path
+free_first arrays path low high f s t o e g ne r m none = free_under arrays path low high e g ne (r.5 (next_none f s t o m none))
 
--- below `/`
+-- under `/`
 pub all_related : (path q : List ℕ) → path ≡ codes "/" → IsTrue (is_related path q)
 all_related path q e = subst (λ p. IsTrue (is_related p q)) (sym e)
     (⊎_elim
     (λ t. related_same (codes "/") q (sym ((bytes_eq-Decides q (codes "/")).0 t)))
-    (λ t. related_below (codes "/") q (ap not t))
+    (λ t. related_under (codes "/") q (ap not t))
     (cases_Bool (bytes_eq q (codes "/"))))
 
 pub taken_root : (arrays : Arrays) (path : List ℕ) → path ≡ codes "/" → (arrays.entries ≡ [] → ⊥) → IsTakenIn arrays path
@@ -210,13 +210,13 @@ taken_root arrays path e some = go arrays.entries refl where
     related = all_related path (string_bytes x.0) e;
   }
 
-pub free_root : (arrays : Arrays) (path : List ℕ) → arrays.entries ≡ [] → IsFreeBelow arrays path
+pub free_root : (arrays : Arrays) (path : List ℕ) → arrays.entries ≡ [] → IsFreeUnder arrays path
 free_root arrays path e = λ other array found. absurd (none_some (array_at arrays other) array (ap (lookup (tree.is_at (λ k. slice_cmp nat_cmp other (string_bytes k)))) e) found)
 
 pub not_empty : (arrays : Arrays) (b : Bool) → IsTrue b ↔ (length arrays.entries ≡ 0) → IsTrue (not b) → arrays.entries ≡ [] → ⊥
 not_empty arrays true h t e = false≢true t
 not_empty arrays false h t e = false≢true (h.1 (ap length e))
 
-pub free_result : (arrays : Arrays) (path : List ℕ) (r : Result Bool AllocError) → is_some (array_at arrays path) ≡ false → IsFreeAbove arrays path → IfOk r (λ taken. taken ≡ false → IsFreeBelow arrays path) → IfOk r (λ taken. taken ≡ false → IsFreeIn arrays path)
-free_result arrays path (Ok taken) none above below = λ t. free_of arrays path none above (below t)
-free_result arrays path (Err e) none above below = tt
+pub free_result : (arrays : Arrays) (path : List ℕ) (r : Result Bool AllocError) → is_some (array_at arrays path) ≡ false → IsFreeAbove arrays path → IfOk r (λ taken. taken ≡ false → IsFreeUnder arrays path) → IfOk r (λ taken. taken ≡ false → IsFreeIn arrays path)
+free_result arrays path (Ok taken) none above under = λ t. free_of arrays path none above (under t)
+free_result arrays path (Err e) none above under = tt

@@ -11,6 +11,7 @@ abbrev pub cause_of_document : DocumentError → Cause
 cause_of_document document.Memory = cause.Memory
 cause_of_document error = cause.Document
 
+-- the cause of a refusal that an error over a chunk becomes
 abbrev pub cause_of_chunk : ChunkFault → Cause
 cause_of_chunk chunk.Damage = cause.Damage
 cause_of_chunk chunk.Memory = cause.Memory

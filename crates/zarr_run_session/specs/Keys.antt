@@ -4,9 +4,9 @@ use Rattle.std.specs.FinMap.{get, insert}
 use Rattle.serde_json.specs.Data.{Data}
 use Rattle.serde_json.specs.Read.{read}
 use Rattle.zarr_grids_boxes.specs.Boxes.{places}
-use Rattle.zarr_grids_chunks.specs.Grids.{met}
+use Rattle.zarr_grids_chunks.specs.Grids.{intersecting}
 use Rattle.zarr_grids_keys.specs.Documents.{document_key}
-use Rattle.zarr_grids_keys.specs.Keys.{chunk_key, key_below}
+use Rattle.zarr_grids_keys.specs.Keys.{chunk_key, key_under}
 use Rattle.zarr_grids_keys.specs.Paths.{is_node_path}
 use Rattle.zarr_grids_keys.specs.Related.{is_related}
 use Rattle.zarr_grids_keys.specs.declared.document_name.DocumentName.TheVariants.{ZarrJson}
@@ -20,7 +20,7 @@ use Rattle.zarr_run_session.specs.declared.held.HeldArray.{HeldArray}
 
 -- the chunks that share a place with what a write means
 abbrev pub meant : HeldArray → Target → List (List ℕ)
-meant array (in_box region) = met (meaning_of array.document).grid region
+meant array (in_box region) = intersecting (meaning_of array.document).grid region
 meant array (in_chunk chunk) = chunk ∷ []
 
 -- of some chunks in order, those that a command with this answer changed
@@ -56,6 +56,6 @@ LeavesKeys (Some array) (write path target given options) answer old new = Wrote
 LeavesKeys (Some array) (erase path chunks) answer old new = ErasedKeys array (places chunks.start chunks.shape) answer old new
 LeavesKeys found request answer old new = new ≡ old
 
--- no key below a path that is unrelated to this one changed
+-- no key under a path that is unrelated to this one changed
 abbrev pub LeavesUnrelated : List ℕ → StoreMap → StoreMap → Type 0
-LeavesUnrelated path old new = (other name : List ℕ) → IsTrue (is_node_path path) → IsTrue (is_node_path other) → is_related path other ≡ false → get new (key_below other name) ≡ get old (key_below other name)
+LeavesUnrelated path old new = (other name : List ℕ) → IsTrue (is_node_path path) → IsTrue (is_node_path other) → is_related path other ≡ false → get new (key_under other name) ≡ get old (key_under other name)

@@ -16,7 +16,7 @@ use Rattle.zarr_array_stores.specs.StoreMaps.{StoreMap}
 use Rattle.zarr_run_model.specs.Requests.{Request, create, reopen, Answer, done, refused}
 use Rattle.zarr_run_model.specs.declared.cause.Cause.{Cause}
 use Rattle.zarr_run_model.specs.declared.cause.Cause.TheVariants as cause
-use Rattle.zarr_run_session.specs.Related.{IsTakenIn, IsFreeIn, IsBelowSlashed}
+use Rattle.zarr_run_session.specs.Related.{IsTakenIn, IsFreeIn, IsUnderSlashed}
 use Rattle.zarr_run_session.specs.Sessions.{Arrays, array_at, HasDocument}
 use Rattle.zarr_run_session.specs.declared.held.HeldArray.{HeldArray}
 
@@ -55,9 +55,9 @@ IsNoDocument path store = (text : List ℕ) × (get store (document_key path Zar
 abbrev pub Reopened : Option HeldArray → List ℕ → SubchunkWriteOrder → Arrays → StoreMap → Answer → Arrays → Type 0
 Reopened (Some array) path order old store done new = ((tree : Data) × HasDocument path tree store × SameTree tree (view array.tree)) × (array_at new path ≡ Some (record array { order = order }))
 Reopened (Some array) path order old store (refused cause.DocumentChanged n) new = (tree : Data) → HasDocument path tree store → ¬ SameTree tree (view array.tree)
-Reopened None path order old store done new = (¬ IsBelowSlashed old path) × (tree : Data) × HasDocument path tree store × (array : HeldArray) × (array_at new path ≡ Some array) × IsOpened tree order array
-Reopened None path order old store (refused cause.NoArray n) new = (get store (document_key path ZarrJson) ≡ None) ⊎ IsBelowSlashed old path
-Reopened None path order old store (refused cause.Document n) new = (¬ IsBelowSlashed old path) × IsNoDocument path store
+Reopened None path order old store done new = (¬ IsUnderSlashed old path) × (tree : Data) × HasDocument path tree store × (array : HeldArray) × (array_at new path ≡ Some array) × IsOpened tree order array
+Reopened None path order old store (refused cause.NoArray n) new = (get store (document_key path ZarrJson) ≡ None) ⊎ IsUnderSlashed old path
+Reopened None path order old store (refused cause.Document n) new = (¬ IsUnderSlashed old path) × IsNoDocument path store
 Reopened found path order old store (refused cause.Path n) new = is_node_path path ≡ false
 Reopened found path order old store (refused cause.Memory n) new = Unit {0}
 Reopened found path order old store answer new = ⊥

@@ -11,7 +11,7 @@ use Rattle.zarr_array_stores.specs.StoreMaps.{StoreMap}
 use Rattle.zarr_run_model.specs.declared.cause.Cause.{Cause}
 use Rattle.zarr_run_model.specs.declared.cause.Cause.TheVariants as cause
 use Rattle.zarr_run_session.specs.Openings.{IsNoDocument}
-use Rattle.zarr_run_session.specs.Related.{IsBelowSlashed}
+use Rattle.zarr_run_session.specs.Related.{IsUnderSlashed}
 use Rattle.zarr_run_session.specs.Sessions.{Arrays, HasDocument}
 use Rattle.zarr_run_session.specs.declared.held.HeldArray.{HeldArray}
 use Rattle.zarr_run_session.specs.declared.reopening.StoredDocument.{StoredDocument}
@@ -41,7 +41,7 @@ ComparisonRefused path array store c = ⊥
 
 -- why what is stored isn't opened
 abbrev pub OpeningRefused : Arrays → List ℕ → StoreMap → Cause → Type 0
-OpeningRefused arrays path store cause.NoArray = (get store (document_key path ZarrJson) ≡ None) ⊎ IsBelowSlashed arrays path
-OpeningRefused arrays path store cause.Document = (¬ IsBelowSlashed arrays path) × IsNoDocument path store
+OpeningRefused arrays path store cause.NoArray = (get store (document_key path ZarrJson) ≡ None) ⊎ IsUnderSlashed arrays path
+OpeningRefused arrays path store cause.Document = (¬ IsUnderSlashed arrays path) × IsNoDocument path store
 OpeningRefused arrays path store cause.Memory = Unit {0}
 OpeningRefused arrays path store c = ⊥

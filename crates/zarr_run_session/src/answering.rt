@@ -1,7 +1,7 @@
 //! Replies over one array that is held: writes.
 ghost use Rattle.std.specs.Prelude.{◌≡◌, [], ◌∷◌, Some, string_bytes};
 ghost use Rattle.zarr_grids_boxes.specs.Subsets.{region_of};
-ghost use Rattle.zarr_grids_chunks.specs.Grids.{IsCovered, met};
+ghost use Rattle.zarr_grids_chunks.specs.Grids.{IsCovered, intersecting};
 ghost use Rattle.zarr_codecs_cells.specs.Cells.{uint8, fixed};
 ghost use Rattle.zarr_codecs_cells.specs.Json.{GivenCells, given_in, given_bytes};
 ghost use Rattle.zarr_array_documents.specs.Meanings.{meaning_of};
@@ -40,7 +40,7 @@ pub(crate) fn write_to_box(
     options: CodecOptions,
 ) -> Reply
     ensures steps { StepsHeld array.now (ask.write (string_bytes array.now.path) (ask.in_box (region_of region.now)) (given cells.now) options) store.old result store.new }
-    ensures keys { WroteKeys array.now (met (meaning_of array.now.document).grid (region_of region.now)) options (answered result) store.old store.new }
+    ensures keys { WroteKeys array.now (intersecting (meaning_of array.now.document).grid (region_of region.now)) options (answered result) store.old store.new }
 {
     if !is_covered(array, region) {
         return refused(Cause::Region);
@@ -78,7 +78,7 @@ fn write_covered(
     requires { IsCovered (meaning_of array.now.document).grid (region_of region.now) }
     ensures steps { (target : Target) → IsTarget (meaning_of array.now.document).grid target (region_of region.now)
         → StepsHeld array.now (ask.write (string_bytes array.now.path) target (given cells.now) options) store.old result store.new }
-    ensures keys { WroteKeys array.now (met (meaning_of array.now.document).grid (region_of region.now)) options (answered result) store.old store.new }
+    ensures keys { WroteKeys array.now (intersecting (meaning_of array.now.document).grid (region_of region.now)) options (answered result) store.old store.new }
 {
     match cells {
         CommandCells::Bytes(bytes) => {
@@ -112,7 +112,7 @@ fn write_fixed(
     requires { IsCovered (meaning_of array.now.document).grid (region_of region.now) }
     ensures steps { (target : Target) → IsTarget (meaning_of array.now.document).grid target (region_of region.now)
         → StepsHeld array.now (ask.write (string_bytes array.now.path) target (given_bytes (fixed bytes.now)) options) store.old result store.new }
-    ensures keys { WroteKeys array.now (met (meaning_of array.now.document).grid (region_of region.now)) options (answered result) store.old store.new }
+    ensures keys { WroteKeys array.now (intersecting (meaning_of array.now.document).grid (region_of region.now)) options (answered result) store.old store.new }
 {
     write_given(alloc, array, store, region, bytes, options)
 }
@@ -130,7 +130,7 @@ fn write_given(
     ensures steps { (target : Target) (cells : GivenCells) → IsTarget (meaning_of array.now.document).grid target (region_of region.now)
         → given_in uint8 cells ≡ Some (one_byte_cells bytes.now)
         → StepsHeld array.now (ask.write (string_bytes array.now.path) target cells options) store.old result store.new }
-    ensures keys { WroteKeys array.now (met (meaning_of array.now.document).grid (region_of region.now)) options (answered result) store.old store.new }
+    ensures keys { WroteKeys array.now (intersecting (meaning_of array.now.document).grid (region_of region.now)) options (answered result) store.old store.new }
 {
     match write_cells(
         alloc,

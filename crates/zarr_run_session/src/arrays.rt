@@ -2,7 +2,7 @@
 ghost use Rattle.std.specs.Prelude.{◌≡◌, ◌↔◌, ◌++◌, false, IsTrue, Some, None, IfOk, OnOk, OnErr, codes, option_copied, string_bytes};
 ghost use Rattle.zarr_grids_keys.specs.Paths.{is_node_path};
 ghost use Rattle.zarr_run_session.specs.Openings.{KeepsArrays, KeepsOtherArrays};
-ghost use Rattle.zarr_run_session.specs.Related.{IsTakenIn, IsFreeIn, IsFreeAbove, IsFreeBelow, IsSlashedAt, IsBelowSlashed};
+ghost use Rattle.zarr_run_session.specs.Related.{IsTakenIn, IsFreeIn, IsFreeAbove, IsFreeUnder, IsSlashedAt, IsUnderSlashed};
 ghost use Rattle.zarr_run_session.specs.Sessions.{array_at};
 ghost use Rattle.zarr_run_session.specs.declared.held.HeldArray.{HeldArray};
 
@@ -19,7 +19,7 @@ pub(crate) fn find<'a>(arrays: &'a BTreeMap<String, HeldArray>, path: &str) -> O
     arrays.get(path)
 }
 
-/// Whether an array is held at a path, above it or below it. The paths above are looked up one by one, and those below
+/// Whether an array is held at a path, above it or under it. The paths above are looked up one by one, and those under it
 /// are one range of the map.
 pub(crate) fn is_path_taken(
     alloc: Global,
@@ -36,7 +36,7 @@ pub(crate) fn is_path_taken(
     if is_taken_above(arrays, path) {
         return Ok(true);
     }
-    is_taken_below(alloc, arrays, path)
+    is_taken_under(alloc, arrays, path)
 }
 
 /// Whether an array is held above a path.
@@ -57,10 +57,10 @@ fn is_taken_above(arrays: &BTreeMap<String, HeldArray>, path: &str) -> bool
 
 /// Whether an array is held above a path whose keys have a suffix with a slash. What is stored under the key of a document
 /// of the path may then be a chunk of that array.
-pub(crate) fn is_below_slashed(arrays: &BTreeMap<String, HeldArray>, path: &str) -> bool
+pub(crate) fn is_under_slashed(arrays: &BTreeMap<String, HeldArray>, path: &str) -> bool
     requires { IsTrue (is_node_path path.now) }
-    ensures below { IsTrue result → IsBelowSlashed arrays.now path.now }
-    ensures free { result ≡ false → ¬ IsBelowSlashed arrays.now path.now }
+    ensures under { IsTrue result → IsUnderSlashed arrays.now path.now }
+    ensures free { result ≡ false → ¬ IsUnderSlashed arrays.now path.now }
 {
     let mut lower = path;
     while let Some(parent) = parent_path(lower) {
@@ -77,19 +77,19 @@ fn is_slashed_at(arrays: &BTreeMap<String, HeldArray>, path: &str) -> bool
     ensures { IsTrue result ↔ IsSlashedAt arrays.now path.now }
 {
     match find(arrays, path) {
-        Some(array) => !array.document.keys.has_plain_suffix(),
+        Some(array) => !array.document.keys.has_flat_suffix(),
         None => false,
     }
 }
 
-/// Whether an array is held below a path. Below `/` each array counts, also one that is held there.
-fn is_taken_below(
+/// Whether an array is held under a path. Under `/` each array counts, also one that is held there.
+fn is_taken_under(
     alloc: Global,
     arrays: &BTreeMap<String, HeldArray>,
     path: &str,
 ) -> Result<bool, AllocError>
     ensures taken { IfOk result (λ taken. IsTrue taken → IsTakenIn arrays.now path.now) }
-    ensures free { IfOk result (λ taken. taken ≡ false → IsFreeBelow arrays.now path.now) }
+    ensures free { IfOk result (λ taken. taken ≡ false → IsFreeUnder arrays.now path.now) }
 {
     if path == "/" {
         return Ok(!arrays.is_empty());

@@ -2,8 +2,8 @@
 ghost use Rattle.std.specs.Prelude.{◌≡◌, ◌↔◌, ◌<◌, IsTrue, length, IfOk, OnOk, IfErr, string_bytes};
 ghost use Rattle.zarr_grids_boxes.specs.Boxes.{product};
 ghost use Rattle.zarr_grids_boxes.specs.Subsets.{region_of};
-ghost use Rattle.zarr_grids_chunks.specs.Grids.{IsBelow, IsCovered};
-ghost use Rattle.zarr_grids_cover.specs.Met.{AreMet};
+ghost use Rattle.zarr_grids_chunks.specs.Grids.{IsInGrid, IsCovered};
+ghost use Rattle.zarr_grids_cover.specs.Intersecting.{AreIntersecting};
 ghost use Rattle.zarr_array_documents.specs.Meanings.{meaning_of};
 ghost use Rattle.zarr_run_array.specs.Contents.{ReadsBox, HasSmallChunks};
 ghost use Rattle.zarr_run_model.specs.Steps.{HasTooLarge};
@@ -15,37 +15,37 @@ use std::alloc::Global;
 use zarr_array_stores::MemoryStore;
 use zarr_grids_boxes::ArraySubset;
 use zarr_grids_boxes::walk::count_places;
-use zarr_grids_cover::{chunks_met, covers, has_chunk_of, is_below};
+use zarr_grids_cover::{chunks_intersecting, covers, has_chunk_of, is_in_grid};
 use zarr_run_array::{read_region, write_region};
 use zarr_run_model::Cause;
 
 /// A chunk with this many cells is too large.
 pub(crate) const TOO_MANY_CELLS: u64 = 1 << 63;
 
-/// Why a write was refused, and after how many of the chunks met.
+/// Why a write was refused, and after how many of the chunks intersecting.
 #[derive(Clone, Copy)]
 pub(crate) struct Refusal {
     pub cause: Cause,
     pub applied: u64,
 }
 
-/// Whether a region has the array's dimensions, and each of its places lies in a chunk below the grid shape.
+/// Whether a region has the array's dimensions, and each of its places lies in a chunk in the grid.
 pub(crate) fn is_covered(array: &HeldArray, region: &ArraySubset) -> bool
     ensures { IsTrue result ↔ IsCovered (meaning_of array.now.document).grid (region_of region.now) }
 {
     covers(&array.document.grid, region)
 }
 
-/// The box of a chunk that lies below the grid shape.
+/// The box of a chunk that lies in the grid.
 pub(crate) fn chunk_region(
     alloc: Global,
     array: &HeldArray,
     chunk: &[u64],
 ) -> Result<ArraySubset, Cause>
-    ensures ok { IfOk result (λ region. IsBelow (meaning_of array.now.document).grid chunk.now (region_of region)) }
+    ensures ok { IfOk result (λ region. IsInGrid (meaning_of array.now.document).grid chunk.now (region_of region)) }
     ensures err { IfErr result (λ cause. ChunkRefused (meaning_of array.now.document) chunk.now cause) }
 {
-    if !is_below(&array.document.grid, chunk) {
+    if !is_in_grid(&array.document.grid, chunk) {
         return Err(Cause::Region);
     }
     match zarr_grids_cover::chunk_region(alloc, &array.document.grid, chunk) {
@@ -54,19 +54,19 @@ pub(crate) fn chunk_region(
     }
 }
 
-/// The chunks that a region with some place meets, as a box of chunk indices, where none of them is too large.
-fn small_chunks_met(
+/// The chunks that a region with some place intersects, as a box of chunk indices, where none of them is too large.
+fn small_chunks_intersecting(
     alloc: Global,
     array: &HeldArray,
     region: &ArraySubset,
 ) -> Result<ArraySubset, Cause>
     requires covered { IsCovered (meaning_of array.now.document).grid (region_of region.now) }
     requires some { 0 < product region.now.shape.items }
-    ensures met { IfOk result (λ chunks. AreMet (meaning_of array.now.document).grid (region_of region.now) (region_of chunks)) }
+    ensures intersecting { IfOk result (λ chunks. AreIntersecting (meaning_of array.now.document).grid (region_of region.now) (region_of chunks)) }
     ensures small { OnOk result (HasSmallChunks (meaning_of array.now.document).grid (region_of region.now)) }
     ensures err { IfErr result (ChunksRefused (meaning_of array.now.document) (region_of region.now)) }
 {
-    let Ok(chunks) = chunks_met(alloc, &array.document.grid, region) else {
+    let Ok(chunks) = chunks_intersecting(alloc, &array.document.grid, region) else {
         return Err(Cause::Memory);
     };
     if has_chunk_of(&array.document.grid, &chunks, TOO_MANY_CELLS) {
@@ -94,7 +94,7 @@ pub(crate) fn read_cells(
     if count == 0 {
         return Ok(Vec::new(alloc));
     }
-    let chunks = small_chunks_met(alloc, array, region)?;
+    let chunks = small_chunks_intersecting(alloc, array, region)?;
     let path = array.path.as_str();
     match read_region(alloc, path, &array.document, region, count, &chunks, store) {
         Ok(bytes) => Ok(bytes),
@@ -134,7 +134,7 @@ pub(crate) fn write_cells(
     if count == 0 {
         return Ok(());
     }
-    let chunks = match small_chunks_met(alloc, array, region) {
+    let chunks = match small_chunks_intersecting(alloc, array, region) {
         Ok(chunks) => chunks,
         Err(cause) => return Err(Refusal { cause, applied: 0 }),
     };

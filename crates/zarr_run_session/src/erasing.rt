@@ -2,7 +2,7 @@
 ghost use Rattle.std.specs.Prelude.{◌≡◌, ◌↔◌, IsTrue, IfSome, IfNone, string_bytes};
 ghost use Rattle.zarr_grids_boxes.specs.Boxes.{product, places};
 ghost use Rattle.zarr_grids_boxes.specs.Subsets.{region_of};
-ghost use Rattle.zarr_grids_chunks.specs.Grids.{AreBelow};
+ghost use Rattle.zarr_grids_chunks.specs.Grids.{AreInGrid};
 ghost use Rattle.zarr_array_documents.specs.Meanings.{meaning_of};
 ghost use Rattle.zarr_run_model.specs.Requests as ask;
 ghost use Rattle.zarr_run_model.specs.Steps.{HasTooLargeChunk};
@@ -17,7 +17,7 @@ use std::alloc::Global;
 use zarr_array_stores::MemoryStore;
 use zarr_grids_boxes::ArraySubset;
 use zarr_grids_boxes::walk::count_places;
-use zarr_grids_cover::{are_below, has_chunk_of};
+use zarr_grids_cover::{are_in_grid, has_chunk_of};
 use zarr_run_array::erase_chunks;
 use zarr_run_commands::Reply;
 use zarr_run_model::Cause;
@@ -49,16 +49,16 @@ pub(crate) fn erase_box(
     }
 }
 
-/// Whether a box of chunk indices has the array's dimensions, and each of its chunks lies below the grid shape and has a box.
+/// Whether a box of chunk indices has the array's dimensions, and each of its chunks lies in the grid and has a box.
 fn has_chunks(array: &HeldArray, chunks: &ArraySubset) -> bool
-    ensures { IsTrue result ↔ AreBelow (meaning_of array.now.document).grid (region_of chunks.now) }
+    ensures { IsTrue result ↔ AreInGrid (meaning_of array.now.document).grid (region_of chunks.now) }
 {
-    are_below(&array.document.grid, chunks)
+    are_in_grid(&array.document.grid, chunks)
 }
 
 /// The number of chunks of a box of chunk indices, where neither it nor the size of one of these chunks is too large.
 fn count_chunks(array: &HeldArray, chunks: &ArraySubset) -> Option<u64>
-    requires { AreBelow (meaning_of array.now.document).grid (region_of chunks.now) }
+    requires { AreInGrid (meaning_of array.now.document).grid (region_of chunks.now) }
     ensures count { IfSome result (λ count. count ≡ product chunks.now.shape.items) }
     ensures fits { IfSome result (λ count. ¬ HasTooLargeChunk (meaning_of array.now.document) (region_of chunks.now)) }
     ensures large { IfNone result (HasTooLargeChunk (meaning_of array.now.document) (region_of chunks.now)) }

@@ -6,13 +6,13 @@ ghost use Rattle.zarr_run_model.specs.Requests as ask;
 ghost use Rattle.zarr_run_commands.specs.Commands.{answered};
 ghost use Rattle.zarr_run_session.specs.Openings.{LeavesArrays, Opens, IsOpened};
 ghost use Rattle.zarr_run_session.specs.Placed.{ArePlaced};
-ghost use Rattle.zarr_run_session.specs.Related.{IsBelowSlashed};
+ghost use Rattle.zarr_run_session.specs.Related.{IsUnderSlashed};
 ghost use Rattle.zarr_run_session.specs.Reopenings.{IsStoredAt, HasSameDocument, ComparisonRefused, OpeningRefused};
 ghost use Rattle.zarr_run_session.specs.Replies.{answer_of};
 ghost use Rattle.zarr_run_session.specs.Sessions.{HasDocument, StepsFrom};
 ghost use Rattle.serde_json.specs.Data.{Data};
 
-use crate::arrays::{find, hold, is_below_slashed, set_order};
+use crate::arrays::{find, hold, is_under_slashed, set_order};
 use crate::cause::cause_of_document;
 use crate::held::HeldArray;
 use crate::replies::reply;
@@ -37,7 +37,7 @@ enum StoredDocument {
 }
 
 /// Opens an array with a write order: one that is held, where its own document is stored, or else the one that is
-/// stored. Below an array whose keys have a suffix with a slash there is none to open: what is stored may be a chunk. A reopening that is refused leaves the arrays as they were.
+/// stored. InGrid an array whose keys have a suffix with a slash there is none to open: what is stored may be a chunk. A reopening that is refused leaves the arrays as they were.
 pub(crate) fn reopen(
     alloc: Global,
     arrays: &mut BTreeMap<String, HeldArray>,
@@ -112,12 +112,12 @@ fn open(
     order: SubchunkWriteOrder,
 ) -> Result<HeldArray, Cause>
     requires { IsTrue (is_node_path path.now) }
-    ensures free { OnOk result (¬ IsBelowSlashed arrays.now path.now) }
+    ensures free { OnOk result (¬ IsUnderSlashed arrays.now path.now) }
     ensures ok { IfOk result (λ array. (tree : Data) × HasDocument path.now tree store.now × IsOpened tree order array) }
     ensures at { IfOk result (λ array. string_bytes array.path ≡ path.now) }
     ensures refused { IfErr result (OpeningRefused arrays.now path.now store.now) }
 {
-    if is_below_slashed(arrays, path) {
+    if is_under_slashed(arrays, path) {
         return Err(Cause::NoArray);
     }
     let tree = match stored_document(alloc, store, path) {

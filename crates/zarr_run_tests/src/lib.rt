@@ -1,16 +1,12 @@
-//! Tests over whole sessions, and the bench that they are made with: commands from literals, and what replies say.
+//! Tests of what code alone shows of `zarr_run`: typed commands, streams that fail, and what of a line no answer shows.
+//! Whole sessions are in the stories.
 #![tactic(auto)]
 
-pub mod bench;
 #[cfg(test)]
-mod boxes;
+mod lines;
 #[cfg(test)]
-mod chunks;
+mod samples;
 #[cfg(test)]
-mod damage;
+mod sessions;
 #[cfg(test)]
-mod extremes;
-#[cfg(test)]
-mod reference;
-#[cfg(test)]
-mod refusals;
+mod streams;

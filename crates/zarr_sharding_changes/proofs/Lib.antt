@@ -1,5 +1,5 @@
 pub mod Subchunks
-pub mod Steps
+pub mod Appending
 pub mod Overlays
 pub mod Slices
 pub mod Compacting

@@ -8,68 +8,68 @@ use Rattle.zarr_codecs_meaning.specs.Chains.{Location}
 use Rattle.zarr_codecs_meaning.specs.Chains.Location.{at_start, at_end}
 use Rattle.zarr_codecs_meaning.specs.Encoding.{Pair, Piece, base_of, joined}
 use Rattle.zarr_codecs_meaning.specs.Decoding.{pairs_in}
-use Rattle.zarr_codecs_meaning.specs.Standing.{HasSlice, PieceStands, TextStands, PiecesStand, ShardStands}
-use Rattle.zarr_codecs_meaning.proofs.Shards.{TextsStand, is_present}
+use Rattle.zarr_codecs_meaning.specs.Standing.{HasSlice, PieceStands, SliceStands, PiecesStand, ShardStands}
+use Rattle.zarr_codecs_meaning.proofs.Shards.{SlicesStand, is_present}
 use Rattle.zarr_codecs_meaning.proofs.KeptShards.{pairs_found}
 use Rattle.zarr_sharding_changes.specs.Compaction.{data_in, slice_in, stored_at, slices_of}
 
 -- the bytes of a pair are the slice that it has
-slice_read : (base : ℕ) (text : List ℕ) (pair : Pair) (slice : List ℕ) → HasSlice base text pair slice → slice_in base text pair ≡ Some slice
-slice_read base text pair slice h =
+slice_read : (base : ℕ) («data» : List ℕ) (pair : Pair) (slice : List ℕ) → HasSlice base «data» pair slice → slice_in base «data» pair ≡ Some slice
+slice_read base «data» pair slice h =
     let begins = h.begins in
     let long = h.long in
     let count = ap length h.is ∙ (length-append h.before (slice ++ h.after) ∙ ap (λ n. length h.before + n) (length-append slice h.after)) in
     let first : base ≤ pair.0 = omega arith in
-    let last : pair.0 + pair.1 ≤ base + length text = omega (arith, count) in
+    let last : pair.0 + pair.1 ≤ base + length «data» = omega (arith, count) in
     let skip : pair.0 - base ≡ length h.before = omega arith in
-    let found : Option (List ℕ) = Some (take pair.1 (drop (pair.0 - base) text)) in
-    let read : take pair.1 (drop (pair.0 - base) text) ≡ slice =
-    ap (λ n. take pair.1 (drop n text)) skip
+    let found : Option (List ℕ) = Some (take pair.1 (drop (pair.0 - base) «data»)) in
+    let read : take pair.1 (drop (pair.0 - base) «data») ≡ slice =
+    ap (λ n. take pair.1 (drop n «data»)) skip
     ∙ (ap (λ (xs : List ℕ). take pair.1 (drop (length h.before) xs)) h.is
     ∙ (ap (take pair.1) (drop-append_seam h.before (slice ++ h.after)) ∙ (ap (λ n. take n (slice ++ h.after)) long ∙ take-append_seam slice h.after))) in
-    ap (λ (t : Bool). if t && nat_le (pair.0 + pair.1) (base + length text) then found else None) (le-leb base pair.0 first)
-    ∙ (ap (λ (t : Bool). if t then found else None) (le-leb (pair.0 + pair.1) (base + length text) last) ∙ ap Some read)
+    ap (λ (t : Bool). if t && nat_le (pair.0 + pair.1) (base + length «data») then found else None) (le-leb base pair.0 first)
+    ∙ (ap (λ (t : Bool). if t then found else None) (le-leb (pair.0 + pair.1) (base + length «data») last) ∙ ap Some read)
 
 -- what is stored of a piece whose pair stands
-piece_read : (inner : List ℕ → List ℕ → List Cell → Type 0) (fill : Cell) (base : ℕ) (text : List ℕ) (piece : Piece) (pair : Pair) → PieceStands inner fill base text piece pair
-    → (stored : Option (List ℕ)) × (stored_at base text pair ≡ Some stored) × TextStands inner fill piece stored
-piece_read inner fill base text piece pair (inl h) = (None, ap (stored_at base text) h.1, h.0)
-piece_read inner fill base text piece pair (inr h) =
+piece_read : (inner : List ℕ → List ℕ → List Cell → Type 0) (fill : Cell) (base : ℕ) («data» : List ℕ) (piece : Piece) (pair : Pair) → PieceStands inner fill base «data» piece pair
+    → (stored : Option (List ℕ)) × (stored_at base «data» pair ≡ Some stored) × SliceStands inner fill piece stored
+piece_read inner fill base «data» piece pair (inl h) = (None, ap (stored_at base «data») h.1, h.0)
+piece_read inner fill base «data» piece pair (inr h) =
     let slice = h.1.0 in
-    let read : stored_at base text pair ≡ Some (Some slice) =
-    ap (λ (t : Bool). if t then Some None else option_map Some (slice_in base text pair)) (is_present base text pair slice h.1.1) ∙ ap (option_map Some) (slice_read base text pair slice h.1.1) in
+    let read : stored_at base «data» pair ≡ Some (Some slice) =
+    ap (λ (t : Bool). if t then Some None else option_map Some (slice_in base «data» pair)) (is_present base «data» pair slice h.1.1) ∙ ap (option_map Some) (slice_read base «data» pair slice h.1.1) in
     (Some slice, read, (h.0, h.1.2))
 
 -- what is stored of pieces whose pairs stand
-slices_read : (inner : List ℕ → List ℕ → List Cell → Type 0) (fill : Cell) (base : ℕ) (text : List ℕ) (pieces : List Piece) (pairs : List Pair) → PiecesStand inner fill base text pieces pairs
-    → (stored : List (Option (List ℕ))) × (slices_of base text pairs ≡ Some stored) × TextsStand inner fill pieces stored
-slices_read inner fill base text [] [] h = ([], refl, tt)
-slices_read inner fill base text [] (pair ∷ pairs) h = elim h [ ]
-slices_read inner fill base text (piece ∷ pieces) [] h = elim h [ ]
-slices_read inner fill base text (piece ∷ pieces) (pair ∷ pairs) h =
-    let first = piece_read inner fill base text piece pair h.0 in
-    let rest = slices_read inner fill base text pieces pairs h.1 in
-    let read : slices_of base text (pair ∷ pairs) ≡ Some (first.0 ∷ rest.0) =
-    ap (option_and_then (λ (stored : Option (List ℕ)). option_map (λ (others : List (Option (List ℕ))). stored ∷ others) (slices_of base text pairs))) first.1
+slices_read : (inner : List ℕ → List ℕ → List Cell → Type 0) (fill : Cell) (base : ℕ) («data» : List ℕ) (pieces : List Piece) (pairs : List Pair) → PiecesStand inner fill base «data» pieces pairs
+    → (stored : List (Option (List ℕ))) × (slices_of base «data» pairs ≡ Some stored) × SlicesStand inner fill pieces stored
+slices_read inner fill base «data» [] [] h = ([], refl, tt)
+slices_read inner fill base «data» [] (pair ∷ pairs) h = elim h [ ]
+slices_read inner fill base «data» (piece ∷ pieces) [] h = elim h [ ]
+slices_read inner fill base «data» (piece ∷ pieces) (pair ∷ pairs) h =
+    let first = piece_read inner fill base «data» piece pair h.0 in
+    let rest = slices_read inner fill base «data» pieces pairs h.1 in
+    let read : slices_of base «data» (pair ∷ pairs) ≡ Some (first.0 ∷ rest.0) =
+    ap (option_and_then (λ (stored : Option (List ℕ)). option_map (λ (others : List (Option (List ℕ))). stored ∷ others) (slices_of base «data» pairs))) first.1
     ∙ ap (option_map (λ (others : List (Option (List ℕ))). first.0 ∷ others)) rest.1 in
     (first.0 ∷ rest.0, read, (first.2, rest.2))
 
 -- the data part beside an index of this size
-data_read : (location : Location) (size : ℕ) (index text value : List ℕ) → length index ≡ size → value ≡ joined location index text → data_in location size value ≡ text
-data_read at_start size index text value long is = ap (drop size) is ∙ (ap (λ n. drop n (index ++ text)) (sym long) ∙ drop-append_seam index text)
-data_read at_end size index text value long is =
-    let count = ap length is ∙ length-append text index in
-    let kept : length value - size ≡ length text = omega (arith, count, long) in
-    ap (λ n. take n value) kept ∙ (ap (take (length text)) is ∙ take-append_seam text index)
+data_read : (location : Location) (size : ℕ) (index «data» value : List ℕ) → length index ≡ size → value ≡ joined location index «data» → data_in location size value ≡ «data»
+data_read at_start size index «data» value long is = ap (drop size) is ∙ (ap (λ n. drop n (index ++ «data»)) (sym long) ∙ drop-append_seam index «data»)
+data_read at_end size index «data» value long is =
+    let count = ap length is ∙ length-append «data» index in
+    let kept : length value - size ≡ length «data» = omega (arith, count, long) in
+    ap (λ n. take n value) kept ∙ (ap (take (length «data»)) is ∙ take-append_seam «data» index)
 
 -- the slices of what stands are there, and stand for the pieces
 pub shard_read : (index : List ℕ → Option (List Cell)) (inner : List ℕ → List ℕ → List Cell → Type 0) (location : Location) (size : ℕ) (fill : Cell) (pieces : List Piece) (value : List ℕ) → ShardStands index inner location size fill pieces value
-    → (stored : List (Option (List ℕ))) × (option_and_then (slices_of (base_of location size) (data_in location size value)) (pairs_in index location size value) ≡ Some stored) × TextsStand inner fill pieces stored
+    → (stored : List (Option (List ℕ))) × (option_and_then (slices_of (base_of location size) (data_in location size value)) (pairs_in index location size value) ≡ Some stored) × SlicesStand inner fill pieces stored
 shard_read index inner location size fill pieces value h =
     let laid = h.2 in
     let base = base_of location size in
     let all = slices_read inner fill base h.1 pieces h.0 h.3 in
     let read : option_and_then (slices_of base (data_in location size value)) (pairs_in index location size value) ≡ Some all.0 =
     ap (option_and_then (slices_of base (data_in location size value))) (pairs_found index inner location size fill pieces value h)
-    ∙ (ap (λ (text : List ℕ). slices_of base text h.0) (data_read location size laid.text h.1 value laid.long laid.is) ∙ all.1) in
+    ∙ (ap (λ («data» : List ℕ). slices_of base «data» h.0) (data_read location size laid.index_bytes h.1 value laid.long laid.is) ∙ all.1) in
     (all.0, read, all.2)

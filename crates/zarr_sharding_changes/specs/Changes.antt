@@ -1,24 +1,24 @@
--- What a write of some subchunks makes of a shard's pairs and its data part: texts are appended, and pairs replaced.
+-- What a write of some subchunks makes of a shard's pairs and its data part: slices are appended, and pairs replaced.
 use Rattle.std.specs.Prelude.{ℕ, ◌+◌, ◌<◌, List, [], ◌∷◌, ◌++◌, length, get_or, slice_set, Option}
 use Rattle.zarr_codecs_meaning.specs.Types.{Cell, Elements}
 use Rattle.zarr_codecs_meaning.specs.Chains.{Chain}
-use Rattle.zarr_codecs_meaning.specs.Encoding.{Pair, Piece, text_of, pair_at}
-use Rattle.zarr_codecs_meaning.specs.Standing.{TextStands, Slices, IsEncoding, StandsBy}
+use Rattle.zarr_codecs_meaning.specs.Encoding.{Pair, Piece, slice_bytes, pair_at}
+use Rattle.zarr_codecs_meaning.specs.Standing.{SliceStands, Slices, IsEncoding, StandsBy}
 use Rattle.zarr_codecs_meaning.specs.Standing.Slices.{standing_slices, encoded_slices}
 
--- the number of a subchunk, and the text that it is encoded as, or None where it became all fill
+-- the number of a subchunk, and the slice that it is encoded as, or None where it became all fill
 abbrev pub Change : Type 0
 Change = ℕ × Option (List ℕ)
 
 -- the bytes that changes append to the data part
 abbrev pub appended : List Change → List ℕ
 appended [] = []
-appended (change ∷ changes) = text_of change.1 ++ appended changes
+appended (change ∷ changes) = slice_bytes change.1 ++ appended changes
 
--- the pairs after changes whose texts are appended from an offset on
+-- the pairs after changes whose slices are appended from an offset on
 abbrev pub pairs_after : ℕ → List Change → List Pair → List Pair
 pairs_after offset [] pairs = pairs
-pairs_after offset (change ∷ changes) pairs = pairs_after (offset + length (text_of change.1)) changes (slice_set pairs change.0 (pair_at offset change.1))
+pairs_after offset (change ∷ changes) pairs = pairs_after (offset + length (slice_bytes change.1)) changes (slice_set pairs change.0 (pair_at offset change.1))
 
 -- no subchunk
 abbrev pub no_piece : Piece
@@ -30,11 +30,11 @@ pieces_after wanted [] pieces = pieces
 pieces_after wanted (change ∷ changes) pieces = pieces_after wanted changes (slice_set pieces change.0 (get_or wanted change.0 no_piece))
 
 -- a slice of a shard is to stand for its subchunk's cells, or it is to be what encoding writes
-abbrev pub SliceStands : Slices → Chain → Elements → List ℕ → List ℕ → List Cell → Type 0
-SliceStands slices inner elements = elim slices [ standing_slices ↦ StandsBy standing_slices inner elements | encoded_slices ↦ IsEncoding inner elements ]
+abbrev pub SliceStandsBy : Slices → Chain → Elements → List ℕ → List ℕ → List Cell → Type 0
+SliceStandsBy slices inner elements = elim slices [ standing_slices ↦ StandsBy standing_slices inner elements | encoded_slices ↦ IsEncoding inner elements ]
 
--- each change is of a subchunk that is there, and its text stands for what is wanted
+-- each change is of a subchunk that is there, and its slice stands for what is wanted
 abbrev pub ChangesStand : (List ℕ → List ℕ → List Cell → Type 0) → Cell → List Piece → List Change → Type 0
 ChangesStand inner fill wanted [] = Unit {0}
 ChangesStand inner fill wanted (change ∷ changes) =
-    (change.0 < length wanted) × TextStands inner fill (get_or wanted change.0 no_piece) change.1 × ChangesStand inner fill wanted changes
+    (change.0 < length wanted) × SliceStands inner fill (get_or wanted change.0 no_piece) change.1 × ChangesStand inner fill wanted changes

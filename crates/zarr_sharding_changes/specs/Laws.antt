@@ -9,16 +9,16 @@ use Rattle.zarr_codecs_meaning.specs.Fits.{fits, can_cut, is_lossless}
 use Rattle.zarr_codecs_meaning.specs.Encoding.{Pair, Piece, encoded}
 use Rattle.zarr_codecs_meaning.specs.Standing.{Slices, PiecesStand, StandsBy, Tight}
 use Rattle.zarr_codecs_meaning.specs.Laws.{IsLawfulChain, AreCells}
-use Rattle.zarr_sharding_changes.specs.Changes.{Change, appended, pairs_after, pieces_after, SliceStands, ChangesStand}
+use Rattle.zarr_sharding_changes.specs.Changes.{Change, appended, pairs_after, pieces_after, SliceStandsBy, ChangesStand}
 use Rattle.zarr_sharding_changes.specs.Regions.{IsInside, whole, overlaid}
 use Rattle.zarr_sharding_changes.specs.Compaction.{compacted}
 
--- where texts are appended and pairs replaced, the pairs and the longer data part stand for the changed pieces, in whatever order and however often subchunks are changed
+-- where slices are appended and pairs replaced, the pairs and the longer data part stand for the changed pieces, in whatever order and however often subchunks are changed
 abbrev pub ChangesWritten : Type 0
 ChangesWritten = (slices : Slices) (inner : Chain) (elements : Elements) (base : ℕ) («data» : List ℕ) (pieces wanted : List Piece) (pairs : List Pair) (changes : List Change)
     → base + length («data» ++ appended changes) < 2 ^ 64 - 1
-    → PiecesStand (SliceStands slices inner elements) elements.fill base «data» pieces pairs → ChangesStand (SliceStands slices inner elements) elements.fill wanted changes
-    → PiecesStand (SliceStands slices inner elements) elements.fill base («data» ++ appended changes) (pieces_after wanted changes pieces) (pairs_after (base + length «data») changes pairs)
+    → PiecesStand (SliceStandsBy slices inner elements) elements.fill base «data» pieces pairs → ChangesStand (SliceStandsBy slices inner elements) elements.fill wanted changes
+    → PiecesStand (SliceStandsBy slices inner elements) elements.fill base («data» ++ appended changes) (pieces_after wanted changes pieces) (pairs_after (base + length «data») changes pairs)
 
 -- after a box of cells was put over an array that it lies in, the array has those cells at its places
 abbrev pub RegionWritten : Type 0

@@ -7,13 +7,13 @@ use Rattle.zarr_sharding_changes.specs.Regions.{whole, overlaid}
 
 -- what changes make of pairs, of a data part and of subchunks, and what a region makes of a box
 pub record ChangeRows : Type 0 where
-  -- four bytes were stored: the first text begins at 4, the next one behind its three bytes
-  pub two_texts : appended ((1, Some (7 ∷ 8 ∷ 9 ∷ [])) ∷ (0, Some (5 ∷ [])) ∷ []) ≡ 7 ∷ 8 ∷ 9 ∷ 5 ∷ []
+  -- four bytes were stored: the first slice begins at 4, the next one behind its three bytes
+  pub two_slices : appended ((1, Some (7 ∷ 8 ∷ 9 ∷ [])) ∷ (0, Some (5 ∷ [])) ∷ []) ≡ 7 ∷ 8 ∷ 9 ∷ 5 ∷ []
   pub two_pairs : pairs_after 4 ((1, Some (7 ∷ 8 ∷ 9 ∷ [])) ∷ (0, Some (5 ∷ [])) ∷ []) ((0, 2) ∷ (2, 2) ∷ (9, 9) ∷ []) ≡ (7, 1) ∷ (4, 3) ∷ (9, 9) ∷ []
   -- a subchunk that became all fill takes no bytes, and both its numbers become 2^64 - 1
-  pub fill_text : appended ((0, None) ∷ (1, Some (6 ∷ [])) ∷ []) ≡ 6 ∷ []
+  pub fill_slice : appended ((0, None) ∷ (1, Some (6 ∷ [])) ∷ []) ≡ 6 ∷ []
   pub fill_pair : pairs_after 4 ((0, None) ∷ (1, Some (6 ∷ [])) ∷ []) ((0, 2) ∷ (2, 2) ∷ []) ≡ (18446744073709551615, 18446744073709551615) ∷ (4, 1) ∷ []
-  -- an index of 16 bytes and one byte of data come before; the last text of a subchunk counts, and the earlier one stays as a gap
+  -- an index of 16 bytes and one byte of data come before; the last slice of a subchunk counts, and the earlier one stays as a gap
   pub changed_twice : pairs_after 17 ((0, Some (1 ∷ 2 ∷ [])) ∷ (0, Some (3 ∷ [])) ∷ []) ((16, 1) ∷ []) ≡ (19, 1) ∷ []
   pub wanted_twice : pieces_after ((2 ∷ [], byte_cells (3 ∷ 4 ∷ [])) ∷ []) ((0, Some (3 ∷ 4 ∷ [])) ∷ (0, Some (3 ∷ 4 ∷ [])) ∷ []) ((2 ∷ [], byte_cells (1 ∷ 2 ∷ [])) ∷ []) ≡ (2 ∷ [], byte_cells (3 ∷ 4 ∷ [])) ∷ []
   -- subchunk 0 is wanted otherwise too, but isn't changed

@@ -13,7 +13,7 @@ pub fn compaction_rows()
     ensures { CompactionRows }
 {}
 
-/// Texts that are appended and pairs that are replaced stand for the changed subchunks, beside all others.
+/// Slices that are appended and pairs that are replaced stand for the changed subchunks, beside all others.
 pub fn changes_written()
     ensures { ChangesWritten }
 {}

@@ -3,11 +3,11 @@ use Rattle.std.proofs.lemmas.List.{length-map}
 use Rattle.zarr_grids_boxes.specs.Boxes.{is_in_box, EndsFit, last_index}
 use Rattle.zarr_grids_boxes.proofs.Places.{length-each2}
 use Rattle.zarr_grids_dimensions.specs.Dimensions.{dimension_of, grid_of}
-use Rattle.zarr_grids_dimensions.specs.Lookups.{lies_in}
+use Rattle.zarr_grids_dimensions.specs.Lookups.{chunk_has}
 use Rattle.zarr_grids_dimensions.specs.Chunks.{numbers, counts_to}
 use Rattle.zarr_grids_dimensions.proofs.Declared.{always_dimensions}
 use Rattle.zarr_grids_dimensions.proofs.Elements.{lies-length}
-use Rattle.zarr_grids_dimensions.proofs.Meeting.{met_box, ordered_box}
+use Rattle.zarr_grids_dimensions.proofs.Intersecting.{intersecting_box, ordered_box}
 use Rattle.zarr_grids_dimensions.proofs.boxes.find_chunks.Goals as goal
 
 pub find_chunk-requires-2 : goal.find_chunk-requires-2
@@ -15,34 +15,34 @@ find_chunk-requires-2 c = ap (λ (ns : List ℕ). length ns) (c.deref.ensures.va
 
 pub count_to-requires-clause-same : goal.count_to-requires-clause-same
 count_to-requires-clause-same c =
-    let i : lies_in (grid_of c.args.grid.now) c.in-Some.first.items c.args.start.now ≡ true = (c.in_ok-found_first.ensures c.in-Some.first.items).0 (ap (λ o. numbers o) c.in-Some.is) in
-    let j : lies_in (grid_of c.args.grid.now) c.in-Some-found_last.last.items (last_index c.args.start.now c.args.shape.now) ≡ true =
-    ap (λ p. lies_in (grid_of c.args.grid.now) c.in-Some-found_last.last.items p) (sym c.in_ok-place.ensures ∙ sym c.deref.ensures.value) ∙ (c.in_ok-found_last.ensures c.in-Some-found_last.last.items).0 (ap (λ o. numbers o) c.in-Some-found_last.is) in
+    let i : chunk_has (grid_of c.args.grid.now) c.in-Some.first.items c.args.start.now ≡ true = (c.in_ok-found_first.ensures c.in-Some.first.items).0 (ap (λ o. numbers o) c.in-Some.is) in
+    let j : chunk_has (grid_of c.args.grid.now) c.in-Some-found_last.last.items (last_index c.args.start.now c.args.shape.now) ≡ true =
+    ap (λ p. chunk_has (grid_of c.args.grid.now) c.in-Some-found_last.last.items p) (sym c.in_ok-place.ensures ∙ sym c.deref.ensures.value) ∙ (c.in_ok-found_last.ensures c.in-Some-found_last.last.items).0 (ap (λ o. numbers o) c.in-Some-found_last.is) in
     ap (λ (ns : List ℕ). length ns) c.deref-3.ensures.value ∙ lies-length _ _ _ j ∙ sym (lies-length _ _ _ i) ∙ ap (λ (ns : List ℕ). length ns) (sym c.deref-2.ensures.value)
 
 pub count_to-requires-clause-order : goal.count_to-requires-clause-order
 count_to-requires-clause-order c =
-    let i : lies_in (grid_of c.args.grid.now) c.in-Some.first.items c.args.start.now ≡ true = (c.in_ok-found_first.ensures c.in-Some.first.items).0 (ap (λ o. numbers o) c.in-Some.is) in
-    let j : lies_in (grid_of c.args.grid.now) c.in-Some-found_last.last.items (last_index c.args.start.now c.args.shape.now) ≡ true =
-    ap (λ p. lies_in (grid_of c.args.grid.now) c.in-Some-found_last.last.items p) (sym c.in_ok-place.ensures ∙ sym c.deref.ensures.value) ∙ (c.in_ok-found_last.ensures c.in-Some-found_last.last.items).0 (ap (λ o. numbers o) c.in-Some-found_last.is) in
+    let i : chunk_has (grid_of c.args.grid.now) c.in-Some.first.items c.args.start.now ≡ true = (c.in_ok-found_first.ensures c.in-Some.first.items).0 (ap (λ o. numbers o) c.in-Some.is) in
+    let j : chunk_has (grid_of c.args.grid.now) c.in-Some-found_last.last.items (last_index c.args.start.now c.args.shape.now) ≡ true =
+    ap (λ p. chunk_has (grid_of c.args.grid.now) c.in-Some-found_last.last.items p) (sym c.in_ok-place.ensures ∙ sym c.deref.ensures.value) ∙ (c.in_ok-found_last.ensures c.in-Some-found_last.last.items).0 (ap (λ o. numbers o) c.in-Some-found_last.is) in
     let r = ordered_box _ _ c.args.start.now c.args.shape.now _ (always_dimensions c.args.grid.now) c.requires.some c.requires.same c.requires.fit i j in
     subst (λ (ns : List ℕ). (k : ℕ) → k < length ns → get_or ns k 0 ≤ get_or c.deref-3.result.now k 0) (sym c.deref-2.ensures.value)
     (subst (λ (ns : List ℕ). (k : ℕ) → k < length c.in-Some.first.items → get_or c.in-Some.first.items k 0 ≤ get_or ns k 0) (sym c.deref-3.ensures.value) r.order)
 
 pub count_to-requires-clause-fit : goal.count_to-requires-clause-fit
 count_to-requires-clause-fit c =
-    let i : lies_in (grid_of c.args.grid.now) c.in-Some.first.items c.args.start.now ≡ true = (c.in_ok-found_first.ensures c.in-Some.first.items).0 (ap (λ o. numbers o) c.in-Some.is) in
-    let j : lies_in (grid_of c.args.grid.now) c.in-Some-found_last.last.items (last_index c.args.start.now c.args.shape.now) ≡ true =
-    ap (λ p. lies_in (grid_of c.args.grid.now) c.in-Some-found_last.last.items p) (sym c.in_ok-place.ensures ∙ sym c.deref.ensures.value) ∙ (c.in_ok-found_last.ensures c.in-Some-found_last.last.items).0 (ap (λ o. numbers o) c.in-Some-found_last.is) in
+    let i : chunk_has (grid_of c.args.grid.now) c.in-Some.first.items c.args.start.now ≡ true = (c.in_ok-found_first.ensures c.in-Some.first.items).0 (ap (λ o. numbers o) c.in-Some.is) in
+    let j : chunk_has (grid_of c.args.grid.now) c.in-Some-found_last.last.items (last_index c.args.start.now c.args.shape.now) ≡ true =
+    ap (λ p. chunk_has (grid_of c.args.grid.now) c.in-Some-found_last.last.items p) (sym c.in_ok-place.ensures ∙ sym c.deref.ensures.value) ∙ (c.in_ok-found_last.ensures c.in-Some-found_last.last.items).0 (ap (λ o. numbers o) c.in-Some-found_last.is) in
     let r = ordered_box _ _ c.args.start.now c.args.shape.now _ (always_dimensions c.args.grid.now) c.requires.some c.requires.same c.requires.fit i j in
     subst (λ (ns : List ℕ). (k : ℕ) → k < length ns → get_or c.deref-3.result.now k 0 + 1 < 2 ^ 64) (sym c.deref-2.ensures.value)
     (subst (λ (ns : List ℕ). (k : ℕ) → k < length c.in-Some.first.items → get_or ns k 0 + 1 < 2 ^ 64) (sym c.deref-3.ensures.value) r.fit)
 
 pub invariant_of-result : goal.invariant_of-result
 invariant_of-result c =
-    let i : lies_in (grid_of c.args.grid.now) c.in-Some.first.items c.args.start.now ≡ true = (c.in_ok-found_first.ensures c.in-Some.first.items).0 (ap (λ o. numbers o) c.in-Some.is) in
-    let j : lies_in (grid_of c.args.grid.now) c.in-Some-found_last.last.items (last_index c.args.start.now c.args.shape.now) ≡ true =
-    ap (λ p. lies_in (grid_of c.args.grid.now) c.in-Some-found_last.last.items p) (sym c.in_ok-place.ensures ∙ sym c.deref.ensures.value) ∙ (c.in_ok-found_last.ensures c.in-Some-found_last.last.items).0 (ap (λ o. numbers o) c.in-Some-found_last.is) in
+    let i : chunk_has (grid_of c.args.grid.now) c.in-Some.first.items c.args.start.now ≡ true = (c.in_ok-found_first.ensures c.in-Some.first.items).0 (ap (λ o. numbers o) c.in-Some.is) in
+    let j : chunk_has (grid_of c.args.grid.now) c.in-Some-found_last.last.items (last_index c.args.start.now c.args.shape.now) ≡ true =
+    ap (λ p. chunk_has (grid_of c.args.grid.now) c.in-Some-found_last.last.items p) (sym c.in_ok-place.ensures ∙ sym c.deref.ensures.value) ∙ (c.in_ok-found_last.ensures c.in-Some-found_last.last.items).0 (ap (λ o. numbers o) c.in-Some-found_last.is) in
     let r = ordered_box _ _ c.args.start.now c.args.shape.now _ (always_dimensions c.args.grid.now) c.requires.some c.requires.same c.requires.fit i j in
     let e = c.in_ok-counts.ensures ∙ ap (λ (ns : List ℕ). counts_to ns c.deref-3.result.now) c.deref-2.ensures.value ∙ ap (λ (ns : List ℕ). counts_to c.in-Some.first.items ns) c.deref-3.ensures.value in
     record {
@@ -52,13 +52,13 @@ invariant_of-result c =
 
 pub returns : goal.returns
 returns c =
-    let i : lies_in (grid_of c.args.grid.now) c.in-Some.first.items c.args.start.now ≡ true = (c.in_ok-found_first.ensures c.in-Some.first.items).0 (ap (λ o. numbers o) c.in-Some.is) in
-    let j : lies_in (grid_of c.args.grid.now) c.in-Some-found_last.last.items (last_index c.args.start.now c.args.shape.now) ≡ true =
-    ap (λ p. lies_in (grid_of c.args.grid.now) c.in-Some-found_last.last.items p) (sym c.in_ok-place.ensures ∙ sym c.deref.ensures.value) ∙ (c.in_ok-found_last.ensures c.in-Some-found_last.last.items).0 (ap (λ o. numbers o) c.in-Some-found_last.is) in
+    let i : chunk_has (grid_of c.args.grid.now) c.in-Some.first.items c.args.start.now ≡ true = (c.in_ok-found_first.ensures c.in-Some.first.items).0 (ap (λ o. numbers o) c.in-Some.is) in
+    let j : chunk_has (grid_of c.args.grid.now) c.in-Some-found_last.last.items (last_index c.args.start.now c.args.shape.now) ≡ true =
+    ap (λ p. chunk_has (grid_of c.args.grid.now) c.in-Some-found_last.last.items p) (sym c.in_ok-place.ensures ∙ sym c.deref.ensures.value) ∙ (c.in_ok-found_last.ensures c.in-Some-found_last.last.items).0 (ap (λ o. numbers o) c.in-Some-found_last.is) in
     let e = c.in_ok-counts.ensures ∙ ap (λ (ns : List ℕ). counts_to ns c.deref-3.result.now) c.deref-2.ensures.value ∙ ap (λ (ns : List ℕ). counts_to c.in-Some.first.items ns) c.deref-3.ensures.value in
-    let m = met_box _ c.in-Some.first.items c.args.start.now c.args.shape.now c.in-Some-found_last.last.items (always_dimensions c.args.grid.now) c.requires.some c.requires.same i j in
+    let m = intersecting_box _ c.in-Some.first.items c.args.start.now c.args.shape.now c.in-Some-found_last.last.items (always_dimensions c.args.grid.now) c.requires.some c.requires.same i j in
     record {
-      met = λ chunk. let f = ap (λ (ns : List ℕ). is_in_box c.in-Some.first.items ns chunk) e in (λ h. (m chunk).0 (sym f ∙ h), λ n. f ∙ (m chunk).1 n);
+      intersecting = λ chunk. let f = ap (λ (ns : List ℕ). is_in_box c.in-Some.first.items ns chunk) e in (λ h. (m chunk).0 (sym f ∙ h), λ n. f ∙ (m chunk).1 n);
       missing = tt;
       rank = lies-length _ _ _ i ∙ length-map c.args.grid.now dimension_of;
     }

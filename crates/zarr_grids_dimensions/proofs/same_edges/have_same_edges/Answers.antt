@@ -1,6 +1,6 @@
 use Rattle.std.proofs.Common.{◌∙◌, sym, ap₂, Some}
 use Rattle.std.specs.Prelude.{bytes_eq}
-use Rattle.zarr_grids_dimensions.specs.RunsLeft.{edges_left}
+use Rattle.zarr_grids_dimensions.specs.RepeatsLeft.{edges_left}
 use Rattle.zarr_grids_dimensions.proofs.SameEdges.{same_front}
 use Rattle.zarr_grids_dimensions.proofs.same_edges.have_same_edges.Goals as goal
 

@@ -12,8 +12,8 @@ returns-then-count-eq0-clause-ok c =
     let end : 0 ≡ product chunks.shape = sym c.if-count-eq0.true ∙ c.requires.count in
     rw (← first_chunks-places chunks 0 (sym c.args.chunks.now.same) end) (erased_none c.args.path.now (meaning_of c.args.document.now) c.args.store.now)
 
-pub write_place-requires-clause-room : goal.write_place-requires-clause-room
-write_place-requires-clause-room c =
+pub place_into-requires-clause-room : goal.place_into-requires-clause-room
+place_into-requires-clause-room c =
     let rank = below_rank c.args.document.now (region_of c.args.chunks.now) c.requires.below in
     let front : length c.loop-n.chunk ≡ length c.args.document.now.grid.items = search rules in
     rw c.as_slice-first.ensures.value (front ∙ sym rank)
@@ -27,10 +27,10 @@ returns-in-Err-clause-erased c =
 pub loop-n-preserved : goal.loop-n-preserved
 loop-n-preserved c =
     let chunks : Region = region_of c.args.chunks.now in
-    let at_place = rw (c.as_slice-first.ensures.value, c.as_slice-shape.ensures.value) at c.write_place.ensures in
+    let at_place = rw (c.as_slice-first.ensures.value, c.as_slice-shape.ensures.value) at c.place_into.ensures in
     let below : c.loop-n.n < product chunks.shape = omega (arith, c.loop-n-test.true, c.requires.count) in
     let small : c.args.document.now.fill_value < 256 = omega arith in
-    erased_next c.args.path.now c.args.document.now chunks c.loop-n.n c.write_place.new.place c.args.store.now c.loop-n.store c.erase_chunk.new.store (sym c.args.chunks.now.same) c.requires.below below at_place small
+    erased_next c.args.path.now c.args.document.now chunks c.loop-n.n c.place_into.new.place c.args.store.now c.loop-n.store c.erase_chunk.new.store (sym c.args.chunks.now.same) c.requires.below below at_place small
     c.in-Ok-erase_chunk.ensures.ok c.loop-n.invariant
 
 pub returns-clause-ok : goal.returns-clause-ok

@@ -1,7 +1,7 @@
 use Rattle.zarr_grids_boxes.specs.Subsets.{region_of}
 use Rattle.zarr_array_documents.specs.Meanings.{meaning_of}
 use Rattle.zarr_run_array.specs.Erasures.{ErasedChunks}
-use Rattle.zarr_run_array.proofs.MetChunks.{first_chunks}
+use Rattle.zarr_run_array.proofs.IntersectingChunks.{first_chunks}
 use Rattle.zarr_run_array.proofs.erasing.erase_chunks.Given as goal
 
 abbrev pub invariant-loop-n : goal.invariant-loop-n

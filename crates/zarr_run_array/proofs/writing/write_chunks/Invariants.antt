@@ -2,7 +2,7 @@ use Rattle.zarr_grids_boxes.specs.Boxes.{Region}
 use Rattle.zarr_grids_boxes.specs.Subsets.{region_of}
 use Rattle.zarr_array_documents.specs.Meanings.{meaning_of}
 use Rattle.zarr_run_array.specs.Contents.{WroteChunks, contains_box}
-use Rattle.zarr_run_array.proofs.MetChunks.{first_chunks}
+use Rattle.zarr_run_array.proofs.IntersectingChunks.{first_chunks}
 use Rattle.zarr_run_array.proofs.Lengths.{AreSized}
 use Rattle.zarr_run_array.proofs.writing.write_chunks.Given as goal
 

@@ -10,7 +10,7 @@ pub returns-in-Ok-clause-ok : goal.returns-in-Ok-clause-ok
 returns-in-Ok-clause-ok c old is =
     let stepped = c.step-reply.ensures.steps old is in
     let type = type_at old (asked c.in-Some.command) in
-    (stepped.0, stepped.2, compact_text (answer_json type (answered c.step-reply.result)), (Some (asked c.in-Some.command), search rules, (answered c.step-reply.result, stepped.1, refl)), c.in-Ok.ensures type)
+    (stepped.0, stepped.2, (compact_text (answer_json type (answered c.step-reply.result)), (Some (asked c.in-Some.command), search rules, (answered c.step-reply.result, stepped.1, refl)), c.in-Ok.ensures type))
 
 pub returns-clause-err : goal.returns-clause-err
 returns-clause-err c old is =

@@ -29,16 +29,16 @@ loop-line-preserved g c old is =
     let more : IsTrue c.in_ok-next_line.field-0 = search rules in
     let now = c.loop-line.invariant old is in
     let ran = c.in_ok-answer_line.ensures.ok now.0 now.1 in
-    let step : LineStep now.0 c.next_line.new.line.items ran.2 ran.0 = rw (← c.as_slice.ensures.value) ran.3 in
-    (ran.0, ran.1, progress-line _ _ _ _ _ _ _ _ _ _ _ _ _ _ ran.2 _ _ _ now.2 (c.in_ok-next_line.ensures.line more) (c.in_ok-next_line.ensures.lines more) step ran.4 c.in_ok-write_before_wait.ensures.kept)
+    let step : LineStep now.0 c.next_line.new.line.items ran.2.0 ran.0 = rw (← c.as_slice.ensures.value) ran.2.1 in
+    (ran.0, ran.1, progress-line _ _ _ _ _ _ _ _ _ _ _ _ _ _ ran.2.0 _ _ _ now.2 (c.in_ok-next_line.ensures.line more) (c.in_ok-next_line.ensures.lines more) step ran.2.2 c.in_ok-write_before_wait.ensures.kept)
 
 pub returns-in_err-write_before_wait-clause-err : goal.returns-in_err-write_before_wait-clause-err
 returns-in_err-write_before_wait-clause-err g c old is =
     let more : IsTrue c.in_ok-next_line.field-0 = search rules in
     let now = c.loop-line.invariant old is in
     let ran = c.in_ok-answer_line.ensures.ok now.0 now.1 in
-    let step : LineStep now.0 c.next_line.new.line.items ran.2 ran.0 = rw (← c.as_slice.ensures.value) ran.3 in
-    on-fault _ _ _ _ _ ran.1 (progress-leaves _ _ _ _ _ _ _ _ _ _ _ _ _ now.2 (c.in_ok-next_line.ensures.line more) (inr (ran.2, step)))
+    let step : LineStep now.0 c.next_line.new.line.items ran.2.0 ran.0 = rw (← c.as_slice.ensures.value) ran.2.1 in
+    on-fault _ _ _ _ _ ran.1 (progress-leaves _ _ _ _ _ _ _ _ _ _ _ _ _ now.2 (c.in_ok-next_line.ensures.line more) (inr (ran.2.0, step)))
 
 pub returns-clause-ok : goal.returns-clause-ok
 returns-clause-ok g c old is =

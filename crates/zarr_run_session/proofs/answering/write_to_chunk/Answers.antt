@@ -3,7 +3,7 @@ use Rattle.zarr_grids_boxes.specs.Subsets.{region_of}
 use Rattle.zarr_run_commands.specs.Commands.{given, answered}
 use Rattle.zarr_run_model.specs.Requests.{in_chunk}
 use Rattle.zarr_run_session.specs.Keys.{WroteKeys}
-use Rattle.zarr_run_session.proofs.BoxLemmas.{chunk_covered, chunk_met}
+use Rattle.zarr_run_session.proofs.BoxLemmas.{chunk_covered, chunk_intersecting}
 use Rattle.zarr_run_session.proofs.StepLemmas.{chunk_write_refused}
 use Rattle.zarr_run_session.proofs.answering.write_to_chunk.Goals as goal
 
@@ -13,7 +13,7 @@ write_covered-requires c = chunk_covered c.args.array.now.document c.args.chunk.
 pub returns-in-Ok-clause-keys : goal.returns-in-Ok-clause-keys
 returns-in-Ok-clause-keys c =
     let P : List (List ℕ) → Type 0 = λ chunks. WroteKeys c.args.array.now chunks c.args.options (answered c.write_covered.result) c.args.store.now c.write_covered.new.store in
-    subst P (chunk_met c.args.array.now.document c.args.chunk.now (region_of c.in-Ok.region) c.in-Ok.ensures.ok) c.write_covered.ensures.keys
+    subst P (chunk_intersecting c.args.array.now.document c.args.chunk.now (region_of c.in-Ok.region) c.in-Ok.ensures.ok) c.write_covered.ensures.keys
 
 pub returns-in-Err-clause-steps : goal.returns-in-Err-clause-steps
 returns-in-Err-clause-steps c = λ table t.

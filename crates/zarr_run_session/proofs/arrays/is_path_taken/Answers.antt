@@ -6,4 +6,4 @@ pub returns-then-contains_key-clause-taken : goal.returns-then-contains_key-clau
 returns-then-contains_key-clause-taken c = λ t. taken_at c.args.arrays.now c.args.path.now c.args.path.now (sym c.contains_key.ensures ∙ c.if-contains_key.true) (related_same c.args.path.now c.args.path.now refl)
 
 pub returns-clause-free : goal.returns-clause-free
-returns-clause-free c = free_result c.args.arrays.now c.args.path.now c.is_taken_below.result (sym c.contains_key.ensures ∙ c.if-contains_key.false) (c.is_taken_above.ensures.free c.if-is_taken_above.false) c.is_taken_below.ensures.free
+returns-clause-free c = free_result c.args.arrays.now c.args.path.now c.is_taken_under.result (sym c.contains_key.ensures ∙ c.if-contains_key.false) (c.is_taken_above.ensures.free c.if-is_taken_above.false) c.is_taken_under.ensures.free

@@ -6,4 +6,4 @@ use Rattle.zarr_run_session.proofs.reopening.open.Goals as goal
 pub returns-in-Err-read_document-clause-refused : goal.returns-in-Err-read_document-clause-refused
 returns-in-Err-read_document-clause-refused c =
     open_refused c.args.arrays.now c.args.path.now c.args.store.now (view c.in-Ok-Tree.tree) c.in-Err-read_document.error c.cause_of_document.result
-    c.cause_of_document.ensures (c.is_below_slashed.ensures.free c.if-is_below_slashed.false) (search rules) c.in-Err-read_document.ensures.err
+    c.cause_of_document.ensures (c.is_under_slashed.ensures.free c.if-is_under_slashed.false) (search rules) c.in-Err-read_document.ensures.err

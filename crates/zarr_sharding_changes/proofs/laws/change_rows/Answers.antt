@@ -3,9 +3,9 @@ use Rattle.zarr_sharding_changes.proofs.laws.change_rows.Goals as goal
 
 pub returns : goal.returns
 returns c = record {
-  two_texts = refl;
+  two_slices = refl;
   two_pairs = refl;
-  fill_text = refl;
+  fill_slice = refl;
   fill_pair = refl;
   changed_twice = refl;
   wanted_twice = refl;

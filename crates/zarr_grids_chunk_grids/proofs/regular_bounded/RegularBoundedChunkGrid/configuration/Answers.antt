@@ -7,4 +7,4 @@ use Rattle.zarr_grids_configurations.proofs.ReadsBack.{regular-back}
 use Rattle.zarr_grids_chunk_grids.proofs.regular_bounded.RegularBoundedChunkGrid.configuration.Goals as goal
 
 pub returns-clause-reads : goal.returns-clause-reads
-returns-clause-reads c = let s = c.args.self.now in ap (configuration_of_kind regular_bounded) (c.in_ok-members.ensures ∙ ap regular_members c.as_slice.ensures) ∙ (regular-back s.chunk_shape.edges.items (grid-bounded_positive s.array_shape.items s.chunk_shape.edges.items (grid_of s.dimensions.items) s.made)).1
+returns-clause-reads c = let s = c.args.self.now in ap (configuration_of_kind regular_bounded) (c.in_ok-members.ensures ∙ ap regular_members c.as_slice.ensures.edges) ∙ (regular-back s.chunk_shape (grid-bounded_positive s.array_shape.items s.chunk_shape (grid_of s.dimensions.items) s.made)).1

@@ -1,4 +1,0 @@
-pub mod DecodeShards
-pub mod DecodeSections
-pub mod DecodeLists
-pub mod LargeLists

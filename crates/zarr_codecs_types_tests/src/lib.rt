@@ -1,5 +1,0 @@
-//! Tests of data types, fill values and cells.
-#![tactic(auto)]
-
-#[cfg(test)]
-mod types;

@@ -1,0 +1,8 @@
+//! Repeats of equal edges.
+
+/// `count` chunks of one edge, one after another.
+#[derive(Clone, Copy, Debug, PartialEq, Eq)]
+pub struct RepeatedEdge {
+    pub edge: u64,
+    pub count: u64,
+}

@@ -1,5 +1,0 @@
-use Rattle.zarr_grids_key_metadata.proofs.ReadsBack.{keys_made-written}
-use Rattle.zarr_grids_key_metadata.proofs.laws.keys_read_back.Goals as goal
-
-pub returns : goal.returns
-returns c = keys_made-written

@@ -1,2 +1,0 @@
-pub mod KeyMetadata
-pub mod Laws

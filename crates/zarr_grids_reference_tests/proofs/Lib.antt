@@ -1,2 +1,0 @@
-pub mod BoxWalk
-pub mod Finding

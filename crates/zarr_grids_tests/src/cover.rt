@@ -1,4 +1,0 @@
-//! Grids with values worked out by hand.
-
-mod below;
-mod met;

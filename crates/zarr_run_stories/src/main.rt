@@ -1,0 +1,14 @@
+//! A program for tests of whole sessions: it runs commands over a store that it is given, and tells the store that they leave.
+//!
+//! Standard input has a line for each key of the store that the session begins with, then an empty line, and then the commands,
+//! one a line. Standard output has a line of answer for each command, then an empty line, and then a line for each key of the
+//! store that the session left, in the order of the keys' bytes. The line of a key is its value in hexadecimal digits, a space,
+//! and the key.
+#![tactic(auto)]
+
+mod entries;
+mod story;
+
+fn main(rt: HostRuntime) -> anyhow::Result<()> {
+    story::run_story(rt.alloc(), rt.stdin(), &mut rt.stdout())
+}

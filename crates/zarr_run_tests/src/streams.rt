@@ -1,0 +1,134 @@
+//! Lines of readers that fail or wait, and answers to writers that fail.
+
+use std::alloc::Global;
+use std::cell::Cell;
+use std::io::{Error, ErrorKind, Read, Result, Write};
+use std::test::Fail;
+use zarr_run::{LinesFault, MemoryStore, Session, run_lines};
+
+#[test]
+fn the_last_line_needs_no_line_feed(rt: HostRuntime) -> std::result::Result<(), Fail> {
+    let alloc = rt.alloc();
+    let mut session = Session::new(alloc, MemoryStore::new(alloc));
+    let mut output = Vec::new(alloc);
+    let input: &[u8] = b"\xff\nnull";
+    let ran = run_lines(alloc, &mut session, input, &mut output);
+    assert!(rt; ran.is_ok());
+    assert!(rt; output.as_slice() == b"{\"fault\":\"line\"}\n{\"fault\":\"line\"}\n".as_slice());
+    Ok(())
+}
+
+/// Gives a text at some reads, and fails after them or ends. It fails too where a line that it gave is not answered yet.
+#[derive(Drop)]
+struct Reader<'a> {
+    text: &'a [u8],
+    left: usize,
+    ends: bool,
+    given: usize,
+    answered: &'a Cell<usize>,
+}
+
+impl Read for Reader<'_> {
+    fn read(&mut self, buf: &mut [u8]) -> Result<usize> {
+        if self.answered.get() < self.given || buf.len() < self.text.len() {
+            return Err(Error::from(ErrorKind::TimedOut));
+        }
+        if self.left == 0 && self.ends {
+            return Ok(0);
+        }
+        if self.left == 0 {
+            return Err(Error::from(ErrorKind::BrokenPipe));
+        }
+        self.left -= 1;
+        self.given = self.given.saturating_add(count_lines(self.text));
+        buf[..self.text.len()].copy_from_slice(self.text);
+        Ok(self.text.len())
+    }
+}
+
+/// Fails after some calls, and tells the lines that were written and flushed.
+#[derive(Drop)]
+struct Writer<'a> {
+    left: u32,
+    written: usize,
+    answered: &'a Cell<usize>,
+}
+
+impl Writer<'_> {
+    fn call(&mut self) -> Result<()> {
+        if self.left == 0 {
+            return Err(Error::from(ErrorKind::BrokenPipe));
+        }
+        self.left -= 1;
+        Ok(())
+    }
+}
+
+impl Write for Writer<'_> {
+    fn write(&mut self, buf: &[u8]) -> Result<usize> {
+        self.call()?;
+        self.written = self.written.saturating_add(count_lines(buf));
+        Ok(buf.len())
+    }
+
+    fn flush(&mut self) -> Result<()> {
+        self.call()?;
+        self.answered.set(self.written);
+        Ok(())
+    }
+}
+
+fn count_lines(text: &[u8]) -> usize {
+    text.iter().filter(|byte| **byte == b'\n').count()
+}
+
+/// Runs the lines of a text that is read so many times, then fails or ends, with a writer that fails after some calls. Gives
+/// how the run ended, and how many lines were answered.
+fn run(
+    alloc: Global,
+    (text, left, ends): (&[u8], usize, bool),
+    calls: u32,
+) -> (std::result::Result<(), LinesFault>, usize) {
+    let answered = &Cell::new(0usize);
+    let reader = Reader {
+        text,
+        left,
+        ends,
+        given: 0,
+        answered,
+    };
+    let mut writer = Writer {
+        left: calls,
+        written: 0,
+        answered,
+    };
+    let mut session = Session::new(alloc, MemoryStore::new(alloc));
+    let ran = run_lines(alloc, &mut session, reader, &mut writer);
+    (ran, answered.get())
+}
+
+#[test]
+fn a_failing_read_is_a_read_fault(rt: HostRuntime) {
+    for left in 0..3usize {
+        let (ran, answered) = run(rt.alloc(), (b"\n", left, false), 99);
+        assert!(rt; ran == Err(LinesFault::Read));
+        assert_eq!(rt; answered, left);
+    }
+}
+
+/// The first write, the first flush, the second write or the second flush fails.
+#[test]
+fn a_failing_write_is_a_write_fault(rt: HostRuntime) {
+    for calls in 0..4u32 {
+        let (ran, _) = run(rt.alloc(), (b"\n", 2, false), calls);
+        assert!(rt; ran == Err(LinesFault::Write), "after {calls} calls");
+    }
+}
+
+/// Each read gives two lines and the start of a third one.
+#[test]
+fn answers_come_before_a_wait(rt: HostRuntime) {
+    let (ran, answered) = run(rt.alloc(), (b"\n\nx", 3, true), 99);
+    assert!(rt; ran.is_ok());
+    assert_eq!(rt; answered, 7);
+}

@@ -1,0 +1,101 @@
+//! The script as lines, and as one list of commands.
+
+use crate::script::{LINES, command};
+use crate::stop::{Stop, expect};
+use crate::tables::Tables;
+use std::alloc::{AllocError, Global};
+use zarr_array_stores::MemoryStore;
+use zarr_run::{Command, LinesFault, Reply, Session, run_lines};
+
+/// The answers with ample memory.
+const ANSWERS: &str = r#"{"done":true}
+{"done":true}
+{"done":true}
+{"done":true}
+{"done":true}
+{"done":true}
+{"done":true}
+{"done":true}
+{"done":true}
+{"done":true}
+{"done":true}
+{"done":true}
+{"cells":[11,12,13,14]}
+{"cells":[23,24]}
+{"cells":[0,0,6,7,0,0,9,10,0,0,11,12,0,0,13,14]}
+{"cells":[0,0,23,24]}
+"#;
+
+/// How the answer to a command that memory ran out for ends.
+const REFUSED: &str = ",\"refused\":\"Memory\"}";
+
+/// The lines, each with its line feed.
+fn text(alloc: Global) -> Result<Vec<u8>, AllocError> {
+    let mut text = Vec::new(alloc);
+    for line in LINES {
+        text.extend_from_slice(line.text.as_bytes())?;
+        text.push(b'\n')?;
+    }
+    Ok(text)
+}
+
+/// Whether answers are those with ample memory, up to the first one that says that memory ran out or to their end.
+fn are_as_stated(answers: &[u8]) -> bool {
+    for (answer, want) in answers
+        .split(|b| *b == b'\n')
+        .zip(ANSWERS.as_bytes().split(|b| *b == b'\n'))
+    {
+        if answer != want {
+            return answer.is_empty() || answer.ends_with(REFUSED.as_bytes());
+        }
+    }
+    answers.len() <= ANSWERS.len()
+}
+
+/// The lines. The writer takes memory too, so it can fail.
+fn run_text(alloc: Global) -> Result<(), Stop> {
+    let text = text(alloc)?;
+    let mut session = Session::new(alloc, MemoryStore::new(alloc));
+    let mut answers = Vec::new(alloc);
+    let end = run_lines(alloc, &mut session, text.as_slice(), &mut answers);
+    expect(!matches!(end, Err(LinesFault::Read)) && are_as_stated(answers.as_slice()))
+}
+
+/// The commands of the lines.
+fn commands(alloc: Global) -> Result<Vec<Command>, Stop> {
+    let mut commands = Vec::new(alloc);
+    for line in LINES {
+        if commands.push(command(alloc, line.text)?).is_err() {
+            return Err(Stop::Short);
+        }
+    }
+    Ok(commands)
+}
+
+/// Whether the lines are answered as the tables say, which are then as the lines have changed them.
+fn answer(tables: &mut Tables, replies: &[Reply]) -> bool {
+    for (line, reply) in LINES.iter().zip(replies) {
+        if !tables.answer(*line, reply) {
+            return false;
+        }
+    }
+    replies.len() == LINES.len()
+}
+
+/// The list. Where memory for the replies runs out, the store comes back empty.
+fn run_list(alloc: Global) -> Result<(), Stop> {
+    let commands = commands(alloc)?;
+    let mut tables = Tables::new();
+    match zarr_run::run(alloc, MemoryStore::new(alloc), commands.as_slice()) {
+        Ok((replies, store)) => {
+            expect(answer(&mut tables, replies.as_slice()) && tables.agree_with(&store))
+        }
+        Err(refusal) => expect(refusal.storage.is_empty()),
+    }
+}
+
+/// The lines and the list.
+pub(crate) fn run(alloc: Global) -> Result<(), Stop> {
+    run_text(alloc)?;
+    run_list(alloc)
+}

@@ -1,0 +1,196 @@
+//! The commands of the script, and what each one changes.
+
+use crate::stop::Stop;
+use crate::tables::{Array, Cells};
+use std::alloc::Global;
+use zarr_codecs_cells::ArrayBytes;
+use zarr_run::{Cause, Command, Reply};
+use zarr_run_commands::read_command;
+
+/// What a line asks of its array.
+#[derive(Clone, Copy)]
+pub(crate) enum Asks {
+    Create,
+    Reopen,
+    /// To write or to erase these cells.
+    Put(Cells),
+    /// To read the cells at these places.
+    Read(&'static [usize]),
+}
+
+/// A line of the script, and the array that it names.
+#[derive(Clone, Copy)]
+pub(crate) struct Line {
+    pub text: &'static str,
+    pub array: Array,
+    pub asks: Asks,
+}
+
+/// Reads the whole of `/a`.
+pub(crate) const READ_SQUARE: Line = Line {
+    text: r#"{"op":"read_box","path":"/a","box":[[0,4],[0,4]]}"#,
+    array: Array::Square,
+    asks: Asks::Read(&[0, 1, 2, 3, 4, 5, 6, 7, 8, 9, 10, 11, 12, 13, 14, 15]),
+};
+
+/// Reads the chunks of `/b/c`, of which the last one passes the array.
+pub(crate) const READ_ROW: Line = Line {
+    text: r#"{"op":"read_box","path":"/b/c","box":[[0,4]]}"#,
+    array: Array::Row,
+    asks: Asks::Read(&[0, 1, 2, 3]),
+};
+
+/// On `/a`: the middle, which intersects all chunks; the right of the two rows on top; zeros below, which take two keys out; one
+/// chunk as a whole; and the erasure of the two chunks on the left. On `/b/c`: a box that intersects both chunks; one chunk as a
+/// whole; the erasure of the other one. Both are reopened, and read by box and by chunk.
+pub(crate) const LINES: [Line; 16] = [
+    Line {
+        text: r#"{"op":"create","path":"/a","document":{"zarr_format":3,"node_type":"array","shape":[4,4],"data_type":"uint8","chunk_grid":{"name":"regular","configuration":{"chunk_shape":[2,2]}},"chunk_key_encoding":{"name":"default"},"fill_value":0,"codecs":["bytes"]}}"#,
+        array: Array::Square,
+        asks: Asks::Create,
+    },
+    Line {
+        text: r#"{"op":"write_box","path":"/a","box":[[1,3],[1,3]],"cells":[1,2,3,4]}"#,
+        array: Array::Square,
+        asks: Asks::Put(&[(0, 5, 1), (1, 6, 2), (2, 9, 3), (3, 10, 4)]),
+    },
+    Line {
+        text: r#"{"op":"create","path":"/b/c","document":{"zarr_format":3,"node_type":"array","shape":[3],"data_type":"uint8","chunk_grid":{"name":"regular","configuration":{"chunk_shape":[2]}},"chunk_key_encoding":{"name":"default","configuration":{"separator":"."}},"fill_value":0,"codecs":["bytes"],"attributes":{"x":[1]},"dimension_names":["y"]}}"#,
+        array: Array::Row,
+        asks: Asks::Create,
+    },
+    Line {
+        text: r#"{"op":"write_box","path":"/b/c","box":[[1,3]],"cells":[21,22]}"#,
+        array: Array::Row,
+        asks: Asks::Put(&[(0, 1, 21), (1, 2, 22)]),
+    },
+    Line {
+        text: r#"{"op":"write_box","path":"/a","box":[[0,2],[1,4]],"cells":[5,6,7,8,9,10]}"#,
+        array: Array::Square,
+        asks: Asks::Put(&[
+            (0, 1, 5),
+            (1, 2, 6),
+            (1, 3, 7),
+            (0, 5, 8),
+            (1, 6, 9),
+            (1, 7, 10),
+        ]),
+    },
+    Line {
+        text: r#"{"op":"reopen","path":"/a","order":"C"}"#,
+        array: Array::Square,
+        asks: Asks::Reopen,
+    },
+    Line {
+        text: r#"{"op":"write_box","path":"/a","box":[[2,4],[0,4]],"cells":[0,0,0,0,0,0,0,0]}"#,
+        array: Array::Square,
+        asks: Asks::Put(&[
+            (0, 8, 0),
+            (0, 9, 0),
+            (1, 10, 0),
+            (1, 11, 0),
+            (0, 12, 0),
+            (0, 13, 0),
+            (1, 14, 0),
+            (1, 15, 0),
+        ]),
+    },
+    Line {
+        text: r#"{"op":"write_chunk","path":"/b/c","chunk":[1],"cells":[23,24]}"#,
+        array: Array::Row,
+        asks: Asks::Put(&[(0, 2, 23), (0, 3, 24)]),
+    },
+    Line {
+        text: r#"{"op":"write_chunk","path":"/a","chunk":[1,1],"cells":[11,12,13,14]}"#,
+        array: Array::Square,
+        asks: Asks::Put(&[(0, 10, 11), (0, 11, 12), (0, 14, 13), (0, 15, 14)]),
+    },
+    Line {
+        text: r#"{"op":"reopen","path":"/b/c","order":"Random"}"#,
+        array: Array::Row,
+        asks: Asks::Reopen,
+    },
+    Line {
+        text: r#"{"op":"erase_chunks","path":"/a","box":[[0,2],[0,1]]}"#,
+        array: Array::Square,
+        asks: Asks::Put(&[
+            (0, 0, 0),
+            (0, 1, 0),
+            (0, 4, 0),
+            (0, 5, 0),
+            (1, 8, 0),
+            (1, 9, 0),
+            (1, 12, 0),
+            (1, 13, 0),
+        ]),
+    },
+    Line {
+        text: r#"{"op":"erase_chunks","path":"/b/c","box":[[0,1]]}"#,
+        array: Array::Row,
+        asks: Asks::Put(&[(0, 0, 0), (0, 1, 0)]),
+    },
+    Line {
+        text: r#"{"op":"read_chunk","path":"/a","chunk":[1,1]}"#,
+        array: Array::Square,
+        asks: Asks::Read(&[10, 11, 14, 15]),
+    },
+    Line {
+        text: r#"{"op":"read_chunk","path":"/b/c","chunk":[1]}"#,
+        array: Array::Row,
+        asks: Asks::Read(&[2, 3]),
+    },
+    READ_SQUARE,
+    READ_ROW,
+];
+
+/// The command of a line.
+pub(crate) fn command(alloc: Global, text: &str) -> Result<Command, Stop> {
+    match read_command(alloc, text.as_bytes())? {
+        Some(command) => Ok(command),
+        None => Err(Stop::Other),
+    }
+}
+
+/// How many chunks a reply says were written or erased. `None` stands for a reply that running out of memory does not explain.
+pub(crate) fn applied_in(reply: &Reply) -> Option<u64> {
+    match reply {
+        Reply::Done => Some(u64::MAX),
+        Reply::Refused {
+            cause: Cause::Memory,
+            applied,
+        } => Some(*applied),
+        _ => None,
+    }
+}
+
+pub(crate) fn is_done(reply: &Reply) -> bool {
+    matches!(reply, Reply::Done)
+}
+
+/// Whether a reply gives the cells that stand at these places of a table.
+pub(crate) fn gives_cells(reply: &Reply, table: &[u8], places: &[usize]) -> bool {
+    let Reply::Cells(ArrayBytes::Fixed(cells)) = reply else {
+        return false;
+    };
+    let mut are_same = cells.len() == places.len();
+    for (cell, place) in cells.iter().zip(places) {
+        are_same = are_same && table.get(*place) == Some(cell);
+    }
+    are_same
+}
+
+/// Whether a reply says that memory ran out, after whatever change.
+pub(crate) fn is_short(reply: &Reply) -> bool {
+    match reply {
+        Reply::Refused { cause, .. } => *cause == Cause::Memory,
+        _ => false,
+    }
+}
+
+/// Whether a reply is a refusal with this cause before any chunk.
+pub(crate) fn is_refused(reply: &Reply, want: Cause) -> bool {
+    match reply {
+        Reply::Refused { cause, applied } => *cause == want && *applied == 0,
+        _ => false,
+    }
+}

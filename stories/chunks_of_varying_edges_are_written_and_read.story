@@ -1,0 +1,18 @@
+Chunks of varying edges are written and read, also one that lies past the array as a whole.
+
+> {"op":"create","path":"/a","document":$zeros{"shape":[6,6],"chunk_grid":{"name":"rectilinear","configuration":{"kind":"inline","chunk_shapes":[[[4,3]],[3,3,3]]}},"fill_value":200}}
+> {"op":"write_box","path":"/a","box":[[8,12],[6,9]],"cells":[1,2,3,4,5,6,7,8,9,10,11,12]}
+< {"done":true}
+> {"op":"read_box","path":"/a","box":[[7,9],[6,8]]}
+< {"cells":[200,200,1,2]}
+> {"op":"create","path":"/b","document":$zeros{"shape":[6],"chunk_grid":{"name":"rectangular","configuration":{"chunk_shape":[[1,3,2]]}},"fill_value":200}}
+> {"op":"write_box","path":"/b","box":[[0,5]],"cells":[1,2,3,4,5]}
+< {"done":true}
+
+after:
+  a/c/2/2 = 01 02 03 04 05 06 07 08 09 0a 0b 0c
+  a/zarr.json = $stored{"shape":[6,6],"chunk_grid":{"name":"rectilinear","configuration":{"kind":"inline","chunk_shapes":[[[4,3]],[3,3,3]]}},"fill_value":200}
+  b/c/0 = 01
+  b/c/1 = 02 03 04
+  b/c/2 = 05 c8
+  b/zarr.json = $stored{"shape":[6],"chunk_grid":{"name":"rectangular","configuration":{"chunk_shape":[[1,3,2]]}},"fill_value":200}

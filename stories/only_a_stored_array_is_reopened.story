@@ -1,0 +1,21 @@
+A path is reopened only where its own document is stored.
+
+before:
+  a/.zarray = $zeros
+  a/b/zarr.json = $zeros
+  a/c/0/0 = 01 02 03 04
+  ab/zarr.json = $zeros
+
+> {"op":"reopen","path":"/a"}
+> {"op":"reopen","path":"/"}
+> {"op":"reopen","path":"/b"}
+> {"op":"reopen","path":"/a/b/c"}
+> {"op":"reopen","path":"/a/zarr.json"}
+> {"op":"read_box","path":"/a","box":[[1,3],[1,3]]}
+> {"op":"read_box","path":"/","box":[[1,3],[1,3]]}
+> {"op":"read_box","path":"/b","box":[[1,3],[1,3]]}
+> {"op":"read_box","path":"/a/b/c","box":[[1,3],[1,3]]}
+> {"op":"read_box","path":"/a/zarr.json","box":[[1,3],[1,3]]}
+< {"applied":0,"refused":"NoArray"}
+
+after: as before

@@ -1,0 +1,81 @@
+"""Reads must-fail edits: files with a line `file: PATH` and pairs of lines `old: TEXT` and `new: TEXT`.
+
+PATH is below src/, specs/ or proofs/ of the crate, and each TEXT under `old:` stands in that file exactly once.
+All other lines are comments. An edit lies right in crates/NAME/must-fail/ as NAME.edit, where `rt ci` tries it
+alone, or in crates/NAME/must-fail/more/ as NAME.md."""
+from __future__ import annotations
+
+import os
+from dataclasses import dataclass
+from typing import Callable, Dict, List, Tuple
+
+
+class DoesNotApply(Exception):
+    """An edit cannot be applied to its crate; the message says why."""
+
+
+@dataclass(frozen=True)
+class Change:
+    """A text of one file and what stands in its place after the edit."""
+
+    path: str
+    old: str
+    new: str
+
+
+@dataclass(frozen=True)
+class Edit:
+    """A must-fail edit: its crate, its name and its changes, in order."""
+
+    crate: str
+    name: str
+    changes: Tuple[Change, ...]
+
+    @property
+    def label(self) -> str:
+        return f"{self.crate}/{self.name}"
+
+
+def parse_edit(crate: str, name: str, text: str) -> Edit:
+    """The edit that a file's text holds."""
+    path = old = ""
+    changes: List[Change] = []
+    for line in text.split("\n"):
+        if line.startswith("file: "):
+            path = line[len("file: ") :].strip()
+            if os.path.normpath(path) != path or not path.startswith(("src/", "specs/", "proofs/")):
+                raise DoesNotApply("a 'file:' line names no file below src/, specs/ or proofs/")
+        elif line.startswith("old: "):
+            old = line[len("old: ") :]
+        elif line.startswith("new:"):
+            new = line[len("new:") :]
+            if not path or not old:
+                raise DoesNotApply("a 'new:' line stands before any 'file:' or 'old:' line")
+            changes.append(Change(path, old, new[1:] if new.startswith(" ") else new))
+            old = ""
+    if not changes:
+        raise DoesNotApply("it has no 'old:' and 'new:' pair")
+    return Edit(crate, name, tuple(changes))
+
+
+def apply_edit(edit: Edit, text_of: Callable[[str], str]) -> Dict[str, str]:
+    """The texts of the files that the edit changes, by path; `text_of` gives the text of a path."""
+    texts: Dict[str, str] = {}
+    for change in edit.changes:
+        if change.path not in texts:
+            texts[change.path] = text_of(change.path)
+        found = texts[change.path].count(change.old)
+        if found != 1:
+            raise DoesNotApply(f"an 'old:' text is in {change.path} {found} times, and not once")
+        texts[change.path] = texts[change.path].replace(change.old, change.new)
+    return texts
+
+
+def edit_files(folder: str) -> List[Tuple[str, str]]:
+    """The name and the path of each edit of the crate in a folder, those right in must-fail/ first."""
+    found = []
+    for below, ending in (("must-fail", ".edit"), ("must-fail/more", ".md")):
+        place = os.path.join(folder, below)
+        names = sorted(os.listdir(place)) if os.path.isdir(place) else []
+        found += [(it[: -len(ending)], os.path.join(place, it)) for it in names if it.endswith(ending)]
+    return found

@@ -1,0 +1,219 @@
+"""Tries the must-fail edits of a crate in rounds: many edits in one check, at most one a function, and none in two functions
+of which one calls the other. An edit counts as refused only where its own function is reported as unproved by itself;
+where that function only calls another one that is not proved, the edit waits for a later round. An edit with no function of
+its own, as one of a definition that many contracts rest on, is tried alone."""
+from __future__ import annotations
+
+import enum
+from dataclasses import dataclass, field
+from typing import Callable, Dict, List, Optional, Set, Tuple
+
+from check_output import CheckOutput, Placed
+from edit_files import DoesNotApply, Edit, apply_edit
+from rattle_sources import Sources
+
+
+class Verdict(enum.Enum):
+    """What became of an edit."""
+
+    REFUSED = "refused"
+    SHAPE = "shape"
+    PROVED = "PROVED"
+    DOES_NOT_APPLY = "does not apply"
+    DOES_NOT_COMPILE = "does not compile"
+    NOT_JUDGED = "not judged"
+
+    @property
+    def is_well(self) -> bool:
+        return self in (Verdict.REFUSED, Verdict.SHAPE)
+
+
+@dataclass(frozen=True)
+class Judgement:
+    """The verdict on an edit, the function that it is in, and the goal that failed, or why there is none."""
+
+    verdict: Verdict
+    function: str = ""
+    goal: str = ""
+
+
+@dataclass
+class Trial:
+    """An edit on its way: its function, where it has one of its own, and the functions that must not be edited beside it."""
+
+    edit: Edit
+    function: Optional[str]
+    apart_from: Set[str] = field(default_factory=set)
+    judgement: Optional[Judgement] = None
+
+
+# Checks the crate with some texts in place of its own, and only the functions named; with none named, all of it.
+Check = Callable[[Dict[str, str], List[str]], CheckOutput]
+
+
+def own_function(edit: Edit, sources: Sources) -> Optional[str]:
+    """The one function in which an edit lies, or whose contract alone is the definition that it changes."""
+    found = set()
+    for change in edit.changes:
+        start = sources.texts[change.path].find(change.old)
+        if start < 0:
+            return None
+        if change.path.startswith("src/"):
+            function = sources.function_at(change.path, start, start + len(change.old))
+        else:
+            function = sources.law_of(change.path, start) if change.path.startswith("specs/") else None
+        found.add(function.path if function else None)
+    return found.pop() if len(found) == 1 else None
+
+
+def text_in(sources: Sources, path: str) -> str:
+    if path not in sources.texts:
+        raise DoesNotApply(f"there is no file {path}")
+    return sources.texts[path]
+
+
+def trial_of(edit: Edit, sources: Sources) -> Trial:
+    """The trial of an edit, which is over where the edit does not apply."""
+    try:
+        apply_edit(edit, lambda path: text_in(sources, path))
+    except DoesNotApply as why:
+        return Trial(edit, None, judgement=Judgement(Verdict.DOES_NOT_APPLY, goal=str(why)))
+    return Trial(edit, own_function(edit, sources))
+
+
+class Rounds:
+    """The trials of a crate's edits."""
+
+    def __init__(self, edits: List[Edit], sources: Sources, check: Check):
+        self.sources, self.check = sources, check
+        self.trials = [trial_of(it, sources) for it in edits]
+
+    def run(self) -> List[Tuple[Edit, Judgement]]:
+        """Tries every edit, and gives each with its judgement."""
+        while self._left():
+            batch, texts = self._next_batch()
+            self._try_batch(batch, texts)
+        for trial in self.trials:
+            if not trial.judgement:
+                trial.judgement = self._alone(trial)
+        return [(it.edit, it.judgement) for it in self.trials if it.judgement]
+
+    def _left(self) -> List[Trial]:
+        return [it for it in self.trials if it.function and not it.judgement]
+
+    def _are_apart(self, one: Trial, other: Trial) -> bool:
+        a, b = one.function or "", other.function or ""
+        if a == b or b in one.apart_from or a in other.apart_from:
+            return False
+        return b not in self.sources.reached(a) and a not in self.sources.reached(b)
+
+    def _rounds_through(self) -> Dict[str, int]:
+        """For each function with edits left, how many rounds it needs at least together with those that it calls and that call it."""
+        left: Dict[str, int] = {}
+        for trial in self._left():
+            left[trial.function or ""] = left.get(trial.function or "", 0) + 1
+        below: Dict[str, int] = {}
+        for path in sorted(left, key=lambda it: len(self.sources.reached(it))):
+            below[path] = left[path] + max([below.get(it, 0) for it in self.sources.reached(path) if it != path], default=0)
+        above = {path: max([below[it] for it in left if path in self.sources.reached(it)], default=0) for path in left}
+        return {path: max(below[path], above[path]) for path in left}
+
+    def _next_batch(self) -> Tuple[List[Trial], Dict[str, str]]:
+        """Edits that can be tried side by side, those first that need the most rounds, and callees before callers."""
+        need, batch, texts = self._rounds_through(), [], {}
+        order = sorted(self._left(), key=lambda it: (-need[it.function or ""], len(self.sources.reached(it.function or ""))))
+        for trial in order:
+            if not all(self._are_apart(trial, it) for it in batch):
+                continue
+            try:
+                texts.update(apply_edit(trial.edit, lambda path: texts.get(path) or text_in(self.sources, path)))
+            except DoesNotApply:
+                # Another edit of the batch changed the same text.
+                continue
+            batch.append(trial)
+        return batch, texts
+
+    def _try_batch(self, batch: List[Trial], texts: Dict[str, str]) -> None:
+        output = self.check(texts, [it.function for it in batch if it.function])
+        unreadable = [it for it in output.errors if it.cannot_be_read]
+        if not output.reached_the_prover or unreadable:
+            self._split(batch, texts, output)
+            return
+        edited = {it.function for it in batch}
+        for trial in batch:
+            self._judge(trial, output, edited, len(batch) == 1)
+
+    def _split(self, batch: List[Trial], texts: Dict[str, str], output: CheckOutput) -> None:
+        """Tries two parts of a batch that does not compile: those whose functions have an error, and the others. A single edit is to blame itself."""
+        if len(batch) == 1:
+            batch[0].judgement = self._without_proof(batch[0], output)
+            return
+        edited = Sources({**self.sources.texts, **texts})
+        faulty = {edited.function_on(it.file, it.line) for it in output.errors}
+        parts = [it for it in batch if it.function in faulty], [it for it in batch if it.function not in faulty]
+        for part in parts if all(parts) else (batch[: len(batch) // 2], batch[len(batch) // 2 :]):
+            self._try_batch(part, self._applied(part))
+
+    def _applied(self, batch: List[Trial]) -> Dict[str, str]:
+        """The texts of the files that the edits of a batch change."""
+        texts: Dict[str, str] = {}
+        for trial in batch:
+            texts.update(apply_edit(trial.edit, lambda path: texts.get(path) or text_in(self.sources, path)))
+        return texts
+
+    def _without_proof(self, trial: Trial, output: CheckOutput) -> Optional[Judgement]:
+        """The judgement on an edit whose check stopped before any proof, or none where it is to be tried alone."""
+        if output.status == 2 and trial.function:
+            # The check knows the function by another name.
+            trial.function = None
+            return None
+        lines = [str(it) for it in output.errors] or [it for it in output.lines if it]
+        verdict = Verdict.DOES_NOT_COMPILE if output.status == 1 else Verdict.NOT_JUDGED
+        return Judgement(verdict, trial.function or "", " ".join(lines[:1]))
+
+    def _judge(self, trial: Trial, output: CheckOutput, edited: Set[Optional[str]], is_alone: bool) -> None:
+        path = trial.function or ""
+        lines = output.of_function(path)
+        if not lines:
+            trial.function = None
+        elif all(it.is_proved for it in lines):
+            trial.judgement = Judgement(Verdict.PROVED, path)
+        elif is_alone or any(not it.is_proved and not output.waits(it) for it in lines):
+            trial.judgement = refusal(path, output.faults_of(path), " ".join(it.text for it in lines if not it.is_proved))
+        else:
+            causes = self._edited_below(lines[0].path, output) & edited - {path}
+            trial.apart_from |= {it for it in causes if it}
+            trial.function = trial.function if causes else None
+
+    def _edited_below(self, path: str, output: CheckOutput) -> Set[str]:
+        """The unproved functions that a function waits for, and those that they wait for."""
+        seen: Set[str] = set()
+        left = [it.path for it in output.of_function(path)]
+        while left:
+            line = output.functions.get(left.pop())
+            new = (output.waits(line) if line else set()) - seen
+            seen |= new
+            left += new
+        return seen
+
+    def _alone(self, trial: Trial) -> Optional[Judgement]:
+        """Tries one edit in a check of the whole crate, which must not be proved."""
+        output = self.check(apply_edit(trial.edit, lambda path: text_in(self.sources, path)), [])
+        unreadable = [it for it in output.errors if it.cannot_be_read]
+        if unreadable:
+            return Judgement(Verdict.DOES_NOT_COMPILE, goal=str(unreadable[0]))
+        if not output.reached_the_prover:
+            return self._without_proof(trial, output)
+        if output.status == 0:
+            return Judgement(Verdict.PROVED)
+        failed = [it for it in output.functions.values() if not it.is_proved and not output.waits(it)]
+        notes = [note for it in output.functions.values() for note in it.notes]
+        return refusal(failed[0].path if failed else "", output.errors + notes, failed[0].text if failed else "")
+
+
+def refusal(function: str, faults: List[Placed], said: str) -> Judgement:
+    """The judgement on an edit that is refused: by a goal, or only since a proof names what is gone."""
+    goal = next((it for it in faults if not it.is_of_shape), None)
+    if faults and not goal:
+        return Judgement(Verdict.SHAPE, function, str(faults[0]))
+    return Judgement(Verdict.REFUSED, function, str(goal) if goal else said)

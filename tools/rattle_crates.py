@@ -1,0 +1,187 @@
+"""The crates of the repository as crates.txt lists them, and checks of them by `rattle check`.
+
+A check reads the libraries below a crate as `rt ci`, `rt check` or `rt lib` built them, in crates/NAME/out/rlib. One that is
+not there, or older than what it is made from, is built first (`rt lib`)."""
+from __future__ import annotations
+
+import os
+import re
+import shutil
+import signal
+import subprocess
+from dataclasses import dataclass
+from typing import Dict, Iterable, List, Set
+
+from check_output import CheckOutput, read_output
+
+KIT = os.path.dirname(os.path.dirname(os.path.realpath(shutil.which("rt") or "/opt/rattle/bin/rt")))
+PARTS = ("src", "specs", "proofs")
+
+
+@dataclass(frozen=True)
+class Crate:
+    """A crate: its folder, and the crates and the toolchain's libraries that its line of crates.txt names."""
+
+    name: str
+    folder: str
+    crates: List[str]
+    libraries: List[str]
+
+    @property
+    def rlib(self) -> str:
+        return f"{self.folder}/out/rlib/{self.name}.rlib"
+
+    @property
+    def root(self) -> str:
+        return "src/main.rt" if os.path.isfile(f"{self.folder}/src/main.rt") else "src/lib.rt"
+
+
+def read_crates(top: str) -> Dict[str, Crate]:
+    """The crates that crates.txt lists, by name."""
+    with open(f"{top}/crates.txt", encoding="utf-8") as it:
+        rows = [line.partition("#")[0].strip() for line in it]
+    listed = {re.split(r"[\s:]", row)[0]: row.partition(":")[2].split() for row in rows if row}
+    return {
+        name: Crate(name, f"{top}/crates/{name}", [it for it in uses if it in listed], [it for it in uses if it not in listed])
+        for name, uses in listed.items()
+    }
+
+
+def below(crate: Crate, crates: Dict[str, Crate]) -> List[Crate]:
+    """The crates below a crate, each after those that it uses."""
+    found: List[Crate] = []
+    for name in crate.crates:
+        for it in [*below(crates[name], crates), crates[name]]:
+            if it not in found:
+                found.append(it)
+    return found
+
+
+def files_of(crate: Crate) -> List[os.stat_result]:
+    """What the system says of each file that the crate is made from."""
+    places = [place for part in PARTS for place in os.walk(f"{crate.folder}/{part}")]
+    return [os.stat(f"{at}/{it}") for at, _, names in places for it in names]
+
+
+def newest(crate: Crate) -> float:
+    """When the latest change of the crate's files was."""
+    return max((it.st_mtime for it in files_of(crate)), default=0.0)
+
+
+def size(crate: Crate) -> int:
+    """How many bytes the crate's files have."""
+    return sum(it.st_size for it in files_of(crate))
+
+
+def built_at(crate: Crate) -> float:
+    return os.stat(crate.rlib).st_mtime if os.path.isdir(crate.rlib) else 0.0
+
+
+def is_built(crate: Crate, crates: Dict[str, Crate]) -> bool:
+    """Whether the crate's library is there, and newer than its files and than the libraries below it."""
+    under = below(crate, crates)
+    times = [newest(crate), *[newest(it) for it in under], *[built_at(it) for it in under]]
+    return all(built_at(it) for it in under) and built_at(crate) >= max(times)
+
+
+def build(crate: Crate) -> str:
+    """Has `rt lib` build a library, and returns what it said where that fails."""
+    words = [f"{KIT}/bin/rt", "lib", "--jobs", "1"]
+    ran = subprocess.run(words, cwd=crate.folder, stdin=subprocess.DEVNULL, stdout=subprocess.PIPE, stderr=subprocess.STDOUT, errors="replace")
+    return ran.stdout if ran.returncode else ""
+
+
+def check_words(crate: Crate, crates: Dict[str, Crate]) -> List[str]:
+    """The command that checks the crate in a folder that holds a copy of its files."""
+    words = [f"{KIT}/bin/rattle", "check", "--crate-name", crate.name, crate.root]
+    for name in ["std", *crate.libraries]:
+        words += ["--extern", f"{name}={KIT}/rlibs/{name}.rlib"]
+    words += ["-L", f"dependency={KIT}/rlibs"]
+    for name in crate.crates:
+        words += ["--extern", f"{name}={crates[name].rlib}"]
+    for it in below(crate, crates):
+        words += ["-L", f"dependency={os.path.dirname(it.rlib)}"]
+    words += ["--antt-project", f"{KIT}/rattle/logic/antt-project.json", "--logic-built", f"{KIT}/logic_built"]
+    return [*words, "--jobs", "1", "--links", f"{crate.name}="]
+
+
+HOLE = """use Rattle.{crate}.proofs.{path}.Statement.{{statement}}
+
+pub {name}_spec : {{M : Type 1}} → statement M
+{name}_spec = ?
+"""
+PROOF_FILES = ("Answers.antt", "Invariants.antt", "Proof.antt")
+
+
+class Room:
+    """A folder for checks of a crate with other texts; what they prove is kept there from one to the next.
+
+    A check of some functions takes the others by their contracts: the proof of each is a hole. So no time goes to proofs that
+    say nothing of an edit, and a function that is not proved is so by its own text."""
+
+    running: Set[int] = set()
+    is_stopped = False
+
+    def __init__(self, crate: Crate, crates: Dict[str, Crate], functions: Iterable[str], folder: str):
+        self.crate, self.folder, self.words = crate, folder, check_words(crate, crates)
+        self.with_holes = set(functions)
+        self.seconds, self.checks = 0.0, 0
+
+    def check(self, texts: Dict[str, str], functions: List[str]) -> CheckOutput:
+        """Checks the functions, or the whole crate where none is named, with these texts in place of the crate's own."""
+        holes = self.with_holes - {*functions} if functions else set()
+        self._write(texts, holes)
+        words = [*self.words, "--incremental", "kept", *["--allow-holes"] * bool(holes)]
+        for it in functions:
+            words += ["--only", it]
+        output = self._run(words)
+        refused = {it for it in holes if any(error.file == self._proofs(it) + "Proof.antt" for error in output.errors)}
+        is_of_source = any(it.file.startswith("src/") for it in output.errors)
+        if holes and (refused or not output.reached_the_prover and not is_of_source):
+            # Where a proof by a hole is not taken, the function has its own again.
+            self.with_holes -= refused or self.with_holes
+            return self.check(texts, functions)
+        return output
+
+    def _proofs(self, function: str) -> str:
+        return f"proofs/{function.replace('::', '/')}/"
+
+    def _write(self, texts: Dict[str, str], holes: Set[str]) -> None:
+        """Writes the crate's files, with these texts, and with holes in place of some functions' proofs."""
+        for part in PARTS:
+            shutil.rmtree(f"{self.folder}/{part}", ignore_errors=True)
+            if os.path.isdir(f"{self.crate.folder}/{part}"):
+                shutil.copytree(f"{self.crate.folder}/{part}", f"{self.folder}/{part}")
+        for function in holes:
+            place = f"{self.folder}/{self._proofs(function)}"
+            for name in PROOF_FILES:
+                if os.path.isfile(place + name):
+                    os.remove(place + name)
+            path = function.replace("::", ".")
+            texts = {**texts, self._proofs(function) + "Proof.antt": HOLE.format(crate=self.crate.name, path=path, name=path.split(".")[-1])}
+        for path, text in texts.items():
+            os.makedirs(os.path.dirname(f"{self.folder}/{path}"), exist_ok=True)
+            with open(f"{self.folder}/{path}", "w", encoding="utf-8") as it:
+                it.write(text)
+
+    def _run(self, words: List[str]) -> CheckOutput:
+        if Room.is_stopped:
+            raise InterruptedError("the run was stopped")
+        said = f"{self.folder}/said"
+        with open(said, "w") as it:
+            ran = subprocess.Popen(words, cwd=self.folder, stdin=subprocess.DEVNULL, stdout=it, stderr=subprocess.STDOUT, start_new_session=True)
+        Room.running.add(ran.pid)
+        _, status, used = os.wait4(ran.pid, 0)
+        Room.running.discard(ran.pid)
+        ran.returncode = os.WEXITSTATUS(status) if os.WIFEXITED(status) else -os.WTERMSIG(status)
+        self.seconds += used.ru_utime + used.ru_stime
+        self.checks += 1
+        with open(said, encoding="utf-8", errors="replace") as it:
+            return read_output(ran.returncode, it.read())
+
+    @staticmethod
+    def stop_all() -> None:
+        """Ends the checks that run, and begins no other."""
+        Room.is_stopped = True
+        for pid in [*Room.running]:
+            os.killpg(pid, signal.SIGKILL)

@@ -1,0 +1,181 @@
+#!/usr/bin/env python3
+"""Tests of ./edits: its readers of edits and of a check's output, its choice of batches, and one run over a small crate."""
+import os
+import subprocess
+import sys
+import tempfile
+import unittest
+
+sys.dont_write_bytecode = True
+HERE = os.path.dirname(os.path.realpath(__file__))
+sys.path.insert(0, HERE)
+
+from check_output import read_output  # noqa: E402
+from edit_files import DoesNotApply, apply_edit, edit_files, parse_edit  # noqa: E402
+from edit_rounds import Rounds, Verdict, refusal  # noqa: E402
+from rattle_sources import Sources, block_name  # noqa: E402
+
+SOURCE = """//! Small functions.
+#![tactic(auto)]
+ghost use Rattle.std.specs.Prelude.{◌≡◌, ◌≤◌, ◌<◌, ◌+◌};
+
+/// One more.
+pub fn one_more(n: u64) -> u64
+    requires { n < 100 }
+    ensures { result ≡ n + 1 }
+{
+    n + 1
+}
+
+/// Two more.
+pub fn two_more(n: u64) -> u64
+    requires { n < 90 }
+    ensures { result ≡ n + 2 }
+{
+    one_more(one_more(n))
+}
+
+/// A small number.
+pub fn small() -> u64
+    ensures { result ≤ 10 }
+{
+    3
+}
+
+/// A number, cut at ten.
+pub fn cut(n: u64) -> u64
+    ensures { result ≤ 10 }
+{
+    if n < 10 {
+        n
+    } else {
+        10
+    }
+}
+"""
+
+# The answer names a goal that is there only while the body has its branches.
+ANSWER = """use Rattle.std.proofs.Common.{rules}
+use Rattle.tiny.proofs.cut.Goals as goal
+
+pub returns-else-n-lt10 : goal.returns-else-n-lt10
+returns-else-n-lt10 c = search rules
+"""
+
+EDITS = {
+    "one_less.edit": ("    n + 1", "    n + 2"),
+    "more/once.md": ("one_more(one_more(n))", "one_more(n)"),
+    "more/four.md": ("    3", "    4"),
+    "more/moved.md": ("    5", "    6"),
+    "more/no_value.md": ("    3", "    nothing"),
+    "more/other_branch.md": ("    if n < 10 {", "    if 9 >= n {"),
+}
+
+OUTPUT = """./proofs/a/first/Answers.antt:9:4: error: `returns`: `omega`: the goal does not follow
+  a line below
+./proofs/a/third/Answers.antt:5:4: error: `goal.returns-x` is not in scope
+./proofs/a/third/Answers.antt:7:4: error: `returns`: record `View` (nearest: .else-x)
+  has no field `if-x`
+note: src/a.rt:7:1: it is not proved that what the function ensures holds (`returns`)
+fn tiny::a::first: not proved
+fn tiny::a::second: no proof: it calls `tiny::a::first`, which is not proved
+fn tiny::a::third: not proved
+fn tiny::a::fourth: proved
+only=4 proved=1
+"""
+
+
+def edit_of(name, old, new, file="src/lib.rt"):
+    return parse_edit("tiny", name, f"file: {file}\nold: {old}\nnew: {new}\n")
+
+
+class ReadingEdits(unittest.TestCase):
+    def test_an_edit_changes_the_text_that_stands_once(self):
+        edit = parse_edit("tiny", "name", "A comment.\nfile: src/lib.rt\nold: a b\nnew: c\n")
+        self.assertEqual(apply_edit(edit, {"src/lib.rt": "x a b y"}.__getitem__), {"src/lib.rt": "x c y"})
+
+    def test_a_later_pair_meets_the_text_of_the_earlier_one(self):
+        edit = parse_edit("tiny", "name", "file: src/lib.rt\nold: a\nnew: b\nold: bc\nnew:\n")
+        self.assertEqual(apply_edit(edit, {"src/lib.rt": "ac"}.__getitem__), {"src/lib.rt": ""})
+
+    def test_a_text_that_stands_twice_does_not_apply(self):
+        with self.assertRaises(DoesNotApply):
+            apply_edit(edit_of("name", "a", "b"), {"src/lib.rt": "a a"}.__getitem__)
+
+    def test_an_edit_names_a_file_of_the_crate_and_has_a_pair(self):
+        for text in ("file: ../lib.rt\nold: a\nnew: b\n", "file: src/lib.rt\n", "old: a\nnew: b\n"):
+            with self.assertRaises(DoesNotApply):
+                parse_edit("tiny", "name", text)
+
+
+class ReadingOutput(unittest.TestCase):
+    def setUp(self):
+        self.output = read_output(1, OUTPUT)
+
+    def test_a_function_fails_by_itself_or_waits_for_another(self):
+        self.assertEqual(self.output.functions["a::first"].waits_for, set())
+        self.assertEqual(self.output.functions["a::second"].waits_for, {"a::first"})
+        self.assertTrue(self.output.functions["a::fourth"].is_proved)
+
+    def test_a_goal_is_told_from_a_name_that_is_gone(self):
+        judged = {name: refusal(name, self.output.faults_of(f"a::{name}"), "").verdict for name in ("first", "third")}
+        self.assertEqual(judged, {"first": Verdict.REFUSED, "third": Verdict.SHAPE})
+
+    def test_a_clause_that_cannot_be_read_is_no_refusal(self):
+        output = read_output(1, "src/lib.rt:3:9: error: `f`: `nothing` is not in scope\nlogic=not-proved\n")
+        self.assertTrue(output.errors[0].cannot_be_read)
+        self.assertFalse(self.output.errors[0].cannot_be_read)
+
+
+class ChoosingBatches(unittest.TestCase):
+    def batch_of(self, *edits):
+        rounds = Rounds([edit_of(*it) for it in edits], Sources({"src/lib.rt": SOURCE}), lambda texts, functions: None)
+        return sorted(it.edit.name for it in rounds._next_batch()[0])
+
+    def test_one_edit_a_function(self):
+        self.assertEqual(self.batch_of(("a", "    3", "    4"), ("b", "    3", "    5"), ("c", "        10", "        11")), ["a", "c"])
+
+    def test_a_function_stands_apart_from_those_that_it_calls(self):
+        self.assertEqual(len(self.batch_of(("callee", "    n + 1", "    n"), ("caller", "one_more(one_more(n))", "n"))), 1)
+
+    def test_blocks_are_named_as_a_check_names_them(self):
+        self.assertEqual(block_name("impl", "<'a> Iterator for Walk<'a> "), "WalkIterator")
+        self.assertEqual(block_name("impl", " From<std::alloc::AllocError> for Fault "), "FaultFromAllocError")
+
+
+class ASmallCrate(unittest.TestCase):
+    """Every verdict, by a run of the script."""
+
+    def setUp(self):
+        self.room = tempfile.TemporaryDirectory(prefix="test-edits-")
+        self.addCleanup(self.room.cleanup)
+        texts = {"src/lib.rt": SOURCE, "proofs/cut/Answers.antt": ANSWER}
+        texts.update({f"must-fail/{name}": f"file: src/lib.rt\nold: {old}\nnew: {new}\n" for name, (old, new) in EDITS.items()})
+        for path, text in texts.items():
+            file = f"{self.room.name}/crates/tiny/{path}"
+            os.makedirs(os.path.dirname(file), exist_ok=True)
+            with open(file, "w", encoding="utf-8") as it:
+                it.write(text)
+        with open(f"{self.room.name}/crates.txt", "w", encoding="utf-8") as it:
+            it.write("tiny:\n")
+
+    def test_each_verdict(self):
+        self.assertEqual(len(edit_files(f"{self.room.name}/crates/tiny")), len(EDITS))
+        words = [os.path.join(os.path.dirname(HERE), "edits"), "--top", self.room.name, "--jobs", "1"]
+        ran = subprocess.run(words, stdout=subprocess.PIPE, stderr=subprocess.STDOUT, encoding="utf-8")
+        found = dict(line.split(": ")[:2] for line in ran.stdout.split("\n") if line.startswith("tiny/"))
+        wanted = {
+            "tiny/one_less": "refused",
+            "tiny/once": "refused",
+            "tiny/four": "PROVED",
+            "tiny/moved": "does not apply",
+            "tiny/no_value": "does not compile",
+            "tiny/other_branch": "shape",
+        }
+        self.assertEqual(found, wanted, ran.stdout)
+        self.assertEqual(ran.returncode, 1)
+        self.assertEqual(ran.stdout.rstrip().split("\n")[-1], "3 passed, 3 failed")
+
+
+if __name__ == "__main__":
+    unittest.main()
