@@ -3,7 +3,7 @@ use crate::samples::{area, assert_area, assert_found, assert_found_area, grid_of
 use std::alloc::Global;
 use std::process::Abort;
 use std::test::Fail;
-use zarr_grids::{ChunkGrid, ChunkGridTraits};
+use zarr_grids::{ChunkGrid, ChunkGridTraits, unravel_index};
 
 /// The first place of each chunk along a dimension, and its length.
 type Line = &'static [(u64, u64)];
@@ -12,22 +12,26 @@ const TWOS: Line = &[(0, 2), (2, 2), (4, 2), (6, 2)];
 
 const THREES: Line = &[(0, 3), (3, 3), (6, 3)];
 
-/// Each grid, and the chunks along its rows and columns that have a place below 8.
-const SAMPLES: [(&str, [Line; 2]); 4] = [
+/// Each grid, how many chunks it has, and the chunks along its rows and columns that have a place below 8.
+const SAMPLES: [(&str, [u64; 2], [Line; 2]); 4] = [
     (
         r#"{"name":"regular","configuration":{"chunk_shape":[2,3]}}"#,
+        [3, 2],
         [TWOS, THREES],
     ),
     (
         r#"{"name":"regular_bounded","configuration":{"chunk_shape":[2,3]}}"#,
+        [3, 2],
         [&[(0, 2), (2, 2), (4, 1)], &[(0, 3), (3, 1)]],
     ),
     (
         r#"{"name":"rectangular","configuration":{"chunk_shape":[[1,2,2],3]}}"#,
+        [3, 2],
         [&[(0, 1), (1, 2), (3, 2)], THREES],
     ),
     (
         r#"{"name":"rectilinear","configuration":{"kind":"inline","chunk_shapes":[2,[[1,2],3]]}}"#,
+        [3, 3],
         [TWOS, &[(0, 1), (1, 1), (2, 3)]],
     ),
 ];
@@ -112,7 +116,7 @@ fn assert_looked_up(
 #[test]
 fn places_and_chunks_are_where_a_look_over_all_finds_them(rt: HostRuntime) -> Result<(), Fail> {
     let alloc = rt.alloc();
-    for (text, lines) in SAMPLES {
+    for (text, _, lines) in SAMPLES {
         let grid = grid_of(alloc, text, &[5, 4])?;
         for n in 0..64u64 {
             assert_looked_up(&rt, alloc, &grid, lines, [n / 8, n % 8])?;
@@ -122,27 +126,37 @@ fn places_and_chunks_are_where_a_look_over_all_finds_them(rt: HostRuntime) -> Re
 }
 
 #[test]
-fn a_walk_has_each_chunk_in_the_grid_with_its_box(rt: HostRuntime) -> Result<(), Fail> {
+fn a_walk_has_each_chunk_in_the_grid(rt: HostRuntime) -> Result<(), Fail> {
     let alloc = rt.alloc();
-    for (text, lines) in SAMPLES {
+    for (text, count, _) in SAMPLES {
         let grid = grid_of(alloc, text, &[5, 4])?;
-        let mut chunks = grid.iter_chunk_indices(alloc)?;
-        let mut boxes = grid.iter_chunk_subsets(alloc)?;
-        for n in 0..64u64 {
-            let chunk = [n / 8, n % 8];
-            if grid.chunk_indices_inbounds(&chunk) {
-                let want = box_of(lines, chunk).ok_or("no box")?;
-                let found = chunks.next().ok_or("no chunk")??;
-                assert_eq!(rt; found.as_slice(), chunk.as_slice());
-                assert_area(
-                    &rt,
-                    &boxes.next().ok_or("no box")??,
-                    &want.start,
-                    &want.shape,
-                );
-            }
+        let mut number = 0u64;
+        for chunk in grid.iter_chunk_indices(alloc)? {
+            assert_found(&rt, unravel_index(alloc, number, &count)?, &chunk?);
+            number = number.saturating_add(1);
         }
-        assert!(rt; chunks.next().is_none() && boxes.next().is_none(), "{text}");
+        assert!(rt; unravel_index(alloc, number, &count)?.is_none(), "{text}");
+    }
+    Ok(())
+}
+
+#[test]
+fn a_walk_has_the_box_of_each_chunk_in_the_grid(rt: HostRuntime) -> Result<(), Fail> {
+    let alloc = rt.alloc();
+    for (text, count, lines) in SAMPLES {
+        let grid = grid_of(alloc, text, &[5, 4])?;
+        let mut number = 0u64;
+        for found in grid.iter_chunk_subsets(alloc)? {
+            let chunk = unravel_index(alloc, number, &count)?.ok_or("no chunk")?;
+            let pair = match chunk.as_slice() {
+                [row, column] => [*row, *column],
+                _ => panic!(rt; "{text}"),
+            };
+            let want = box_of(lines, pair).ok_or("no box")?;
+            assert_area(&rt, &found?, &want.start, &want.shape);
+            number = number.saturating_add(1);
+        }
+        assert!(rt; unravel_index(alloc, number, &count)?.is_none(), "{text}");
     }
     Ok(())
 }
@@ -167,7 +181,7 @@ fn assert_intersecting(
 #[test]
 fn a_box_intersects_the_chunks_up_to_that_of_its_last_place(rt: HostRuntime) -> Result<(), Fail> {
     let alloc = rt.alloc();
-    for (text, lines) in SAMPLES {
+    for (text, _, lines) in SAMPLES {
         let grid = grid_of(alloc, text, &[5, 4])?;
         for n in 0..64u64 {
             assert_intersecting(&rt, alloc, &grid, lines, [n / 8, n % 8])?;

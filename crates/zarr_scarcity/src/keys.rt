@@ -2,7 +2,7 @@
 
 use crate::stop::{Stop, expect};
 use std::alloc::Global;
-use zarr_grids::{ChunkKeyEncoding, ChunkKeyEncodingMetadata, MetadataV3, NodePath, StoreKey};
+use zarr_grids::{ChunkKeyEncoding, MetadataV3, NodePath, StoreKey};
 
 /// An encoding's extension point as it is written, the key of the chunk (1, 23), and that of the chunk of an array without
 /// dimensions.
