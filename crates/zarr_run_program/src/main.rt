@@ -2,8 +2,6 @@
 #![tactic(auto)]
 
 mod program;
-#[cfg(test)]
-mod tests;
 
 use program::run_program;
 use std::process::ExitCode;
