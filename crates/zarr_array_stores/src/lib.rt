@@ -1,4 +1,4 @@
-//! Stores: maps from keys to values.
+//! The store in memory: a map from keys to values.
 #![tactic(auto)]
 
 pub mod memory_store;

@@ -1,4 +1,4 @@
-//! Tests of stores, and of what of array documents no story shows: why one is refused.
+//! Tests of stores, and of why an array document is refused, which no story shows.
 #![tactic(auto)]
 
 #[cfg(test)]

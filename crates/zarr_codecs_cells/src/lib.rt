@@ -1,4 +1,4 @@
-//! Data types, cells and the options of codecs.
+//! The data type that arrays have so far, its cells, and the options of codecs.
 #![tactic(auto)]
 
 pub mod array_bytes;

@@ -1,4 +1,4 @@
-//! Tests of data types, fill values and cells by the public names of `zarr_codecs_types`.
+//! Tests of data types, fill values and cells, using only the public names of `zarr_codecs_types`.
 #![tactic(auto)]
 
 #[cfg(test)]

@@ -1,4 +1,4 @@
-//! Data types, cells and fill values.
+//! Data types, cells and fill values, and how metadata gives them.
 #![tactic(auto)]
 
 pub mod cell;

@@ -1,4 +1,4 @@
-//! Chunk grids as lists of dimensions of any kind, with every lookup.
+//! Chunk grids as lists of dimensions (regular, clipped or of varying edges), with every lookup.
 #![tactic(auto)]
 
 pub mod boxes;

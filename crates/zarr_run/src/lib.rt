@@ -1,4 +1,4 @@
-//! Zarr arrays by commands: a session over a store, and its commands read and answered by lines.
+//! Zarr arrays by commands: a session over a store, with commands and answers as values or as lines.
 #![tactic(auto)]
 
 pub use zarr_array_stores::MemoryStore;

@@ -1,4 +1,4 @@
-//! Commands and replies of a session, and their lines.
+//! The commands and replies of a session, and the lines that they are read from and written to.
 #![tactic(auto)]
 
 pub mod answer;

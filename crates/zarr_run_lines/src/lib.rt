@@ -1,4 +1,4 @@
-//! Commands read by lines, and their answers written by lines.
+//! Commands read line by line, and their answers written line by line.
 #![tactic(auto)]
 
 mod answers;

@@ -1,4 +1,4 @@
-//! A program for tests of whole sessions: it runs commands over a store that it is given, and tells the store that they leave.
+//! A program for tests of whole sessions: it runs commands over a store that it is given, and prints the store that they leave.
 //!
 //! Standard input has a line for each key of the store that the session begins with, then an empty line, and then the commands,
 //! one a line. Standard output has a line of answer for each command, then an empty line, and then a line for each key of the

@@ -1,4 +1,4 @@
-//! Tests of what code alone shows of `zarr_run`: typed commands, streams that fail, and what of a line no answer shows.
+//! Tests of `zarr_run` that need code: typed commands, streams that fail, and what a line says that no answer shows.
 //! Whole sessions are in the stories.
 #![tactic(auto)]
 

@@ -1,10 +1,11 @@
 //! Scripts of calls in which any allocation may be refused.
 //!
 //! The first byte of standard input names the script: `g` for grids, `k` for keys and metadata, `d` for data types and fill
-//! values, `s` for a session's commands, `l` for a session's lines. It prints `as stated` where each answer is the one with
-//! ample memory, which is typed in here, or says that memory ran out and has made just the change that it says. Before the
-//! script it makes as many allocations as bytes follow the first: where the allocation with one number is refused in each run,
-//! inputs of all lengths up to that number refuse each allocation of the script in turn.
+//! values, `s` for a session's commands, `l` for a session's lines. It prints `as stated` if each answer is the one with
+//! ample memory, which is typed in here, or says that memory ran out and has made just the change that it says.
+//!
+//! Before the script it makes one allocation for each further byte of input. So if every run refuses the allocation with the
+//! same number, inputs of all lengths up to that number refuse each allocation of the script in turn.
 #![tactic(auto)]
 
 mod cases;
