@@ -70,7 +70,7 @@ given_attributes ms = unwrap_or (option_and_then as_object (get_member (codes "a
 abbrev pub written_members : Members → Members
 written_members ms = put (codes "attributes") (object (marked (given_attributes ms))) (written_fields (is_given (get_member (codes "dimension_names") ms)) ms)
 
--- the document that is written for a document: each extension point in its shortest form, no storage transformers, no null names, and the attribute `_zarrs` beside the given ones; a tree that is no object stays
+-- the document that is written for a document: each extension point in its shortest form, no storage transformers, no null names, and the attribute `_zarrs` added to the given ones; a tree that is no object stays
 abbrev pub written_document : Data → Data
 written_document null = null
 written_document (boolean b) = boolean b

@@ -1,4 +1,4 @@
--- The chunks intersecting partition a covered box.
+-- The intersecting chunks partition a covered box.
 use Rattle.std.proofs.Common.{◌≡◌, ◌∙◌, ℕ, suc, ◌+◌, ◌-◌, ◌<◌, Bool, true, false, ◌||◌, List, [], ◌∷◌, length, map, get_or, replicate, refl, sym, ap, ⊎_elim, arith, Option, Some, None, bytes_eq}
 use Rattle.std.specs.Option.{option_map_or}
 use Rattle.std.specs.List.{range_with_len, list_any}

@@ -80,7 +80,7 @@ only_chunk_shape ms = if has_only (codes "chunk_shape" ∷ []) ms then get_membe
 abbrev pub is_inline : Option Data → Bool
 is_inline kind = unwrap_or (option_map (λ text. bytes_eq text (codes "inline")) (option_and_then as_str kind)) false
 
--- the member `chunk_shapes`, beside which there is only `kind`, which is "inline"
+-- the member `chunk_shapes`, where the only other member is `kind`, which is "inline"
 abbrev pub only_chunk_shapes : Members → Option Data
 only_chunk_shapes ms =
     if has_only (codes "kind" ∷ codes "chunk_shapes" ∷ []) ms && is_inline (get_member (codes "kind") ms)

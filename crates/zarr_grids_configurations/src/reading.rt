@@ -121,7 +121,7 @@ fn only_chunk_shape<'v>(members: &'v Map<String, Value>) -> Option<&'v Value>
     }
 }
 
-/// The member `chunk_shapes`, where beside it there is only `kind`, which is "inline".
+/// The member `chunk_shapes`, where the only other member is `kind`, which is "inline".
 fn only_chunk_shapes<'v>(members: &'v Map<String, Value>) -> Option<&'v Value>
     ensures { option_map (λ v. view v.now) result
         ≡ json.only_chunk_shapes (members_view members.now.entries) }

@@ -5,7 +5,7 @@ use Rattle.zarr_grids_boxes.specs.Boxes.{Region, is_in_box}
 use Rattle.zarr_grids_chunks.specs.Grids.{Grid, lies_in_chunk, IsInGrid, IsCovered, intersecting}
 use Rattle.zarr_grids_dimensions.specs.Lookups.{are_dimensions}
 
--- each place of a covered box lies in one of the chunks intersecting
+-- each place of a covered box lies in one of the intersecting chunks
 abbrev pub ChunksIntersectingCover : Type 0
 ChunksIntersectingCover = (grid : Grid) (region : Region) (place : List ℕ) → IsCovered grid region → is_in_box region.start region.shape place ≡ true
     → list_any (lies_in_chunk grid place) (intersecting grid region) ≡ true

@@ -92,7 +92,7 @@ with_chunks-none grid region given cells p = ap (λ b. if b then given p else ce
 pub with_chunks-values : (grid : Grid) (region : Region) (cs : List (List ℕ)) (given cells : List ℕ → Cell) → AreValues uint8 given → AreValues uint8 cells → AreValues uint8 (with_chunks grid region cs given cells)
 with_chunks-values grid region cs given cells vg vc p = elim (is_in_box region.start region.shape p && list_any (lies_in_chunk grid p) cs) as (λ t. is_value uint8 (if t then given p else cells p) ≡ true) [ true ↦ vg p | false ↦ vc p ]
 
--- ---- all chunks intersecting hold the whole box
+-- ---- all intersecting chunks hold the whole box
 pub with_chunks-intersecting : (grid : Grid) (region : Region) (given cells : List ℕ → Cell) (p : List ℕ) → IsCovered grid region
     → with_chunks grid region (intersecting grid region) given cells p ≡ (if is_in_box region.start region.shape p then given p else cells p)
 with_chunks-intersecting grid region given cells p covered = ⊎_elim

@@ -1,4 +1,4 @@
--- The chunks intersecting, one by one.
+-- The intersecting chunks, one by one.
 use Rattle.std.proofs.Common.{◌≡◌, ◌∙◌, ℕ, ◌+◌, ◌*◌, ◌<◌, ◌≤◌, ◌^◌, Bool, true, List, [], ◌∷◌, ◌++◌, length, map, take, sym, ap, ⊎_elim, arith, bytes_eq}
 use Rattle.std.specs.List.{range_with_len, list_any}
 use Rattle.std.proofs.lemmas.Bool.{false≢true, cases_lt}
@@ -18,7 +18,7 @@ use Rattle.zarr_array_stores.specs.StoreMaps.{StoreMap}
 use Rattle.zarr_run_array.specs.Contents.{HasDamage, HasSmallChunks, IsDamaged, is_listed}
 use Rattle.zarr_run_array.proofs.Listed.{listed_number, intersecting_listed}
 
--- the first chunks intersecting
+-- the first intersecting chunks
 abbrev pub first_chunks : Region → ℕ → List (List ℕ)
 first_chunks chunks n = map (place_at chunks.start chunks.shape) (range_with_len 0 n)
 

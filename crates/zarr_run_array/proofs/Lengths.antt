@@ -61,7 +61,7 @@ length_before passed path document region chunks bs s n count chunk box old mid 
     key_apart path document d chunk other.0 box other.1 below (λ q. false≢true (sym t ∙ ap (is_listed (first_chunks chunks n)) q ∙ t2)) same) ∙ found))
     (told (is_listed (first_chunks chunks n) chunk))
 
--- all chunks intersecting
+-- all intersecting chunks
 pub no_damage : (path : List ℕ) (document : Document) (region : Region) (store : StoreMap) → AreSized (λ box. false) path document (intersecting document.grid region) store → HasDamage path document region store → ⊥
 no_damage path document region store all d = d.wrong (all.sized d.chunk d.box d.value d.below (intersecting_listed document.grid region d.chunk d.box d.below d.shares) refl d.found)
 

@@ -14,7 +14,7 @@ use Rattle.zarr_run_array.specs.Contents.{AreValues, is_listed}
 abbrev pub without_chunks : Grid → List (List ℕ) → Cell → (List ℕ → Cell) → List ℕ → Cell
 without_chunks grid chunks fill cells place = if list_any (lies_in_chunk grid place) chunks then fill else cells place
 
--- whatever cells the old store stood for, the new one stands for them with those of these chunks become the fill value; these chunks have no key, and no other key changed
+-- whatever cells the old store stood for, the new one stands for them with the cells of these chunks set to the fill value; these chunks have no key, and no other key changed
 pub record ErasedChunks (path : List ℕ) (document : Document) (chunks : List (List ℕ)) (old new : StoreMap) : Type 0 where
   pub stands : (cells : List ℕ → Cell) → AreValues document.type cells → StoreStands path document old cells → StoreStands path document new (without_chunks document.grid chunks document.fill cells)
   pub gone : (chunk : List ℕ) → is_listed chunks chunk ≡ true → get new (chunk_key path document.keys chunk) ≡ None

@@ -17,7 +17,7 @@ use zarr_array_stores::MemoryStore;
 use zarr_grids_boxes::ArraySubset;
 use zarr_grids_boxes::walk::place_into;
 
-/// Memory was wanting for an erasure; `applied` of its chunks had been erased before.
+/// Memory ran out during an erasure; `applied` of its chunks had been erased before.
 #[derive(Clone, Copy, Debug, PartialEq, Eq)]
 pub struct EraseFault {
     pub applied: u64,

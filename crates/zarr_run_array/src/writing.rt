@@ -17,7 +17,7 @@ use zarr_grids_boxes::ArraySubset;
 use zarr_grids_boxes::walk::{count_places, place_into};
 use zarr_grids_cover::chunk::chunk_box_into;
 
-/// Why a write stopped, and how many of the chunks intersecting had been written before.
+/// Why a write stopped, and how many of the intersecting chunks had been written before.
 #[derive(Clone, Copy, Debug, PartialEq, Eq)]
 pub struct WriteFault {
     pub cause: ChunkFault,

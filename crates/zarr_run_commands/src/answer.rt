@@ -20,12 +20,12 @@ pub fn push_answer(text: &mut Vec<u8>, reply: &Reply) -> Result<(), AllocError>
 {
     match reply {
         Reply::Done => text.extend_from_slice(b"{\"done\":true}"),
-        Reply::Cells(cells) => write_cells(text, cells),
-        Reply::Refused { cause, applied } => write_refusal(text, *cause, *applied),
+        Reply::Cells(cells) => push_cells(text, cells),
+        Reply::Refused { cause, applied } => push_refusal(text, *cause, *applied),
     }
 }
 
-fn write_cells(text: &mut Vec<u8>, cells: &ArrayBytes) -> Result<(), AllocError>
+fn push_cells(text: &mut Vec<u8>, cells: &ArrayBytes) -> Result<(), AllocError>
     ensures ok { OnOk result (text.new.items
         ≡ text.old.items ++ cells_text (payload_of cells.now)) }
     ensures err { OnErr result (Begins text.old.items text.new.items) }
@@ -45,11 +45,11 @@ fn push_numbers(text: &mut Vec<u8>, numbers: &[u8]) -> Result<(), AllocError>
         return Ok(());
     };
     push_number(text, *first)?;
-    write_further(text, others)
+    push_further(text, others)
 }
 
 /// Appends numbers, each after a comma.
-fn write_further(text: &mut Vec<u8>, numbers: &[u8]) -> Result<(), AllocError>
+fn push_further(text: &mut Vec<u8>, numbers: &[u8]) -> Result<(), AllocError>
     ensures ok { OnOk result (text.new.items ≡ text.old.items ++ further numbers.now) }
     ensures err { OnErr result (Begins text.old.items text.new.items) }
 {
@@ -68,7 +68,7 @@ fn push_number(text: &mut Vec<u8>, number: u8) -> Result<(), AllocError>
     text.extend_from_slice(buffer.format(number).as_bytes())
 }
 
-fn write_refusal(text: &mut Vec<u8>, cause: Cause, applied: u64) -> Result<(), AllocError>
+fn push_refusal(text: &mut Vec<u8>, cause: Cause, applied: u64) -> Result<(), AllocError>
     ensures ok { OnOk result (text.new.items ≡ text.old.items ++ refusal_text cause applied) }
     ensures err { OnErr result (Begins text.old.items text.new.items) }
 {

@@ -80,7 +80,7 @@ EraseRefuses (Some h) chunks cause.Region = ¬ AreInGrid h.document.grid chunks
 EraseRefuses (Some h) chunks cause.Size = AreInGrid h.document.grid chunks × HasTooLargeChunk h.document chunks
 EraseRefuses (Some h) chunks c = ⊥
 
--- a command on an array: the path comes first, and want of memory may come anywhere
+-- a command on an array: the path comes first, and running out of memory may come anywhere
 abbrev pub AtPath : List ℕ → (Cause → Type 0) → Cause → Type 0
 AtPath path refuses cause.Path = is_node_path path ≡ false
 AtPath path refuses cause.Memory = Unit {0}
@@ -123,7 +123,7 @@ pub record Writes (path : List ℕ) (target : Target) (given : GivenCells) (old 
   pub fits : ¬ HasTooLarge held.document box
   pub updates : new ≡ with_table path (updated held.document.fill held.table (changes box values)) old
 
--- of the cells of a box, those stand in the table that lie in the first n chunks intersecting; n is less than their number
+-- of the cells of a box, those stand in the table that lie in the first n intersecting chunks; n is less than their number
 pub record WritesFirst (n : ℕ) (path : List ℕ) (target : Target) (given : GivenCells) (old new : World) : Type 0 where
   pub held : Held
   pub found : held_at path old ≡ Some held

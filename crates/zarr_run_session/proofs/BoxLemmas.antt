@@ -79,8 +79,8 @@ one_byte n g = let o : n * 1 ≡ n = omega arith in omega arith
 pub region_too_large : (document : ArrayDocument) (region : Region) → (product region.shape < 2 ^ 63 → ⊥) → HasTooLarge (meaning_of document) region
 region_too_large document region h = inl (one_byte (product region.shape) (large (product region.shape) h))
 
--- ---- the chunks intersecting
--- a chunk that is intersecting lies in the box of the chunks intersecting
+-- ---- the intersecting chunks
+-- a chunk that is intersecting lies in the box of the intersecting chunks
 intersecting_in_box : (grid : Grid) (region chunks : Region) (chunk : List ℕ) (box : Region) → length chunks.start ≡ length chunks.shape → AreIntersecting grid region chunks → IsInGrid grid chunk box → intersects grid region chunk ≡ true → is_in_box chunks.start chunks.shape chunk ≡ true
 intersecting_in_box grid region chunks chunk box l m below shares =
     let numbered = sym (places_by_number chunks.start chunks.shape l) ∙ m.listed in
@@ -100,7 +100,7 @@ no_large_chunk grid region chunks l m none = λ chunk box below shares. ⊎_elim
 pub large_chunk : (document : ArrayDocument) (region chunks : Region) → length chunks.start ≡ length chunks.shape → AreIntersecting (meaning_of document).grid region chunks → HasChunkOf (meaning_of document).grid chunks (2 ^ 63) → HasTooLarge (meaning_of document) region
 large_chunk document region chunks l m (chunk, box, below, among, count) = inr (chunk, box, below, box_intersects (meaning_of document).grid region chunks chunk l m among, one_byte (product box.shape) count)
 
--- why the chunks intersecting are not taken is why a box is not read, and why it is not written
+-- why the intersecting chunks are not taken is why a box is not read, and why it is not written
 pub read_refused : (path : List ℕ) (document : Document) (region : Region) (store : StoreMap) (c : Cause) → ChunksRefused document region c → ReadRefused path document region store c
 read_refused path document region store cause.Size why = why
 read_refused path document region store cause.Memory why = tt

@@ -111,7 +111,7 @@ erase_done array old new chunks table small below fits erased t =
       table_after_erasure array (places chunks.start chunks.shape) old new table small erased t,
     )
 
--- an erasure that stopped for want of memory
+-- an erasure that stopped by running out of memory
 pub erase_stopped : (array : HeldArray) (old new : StoreMap) (chunks : Region) (n : ℕ) (table : Table) → array.document.fill_value < 256 → AreInGrid (meaning_of array.document).grid chunks → n < product chunks.shape
     → ErasedChunks (string_bytes array.path) (meaning_of array.document) (take n (places chunks.start chunks.shape)) old new → IsTableOf array old table
     → (after : Table) × Step (held_with array table ∷ []) (erase (string_bytes array.path) chunks) (refused cause.Memory n) (held_with array after ∷ []) × IsTableOf array new after

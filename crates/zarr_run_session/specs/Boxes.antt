@@ -14,14 +14,14 @@ use Rattle.zarr_run_model.specs.Worlds.{StoreStands}
 use Rattle.zarr_run_model.specs.declared.cause.Cause.{Cause}
 use Rattle.zarr_run_model.specs.declared.cause.Cause.TheVariants as cause
 
--- whatever cells the old store stood for, the new one stands for them with the box's cells replaced; no key but those of the chunks intersecting changed
+-- whatever cells the old store stood for, the new one stands for them with the box's cells replaced; no key but those of the intersecting chunks changed
 pub record WroteBox (path : List ℕ) (document : Document) (region : Region) (bytes : List ℕ) (store_empty : Bool) (old new : StoreMap) : Type 0 where
   pub stands : (given cells : List ℕ → Cell) → AreValues document.type given → AreValues document.type cells → bytes ≡ laid given region.start region.shape
       → StoreStands path document old cells → StoreStands path document new (overlaid region.start region.shape given cells)
   pub others : (key : List ℕ) → ((chunk : List ℕ) → is_listed (intersecting document.grid region) chunk ≡ true → key ≢ chunk_key path document.keys chunk) → get new key ≡ get old key
   pub keys : HasKeys path document store_empty (intersecting document.grid region) new
 
--- of a box's cells those were written that lie in the first chunks intersecting; where there are any, the bytes were as many as the box's
+-- of a box's cells those were written that lie in the first intersecting chunks; where there are any, the bytes were as many as the box's
 pub record WroteFirst (path : List ℕ) (document : Document) (region : Region) (bytes : List ℕ) (store_empty : Bool) (applied : ℕ) (old new : StoreMap) : Type 0 where
   pub wrote : WroteChunks path document region bytes store_empty (take applied (intersecting document.grid region)) old new
   pub fewer : applied ≢ 0 → applied < length (intersecting document.grid region)

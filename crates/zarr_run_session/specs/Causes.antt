@@ -6,7 +6,7 @@ use Rattle.zarr_run_array.specs.declared.chunk.ChunkFault.TheVariants as chunk
 use Rattle.zarr_run_model.specs.declared.cause.Cause.{Cause}
 use Rattle.zarr_run_model.specs.declared.cause.Cause.TheVariants as cause
 
--- want of memory, or the document
+-- running out of memory, or the document
 abbrev pub cause_of_document : DocumentError → Cause
 cause_of_document document.Memory = cause.Memory
 cause_of_document error = cause.Document

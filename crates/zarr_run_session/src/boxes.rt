@@ -22,7 +22,7 @@ use zarr_run_model::Cause;
 /// A chunk with this many cells is too large.
 pub(crate) const TOO_MANY_CELLS: u64 = 1 << 63;
 
-/// Why a write was refused, and after how many of the chunks intersecting.
+/// Why a write was refused, and after how many of the intersecting chunks.
 #[derive(Clone, Copy)]
 pub(crate) struct Refusal {
     pub cause: Cause,

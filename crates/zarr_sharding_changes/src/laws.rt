@@ -13,7 +13,7 @@ pub fn compaction_rows()
     ensures { CompactionRows }
 {}
 
-/// Slices that are appended and pairs that are replaced stand for the changed subchunks, beside all others.
+/// Slices that are appended and pairs that are replaced stand for the changed subchunks, together with all others.
 pub fn changes_written()
     ensures { ChangesWritten }
 {}

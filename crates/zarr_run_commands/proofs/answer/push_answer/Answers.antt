@@ -18,10 +18,10 @@ returns-in-Cells-clause-ok c = λ type.
     let old = c.args.text.now.items in
     let payload = payload_of c.in-Cells.cells in
     let text = ap (λ reply. compact_text (answer_json type (answered reply))) c.in-Cells.is ∙ cells_answer type payload in
-    then_appended c.write_cells.result c.write_cells.new.text.items old (cells_text payload) _ c.write_cells.ensures.ok (ap (λ more. old ++ more) (sym text))
+    then_appended c.push_cells.result c.push_cells.new.text.items old (cells_text payload) _ c.push_cells.ensures.ok (ap (λ more. old ++ more) (sym text))
 
 pub returns-in-Refused-clause-ok : goal.returns-in-Refused-clause-ok
 returns-in-Refused-clause-ok c = λ type.
     let old = c.args.text.now.items in
     let text = ap (λ reply. compact_text (answer_json type (answered reply))) c.in-Refused.is ∙ refused_answer type c.in-Refused.cause c.in-Refused.applied in
-    then_appended c.write_refusal.result c.write_refusal.new.text.items old (refusal_text c.in-Refused.cause c.in-Refused.applied) _ c.write_refusal.ensures.ok (ap (λ more. old ++ more) (sym text))
+    then_appended c.push_refusal.result c.push_refusal.new.text.items old (refusal_text c.in-Refused.cause c.in-Refused.applied) _ c.push_refusal.ensures.ok (ap (λ more. old ++ more) (sym text))

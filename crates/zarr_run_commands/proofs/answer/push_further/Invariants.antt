@@ -1,6 +1,6 @@
 use Rattle.std.proofs.Common.{◌≡◌, ◌++◌, take}
 use Rattle.zarr_run_commands.specs.Texts.{further}
-use Rattle.zarr_run_commands.proofs.answer.write_further.Given as goal
+use Rattle.zarr_run_commands.proofs.answer.push_further.Given as goal
 
 -- the numbers so far
 abbrev pub invariant-loop-number : goal.invariant-loop-number

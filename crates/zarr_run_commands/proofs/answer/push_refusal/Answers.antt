@@ -1,7 +1,7 @@
 use Rattle.std.proofs.Common.{◌++◌, codes, decimal, ap, ◌∙◌}
 use Rattle.zarr_run_commands.specs.Texts.{cause_text}
 use Rattle.zarr_run_commands.proofs.Appended.{then_appended, then_begins, joined}
-use Rattle.zarr_run_commands.proofs.answer.write_refusal.Goals as goal
+use Rattle.zarr_run_commands.proofs.answer.push_refusal.Goals as goal
 
 pub returns-clause-ok : goal.returns-clause-ok
 returns-clause-ok c =
