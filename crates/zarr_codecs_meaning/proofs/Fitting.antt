@@ -35,7 +35,8 @@ fitted subchunk inner index location elements shape fit =
     let pairs_shape = index_shape shape subchunk in
     let e = is_some_below (2 ^ 63) (size_of index uint64 pairs_shape) in
     let d = fits index uint64 pairs_shape in
-    let c = list_all (λ (part : Part). fits inner elements.type part.shape) (parts_of shape subchunk) in
+    let parts = list_all (λ (part : Part). fits inner elements.type part.shape) (parts_of shape subchunk) in
+    let c = fits inner elements.type subchunk && parts in
     let b = can_cut shape subchunk in
     let a = not (is_some (inner_type elements.type)) in
     let one = and_parts (divides shape subchunk) (a && (b && (c && (d && e)))) fit in
@@ -43,7 +44,8 @@ fitted subchunk inner index location elements shape fit =
     let three = and_parts b (c && (d && e)) two.1 in
     let four = and_parts c (d && e) three.1 in
     let five = and_parts d e four.1 in
-    record { cuts = three.0; each = four.0; index_fits = five.0; sized = some_below (2 ^ 63) (size_of index uint64 pairs_shape) five.1 }
+    let six = and_parts (fits inner elements.type subchunk) parts four.0 in
+    record { cuts = three.0; each = six.1; index_fits = five.0; sized = some_below (2 ^ 63) (size_of index uint64 pairs_shape) five.1 }
 
 -- the pairs of a shard as the cells of its index
 pub pairs_are_cells : (shape subchunk : List ℕ) (pairs : List Pair) → AreWords pairs → length pairs ≡ length (parts_of shape subchunk) → AreCells (zero_filled uint64) (index_shape shape subchunk) (pair_cells pairs)

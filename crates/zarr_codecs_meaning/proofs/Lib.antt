@@ -28,3 +28,5 @@ pub mod Meaning
 pub mod Tight
 pub mod Counts
 pub mod PartReading
+pub mod Refusals
+pub mod Chunks

@@ -146,7 +146,7 @@ order_fits order parts = is_some order || list_all (λ (c : Component). nat_le c
 abbrev pub bits_fit : ℕ → Option ℕ → Component → Bool
 bits_fit first last c = nat_le first (last_kept last c) && nat_lt (last_kept last c) c.width
 
--- whether a chain can encode an array of this type and shape (this project's profile)
+-- whether a chain can encode an array of this type and shape (this project's profile). The inner chain of a shard has to fit the subchunk shape also where the shard has no subchunk
 abbrev pub fits : Chain → DataType → List ℕ → Bool
 fits (bytes order) type shape = is_fixed type && order_fits order (components type)
 fits (packbits padding first last) type shape = is_fixed type && list_all (bits_fit first last) (components type)
@@ -157,7 +157,7 @@ fits (optional mask values) type shape =
 fits (after_array_codec codec chain) type shape = array_codec_fits codec shape && fits chain type (encoded_shape codec shape)
 fits (then_bytes chain codec) type shape = fits chain type shape
 fits (sharded subchunk inner index location) type shape =
-    divides shape subchunk && (not (is_some (inner_type type)) && (can_cut shape subchunk && (list_all (λ (part : Part). fits inner type part.shape) (parts_of shape subchunk)
+    divides shape subchunk && (not (is_some (inner_type type)) && (can_cut shape subchunk && ((fits inner type subchunk && list_all (λ (part : Part). fits inner type part.shape) (parts_of shape subchunk))
     && (fits index uint64 (index_shape shape subchunk) && is_some_below (2 ^ 63) (size_of index uint64 (index_shape shape subchunk))))))
 
 -- ---- What is kept

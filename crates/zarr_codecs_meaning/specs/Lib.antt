@@ -8,6 +8,9 @@ pub mod Keeping
 pub mod Decoding
 pub mod Standing
 pub mod Laws
+pub mod Chunks
+pub mod ChunkLaws
+pub mod Refusals
 pub mod KeptLaws
 pub mod WorkedValues
 pub mod WorkedPlain

@@ -83,6 +83,9 @@ pub record FitRows : Type 0 where
   pub shard_edge_zero : fits (sharded (0 ∷ []) (bytes None) (bytes (Some little)) at_end) uint8 (4 ∷ []) ≡ false
   pub shard_of_optional : fits (sharded (2 ∷ []) (optional (packbits no_padding_byte 0 None) (bytes None)) (bytes (Some little)) at_end) (optional_of uint8) (4 ∷ []) ≡ false
   pub shard_inner : fits (sharded (2 ∷ []) (bytes (Some little)) (bytes (Some little)) at_end) string (4 ∷ []) ≡ false
+  -- the inner chain has to fit also where there is no subchunk
+  pub shard_without_subchunks : fits (sharded (2 ∷ []) (bytes None) (bytes (Some little)) at_end) (integer unsigned 16) (0 ∷ []) ≡ false
+  pub shard_without_subchunks_in_order : fits (sharded (2 ∷ []) (bytes (Some little)) (bytes (Some little)) at_end) (integer unsigned 16) (0 ∷ []) ≡ true
   pub shard_index_without_order : fits (sharded (2 ∷ []) (bytes None) (bytes None) at_end) uint8 (4 ∷ []) ≡ false
   pub shard_nested : fits (sharded (2 ∷ 2 ∷ []) (sharded (1 ∷ 2 ∷ []) (bytes None) (bytes (Some little)) at_end) (bytes (Some little)) at_end) uint8 (4 ∷ 4 ∷ []) ≡ true
   pub shard_index_without_size : fits (sharded (2 ∷ []) (bytes None) (then_bytes (bytes (Some little)) (record { encode = λ given. Some given; decode = λ given. Some given; representation = λ known. unbounded_size })) at_end) uint8 (4 ∷ []) ≡ false

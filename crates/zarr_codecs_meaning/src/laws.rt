@@ -1,6 +1,8 @@
 //! Worked examples and laws of codec chains. Each function does nothing: its contract is the law.
 ghost use Rattle.zarr_codecs_meaning.specs.Laws.{EncodedSize, ShardSize, EncodedStands, StandsDecoded, StandingAlike, EncodedTight, TightStands, PartDecoded, PartSelects};
 ghost use Rattle.zarr_codecs_meaning.specs.KeptLaws.{KeptDecoded, KeptCells, KeptTwice, KeptEncoded, KeptLossless};
+ghost use Rattle.zarr_codecs_meaning.specs.ChunkLaws.{ChunkStored, StoredDecoded, StoredPart, StoredOnce};
+ghost use Rattle.zarr_codecs_meaning.specs.Refusals.{EncodingRefused};
 ghost use Rattle.zarr_codecs_meaning.specs.WorkedValues.{ValueRows, FitRows};
 ghost use Rattle.zarr_codecs_meaning.specs.WorkedPlain.{PlainRows};
 ghost use Rattle.zarr_codecs_meaning.specs.WorkedShards.{ShardRows, StandingRows, DamageRows};
@@ -43,6 +45,11 @@ pub fn encoded_size()
 /// A shard is as long as its index and the slices of the subchunks that are present.
 pub fn shard_size()
     ensures { ShardSize }
+{}
+
+/// What a chain refuses to encode, a caller's codec refuses, or an offset or a length is too large for where it is written.
+pub fn encoding_refused()
+    ensures { EncodingRefused }
 {}
 
 /// What a lossless chain encodes stands for the cells.
@@ -103,4 +110,24 @@ pub fn kept_encoded()
 /// A lossless chain keeps all.
 pub fn kept_lossless()
     ensures { KeptLossless }
+{}
+
+/// What is to be stored for a chunk's cells stands for them.
+pub fn chunk_stored()
+    ensures { ChunkStored }
+{}
+
+/// What is stored for a chunk is decoded to the cells that it stands for.
+pub fn stored_decoded()
+    ensures { StoredDecoded }
+{}
+
+/// A part of what is stored for a chunk is the cells at its places.
+pub fn stored_part()
+    ensures { StoredPart }
+{}
+
+/// What is stored for a chunk stands for no other cells.
+pub fn stored_once()
+    ensures { StoredOnce }
 {}
