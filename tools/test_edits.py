@@ -12,6 +12,7 @@ sys.path.insert(0, HERE)
 
 from check_output import read_output  # noqa: E402
 from edit_files import DoesNotApply, apply_edit, edit_files, parse_edit  # noqa: E402
+from edit_queue import Queue  # noqa: E402
 from edit_rounds import Rounds, Verdict, refusal  # noqa: E402
 from rattle_sources import Sources, block_name  # noqa: E402
 
@@ -141,6 +142,24 @@ class ChoosingBatches(unittest.TestCase):
     def test_blocks_are_named_as_a_check_names_them(self):
         self.assertEqual(block_name("impl", "<'a> Iterator for Walk<'a> "), "WalkIterator")
         self.assertEqual(block_name("impl", " From<std::alloc::AllocError> for Fault "), "FaultFromAllocError")
+
+
+class WaitingForLibraries(unittest.TestCase):
+    def test_a_crate_comes_once_it_is_ready(self):
+        ready = ["low"]
+
+        def is_ready(crate):
+            # Each question makes the next crate ready, as another run would.
+            found = crate in ready
+            ready.append("high")
+            return found
+
+        queue = Queue(["high", "low"], is_ready, end="/nowhere", seconds_between=0)
+        self.assertEqual([queue.next(), queue.next(), queue.next()], ["low", "high", None])
+
+    def test_what_is_never_ready_is_left(self):
+        queue = Queue(["low", "high"], lambda it: it == "low", end=os.path.realpath(__file__))
+        self.assertEqual([queue.next(), queue.next(), queue.left], ["low", None, ["high"]])
 
 
 class ASmallCrate(unittest.TestCase):
