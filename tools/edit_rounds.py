@@ -1,10 +1,11 @@
-"""Tries the must-fail edits of a crate in rounds: many edits in one check, at most one a function, and none in two functions
-of which one calls the other. An edit counts as refused only where its own function is reported as unproved by itself;
-where that function only calls another one that is not proved, the edit waits for a later round. An edit with no function of
-its own, as one of a definition that many contracts rest on, is tried alone."""
+"""Tries the must-fail edits of a crate in rounds: many edits in one check, at most one a function. An edit counts as refused only
+where its own function is reported as unproved by itself; where that function only calls another one that is not proved, the
+edit waits for a round without that one's edits. An edit with no function of its own, as one of a definition that many
+contracts rest on, is tried alone."""
 from __future__ import annotations
 
 import enum
+from collections import Counter
 from dataclasses import dataclass, field
 from typing import Callable, Dict, List, Optional, Set, Tuple
 
@@ -103,26 +104,13 @@ class Rounds:
 
     def _are_apart(self, one: Trial, other: Trial) -> bool:
         a, b = one.function or "", other.function or ""
-        if a == b or b in one.apart_from or a in other.apart_from:
-            return False
-        return b not in self.sources.reached(a) and a not in self.sources.reached(b)
-
-    def _rounds_through(self) -> Dict[str, int]:
-        """For each function with edits left, how many rounds it needs at least together with those that it calls and that call it."""
-        left: Dict[str, int] = {}
-        for trial in self._left():
-            left[trial.function or ""] = left.get(trial.function or "", 0) + 1
-        below: Dict[str, int] = {}
-        for path in sorted(left, key=lambda it: len(self.sources.reached(it))):
-            below[path] = left[path] + max([below.get(it, 0) for it in self.sources.reached(path) if it != path], default=0)
-        above = {path: max([below[it] for it in left if path in self.sources.reached(it)], default=0) for path in left}
-        return {path: max(below[path], above[path]) for path in left}
+        return a != b and b not in one.apart_from and a not in other.apart_from
 
     def _next_batch(self) -> Tuple[List[Trial], Dict[str, str]]:
-        """Edits that can be tried side by side, those first that need the most rounds, and callees before callers."""
-        need, batch, texts = self._rounds_through(), [], {}
-        order = sorted(self._left(), key=lambda it: (-need[it.function or ""], len(self.sources.reached(it.function or ""))))
-        for trial in order:
+        """Edits that can be tried side by side, those first whose function has the most edits left."""
+        left, batch, texts = self._left(), [], {}
+        count = Counter(it.function for it in left)
+        for trial in sorted(left, key=lambda it: -count[it.function]):
             if not all(self._are_apart(trial, it) for it in batch):
                 continue
             try:
@@ -135,6 +123,10 @@ class Rounds:
 
     def _try_batch(self, batch: List[Trial], texts: Dict[str, str]) -> None:
         output = self.check(texts, [it.function for it in batch if it.function])
+        unknown = [it for it in batch if it.function == output.unknown_function]
+        if unknown:
+            self._without_function(unknown, batch)
+            return
         unreadable = [it for it in output.errors if it.cannot_be_read]
         if not output.reached_the_prover or unreadable:
             self._split(batch, texts, output)
@@ -142,6 +134,14 @@ class Rounds:
         edited = {it.function for it in batch}
         for trial in batch:
             self._judge(trial, output, edited, len(batch) == 1)
+
+    def _without_function(self, unknown: List[Trial], batch: List[Trial]) -> None:
+        """Leaves those edits to be tried alone whose function the check knows by another name, and tries the others."""
+        for trial in unknown:
+            trial.function = None
+        rest = [it for it in batch if it.function]
+        if rest:
+            self._try_batch(rest, self._applied(rest))
 
     def _split(self, batch: List[Trial], texts: Dict[str, str], output: CheckOutput) -> None:
         """Tries two parts of a batch that does not compile: those whose functions have an error, and the others. A single edit is to blame itself."""

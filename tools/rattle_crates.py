@@ -135,6 +135,8 @@ class Room:
         for it in functions:
             words += ["--only", it]
         output = self._run(words)
+        if output.unknown_function:
+            return output
         refused = {it for it in holes if any(error.file == self._proofs(it) + "Proof.antt" for error in output.errors)}
         is_of_source = any(it.file.startswith("src/") for it in output.errors)
         if holes and (refused or not output.reached_the_prover and not is_of_source):

@@ -1,15 +1,14 @@
-"""Finds the functions in the sources of a crate: their paths as a check prints them, and which of them each one may call."""
+"""Finds the functions in the sources of a crate, with their paths as a check prints them."""
 from __future__ import annotations
 
 import os
 import re
 from dataclasses import dataclass
-from typing import Dict, FrozenSet, List, Optional, Set
+from typing import Dict, List, Optional
 
 FUNCTION = re.compile(r"(?m)^([ \t]*)(?:pub(?:\([^)]*\))?[ ]+)?(?:(?:const|unsafe|final)[ ]+)*fn[ ]+(\w+)")
 TYPE = re.compile(r"(?m)^[ ]*(?:pub(?:\([^)]*\))?[ ]+)?(?:struct|enum|union)[ ]+(\w+)")
 BLOCK = re.compile(r"(?m)^(?:pub(?:\([^)]*\))?[ ]+)?(impl|trait)\b([^{]*)")
-CALL = re.compile(r"(?:(\w+)[ ]*(?:::<[^>]*>)?::)?(\w+)[ ]*(?:::<[^;{}()]*>)?\(")
 DEFINITION = re.compile(r"(?m)^(?:(?:pub|abbrev|unfoldable|opaque|data|record)[ ]+)*([^\s:(){},]+)[ ]*(?:\{[^}]*\}[ ]*)*:(?=\s)")
 
 
@@ -25,10 +24,6 @@ class Function:
     @property
     def name(self) -> str:
         return self.path.split("::")[-1]
-
-    @property
-    def owner(self) -> str:
-        return self.path.split("::")[-2] if "::" in self.path else ""
 
 
 def module_of(file: str) -> List[str]:
@@ -77,11 +72,6 @@ class Sources:
         self.texts = texts
         self.modules = self._modules_of_types()
         self.functions = [it for file in sorted(texts) if file.startswith("src/") and file.endswith(".rt") for it in self._functions_in(file)]
-        self.by_name: Dict[str, List[Function]] = {}
-        for it in self.functions:
-            self.by_name.setdefault(it.name, []).append(it)
-        self._reached: Dict[str, FrozenSet[str]] = {}
-        self._calls = {it.path: self._calls_of(it) for it in self.functions}
 
     @classmethod
     def of_folder(cls, folder: str) -> "Sources":
@@ -109,39 +99,19 @@ class Sources:
             above = [block for block in blocks if block[0] < it.start()]
             path = module_of(file)
             if it[1] and above:
-                name = above[-1][1]
-                of_type = [known for known in self.modules if name.startswith(known)]
-                path = [*self.modules.get(max(of_type, key=len, default=""), path), name] if above[-1][2] == "impl" else [*path, name]
+                _, name, kind, head = above[-1]
+                if kind == "impl" and " for " not in head:
+                    # (the functions of a type stand in the module of the type, those of a trait where its impl does)
+                    of_type = [known for known in self.modules if name.startswith(known)]
+                    path = self.modules.get(max(of_type, key=len, default=""), path)
+                path = [*path, name]
             found.append(Function("::".join([*path, it[2]]), file, it.start(), close.end() if close else len(text)))
-        return found
-
-    def _calls_of(self, function: Function) -> Set[str]:
-        body, found = self.texts[function.file][function.start : function.end], set()
-        for owner, name in CALL.findall(body):
-            known = [it for it in self.by_name.get(name, []) if it.path != function.path]
-            if owner == "Self":
-                owner = function.owner
-            if owner and owner[0].isupper():
-                known = [it for it in known if it.owner.startswith(owner)]
-            found.update(it.path for it in known)
         return found
 
     def with_bodies(self) -> List[str]:
         """The functions that have a body, tests and the body of a program aside."""
         bodies = [it for it in self.functions if re.search(r"[}]\s*$", self.texts[it.file][it.start : it.end])]
         return [it.path for it in bodies if it.path != "main" and not it.path.startswith("tests::")]
-
-    def reached(self, path: str) -> FrozenSet[str]:
-        """The functions that a function may call, or that those may, as far as their names tell."""
-        if path not in self._reached:
-            seen: Set[str] = set()
-            left = [path]
-            while left:
-                new = self._calls.get(left.pop(), set()) - seen
-                seen |= new
-                left += new
-            self._reached[path] = frozenset(seen)
-        return self._reached[path]
 
     def function_at(self, file: str, start: int, end: int) -> Optional[Function]:
         """The function in whose text this part of a file lies."""

@@ -136,8 +136,12 @@ class ChoosingBatches(unittest.TestCase):
     def test_one_edit_a_function(self):
         self.assertEqual(self.batch_of(("a", "    3", "    4"), ("b", "    3", "    5"), ("c", "        10", "        11")), ["a", "c"])
 
-    def test_a_function_stands_apart_from_those_that_it_calls(self):
-        self.assertEqual(len(self.batch_of(("callee", "    n + 1", "    n"), ("caller", "one_more(one_more(n))", "n"))), 1)
+    def test_a_function_that_waits_for_another_stands_apart_from_it(self):
+        edits = [edit_of("callee", "    n + 1", "    n"), edit_of("caller", "one_more(one_more(n))", "n")]
+        rounds = Rounds(edits, Sources({"src/lib.rt": SOURCE}), lambda texts, functions: None)
+        self.assertEqual(len(rounds._next_batch()[0]), 2)
+        rounds.trials[1].apart_from.add("one_more")
+        self.assertEqual(len(rounds._next_batch()[0]), 1)
 
     def test_blocks_are_named_as_a_check_names_them(self):
         self.assertEqual(block_name("impl", "<'a> Iterator for Walk<'a> "), "WalkIterator")
