@@ -28,7 +28,17 @@ pub(crate) fn any_ends_past(value: &[u8], ranges: &[ByteRange]) -> bool
     false
 }
 
+/// The bytes of a value in a range.
+fn bytes_at(value: &[u8], range: ByteRange) -> &[u8]
+    requires { ends_past value.now range ≡ false }
+    ensures { result.now ≡ bytes_at value.now range }
+{
+    let start = range.offset as usize;
+    &value[start..start + range.length as usize]
+}
+
 /// A copy of the bytes in each range.
+#[tactic(auto, using(crate::proofs::PartLemmas::part_bytes_push))]
 pub(crate) fn read_ranges(
     alloc: Global,
     value: &[u8],
@@ -39,9 +49,7 @@ pub(crate) fn read_ranges(
 {
     let mut parts = Vec::with_capacity(alloc, ranges.len())?;
     for range in ranges {
-        let start = range.offset as usize;
-        let part = &value[start..start + range.length as usize];
-        parts.push(Vec::from_slice(alloc, part)?)?;
+        parts.push(Vec::from_slice(alloc, bytes_at(value, *range))?)?;
     }
     Ok(parts)
 }
@@ -50,9 +58,9 @@ pub(crate) fn read_ranges(
 pub(crate) fn count_parts(count: u128, parts: &[Vec<u8>]) -> u128
     ensures { result ≡ counted count (sum_by length (part_bytes parts.now)) }
 {
-    let mut count = count;
+    let mut sum = count;
     for part in parts {
-        count = count.saturating_add(part.len() as u128);
+        sum = sum.saturating_add(part.len() as u128);
     }
-    count
+    sum
 }
