@@ -1,7 +1,11 @@
 //! A store that refuses one call.
-ghost use Rattle.std.specs.Prelude.{◌≡◌, false, IsTrue, if◌then◌else◌};
-ghost use Rattle.zarr_array_storage.specs.RefusedCalls.{after_call, refuses_next};
-ghost use Rattle.zarr_array_storage.specs.Stores.{counted};
+ghost use Rattle.std.specs.Prelude.{◌≡◌, false, IsTrue, IfOk, OnOk, OnErr, length, option_map};
+ghost use Rattle.std.specs.FinMap as map;
+ghost use Rattle.zarr_array_storage.specs.Ranges.{any_past_end, any_too_far, parts_at, patched_at};
+ghost use Rattle.zarr_array_storage.specs.RefusedCalls.{CountsCall, after_call, countdown_of, inner_of, own_refused, own_refused_after, refuses_next};
+ghost use Rattle.zarr_array_storage.specs.Refusals.{OnByteRange, refused_after};
+ghost use Rattle.zarr_array_storage.specs.declared.refusing_store.CallKind.TheVariants.{Read, Write};
+ghost use Rattle.zarr_array_storage.specs.Stores.{counted, parts_bytes, parts_size, value_bytes, value_size};
 
 use crate::byte_range::ByteRange;
 use crate::error::StorageError;
@@ -44,17 +48,17 @@ impl Countdown {
 /// A store that refuses one call with `Io`, and hands every other call on to an inner store.
 #[derive(Drop)]
 pub struct RefusingStore<S> {
-    pub inner: S,
-    pub countdown: Countdown,
-    pub refused: u128,
+    inner: S,
+    countdown: Countdown,
+    refused: u128,
 }
 
 impl<S> RefusingStore<S> {
     /// A store that refuses the `nth` call of a kind from now on, counted from 1; at 0, none.
     pub fn new(inner: S, kind: CallKind, nth: u64) -> Self
-        ensures inner { result.inner ≡ inner }
-        ensures countdown { result.countdown ≡ record { kind = kind; left = nth } }
-        ensures refused { result.refused ≡ 0 }
+        ensures inner { inner_of result ≡ inner }
+        ensures countdown { countdown_of result ≡ record { kind = kind; left = nth } }
+        ensures refused { own_refused result ≡ 0 }
     {
         RefusingStore {
             inner,
@@ -65,7 +69,7 @@ impl<S> RefusingStore<S> {
 
     /// The inner store, as the calls left it.
     pub fn into_inner(self) -> S
-        ensures { result ≡ self.inner }
+        ensures { result ≡ inner_of self }
     {
         let RefusingStore {
             inner,
@@ -77,11 +81,10 @@ impl<S> RefusingStore<S> {
 
     /// Counts a call, and says whether it is refused.
     fn refuses(&mut self, kind: CallKind) -> bool
-        ensures refuses { result ≡ refuses_next self.old.countdown kind }
-        ensures countdown { self.new.countdown ≡ after_call self.old.countdown kind }
-        ensures refused { self.new.refused ≡
-            (if result then counted self.old.refused 1 else self.old.refused) }
-        ensures inner { self.new.inner ≡ self.old.inner }
+        ensures refuses { result ≡ refuses_next (countdown_of self.old) kind }
+        ensures countdown { countdown_of self.new ≡ after_call (countdown_of self.old) kind }
+        ensures refused { own_refused self.new ≡ own_refused_after self.old kind }
+        ensures inner { inner_of self.new ≡ inner_of self.old }
     {
         let refuses = self.countdown.count_call(kind);
         if refuses {
@@ -92,17 +95,32 @@ impl<S> RefusingStore<S> {
 }
 
 impl<S: ReadableStorageTraits> ReadableStorageTraits for RefusingStore<S> {
-    ghost held = { λ s. S.held s.inner };
+    ghost held = { λ s. S.held (inner_of s) };
 
-    ghost is_honest = { λ s. S.is_honest s.inner };
+    ghost is_honest = { λ s. S.is_honest (inner_of s) };
 
-    ghost refused_calls = { λ s. counted s.refused (S.refused_calls s.inner) };
+    ghost refused_calls = { λ s. counted (own_refused s) (S.refused_calls (inner_of s)) };
 
-    ghost given_bytes = { λ s. S.given_bytes s.inner };
+    ghost given_bytes = { λ s. S.given_bytes (inner_of s) };
 
-    ghost accepted_writes = { λ s. S.accepted_writes s.inner };
+    ghost accepted_writes = { λ s. S.accepted_writes (inner_of s) };
 
-    fn get(&mut self, key: &StoreKey) -> Result<Option<Vec<u8>>, StorageError> {
+    fn get(&mut self, key: &StoreKey) -> Result<Option<Vec<u8>>, StorageError>
+        ensures value { IsTrue (S.is_honest (inner_of self.old)) → IfOk result
+            (λ found. value_bytes found ≡ map.get (S.held (inner_of self.old)) key.now) }
+        ensures held { S.held (inner_of self.new) ≡ S.held (inner_of self.old) }
+        ensures honest { S.is_honest (inner_of self.new) ≡ S.is_honest (inner_of self.old) }
+        ensures refused { counted (own_refused self.new) (S.refused_calls (inner_of self.new)) ≡
+            refused_after (counted (own_refused self.old) (S.refused_calls (inner_of self.old))) result }
+        ensures byte_range { OnByteRange result ⊥ }
+        ensures given { IfOk result (λ found. S.given_bytes (inner_of self.new) ≡
+            counted (S.given_bytes (inner_of self.old)) (value_size found)) }
+        ensures none_given { OnErr result
+            (S.given_bytes (inner_of self.new) ≡ S.given_bytes (inner_of self.old)) }
+        ensures accepted {
+            S.accepted_writes (inner_of self.new) ≡ S.accepted_writes (inner_of self.old) }
+        ensures counts { CountsCall self.old self.new Read result }
+    {
         if self.refuses(CallKind::Read) {
             return Err(StorageError::Io);
         }
@@ -113,21 +131,63 @@ impl<S: ReadableStorageTraits> ReadableStorageTraits for RefusingStore<S> {
         &mut self,
         key: &StoreKey,
         ranges: &[ByteRange],
-    ) -> Result<Option<Vec<Vec<u8>>>, StorageError> {
+    ) -> Result<Option<Vec<Vec<u8>>>, StorageError>
+        ensures parts { IsTrue (S.is_honest (inner_of self.old)) → IfOk result
+            (λ found. parts_bytes found ≡ parts_at (S.held (inner_of self.old)) key.now ranges.now) }
+        ensures in_range { IsTrue (S.is_honest (inner_of self.old)) → OnOk result
+            (any_past_end (S.held (inner_of self.old)) key.now ranges.now ≡ false) }
+        ensures held { S.held (inner_of self.new) ≡ S.held (inner_of self.old) }
+        ensures honest { S.is_honest (inner_of self.new) ≡ S.is_honest (inner_of self.old) }
+        ensures refused { counted (own_refused self.new) (S.refused_calls (inner_of self.new)) ≡
+            refused_after (counted (own_refused self.old) (S.refused_calls (inner_of self.old))) result }
+        ensures byte_range { IsTrue (S.is_honest (inner_of self.old)) → OnByteRange result
+            (IsTrue (any_past_end (S.held (inner_of self.old)) key.now ranges.now)) }
+        ensures given { IfOk result (λ found. S.given_bytes (inner_of self.new) ≡
+            counted (S.given_bytes (inner_of self.old)) (parts_size found)) }
+        ensures none_given { OnErr result
+            (S.given_bytes (inner_of self.new) ≡ S.given_bytes (inner_of self.old)) }
+        ensures accepted {
+            S.accepted_writes (inner_of self.new) ≡ S.accepted_writes (inner_of self.old) }
+        ensures counts { CountsCall self.old self.new Read result }
+    {
         if self.refuses(CallKind::Read) {
             return Err(StorageError::Io);
         }
         self.inner.get_partial(key, ranges)
     }
 
-    fn size_key(&mut self, key: &StoreKey) -> Result<Option<u64>, StorageError> {
+    fn size_key(&mut self, key: &StoreKey) -> Result<Option<u64>, StorageError>
+        ensures size { IsTrue (S.is_honest (inner_of self.old)) → IfOk result
+            (λ size. size ≡ option_map length (map.get (S.held (inner_of self.old)) key.now)) }
+        ensures held { S.held (inner_of self.new) ≡ S.held (inner_of self.old) }
+        ensures honest { S.is_honest (inner_of self.new) ≡ S.is_honest (inner_of self.old) }
+        ensures refused { counted (own_refused self.new) (S.refused_calls (inner_of self.new)) ≡
+            refused_after (counted (own_refused self.old) (S.refused_calls (inner_of self.old))) result }
+        ensures byte_range { OnByteRange result ⊥ }
+        ensures given { S.given_bytes (inner_of self.new) ≡ S.given_bytes (inner_of self.old) }
+        ensures accepted {
+            S.accepted_writes (inner_of self.new) ≡ S.accepted_writes (inner_of self.old) }
+        ensures counts { CountsCall self.old self.new Read result }
+    {
         if self.refuses(CallKind::Read) {
             return Err(StorageError::Io);
         }
         self.inner.size_key(key)
     }
 
-    fn list(&mut self) -> Result<Vec<StoreKey>, StorageError> {
+    fn list(&mut self) -> Result<Vec<StoreKey>, StorageError>
+        ensures keys { IsTrue (S.is_honest (inner_of self.old)) →
+            IfOk result (λ keys. keys.items ≡ map.keys (S.held (inner_of self.old))) }
+        ensures held { S.held (inner_of self.new) ≡ S.held (inner_of self.old) }
+        ensures honest { S.is_honest (inner_of self.new) ≡ S.is_honest (inner_of self.old) }
+        ensures refused { counted (own_refused self.new) (S.refused_calls (inner_of self.new)) ≡
+            refused_after (counted (own_refused self.old) (S.refused_calls (inner_of self.old))) result }
+        ensures byte_range { OnByteRange result ⊥ }
+        ensures given { S.given_bytes (inner_of self.new) ≡ S.given_bytes (inner_of self.old) }
+        ensures accepted {
+            S.accepted_writes (inner_of self.new) ≡ S.accepted_writes (inner_of self.old) }
+        ensures counts { CountsCall self.old self.new Read result }
+    {
         if self.refuses(CallKind::Read) {
             return Err(StorageError::Io);
         }
@@ -136,27 +196,76 @@ impl<S: ReadableStorageTraits> ReadableStorageTraits for RefusingStore<S> {
 }
 
 impl<S: WritableStorageTraits> WritableStorageTraits for RefusingStore<S> {
-    ghost supports_set_partial = { λ s. S.supports_set_partial s.inner };
+    ghost supports_set_partial = { λ s. S.supports_set_partial (inner_of s) };
 
     fn supports_set_partial(&self) -> bool {
         self.inner.supports_set_partial()
     }
 
-    fn set(&mut self, key: &StoreKey, value: &[u8]) -> Result<(), StorageError> {
+    fn set(&mut self, key: &StoreKey, value: &[u8]) -> Result<(), StorageError>
+        ensures ok { IsTrue (S.is_honest (inner_of self.old)) → OnOk result (S.held (inner_of self.new) ≡
+            map.insert (S.held (inner_of self.old)) key.now value.now) }
+        ensures err { IsTrue (S.is_honest (inner_of self.old)) → OnErr result
+            (S.held (inner_of self.new) ≡ S.held (inner_of self.old)) }
+        ensures honest { S.is_honest (inner_of self.new) ≡ S.is_honest (inner_of self.old) }
+        ensures refused { counted (own_refused self.new) (S.refused_calls (inner_of self.new)) ≡
+            refused_after (counted (own_refused self.old) (S.refused_calls (inner_of self.old))) result }
+        ensures byte_range { OnByteRange result ⊥ }
+        ensures given { S.given_bytes (inner_of self.new) ≡ S.given_bytes (inner_of self.old) }
+        ensures accepted { OnOk result (S.accepted_writes (inner_of self.new) ≡
+            counted (S.accepted_writes (inner_of self.old)) 1) }
+        ensures none_accepted { OnErr result
+            (S.accepted_writes (inner_of self.new) ≡ S.accepted_writes (inner_of self.old)) }
+        ensures counts { CountsCall self.old self.new Write result }
+    {
         if self.refuses(CallKind::Write) {
             return Err(StorageError::Io);
         }
         self.inner.set(key, value)
     }
 
-    fn set_partial(&mut self, key: &StoreKey, patches: &[ValuePatch]) -> Result<(), StorageError> {
+    fn set_partial(&mut self, key: &StoreKey, patches: &[ValuePatch]) -> Result<(), StorageError>
+        ensures ok { IsTrue (S.is_honest (inner_of self.old)) → OnOk result
+            (S.held (inner_of self.new) ≡ map.insert (S.held (inner_of self.old)) key.now
+                (patched_at (S.held (inner_of self.old)) key.now patches.now)) }
+        ensures in_range { IsTrue (S.is_honest (inner_of self.old)) →
+            OnOk result (any_too_far patches.now ≡ false) }
+        ensures err { IsTrue (S.is_honest (inner_of self.old)) → OnErr result
+            (S.held (inner_of self.new) ≡ S.held (inner_of self.old)) }
+        ensures honest { S.is_honest (inner_of self.new) ≡ S.is_honest (inner_of self.old) }
+        ensures refused { counted (own_refused self.new) (S.refused_calls (inner_of self.new)) ≡
+            refused_after (counted (own_refused self.old) (S.refused_calls (inner_of self.old))) result }
+        ensures byte_range { IsTrue (S.is_honest (inner_of self.old)) →
+            OnByteRange result (IsTrue (any_too_far patches.now)) }
+        ensures given { S.given_bytes (inner_of self.new) ≡ S.given_bytes (inner_of self.old) }
+        ensures accepted { OnOk result (S.accepted_writes (inner_of self.new) ≡
+            counted (S.accepted_writes (inner_of self.old)) 1) }
+        ensures none_accepted { OnErr result
+            (S.accepted_writes (inner_of self.new) ≡ S.accepted_writes (inner_of self.old)) }
+        ensures counts { CountsCall self.old self.new Write result }
+    {
         if self.refuses(CallKind::Write) {
             return Err(StorageError::Io);
         }
         self.inner.set_partial(key, patches)
     }
 
-    fn erase(&mut self, key: &StoreKey) -> Result<(), StorageError> {
+    fn erase(&mut self, key: &StoreKey) -> Result<(), StorageError>
+        ensures ok { IsTrue (S.is_honest (inner_of self.old)) → OnOk result (S.held (inner_of self.new) ≡
+            map.remove (S.held (inner_of self.old)) key.now) }
+        ensures err { IsTrue (S.is_honest (inner_of self.old)) → OnErr result
+            (S.held (inner_of self.new) ≡ S.held (inner_of self.old)) }
+        ensures honest { S.is_honest (inner_of self.new) ≡ S.is_honest (inner_of self.old) }
+        ensures refused { counted (own_refused self.new) (S.refused_calls (inner_of self.new)) ≡
+            refused_after (counted (own_refused self.old) (S.refused_calls (inner_of self.old))) result }
+        ensures byte_range { OnByteRange result ⊥ }
+        ensures given { S.given_bytes (inner_of self.new) ≡ S.given_bytes (inner_of self.old) }
+        ensures accepted { OnOk result (S.accepted_writes (inner_of self.new) ≡
+            counted (S.accepted_writes (inner_of self.old)) 1) }
+        ensures none_accepted { OnErr result
+            (S.accepted_writes (inner_of self.new) ≡ S.accepted_writes (inner_of self.old)) }
+        ensures counts { CountsCall self.old self.new Write result }
+    {
         if self.refuses(CallKind::Write) {
             return Err(StorageError::Io);
         }
