@@ -30,7 +30,7 @@ insert_at k q v o false e valid others found = others found
 pub inserted_keys : (m : StoreMap) (k v : List ℕ) → ends_with_slash k ≡ false → HasStoreKeys m → HasStoreKeys (fin.insert m k v)
 inserted_keys m k v valid others key found =
     insert_at k key v (fin.get m key) (bytes_eq k key) refl valid (others key)
-      (ap (λ b. is_some (cond b (Some v) (fin.get m key))) (bytes_eq-slice_cmp k key) ∙ sym (ap is_some (get-insert nat_list_cmp_total m k v key)) ∙ found)
+    (ap (λ b. is_some (cond b (Some v) (fin.get m key))) (bytes_eq-slice_cmp k key) ∙ sym (ap is_some (get-insert nat_list_cmp_total m k v key)) ∙ found)
 
 remove_at : (o : Option (List ℕ)) (b : Bool) → is_some (cond b None o) ≡ true → is_some o ≡ true
 remove_at o true found = grind (arith, common_steps)

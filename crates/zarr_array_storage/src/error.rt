@@ -19,7 +19,7 @@ pub enum StorageError {
     /// The store cannot have a value at this key.
     #[error("invalid key")]
     InvalidKey,
-    /// A range to read ends past the end of the value, or a range to write ends past 2^63 - 1 bytes.
+    /// A range to read ends past the end of the value, or one to write ends past 2^63 - 1 bytes.
     #[error("invalid byte range")]
     InvalidByteRange,
     /// The store gives another reason.

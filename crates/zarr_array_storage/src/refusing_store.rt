@@ -9,9 +9,7 @@ ghost use Rattle.zarr_array_storage.specs.Stores.{counted, parts_bytes, parts_si
 
 use crate::byte_range::ByteRange;
 use crate::error::StorageError;
-use crate::traits::{
-    ReadableStorageTraits, ReadableWritableStorageTraits, WritableStorageTraits,
-};
+use crate::traits::{ReadableStorageTraits, ReadableWritableStorageTraits, WritableStorageTraits};
 use crate::value_patch::ValuePatch;
 use zarr_grids_keys::StoreKey;
 
@@ -111,14 +109,15 @@ impl<S: ReadableStorageTraits> ReadableStorageTraits for RefusingStore<S> {
         ensures held { S.held (inner_of self.new) ≡ S.held (inner_of self.old) }
         ensures honest { S.is_honest (inner_of self.new) ≡ S.is_honest (inner_of self.old) }
         ensures refused { counted (own_refused self.new) (S.refused_calls (inner_of self.new)) ≡
-            refused_after (counted (own_refused self.old) (S.refused_calls (inner_of self.old))) result }
+            refused_after
+            (counted (own_refused self.old) (S.refused_calls (inner_of self.old))) result }
         ensures byte_range { OnByteRange result ⊥ }
         ensures given { IfOk result (λ found. S.given_bytes (inner_of self.new) ≡
             counted (S.given_bytes (inner_of self.old)) (value_size found)) }
         ensures none_given { OnErr result
             (S.given_bytes (inner_of self.new) ≡ S.given_bytes (inner_of self.old)) }
-        ensures accepted {
-            S.accepted_writes (inner_of self.new) ≡ S.accepted_writes (inner_of self.old) }
+        ensures accepted { S.accepted_writes (inner_of self.new) ≡
+            S.accepted_writes (inner_of self.old) }
         ensures counts { CountsCall self.old self.new Read result }
     {
         if self.refuses(CallKind::Read) {
@@ -132,22 +131,23 @@ impl<S: ReadableStorageTraits> ReadableStorageTraits for RefusingStore<S> {
         key: &StoreKey,
         ranges: &[ByteRange],
     ) -> Result<Option<Vec<Vec<u8>>>, StorageError>
-        ensures parts { IsTrue (S.is_honest (inner_of self.old)) → IfOk result
-            (λ found. parts_bytes found ≡ parts_at (S.held (inner_of self.old)) key.now ranges.now) }
+        ensures parts { IsTrue (S.is_honest (inner_of self.old)) → IfOk result (λ found.
+            parts_bytes found ≡ parts_at (S.held (inner_of self.old)) key.now ranges.now) }
         ensures in_range { IsTrue (S.is_honest (inner_of self.old)) → OnOk result
             (any_past_end (S.held (inner_of self.old)) key.now ranges.now ≡ false) }
         ensures held { S.held (inner_of self.new) ≡ S.held (inner_of self.old) }
         ensures honest { S.is_honest (inner_of self.new) ≡ S.is_honest (inner_of self.old) }
         ensures refused { counted (own_refused self.new) (S.refused_calls (inner_of self.new)) ≡
-            refused_after (counted (own_refused self.old) (S.refused_calls (inner_of self.old))) result }
+            refused_after
+            (counted (own_refused self.old) (S.refused_calls (inner_of self.old))) result }
         ensures byte_range { IsTrue (S.is_honest (inner_of self.old)) → OnByteRange result
             (IsTrue (any_past_end (S.held (inner_of self.old)) key.now ranges.now)) }
         ensures given { IfOk result (λ found. S.given_bytes (inner_of self.new) ≡
             counted (S.given_bytes (inner_of self.old)) (parts_size found)) }
         ensures none_given { OnErr result
             (S.given_bytes (inner_of self.new) ≡ S.given_bytes (inner_of self.old)) }
-        ensures accepted {
-            S.accepted_writes (inner_of self.new) ≡ S.accepted_writes (inner_of self.old) }
+        ensures accepted { S.accepted_writes (inner_of self.new) ≡
+            S.accepted_writes (inner_of self.old) }
         ensures counts { CountsCall self.old self.new Read result }
     {
         if self.refuses(CallKind::Read) {
@@ -162,11 +162,12 @@ impl<S: ReadableStorageTraits> ReadableStorageTraits for RefusingStore<S> {
         ensures held { S.held (inner_of self.new) ≡ S.held (inner_of self.old) }
         ensures honest { S.is_honest (inner_of self.new) ≡ S.is_honest (inner_of self.old) }
         ensures refused { counted (own_refused self.new) (S.refused_calls (inner_of self.new)) ≡
-            refused_after (counted (own_refused self.old) (S.refused_calls (inner_of self.old))) result }
+            refused_after
+            (counted (own_refused self.old) (S.refused_calls (inner_of self.old))) result }
         ensures byte_range { OnByteRange result ⊥ }
         ensures given { S.given_bytes (inner_of self.new) ≡ S.given_bytes (inner_of self.old) }
-        ensures accepted {
-            S.accepted_writes (inner_of self.new) ≡ S.accepted_writes (inner_of self.old) }
+        ensures accepted { S.accepted_writes (inner_of self.new) ≡
+            S.accepted_writes (inner_of self.old) }
         ensures counts { CountsCall self.old self.new Read result }
     {
         if self.refuses(CallKind::Read) {
@@ -181,11 +182,12 @@ impl<S: ReadableStorageTraits> ReadableStorageTraits for RefusingStore<S> {
         ensures held { S.held (inner_of self.new) ≡ S.held (inner_of self.old) }
         ensures honest { S.is_honest (inner_of self.new) ≡ S.is_honest (inner_of self.old) }
         ensures refused { counted (own_refused self.new) (S.refused_calls (inner_of self.new)) ≡
-            refused_after (counted (own_refused self.old) (S.refused_calls (inner_of self.old))) result }
+            refused_after
+            (counted (own_refused self.old) (S.refused_calls (inner_of self.old))) result }
         ensures byte_range { OnByteRange result ⊥ }
         ensures given { S.given_bytes (inner_of self.new) ≡ S.given_bytes (inner_of self.old) }
-        ensures accepted {
-            S.accepted_writes (inner_of self.new) ≡ S.accepted_writes (inner_of self.old) }
+        ensures accepted { S.accepted_writes (inner_of self.new) ≡
+            S.accepted_writes (inner_of self.old) }
         ensures counts { CountsCall self.old self.new Read result }
     {
         if self.refuses(CallKind::Read) {
@@ -203,13 +205,15 @@ impl<S: WritableStorageTraits> WritableStorageTraits for RefusingStore<S> {
     }
 
     fn set(&mut self, key: &StoreKey, value: &[u8]) -> Result<(), StorageError>
-        ensures ok { IsTrue (S.is_honest (inner_of self.old)) → OnOk result (S.held (inner_of self.new) ≡
+        ensures ok { IsTrue (S.is_honest (inner_of self.old)) → OnOk result
+            (S.held (inner_of self.new) ≡
             map.insert (S.held (inner_of self.old)) key.now value.now) }
         ensures err { IsTrue (S.is_honest (inner_of self.old)) → OnErr result
             (S.held (inner_of self.new) ≡ S.held (inner_of self.old)) }
         ensures honest { S.is_honest (inner_of self.new) ≡ S.is_honest (inner_of self.old) }
         ensures refused { counted (own_refused self.new) (S.refused_calls (inner_of self.new)) ≡
-            refused_after (counted (own_refused self.old) (S.refused_calls (inner_of self.old))) result }
+            refused_after
+            (counted (own_refused self.old) (S.refused_calls (inner_of self.old))) result }
         ensures byte_range { OnByteRange result ⊥ }
         ensures given { S.given_bytes (inner_of self.new) ≡ S.given_bytes (inner_of self.old) }
         ensures accepted { OnOk result (S.accepted_writes (inner_of self.new) ≡
@@ -227,14 +231,15 @@ impl<S: WritableStorageTraits> WritableStorageTraits for RefusingStore<S> {
     fn set_partial(&mut self, key: &StoreKey, patches: &[ValuePatch]) -> Result<(), StorageError>
         ensures ok { IsTrue (S.is_honest (inner_of self.old)) → OnOk result
             (S.held (inner_of self.new) ≡ map.insert (S.held (inner_of self.old)) key.now
-                (patched_at (S.held (inner_of self.old)) key.now patches.now)) }
+            (patched_at (S.held (inner_of self.old)) key.now patches.now)) }
         ensures in_range { IsTrue (S.is_honest (inner_of self.old)) →
             OnOk result (any_too_far patches.now ≡ false) }
         ensures err { IsTrue (S.is_honest (inner_of self.old)) → OnErr result
             (S.held (inner_of self.new) ≡ S.held (inner_of self.old)) }
         ensures honest { S.is_honest (inner_of self.new) ≡ S.is_honest (inner_of self.old) }
         ensures refused { counted (own_refused self.new) (S.refused_calls (inner_of self.new)) ≡
-            refused_after (counted (own_refused self.old) (S.refused_calls (inner_of self.old))) result }
+            refused_after
+            (counted (own_refused self.old) (S.refused_calls (inner_of self.old))) result }
         ensures byte_range { IsTrue (S.is_honest (inner_of self.old)) →
             OnByteRange result (IsTrue (any_too_far patches.now)) }
         ensures given { S.given_bytes (inner_of self.new) ≡ S.given_bytes (inner_of self.old) }
@@ -251,13 +256,14 @@ impl<S: WritableStorageTraits> WritableStorageTraits for RefusingStore<S> {
     }
 
     fn erase(&mut self, key: &StoreKey) -> Result<(), StorageError>
-        ensures ok { IsTrue (S.is_honest (inner_of self.old)) → OnOk result (S.held (inner_of self.new) ≡
-            map.remove (S.held (inner_of self.old)) key.now) }
+        ensures ok { IsTrue (S.is_honest (inner_of self.old)) → OnOk result
+            (S.held (inner_of self.new) ≡ map.remove (S.held (inner_of self.old)) key.now) }
         ensures err { IsTrue (S.is_honest (inner_of self.old)) → OnErr result
             (S.held (inner_of self.new) ≡ S.held (inner_of self.old)) }
         ensures honest { S.is_honest (inner_of self.new) ≡ S.is_honest (inner_of self.old) }
         ensures refused { counted (own_refused self.new) (S.refused_calls (inner_of self.new)) ≡
-            refused_after (counted (own_refused self.old) (S.refused_calls (inner_of self.old))) result }
+            refused_after
+            (counted (own_refused self.old) (S.refused_calls (inner_of self.old))) result }
         ensures byte_range { OnByteRange result ⊥ }
         ensures given { S.given_bytes (inner_of self.new) ≡ S.given_bytes (inner_of self.old) }
         ensures accepted { OnOk result (S.accepted_writes (inner_of self.new) ≡

@@ -106,14 +106,14 @@ pub trait WritableStorageTraits: ReadableStorageTraits {
         ensures err { IsTrue (Self.is_honest self.old) →
             OnErr result (Self.held self.new ≡ Self.held self.old) }
         ensures honest { Self.is_honest self.new ≡ Self.is_honest self.old }
-        ensures refused {
-            Self.refused_calls self.new ≡ refused_after (Self.refused_calls self.old) result }
+        ensures refused { Self.refused_calls self.new ≡
+            refused_after (Self.refused_calls self.old) result }
         ensures byte_range { OnByteRange result ⊥ }
         ensures given { Self.given_bytes self.new ≡ Self.given_bytes self.old }
-        ensures accepted {
-            OnOk result (Self.accepted_writes self.new ≡ counted (Self.accepted_writes self.old) 1) }
-        ensures none_accepted {
-            OnErr result (Self.accepted_writes self.new ≡ Self.accepted_writes self.old) };
+        ensures accepted { OnOk result
+            (Self.accepted_writes self.new ≡ counted (Self.accepted_writes self.old) 1) }
+        ensures none_accepted { OnErr result
+            (Self.accepted_writes self.new ≡ Self.accepted_writes self.old) };
 
     /// Writes several ranges into the value at a key, in their order: all, or none where it is
     /// refused. No value counts as empty, and zeros come where a range begins past the end. It is
@@ -126,15 +126,15 @@ pub trait WritableStorageTraits: ReadableStorageTraits {
         ensures err { IsTrue (Self.is_honest self.old) →
             OnErr result (Self.held self.new ≡ Self.held self.old) }
         ensures honest { Self.is_honest self.new ≡ Self.is_honest self.old }
-        ensures refused {
-            Self.refused_calls self.new ≡ refused_after (Self.refused_calls self.old) result }
+        ensures refused { Self.refused_calls self.new ≡
+            refused_after (Self.refused_calls self.old) result }
         ensures byte_range { IsTrue (Self.is_honest self.old) →
             OnByteRange result (IsTrue (any_too_far patches.now)) }
         ensures given { Self.given_bytes self.new ≡ Self.given_bytes self.old }
-        ensures accepted {
-            OnOk result (Self.accepted_writes self.new ≡ counted (Self.accepted_writes self.old) 1) }
-        ensures none_accepted {
-            OnErr result (Self.accepted_writes self.new ≡ Self.accepted_writes self.old) };
+        ensures accepted { OnOk result
+            (Self.accepted_writes self.new ≡ counted (Self.accepted_writes self.old) 1) }
+        ensures none_accepted { OnErr result
+            (Self.accepted_writes self.new ≡ Self.accepted_writes self.old) };
 
     /// Takes the value at a key away. A key that has none is fine.
     fn erase(&mut self, key: &StoreKey) -> Result<(), StorageError>
@@ -143,14 +143,14 @@ pub trait WritableStorageTraits: ReadableStorageTraits {
         ensures err { IsTrue (Self.is_honest self.old) →
             OnErr result (Self.held self.new ≡ Self.held self.old) }
         ensures honest { Self.is_honest self.new ≡ Self.is_honest self.old }
-        ensures refused {
-            Self.refused_calls self.new ≡ refused_after (Self.refused_calls self.old) result }
+        ensures refused { Self.refused_calls self.new ≡
+            refused_after (Self.refused_calls self.old) result }
         ensures byte_range { OnByteRange result ⊥ }
         ensures given { Self.given_bytes self.new ≡ Self.given_bytes self.old }
-        ensures accepted {
-            OnOk result (Self.accepted_writes self.new ≡ counted (Self.accepted_writes self.old) 1) }
-        ensures none_accepted {
-            OnErr result (Self.accepted_writes self.new ≡ Self.accepted_writes self.old) };
+        ensures accepted { OnOk result
+            (Self.accepted_writes self.new ≡ counted (Self.accepted_writes self.old) 1) }
+        ensures none_accepted { OnErr result
+            (Self.accepted_writes self.new ≡ Self.accepted_writes self.old) };
 }
 
 /// A store that can be read and written.
