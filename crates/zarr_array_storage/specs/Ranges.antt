@@ -48,10 +48,10 @@ patched value (patch ∷ rest) = patched (written_at value patch.offset patch.by
 abbrev pub patched_at : StoreMap → List ℕ → List ValuePatch → List ℕ
 patched_at held key patches = patched (unwrap_or (get held key) []) patches
 
--- whether a range to write ends past the longest value
+-- whether a range to write ends past 2^63 - 1 bytes, where the longest value ends
 abbrev pub is_too_far : ValuePatch → Bool
 is_too_far patch = nat_lt (2 ^ 63 - 1) (patch.offset + length patch.bytes.items)
 
--- whether one of them does
+-- whether one of the ranges to write ends past 2^63 - 1 bytes
 abbrev pub any_too_far : List ValuePatch → Bool
 any_too_far patches = list_any is_too_far patches

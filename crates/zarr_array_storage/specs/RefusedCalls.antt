@@ -35,7 +35,7 @@ countdown_of store = store.countdown
 abbrev pub own_refused : {S : Type 0} → RefusingStore S → ℕ
 own_refused store = store.refused
 
--- how many were, after a call of this kind
+-- how many calls were refused before they reached the inner store, after a call of this kind
 abbrev pub own_refused_after : {S : Type 0} → RefusingStore S → CallKind → ℕ
 own_refused_after store kind = if refuses_next (countdown_of store) kind then counted (own_refused store) 1 else own_refused store
 

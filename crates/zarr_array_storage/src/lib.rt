@@ -2,12 +2,12 @@
 //! one call.
 #![tactic(auto)]
 
-mod byte_range;
-mod error;
-mod memory_store;
-mod refusing_store;
-mod traits;
-mod value_patch;
+pub mod byte_range;
+pub mod error;
+pub mod memory_store;
+pub mod refusing_store;
+pub mod traits;
+pub mod value_patch;
 
 pub use byte_range::ByteRange;
 pub use error::StorageError;

@@ -8,7 +8,7 @@ ghost use Rattle.zarr_grids_keys.specs.Paths.{ends_with_slash};
 
 use crate::byte_range::{ByteRange, any_ends_past, count_parts, read_ranges};
 use crate::error::StorageError;
-use crate::traits::{ReadableStorageTraits, ReadableWritableStorageTraits, WritableStorageTraits};
+use crate::traits::{ReadableStorageTraits, WritableStorageTraits};
 use crate::value_patch::{ValuePatch, any_too_far, patched};
 use std::alloc::{AllocError, Global};
 use std::marker::Model;
@@ -147,5 +147,3 @@ impl WritableStorageTraits for MemoryStore {
         Ok(())
     }
 }
-
-impl ReadableWritableStorageTraits for MemoryStore {}

@@ -9,7 +9,7 @@ ghost use Rattle.zarr_array_storage.specs.Stores.{counted, parts_bytes, parts_si
 
 use crate::byte_range::ByteRange;
 use crate::error::StorageError;
-use crate::traits::{ReadableStorageTraits, ReadableWritableStorageTraits, WritableStorageTraits};
+use crate::traits::{ReadableStorageTraits, WritableStorageTraits};
 use crate::value_patch::ValuePatch;
 use zarr_grids_keys::StoreKey;
 
@@ -278,5 +278,3 @@ impl<S: WritableStorageTraits> WritableStorageTraits for RefusingStore<S> {
         self.inner.erase(key)
     }
 }
-
-impl<S: WritableStorageTraits> ReadableWritableStorageTraits for RefusingStore<S> {}

@@ -13,7 +13,10 @@ use zarr_grids_keys::StoreKey;
 
 /// A store that can be read (Zarr storage specification, "Abstract store interface"). An honest
 /// one holds what it accepts, and reading changes nothing in what any store holds. Each call takes
-/// the store as `&mut`, so that it can count its refused calls.
+/// the store as `&mut`, so that it can count its refused calls (this project's profile).
+///
+/// A call answers `Memory` where memory ran out, and `InvalidByteRange` only where its description
+/// says so. With any other error one more call is counted as refused.
 pub trait ReadableStorageTraits {
     /// The value at each key. Of a store that isn't honest it says nothing.
     ghost held: { Self → StoreMap };
@@ -92,10 +95,11 @@ pub trait ReadableStorageTraits {
 /// refused call changes nothing in what an honest store holds, and an accepted one changes no
 /// other key.
 pub trait WritableStorageTraits: ReadableStorageTraits {
-    /// Whether `set_partial` writes only the ranges that it is given.
+    /// Whether it takes ranges by `set_partial`.
     ghost supports_set_partial: { Self → Bool };
 
-    /// Whether `set_partial` writes ranges into a value. Where it doesn't, use `set`.
+    /// Whether the store takes ranges by `set_partial`. Where it doesn't, read the value, change it
+    /// and use `set`.
     fn supports_set_partial(&self) -> bool
         ensures { result ≡ supports_set_partial self.now };
 
@@ -153,5 +157,7 @@ pub trait WritableStorageTraits: ReadableStorageTraits {
             (Self.accepted_writes self.new ≡ Self.accepted_writes self.old) };
 }
 
-/// A store that can be read and written.
+/// A store that can be read and written. Each one that has the two traits above is such a store.
 pub trait ReadableWritableStorageTraits: WritableStorageTraits {}
+
+impl<S: WritableStorageTraits> ReadableWritableStorageTraits for S {}
