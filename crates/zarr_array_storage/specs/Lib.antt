@@ -1,0 +1,5 @@
+pub mod MemoryStores
+pub mod Ranges
+pub mod RefusedCalls
+pub mod Refusals
+pub mod Stores

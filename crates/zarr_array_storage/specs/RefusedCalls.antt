@@ -1,0 +1,46 @@
+-- The store that refuses one call.
+use Rattle.std.specs.Prelude.{◌≡◌, ℕ, ◌-◌, Bool, true, false, ◌&&◌, ◌==◌, if◌then◌else◌, Result, IsErrOf, IsTrue}
+use Rattle.zarr_array_storage.specs.Stores.{counted}
+use Rattle.zarr_array_storage.specs.declared.error.StorageError.{StorageError}
+use Rattle.zarr_array_storage.specs.declared.error.StorageError.TheVariants.{Io}
+use Rattle.zarr_array_storage.specs.declared.refusing_store.CallKind.{CallKind}
+use Rattle.zarr_array_storage.specs.declared.refusing_store.CallKind.TheVariants.{Read, Write}
+use Rattle.zarr_array_storage.specs.declared.refusing_store.Countdown.{Countdown}
+use Rattle.zarr_array_storage.specs.declared.refusing_store.RefusingStore.{RefusingStore}
+
+-- whether two kinds of calls are the same
+abbrev pub same_kind : CallKind → CallKind → Bool
+same_kind Read Read = true
+same_kind Read Write = false
+same_kind Write Read = false
+same_kind Write Write = true
+
+-- whether the next call, if it is of this kind, is the one that is refused
+abbrev pub refuses_next : Countdown → CallKind → Bool
+refuses_next countdown kind = same_kind countdown.kind kind && countdown.left == 1
+
+-- the countdown after a call of this kind: one less, if it counts these and has not come to its end
+abbrev pub after_call : Countdown → CallKind → Countdown
+after_call countdown kind = if same_kind countdown.kind kind then record countdown { left = countdown.left - 1 } else countdown
+
+-- the store to which the other calls are handed on
+abbrev pub inner_of : {S : Type 0} → RefusingStore S → S
+inner_of store = store.inner
+
+-- which call is refused
+abbrev pub countdown_of : {S : Type 0} → RefusingStore S → Countdown
+countdown_of store = store.countdown
+
+-- how many calls were refused before they reached the inner store
+abbrev pub own_refused : {S : Type 0} → RefusingStore S → ℕ
+own_refused store = store.refused
+
+-- how many calls were refused before they reached the inner store, after a call of this kind
+abbrev pub own_refused_after : {S : Type 0} → RefusingStore S → CallKind → ℕ
+own_refused_after store kind = if refuses_next (countdown_of store) kind then counted (own_refused store) 1 else own_refused store
+
+-- a call of this kind was counted; if it is the one that is refused, it answers `Io`, and the inner store stays as it was
+pub record CountsCall {S A : Type 0} (old new : RefusingStore S) (kind : CallKind) (result : Result A StorageError) : Type 0 where
+  pub countdown : countdown_of new ≡ after_call (countdown_of old) kind
+  pub count : own_refused new ≡ own_refused_after old kind
+  pub refused : IsTrue (refuses_next (countdown_of old) kind) → IsErrOf result Io × (inner_of new ≡ inner_of old)

@@ -1,0 +1,280 @@
+//! A store that refuses one call.
+ghost use Rattle.std.specs.Prelude.{◌≡◌, false, IsTrue, IfOk, OnOk, OnErr, length, option_map};
+ghost use Rattle.std.specs.FinMap as map;
+ghost use Rattle.zarr_array_storage.specs.Ranges.{any_past_end, any_too_far, parts_at, patched_at};
+ghost use Rattle.zarr_array_storage.specs.RefusedCalls.{CountsCall, after_call, countdown_of, inner_of, own_refused, own_refused_after, refuses_next};
+ghost use Rattle.zarr_array_storage.specs.Refusals.{OnByteRange, refused_after};
+ghost use Rattle.zarr_array_storage.specs.declared.refusing_store.CallKind.TheVariants.{Read, Write};
+ghost use Rattle.zarr_array_storage.specs.Stores.{counted, parts_bytes, parts_size, value_bytes, value_size};
+
+use crate::byte_range::ByteRange;
+use crate::error::StorageError;
+use crate::traits::{ReadableStorageTraits, WritableStorageTraits};
+use crate::value_patch::ValuePatch;
+use zarr_grids_keys::StoreKey;
+
+/// A kind of calls of a store.
+#[derive(Clone, Copy, Debug, PartialEq, Eq)]
+pub enum CallKind {
+    /// `get`, `get_partial`, `size_key` and `list`.
+    Read,
+    /// `set`, `set_partial` and `erase`.
+    Write,
+}
+
+/// Which call is refused: after `left` calls of a kind, the last of these. At 0 none is.
+#[derive(Clone, Copy, Debug, PartialEq, Eq)]
+pub struct Countdown {
+    pub kind: CallKind,
+    pub left: u64,
+}
+
+impl Countdown {
+    /// Counts a call, and says whether it is the one to refuse.
+    fn count_call(&mut self, kind: CallKind) -> bool
+        ensures refuses { result ≡ refuses_next self.old kind }
+        ensures after { self.new ≡ after_call self.old kind }
+    {
+        if self.kind != kind || self.left == 0 {
+            return false;
+        }
+        self.left -= 1;
+        self.left == 0
+    }
+}
+
+/// A store that refuses one call with `Io`, and hands every other call on to an inner store.
+#[derive(Drop)]
+pub struct RefusingStore<S> {
+    inner: S,
+    countdown: Countdown,
+    refused: u128,
+}
+
+impl<S> RefusingStore<S> {
+    /// A store that refuses the `nth` call of a kind from now on, counted from 1; at 0, none.
+    pub fn new(inner: S, kind: CallKind, nth: u64) -> Self
+        ensures inner { inner_of result ≡ inner }
+        ensures countdown { countdown_of result ≡ record { kind = kind; left = nth } }
+        ensures refused { own_refused result ≡ 0 }
+    {
+        RefusingStore {
+            inner,
+            countdown: Countdown { kind, left: nth },
+            refused: 0,
+        }
+    }
+
+    /// The inner store, as the calls left it.
+    pub fn into_inner(self) -> S
+        ensures { result ≡ inner_of self }
+    {
+        let RefusingStore {
+            inner,
+            countdown: _,
+            refused: _,
+        } = self;
+        inner
+    }
+
+    /// Counts a call, and says whether it is refused.
+    fn refuses(&mut self, kind: CallKind) -> bool
+        ensures refuses { result ≡ refuses_next (countdown_of self.old) kind }
+        ensures countdown { countdown_of self.new ≡ after_call (countdown_of self.old) kind }
+        ensures refused { own_refused self.new ≡ own_refused_after self.old kind }
+        ensures inner { inner_of self.new ≡ inner_of self.old }
+    {
+        let refuses = self.countdown.count_call(kind);
+        if refuses {
+            self.refused = self.refused.saturating_add(1);
+        }
+        refuses
+    }
+}
+
+impl<S: ReadableStorageTraits> ReadableStorageTraits for RefusingStore<S> {
+    ghost held = { λ s. S.held (inner_of s) };
+
+    ghost is_honest = { λ s. S.is_honest (inner_of s) };
+
+    ghost refused_calls = { λ s. counted (own_refused s) (S.refused_calls (inner_of s)) };
+
+    ghost given_bytes = { λ s. S.given_bytes (inner_of s) };
+
+    ghost accepted_writes = { λ s. S.accepted_writes (inner_of s) };
+
+    fn get(&mut self, key: &StoreKey) -> Result<Option<Vec<u8>>, StorageError>
+        ensures value { IsTrue (S.is_honest (inner_of self.old)) → IfOk result
+            (λ found. value_bytes found ≡ map.get (S.held (inner_of self.old)) key.now) }
+        ensures held { S.held (inner_of self.new) ≡ S.held (inner_of self.old) }
+        ensures honest { S.is_honest (inner_of self.new) ≡ S.is_honest (inner_of self.old) }
+        ensures refused { counted (own_refused self.new) (S.refused_calls (inner_of self.new)) ≡
+            refused_after
+            (counted (own_refused self.old) (S.refused_calls (inner_of self.old))) result }
+        ensures byte_range { OnByteRange result ⊥ }
+        ensures given { IfOk result (λ found. S.given_bytes (inner_of self.new) ≡
+            counted (S.given_bytes (inner_of self.old)) (value_size found)) }
+        ensures none_given { OnErr result
+            (S.given_bytes (inner_of self.new) ≡ S.given_bytes (inner_of self.old)) }
+        ensures accepted { S.accepted_writes (inner_of self.new) ≡
+            S.accepted_writes (inner_of self.old) }
+        ensures counts { CountsCall self.old self.new Read result }
+    {
+        if self.refuses(CallKind::Read) {
+            return Err(StorageError::Io);
+        }
+        self.inner.get(key)
+    }
+
+    fn get_partial(
+        &mut self,
+        key: &StoreKey,
+        ranges: &[ByteRange],
+    ) -> Result<Option<Vec<Vec<u8>>>, StorageError>
+        ensures parts { IsTrue (S.is_honest (inner_of self.old)) → IfOk result (λ found.
+            parts_bytes found ≡ parts_at (S.held (inner_of self.old)) key.now ranges.now) }
+        ensures in_range { IsTrue (S.is_honest (inner_of self.old)) → OnOk result
+            (any_past_end (S.held (inner_of self.old)) key.now ranges.now ≡ false) }
+        ensures held { S.held (inner_of self.new) ≡ S.held (inner_of self.old) }
+        ensures honest { S.is_honest (inner_of self.new) ≡ S.is_honest (inner_of self.old) }
+        ensures refused { counted (own_refused self.new) (S.refused_calls (inner_of self.new)) ≡
+            refused_after
+            (counted (own_refused self.old) (S.refused_calls (inner_of self.old))) result }
+        ensures byte_range { IsTrue (S.is_honest (inner_of self.old)) → OnByteRange result
+            (IsTrue (any_past_end (S.held (inner_of self.old)) key.now ranges.now)) }
+        ensures given { IfOk result (λ found. S.given_bytes (inner_of self.new) ≡
+            counted (S.given_bytes (inner_of self.old)) (parts_size found)) }
+        ensures none_given { OnErr result
+            (S.given_bytes (inner_of self.new) ≡ S.given_bytes (inner_of self.old)) }
+        ensures accepted { S.accepted_writes (inner_of self.new) ≡
+            S.accepted_writes (inner_of self.old) }
+        ensures counts { CountsCall self.old self.new Read result }
+    {
+        if self.refuses(CallKind::Read) {
+            return Err(StorageError::Io);
+        }
+        self.inner.get_partial(key, ranges)
+    }
+
+    fn size_key(&mut self, key: &StoreKey) -> Result<Option<u64>, StorageError>
+        ensures size { IsTrue (S.is_honest (inner_of self.old)) → IfOk result
+            (λ size. size ≡ option_map length (map.get (S.held (inner_of self.old)) key.now)) }
+        ensures held { S.held (inner_of self.new) ≡ S.held (inner_of self.old) }
+        ensures honest { S.is_honest (inner_of self.new) ≡ S.is_honest (inner_of self.old) }
+        ensures refused { counted (own_refused self.new) (S.refused_calls (inner_of self.new)) ≡
+            refused_after
+            (counted (own_refused self.old) (S.refused_calls (inner_of self.old))) result }
+        ensures byte_range { OnByteRange result ⊥ }
+        ensures given { S.given_bytes (inner_of self.new) ≡ S.given_bytes (inner_of self.old) }
+        ensures accepted { S.accepted_writes (inner_of self.new) ≡
+            S.accepted_writes (inner_of self.old) }
+        ensures counts { CountsCall self.old self.new Read result }
+    {
+        if self.refuses(CallKind::Read) {
+            return Err(StorageError::Io);
+        }
+        self.inner.size_key(key)
+    }
+
+    fn list(&mut self) -> Result<Vec<StoreKey>, StorageError>
+        ensures keys { IsTrue (S.is_honest (inner_of self.old)) →
+            IfOk result (λ keys. keys.items ≡ map.keys (S.held (inner_of self.old))) }
+        ensures held { S.held (inner_of self.new) ≡ S.held (inner_of self.old) }
+        ensures honest { S.is_honest (inner_of self.new) ≡ S.is_honest (inner_of self.old) }
+        ensures refused { counted (own_refused self.new) (S.refused_calls (inner_of self.new)) ≡
+            refused_after
+            (counted (own_refused self.old) (S.refused_calls (inner_of self.old))) result }
+        ensures byte_range { OnByteRange result ⊥ }
+        ensures given { S.given_bytes (inner_of self.new) ≡ S.given_bytes (inner_of self.old) }
+        ensures accepted { S.accepted_writes (inner_of self.new) ≡
+            S.accepted_writes (inner_of self.old) }
+        ensures counts { CountsCall self.old self.new Read result }
+    {
+        if self.refuses(CallKind::Read) {
+            return Err(StorageError::Io);
+        }
+        self.inner.list()
+    }
+}
+
+impl<S: WritableStorageTraits> WritableStorageTraits for RefusingStore<S> {
+    ghost supports_set_partial = { λ s. S.supports_set_partial (inner_of s) };
+
+    fn supports_set_partial(&self) -> bool {
+        self.inner.supports_set_partial()
+    }
+
+    fn set(&mut self, key: &StoreKey, value: &[u8]) -> Result<(), StorageError>
+        ensures ok { IsTrue (S.is_honest (inner_of self.old)) → OnOk result
+            (S.held (inner_of self.new) ≡
+            map.insert (S.held (inner_of self.old)) key.now value.now) }
+        ensures err { IsTrue (S.is_honest (inner_of self.old)) → OnErr result
+            (S.held (inner_of self.new) ≡ S.held (inner_of self.old)) }
+        ensures honest { S.is_honest (inner_of self.new) ≡ S.is_honest (inner_of self.old) }
+        ensures refused { counted (own_refused self.new) (S.refused_calls (inner_of self.new)) ≡
+            refused_after
+            (counted (own_refused self.old) (S.refused_calls (inner_of self.old))) result }
+        ensures byte_range { OnByteRange result ⊥ }
+        ensures given { S.given_bytes (inner_of self.new) ≡ S.given_bytes (inner_of self.old) }
+        ensures accepted { OnOk result (S.accepted_writes (inner_of self.new) ≡
+            counted (S.accepted_writes (inner_of self.old)) 1) }
+        ensures none_accepted { OnErr result
+            (S.accepted_writes (inner_of self.new) ≡ S.accepted_writes (inner_of self.old)) }
+        ensures counts { CountsCall self.old self.new Write result }
+    {
+        if self.refuses(CallKind::Write) {
+            return Err(StorageError::Io);
+        }
+        self.inner.set(key, value)
+    }
+
+    fn set_partial(&mut self, key: &StoreKey, patches: &[ValuePatch]) -> Result<(), StorageError>
+        ensures ok { IsTrue (S.is_honest (inner_of self.old)) → OnOk result
+            (S.held (inner_of self.new) ≡ map.insert (S.held (inner_of self.old)) key.now
+            (patched_at (S.held (inner_of self.old)) key.now patches.now)) }
+        ensures in_range { IsTrue (S.is_honest (inner_of self.old)) →
+            OnOk result (any_too_far patches.now ≡ false) }
+        ensures err { IsTrue (S.is_honest (inner_of self.old)) → OnErr result
+            (S.held (inner_of self.new) ≡ S.held (inner_of self.old)) }
+        ensures honest { S.is_honest (inner_of self.new) ≡ S.is_honest (inner_of self.old) }
+        ensures refused { counted (own_refused self.new) (S.refused_calls (inner_of self.new)) ≡
+            refused_after
+            (counted (own_refused self.old) (S.refused_calls (inner_of self.old))) result }
+        ensures byte_range { IsTrue (S.is_honest (inner_of self.old)) →
+            OnByteRange result (IsTrue (any_too_far patches.now)) }
+        ensures given { S.given_bytes (inner_of self.new) ≡ S.given_bytes (inner_of self.old) }
+        ensures accepted { OnOk result (S.accepted_writes (inner_of self.new) ≡
+            counted (S.accepted_writes (inner_of self.old)) 1) }
+        ensures none_accepted { OnErr result
+            (S.accepted_writes (inner_of self.new) ≡ S.accepted_writes (inner_of self.old)) }
+        ensures counts { CountsCall self.old self.new Write result }
+    {
+        if self.refuses(CallKind::Write) {
+            return Err(StorageError::Io);
+        }
+        self.inner.set_partial(key, patches)
+    }
+
+    fn erase(&mut self, key: &StoreKey) -> Result<(), StorageError>
+        ensures ok { IsTrue (S.is_honest (inner_of self.old)) → OnOk result
+            (S.held (inner_of self.new) ≡ map.remove (S.held (inner_of self.old)) key.now) }
+        ensures err { IsTrue (S.is_honest (inner_of self.old)) → OnErr result
+            (S.held (inner_of self.new) ≡ S.held (inner_of self.old)) }
+        ensures honest { S.is_honest (inner_of self.new) ≡ S.is_honest (inner_of self.old) }
+        ensures refused { counted (own_refused self.new) (S.refused_calls (inner_of self.new)) ≡
+            refused_after
+            (counted (own_refused self.old) (S.refused_calls (inner_of self.old))) result }
+        ensures byte_range { OnByteRange result ⊥ }
+        ensures given { S.given_bytes (inner_of self.new) ≡ S.given_bytes (inner_of self.old) }
+        ensures accepted { OnOk result (S.accepted_writes (inner_of self.new) ≡
+            counted (S.accepted_writes (inner_of self.old)) 1) }
+        ensures none_accepted { OnErr result
+            (S.accepted_writes (inner_of self.new) ≡ S.accepted_writes (inner_of self.old)) }
+        ensures counts { CountsCall self.old self.new Write result }
+    {
+        if self.refuses(CallKind::Write) {
+            return Err(StorageError::Io);
+        }
+        self.inner.erase(key)
+    }
+}
