@@ -143,6 +143,24 @@ class ChoosingBatches(unittest.TestCase):
         rounds.trials[1].apart_from.add("one_more")
         self.assertEqual(len(rounds._next_batch()[0]), 1)
 
+    def test_a_function_of_a_type_is_in_its_module_and_one_of_a_trait_where_the_impl_is(self):
+        code = "impl Walk {\n    fn start(&self) {\n    }\n}\n\nimpl Iterator for Walk {\n    fn next(&self) {\n    }\n}\n"
+        sources = Sources({"src/lib.rt": "mod walking;\n\nstruct Walk;\n", "src/walking.rt": code})
+        self.assertEqual([it.path for it in sources.functions], ["Walk::start", "walking::WalkIterator::next"])
+
+    def test_an_edit_whose_function_the_check_does_not_know_is_tried_alone(self):
+        asked = []
+
+        def check(texts, functions):
+            asked.append(functions)
+            if "one_more" in functions:
+                return read_output(2, "rattle: error: `tiny` has no function `one_more`: help: write the name that a check prints")
+            return read_output(1, "src/lib.rt:9:1: error: no\nfn tiny::cut: not proved\nonly=1 proved=0")
+
+        rounds = Rounds([edit_of("a", "    n + 1", "    n"), edit_of("b", "        10", "        11")], Sources({"src/lib.rt": SOURCE}), check)
+        rounds._try_batch(*rounds._next_batch())
+        self.assertEqual((asked[1], rounds.trials[0].function), (["cut"], None))
+
     def test_blocks_are_named_as_a_check_names_them(self):
         self.assertEqual(block_name("impl", "<'a> Iterator for Walk<'a> "), "WalkIterator")
         self.assertEqual(block_name("impl", " From<std::alloc::AllocError> for Fault "), "FaultFromAllocError")
