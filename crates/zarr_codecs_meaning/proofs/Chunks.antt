@@ -1,5 +1,5 @@
 -- What is stored for a chunk, whole and in part.
-use Rattle.std.proofs.Common.{◌≡◌, ℕ, List, [], ◌∷◌, map, get_or, replicate, zero, suc, ap, ◌∙◌, sym, refl, subst, Option, Some, None, option_map, Bool, true, false, inl, inr, ◌⊎◌, if◌then◌else◌}
+use Rattle.std.proofs.Common.{◌≡◌, ℕ, List, [], ◌∷◌, map, get_or, replicate, zero, suc, ap, ◌∙◌, sym, refl, subst, Option, Some, None, Bool, true, false, inl, inr, ◌⊎◌}
 use Rattle.std.specs.Prelude.{MatchBool, nat_lt}
 use Rattle.std.specs.List.{list_all}
 use Rattle.zarr_grids_boxes.specs.Boxes.{product}
@@ -11,8 +11,8 @@ use Rattle.zarr_codecs_meaning.specs.Encoding.{encoded, stored_chunk}
 use Rattle.zarr_codecs_meaning.specs.Standing.{ChunkStands}
 use Rattle.zarr_codecs_meaning.specs.Chunks.{chunk_decoded, chunk_part, IsStored}
 use Rattle.zarr_codecs_meaning.specs.Laws.{IsLawfulChain, AreCells}
-use Rattle.zarr_codecs_meaning.proofs.Lists.{map_some, some_same}
-use Rattle.zarr_codecs_meaning.proofs.Shards.{fill_is_replicate}
+use Rattle.zarr_codecs_meaning.proofs.Lists.{some_same}
+use Rattle.zarr_codecs_meaning.proofs.Shards.{fill_is_replicate, stored_cases}
 use Rattle.zarr_codecs_meaning.proofs.Meaning.{laws_of, stands_decoded}
 use Rattle.zarr_codecs_meaning.proofs.PartReading.{part_read}
 
@@ -65,14 +65,10 @@ stored_once chain elements shape stored cells others lawful lossless are be h k 
 
 -- ---- writing
 
-of_stored : (t : Bool) (o stored : Option (List ℕ)) → (if t then Some None else option_map Some o) ≡ Some stored → ((t ≡ true) × (stored ≡ None)) ⊎ ((value : List ℕ) × (o ≡ Some value) × (stored ≡ Some value))
-of_stored true o stored h = inl (refl, sym (some_same h))
-of_stored false o stored h = (let found = map_some Some o stored h in inr (found.0, found.1, sym found.2))
-
 pub chunk_stored : (chain : Chain) (elements : Elements) (shape : List ℕ) (cells : List Cell) (stored : Option (List ℕ)) → IsLawfulChain chain → fits chain elements.type shape ≡ true → is_lossless chain elements.type ≡ true → AreCells elements shape cells
     → stored_chunk chain elements shape cells ≡ Some stored → ChunkStands chain elements shape stored cells
 chunk_stored chain elements shape cells stored lawful fit lossless are h =
-    elim (of_stored (is_fill elements.fill cells) (encoded chain elements shape cells) stored h) [
+    elim (stored_cases (is_fill elements.fill cells) (encoded chain elements shape cells) stored h) [
       | inl k ↦ subst (λ (o : Option (List ℕ)). ChunkStands chain elements shape o cells) (sym k.1) k.0
-      | inr k ↦ subst (λ (o : Option (List ℕ)). ChunkStands chain elements shape o cells) (sym k.2) ((laws_of chain lawful).stands elements shape k.0 cells fit (inl lossless) are k.1)
+      | inr k ↦ subst (λ (o : Option (List ℕ)). ChunkStands chain elements shape o cells) (sym k.1.2) ((laws_of chain lawful).stands elements shape k.1.0 cells fit (inl lossless) are k.1.1)
     ]

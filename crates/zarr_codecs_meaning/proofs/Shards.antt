@@ -46,7 +46,7 @@ SlicesStand inner fill [] (o ∷ os) = ⊥
 SlicesStand inner fill (x ∷ xs) [] = ⊥
 SlicesStand inner fill (x ∷ xs) (o ∷ os) = SliceStands inner fill x o × SlicesStand inner fill xs os
 
-stored_cases : (t : Bool) (o : Option (List ℕ)) (first : Option (List ℕ)) → (if t then Some None else option_map Some o) ≡ Some first → ((t ≡ true) × (first ≡ None)) ⊎ ((t ≡ false) × ((v : List ℕ) × (o ≡ Some v) × (first ≡ Some v)))
+pub stored_cases : (t : Bool) (o : Option (List ℕ)) (first : Option (List ℕ)) → (if t then Some None else option_map Some o) ≡ Some first → ((t ≡ true) × (first ≡ None)) ⊎ ((t ≡ false) × ((v : List ℕ) × (o ≡ Some v) × (first ≡ Some v)))
 stored_cases true o first h = inl (refl, cc)
 stored_cases false None first h = cc
 stored_cases false (Some v) first h = inr (refl, (v, refl, cc))
