@@ -162,7 +162,7 @@ are_bits first last (c ∷ cs) element =
     each_append (λ b. b < 2) (digits 2 (kept_bits first last c) (number 256 (take c.byte_count element) / 2 ^ first)) (element_bits first last cs (drop c.byte_count element))
     (digits_below 2 (kept_bits first last c) (number 256 (take c.byte_count element) / 2 ^ first) (omega arith)) (are_bits first last cs (drop c.byte_count element))
 
-each-flat_map : {X : Type 0} (P : ℕ → Type 0) (f : X → List ℕ) (xs : List X) → ((x : X) → Each P (f x)) → Each P (flat_map f xs)
+pub each-flat_map : {X : Type 0} (P : ℕ → Type 0) (f : X → List ℕ) (xs : List X) → ((x : X) → Each P (f x)) → Each P (flat_map f xs)
 each-flat_map P f [] law = tt
 each-flat_map P f (x ∷ xs) law = each_append P (f x) (flat_map f xs) (law x) (each-flat_map P f xs law)
 

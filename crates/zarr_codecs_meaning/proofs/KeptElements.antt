@@ -110,7 +110,7 @@ pub are_bytes_of : (element : List ℕ) → Each (λ b. b < 256) element → are
 are_bytes_of element h = all_pass (λ b. nat_lt b 256) element (each_weaker (λ b. b < 256) (λ b. nat_lt b 256 ≡ true) element (λ b l. lt-ltb b 256 l) h)
 
 -- an element of bits is a value
-made_is_value : (first : ℕ) (last : Option ℕ) (type : DataType) (bits : List ℕ) → is_fixed type ≡ true → Each (KeepsBits first last) (components type) → Each (λ b. b < 2) bits → is_value type (of_bytes (element_of_bits first last (components type) bits)) ≡ true
+pub made_is_value : (first : ℕ) (last : Option ℕ) (type : DataType) (bits : List ℕ) → is_fixed type ≡ true → Each (KeepsBits first last) (components type) → Each (λ b. b < 2) bits → is_value type (of_bytes (element_of_bits first last (components type) bits)) ≡ true
 made_is_value first last type bits fixed keeps below =
     let parts = components type in
     let element = element_of_bits first last parts bits in

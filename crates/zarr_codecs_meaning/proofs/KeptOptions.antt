@@ -59,7 +59,7 @@ values_step : (t : Bool) (P : Cell → Type 0) (c : Cell) (ones others : List Ce
 values_step true P c ones others a p h k = (p, h)
 values_step false P c ones others a p h k = (a, k)
 
-spread_values : (type inner : DataType) (masks found : List Cell) → inner_type type ≡ Some inner → Each (λ c. is_value inner c ≡ true) found → Each (λ c. is_value type c ≡ true) (spread masks found)
+pub spread_values : (type inner : DataType) (masks found : List Cell) → inner_type type ≡ Some inner → Each (λ c. is_value inner c ≡ true) found → Each (λ c. is_value type c ≡ true) (spread masks found)
 spread_values type inner [] found e h = tt
 spread_values type inner (m ∷ ms) [] e h = (absent_value type inner e, spread_values type inner ms [] e h)
 spread_values type inner (m ∷ ms) (c ∷ cs) e h =

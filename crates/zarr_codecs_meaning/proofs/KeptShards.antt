@@ -58,7 +58,7 @@ piece_twice false keep fill cells e h = piece_same (is_fill fill (keep cells)) (
 
 -- ---- the laws of cells
 
-arranged_value : (test : Cell → Bool) (fill : Cell) (parts : List Part) (pieces : List (List Cell)) (n : ℕ) → test fill ≡ true → Each (λ piece. list_all test piece ≡ true) pieces → test (arranged fill parts pieces n) ≡ true
+pub arranged_value : (test : Cell → Bool) (fill : Cell) (parts : List Part) (pieces : List (List Cell)) (n : ℕ) → test fill ≡ true → Each (λ piece. list_all test piece ≡ true) pieces → test (arranged fill parts pieces n) ≡ true
 arranged_value test fill [] pieces n one h = one
 arranged_value test fill (part ∷ parts) [] n one h = one
 arranged_value test fill (part ∷ parts) (cells ∷ pieces) n one h =

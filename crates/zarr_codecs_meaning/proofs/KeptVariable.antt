@@ -65,7 +65,7 @@ cut_back (c ∷ cs) h =
     ∙ (ap (λ (ns : List ℕ). of_bytes element ∷ cut_again cs ns) (drop-append_seam element others)
     ∙ (ap (λ (x : Cell). x ∷ cut_again cs others) h.0.is ∙ ap (λ (xs : List Cell). c ∷ xs) (cut_back cs h.1)))
 
-variable_is_value : (type : DataType) (element : List ℕ) → is_variable type ≡ true → Each (λ b. b < 256) element → is_value type (of_bytes element) ≡ true
+pub variable_is_value : (type : DataType) (element : List ℕ) → is_variable type ≡ true → Each (λ b. b < 256) element → is_value type (of_bytes element) ≡ true
 variable_is_value string element v h = ap (λ (b : Bool). b && true) (are_bytes_of element h)
 variable_is_value variable_bytes element v h = ap (λ (b : Bool). b && true) (are_bytes_of element h)
 variable_is_value bool element v h = cc
@@ -100,7 +100,7 @@ pub record AreJoined (cells : List Cell) : Type 0 where
   pub long : length (flat_map cell_bytes cells) ≡ length cells
   pub below : Each (λ b. b < 256) (flat_map cell_bytes cells)
 
-joined_bytes : (cells : List Cell) → Each (λ c. is_value uint8 c ≡ true) cells → AreJoined cells
+pub joined_bytes : (cells : List Cell) → Each (λ c. is_value uint8 c ≡ true) cells → AreJoined cells
 joined_bytes [] h = record { again = refl; long = refl; below = tt }
 joined_bytes (c ∷ cs) h =
     let rest = joined_bytes cs h.1 in

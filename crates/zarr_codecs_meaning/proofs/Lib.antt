@@ -27,6 +27,8 @@ pub mod Kept
 pub mod Meaning
 pub mod Tight
 pub mod Counts
+pub mod DecodedValues
 pub mod PartReading
 pub mod Refusals
 pub mod Chunks
+pub mod DecodedElements

@@ -8,6 +8,8 @@ pub mod Keeping
 pub mod Decoding
 pub mod Standing
 pub mod Laws
+pub mod Payloads
+pub mod Partial
 pub mod Chunks
 pub mod ChunkLaws
 pub mod Refusals

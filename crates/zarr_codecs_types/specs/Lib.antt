@@ -6,3 +6,4 @@ pub mod Parts
 pub mod Same
 pub mod SameEquivalence
 pub mod Views
+pub mod Given

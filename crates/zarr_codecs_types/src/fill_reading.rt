@@ -156,8 +156,9 @@ fn integer_cell(
     }
 }
 
-/// The integer in the range of so many bits that a JSON value is.
-fn integer_in(sign: Sign, width: usize, value: &Value) -> Option<i128>
+/// The integer in the range of so many bits that a JSON value is; a float is none.
+#[inline(always)]
+pub fn integer_in(sign: Sign, width: usize, value: &Value) -> Option<i128>
     requires { width ≤ 64 }
     ensures { result ≡ integer_in (sign_of sign) width (view value.now) }
 {
@@ -169,6 +170,7 @@ fn integer_in(sign: Sign, width: usize, value: &Value) -> Option<i128>
     }
 }
 
+#[inline(always)]
 fn integer_fits(sign: Sign, width: usize, integer: i128) -> bool
     requires { width ≤ 64 }
     ensures { result ≡ integer_fits (sign_of sign) width integer }
@@ -180,6 +182,7 @@ fn integer_fits(sign: Sign, width: usize, integer: i128) -> bool
 }
 
 /// The number itself, or how far it is below -1.
+#[inline(always)]
 fn magnitude(integer: i128) -> u128
     ensures { result ≡ magnitude integer }
 {

@@ -15,5 +15,6 @@ pub mod values;
 pub use cell::Cell;
 pub use data_type::{Component, DataType, Sign};
 pub use error::{DataTypeError, FillValueError};
+pub use fill_reading::integer_in;
 pub use fill_value::FillValue;
-pub use values::is_value;
+pub use values::{is_value, is_value_in_bytes};

@@ -25,7 +25,7 @@ pub fn is_value(data_type: &DataType, cell: &Cell) -> bool
 }
 
 /// Whether bytes are a value of a data type.
-pub(crate) fn is_value_in_bytes(data_type: &DataType, bytes: &[u8]) -> bool
+pub fn is_value_in_bytes(data_type: &DataType, bytes: &[u8]) -> bool
     ensures { result ≡ types.is_value_in_bytes (type_of data_type.now) bytes.now }
 {
     match data_type {

@@ -56,7 +56,7 @@ digits_onto-head (suc k) n some =
     ]
 
 -- a number is written in digits, however large it is
-decimal-head : (n : ℕ) → HasHead (decimal n)
+pub decimal-head : (n : ℕ) → HasHead (decimal n)
 unfolding digits
 decimal-head n = digits_onto-head 64 n (omega arith)
 

@@ -1,5 +1,6 @@
 pub mod DocumentsUnder
 pub mod HeadLemmas
+pub mod KeyEnds
 pub mod KeyLemmas
 pub mod ParentLemmas
 pub mod PathLemmas

@@ -1,0 +1,9 @@
+pub mod FixedCells
+pub mod Repeats
+pub mod Copies
+pub mod FixedValues
+pub mod Counts
+pub mod ElementValues
+pub mod Masks
+pub mod Filled
+pub mod Fillings

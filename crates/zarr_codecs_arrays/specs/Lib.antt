@@ -1,0 +1,4 @@
+pub mod Offsets
+pub mod Views
+pub mod Outcomes
+pub mod Values

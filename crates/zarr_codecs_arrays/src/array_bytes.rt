@@ -1,0 +1,117 @@
+//! Elements as calls take and give them.
+ghost use Rattle.std.specs.Prelude.{◌⊎◌, ◌^◌, ◌*◌, ◌≤◌, IsTrue, MatchOption};
+
+use crate::counting::{counted, form_error};
+use crate::elements::Elements;
+use crate::error::CodecError;
+use crate::filling::filled;
+use crate::fills::are_all;
+use crate::offsets::ArrayBytesOffsets;
+use crate::values::are_values;
+use std::alloc::{AllocError, Global};
+use zarr_codecs_types::DataType;
+
+/// The elements of an array or a part of it, row-major.
+#[derive(Debug, Drop)]
+pub enum ArrayBytes {
+    /// Elements of one size, one after another, little endian.
+    Fixed(Vec<u8>),
+    /// Elements of variable length, one after another, and where each begins and the last one ends.
+    Variable(Vec<u8>, ArrayBytesOffsets),
+    /// An element for each place, and for each place a 1 where it is present, else a 0. What stands
+    /// where no element is present says nothing.
+    Optional(Box<ArrayBytes>, Vec<u8>),
+}
+
+impl ArrayBytes {
+    ghost use Rattle.std.specs.Prelude.{◌≡◌, ◌≢◌, IfOk, IfErr, Some, replicate, option_map, unwrap_or, false};
+    ghost use Rattle.zarr_codecs_meaning.specs.Payloads.{cells_in};
+    ghost use Rattle.zarr_codecs_meaning.specs.Types as types;
+    ghost use Rattle.zarr_codecs_types.specs.Views.{type_of};
+    ghost use Rattle.zarr_codecs_arrays.specs.Views.{payload_of, elements_of};
+    ghost use Rattle.zarr_codecs_arrays.specs.Outcomes.{Validates, IsTooLarge};
+
+    /// As many elements as asked for, each the fill value. `Size` where they would have 2^63 bytes
+    /// or more. Of a type whose elements have no bytes it makes none, and answers `Memory`.
+    pub fn new_fill_value(
+        alloc: Global,
+        elements: &Elements,
+        count: u64,
+    ) -> Result<ArrayBytes, CodecError>
+        ensures ok { IfOk result
+            (λ a. cells_in (elements_of elements.now).type (payload_of a)
+            ≡ Some (replicate count (elements_of elements.now).fill)) }
+        ensures err { IfErr result (λ e. e ≢ CodecError.Memory
+            → (e ≡ CodecError.Size) × IsTooLarge (elements_of elements.now).type count) }
+    {
+        let data_type = elements.data_type();
+        if is_too_large(data_type.byte_width(), count) {
+            return Err(CodecError::Size);
+        }
+        let fill = elements.fill_value().as_cell();
+        Ok(filled(alloc, data_type, fill, count as usize)?)
+    }
+
+    /// Whether these are so many values of a data type: `InvalidNumberOfElements` where there are
+    /// more or fewer, `Expected..` where their form is another type's, `CellOutOfRange` where one
+    /// is no value. The form is tested first, the values last.
+    pub fn validate(&self, data_type: &DataType, count: u64) -> Result<(), CodecError>
+        ensures { Validates (type_of data_type.now) (payload_of self.now) count result }
+    {
+        let Some(found) = counted(self, data_type) else {
+            return Err(form_error(self, data_type));
+        };
+        if found as u64 != count {
+            return Err(CodecError::InvalidNumberOfElements);
+        }
+        if !are_values(self, data_type) {
+            return Err(CodecError::CellOutOfRange);
+        }
+        Ok(())
+    }
+
+    /// Whether each element is the fill value. Of elements that are none of the type's it answers
+    /// false.
+    pub fn is_fill_value(&self, elements: &Elements) -> bool
+        ensures { result ≡ unwrap_or (option_map (types.is_fill (elements_of elements.now).fill)
+            (cells_in (elements_of elements.now).type (payload_of self.now))) false }
+    {
+        are_all(self, elements.data_type(), elements.fill_value().as_cell())
+    }
+
+    /// An equal value. `Err` only where an allocation failed.
+    pub fn try_clone(&self, alloc: Global) -> Result<ArrayBytes, AllocError>
+        ensures { IfOk result (λ a. payload_of a ≡ payload_of self.now) }
+    {
+        match self {
+            ArrayBytes::Fixed(bytes) => Ok(ArrayBytes::Fixed(bytes.as_slice().to_vec(alloc)?)),
+            ArrayBytes::Variable(bytes, offsets) => {
+                let copy = bytes.as_slice().to_vec(alloc)?;
+                Ok(ArrayBytes::Variable(copy, offsets.try_clone(alloc)?))
+            }
+            ArrayBytes::Optional(inner, mask) => {
+                let copy = inner.try_clone(alloc)?;
+                let inner = Box::new(alloc, copy)?;
+                Ok(ArrayBytes::Optional(inner, mask.as_slice().to_vec(alloc)?))
+            }
+        }
+    }
+}
+
+/// Whether so many elements of so many bytes each, where they have one size, have 2^63 bytes or
+/// more, or are as many.
+fn is_too_large(width: Option<usize>, count: u64) -> bool
+    ensures { IsTrue result → (2 ^ 63 ≤ count) ⊎ MatchOption width ⊥ (λ w. 2 ^ 63 ≤ count * w) }
+{
+    const LIMIT: u64 = 0x8000_0000_0000_0000;
+    if count >= LIMIT {
+        return true;
+    }
+    match width {
+        Some(width) => match count.checked_mul(width as u64) {
+            Some(total) => total >= LIMIT,
+            None => true,
+        },
+        None => false,
+    }
+}

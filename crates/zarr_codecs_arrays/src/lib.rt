@@ -1,0 +1,17 @@
+//! Elements as calls take and give them, what they fill with, and why a codec refuses.
+#![tactic(auto)]
+
+pub mod array_bytes;
+mod counting;
+pub mod elements;
+pub mod error;
+mod filling;
+mod fills;
+mod fixed;
+pub mod offsets;
+mod values;
+
+pub use array_bytes::ArrayBytes;
+pub use elements::Elements;
+pub use error::CodecError;
+pub use offsets::ArrayBytesOffsets;

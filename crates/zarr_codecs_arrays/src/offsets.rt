@@ -1,0 +1,62 @@
+//! Where elements of variable length begin and end.
+ghost use Rattle.std.specs.Prelude.{◌≡◌, IsTrue};
+ghost use Rattle.zarr_codecs_arrays.specs.Offsets.{are_rising};
+
+use std::alloc::{AllocError, Global};
+
+/// Where each element of variable length begins in its bytes, and where the last one ends. There
+/// is one offset more than there are elements, and none is less than the one before it.
+#[derive(Debug, Drop)]
+pub struct ArrayBytesOffsets {
+    offsets: Vec<u64>,
+    ghost rising: { IsTrue (are_rising offsets.items) },
+}
+
+impl ArrayBytesOffsets {
+    ghost use Rattle.std.specs.Prelude.{◌≡◌, IfSome, IfNone, IfOk, false};
+    ghost use Rattle.zarr_codecs_arrays.specs.Offsets.{are_rising};
+    ghost use Rattle.zarr_codecs_arrays.specs.Views.{numbers_of};
+
+    /// The offsets, or `None` where there are none or one is less than the one before it.
+    pub fn new(offsets: Vec<u64>) -> Option<ArrayBytesOffsets>
+        ensures some { IfSome result (λ o. numbers_of o ≡ offsets.items) }
+        ensures none { IfNone result (are_rising offsets.items ≡ false) }
+    {
+        if !are_rising(offsets.as_slice()) {
+            return None;
+        }
+        Some(ArrayBytesOffsets { offsets })
+    }
+
+    /// The numbers.
+    pub fn as_slice(&self) -> &[u64]
+        ensures { result.now ≡ numbers_of self.now }
+    {
+        self.offsets.as_slice()
+    }
+
+    /// Equal offsets. `Err` only where an allocation failed.
+    pub fn try_clone(&self, alloc: Global) -> Result<ArrayBytesOffsets, AllocError>
+        ensures { IfOk result (λ o. numbers_of o ≡ numbers_of self.now) }
+    {
+        let offsets = self.offsets.as_slice().to_vec(alloc)?;
+        Ok(ArrayBytesOffsets { offsets })
+    }
+}
+
+/// Whether there is a number, and none is less than the one before it.
+fn are_rising(offsets: &[u64]) -> bool
+    ensures { result ≡ are_rising offsets.now }
+{
+    let Some((first, rest)) = offsets.split_first() else {
+        return false;
+    };
+    let mut last = *first;
+    for offset in rest {
+        if *offset < last {
+            return false;
+        }
+        last = *offset;
+    }
+    true
+}

@@ -1,0 +1,6 @@
+pub mod Orders
+pub mod Types
+pub mod Decoding
+pub mod Chains
+pub mod ReadsBack
+pub mod PartDecoding

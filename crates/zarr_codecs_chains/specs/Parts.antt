@@ -1,0 +1,31 @@
+-- Parts of an array that are asked for.
+use Rattle.std.specs.Prelude.{◌≡◌, ℕ, ◌*◌, List, Option, Bool, Result, length}
+use Rattle.zarr_grids_boxes.specs.Boxes.{Region, product}
+use Rattle.zarr_grids_boxes.specs.Subsets.{region_of}
+use Rattle.zarr_codecs_meaning.specs.Types.{Cell, components, bytes_in}
+use Rattle.zarr_codecs_meaning.specs.Chains.{Chain}
+use Rattle.zarr_codecs_meaning.specs.Fits.{fits}
+use Rattle.zarr_codecs_meaning.specs.Payloads.{fixed_cells}
+use Rattle.zarr_codecs_meaning.specs.Places.{gather}
+use Rattle.zarr_codecs_arrays.specs.Views.{elements_of}
+use Rattle.zarr_codecs_arrays.specs.declared.array_bytes.ArrayBytes.{ArrayBytes}
+use Rattle.zarr_codecs_arrays.specs.declared.error.CodecError.{CodecError}
+use Rattle.zarr_codecs_traits.specs.Outcomes.{DecodesPart, numbers_of}
+use Rattle.zarr_codecs_chains.specs.declared.part.ArrayPart.{ArrayPart}
+
+-- whether a chain suits the array of a part
+abbrev pub fits_part : Chain → ArrayPart → Bool
+fits_part chain part = fits chain (elements_of part.elements.now).type part.shape.now
+
+-- how many bytes an element of a part has
+abbrev pub part_width : ArrayPart → ℕ
+part_width part = bytes_in (components (elements_of part.elements.now).type)
+
+-- the elements of a part, of what is stored, or why there are none
+abbrev pub GivesPart : Chain → Option (List ℕ) → ArrayPart → Result ArrayBytes CodecError → Type 0
+GivesPart chain stored part result = DecodesPart chain (elements_of part.elements.now) part.shape.now stored (region_of part.region.now) result
+
+-- the bytes of the elements at the places of a box, of the elements that a value holds, each of one width; what is past the value's end is `other`
+pub record IsExtracted (width : ℕ) (value shape : List ℕ) (region : Region) (other : Cell) (extracted : List ℕ) : Type 0 where
+  pub long : length extracted ≡ product region.shape * width
+  pub elements : fixed_cells width extracted ≡ gather other (fixed_cells width value) (numbers_of shape region)

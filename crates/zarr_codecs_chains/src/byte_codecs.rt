@@ -1,0 +1,63 @@
+//! The caller's codecs, one after another.
+ghost use Rattle.std.specs.Prelude.{◌≡◌, map, IfOk};
+ghost use Rattle.zarr_codecs_traits.specs.Outcomes.{MakesBytes, UndoesBytes};
+ghost use Rattle.zarr_codecs_chains.specs.Codecs.{all_encoded, all_decoded};
+
+use std::alloc::{AllocError, Global};
+use zarr_codecs_arrays::CodecError;
+use zarr_codecs_traits::BytesToBytesCodecTraits;
+
+/// What the codecs make of bytes, each of what the one before it made. `Codec` where one refuses.
+pub(crate) fn encode_all<B: BytesToBytesCodecTraits>(
+    alloc: Global,
+    codecs: &[B],
+    bytes: Vec<u8>,
+) -> Result<Vec<u8>, CodecError>
+    ensures { MakesBytes (all_encoded (map B.meaning codecs.now)) bytes.items result }
+{
+    let Some((codec, others)) = codecs.split_first() else {
+        return Ok(bytes);
+    };
+    let made = codec.encode(alloc, bytes.as_slice())?;
+    encode_all(alloc, others, made)
+}
+
+/// What the codecs undo bytes to, the last codec first. `Damage` where one did not make them.
+pub(crate) fn decode_all<B: BytesToBytesCodecTraits>(
+    alloc: Global,
+    codecs: &[B],
+    bytes: Vec<u8>,
+) -> Result<Vec<u8>, CodecError>
+    ensures { UndoesBytes (all_decoded (map B.meaning codecs.now)) bytes.items result }
+{
+    let Some((codec, others)) = codecs.split_first() else {
+        return Ok(bytes);
+    };
+    let inside = decode_all(alloc, others, bytes)?;
+    codec.decode(alloc, inside.as_slice())
+}
+
+/// Equal codecs. `Err` only where an allocation failed.
+pub(crate) fn copies<B: BytesToBytesCodecTraits>(
+    alloc: Global,
+    codecs: &[B],
+) -> Result<Vec<B>, AllocError>
+    ensures { IfOk result (λ v. map B.meaning v.items ≡ map B.meaning codecs.now) }
+{
+    let mut copies = Vec::with_capacity(alloc, codecs.len())?;
+    for codec in codecs {
+        copies.push(copied(alloc, codec)?)?;
+    }
+    Ok(copies)
+}
+
+/// An equal codec, made of the codec's metadata: that fails only for want of memory.
+fn copied<B: BytesToBytesCodecTraits>(alloc: Global, codec: &B) -> Result<B, AllocError>
+    ensures { IfOk result (λ copy. B.meaning copy ≡ B.meaning codec.now) }
+{
+    let metadata = codec.metadata(alloc)?;
+    match B::create(alloc, &metadata) {
+        Ok(copy) => Ok(copy),
+        Err(_) => Err(AllocError),
+    }
+}

@@ -1,0 +1,186 @@
+//! The codec `bytes`.
+
+use crate::part::ArrayPart;
+use crate::partial::{decode_part, fill_part};
+use crate::sizes::{byte_count, have_one_byte};
+use crate::swapping::swapped;
+use std::alloc::{AllocError, Global};
+use zarr_codecs_arrays::{ArrayBytes, CodecError, Elements};
+use zarr_codecs_options::CodecOptions;
+use zarr_codecs_regions::is_inside;
+use zarr_codecs_traits::{ArrayToBytesCodecTraits, BytesPartialDecoderTraits, read_value};
+use zarr_codecs_types::DataType;
+use zarr_grids_boxes::ArraySubset;
+use zarr_grids_boxes::walk::count_places;
+
+/// Which byte of a component comes first: the lowest, or the highest.
+#[derive(Clone, Copy, Debug, PartialEq, Eq)]
+pub enum Endianness {
+    Little,
+    Big,
+}
+
+/// The codec `bytes` (Zarr core specification, "Bytes codec"): elements row-major, the bytes of
+/// each component in one order. Without an order it suits types whose components have one byte.
+#[derive(Clone, Copy, Debug, PartialEq, Eq)]
+pub struct BytesCodec {
+    pub endian: Option<Endianness>,
+}
+
+impl BytesCodec {
+    ghost use Rattle.std.specs.Prelude.{◌≡◌, ◌<◌, ◌%◌, [], Some, option_map, length, IfOk};
+    ghost use Rattle.zarr_codecs_meaning.specs.Types.{components, bytes_in};
+    ghost use Rattle.zarr_codecs_meaning.specs.Fits.{fits};
+    ghost use Rattle.zarr_codecs_types.specs.Views.{type_of};
+    ghost use Rattle.zarr_codecs_chains.specs.Orders.{all_ordered};
+    ghost use Rattle.zarr_codecs_chains.specs.Views.{order_of, bytes_chain};
+
+    /// `bytes` with a byte order, or without one.
+    pub fn new(endian: Option<Endianness>) -> BytesCodec
+        ensures { result.endian ≡ endian }
+    {
+        BytesCodec { endian }
+    }
+
+    /// `bytes` with the lowest byte first.
+    pub fn little() -> BytesCodec
+        ensures { result.endian ≡ Some Endianness.Little }
+    {
+        BytesCodec::new(Some(Endianness::Little))
+    }
+
+    /// `bytes` with the highest byte first.
+    pub fn big() -> BytesCodec
+        ensures { result.endian ≡ Some Endianness.Big }
+    {
+        BytesCodec::new(Some(Endianness::Big))
+    }
+
+    /// Whether it suits arrays of a data type, of whatever shape.
+    pub(crate) fn suits(self, data_type: &DataType) -> bool
+        ensures { result ≡ fits (bytes_chain self) (type_of data_type.now) [] }
+    {
+        data_type.is_fixed() && (self.endian.is_some() || have_one_byte(data_type))
+    }
+
+    /// Elements of one size with the bytes of each component in the codec's order. The same undoes
+    /// it.
+    pub(crate) fn ordered(
+        self,
+        alloc: Global,
+        data_type: &DataType,
+        bytes: Vec<u8>,
+    ) -> Result<Vec<u8>, AllocError>
+        requires positive { 0 < bytes_in (components (type_of data_type.now)) }
+        requires whole { length bytes.items % bytes_in (components (type_of data_type.now)) ≡ 0 }
+        ensures { IfOk result (λ v. v.items ≡ all_ordered (option_map order_of self.endian)
+            (components (type_of data_type.now)) bytes.items) }
+    {
+        match self.endian {
+            None => Ok(bytes),
+            Some(endian) => match endian {
+                Endianness::Little => Ok(bytes),
+                Endianness::Big => swapped(alloc, data_type, bytes),
+            },
+        }
+    }
+}
+
+impl ArrayToBytesCodecTraits for BytesCodec {
+    ghost use Rattle.std.specs.Prelude.{true};
+    ghost use Rattle.zarr_codecs_chains.specs.Views.{bytes_chain};
+
+    ghost meaning = { bytes_chain };
+
+    ghost is_function = { λ codec. true };
+
+    fn fits(&self, _: Global, data_type: &DataType, _: &[u64]) -> Result<bool, AllocError> {
+        Ok(self.suits(data_type))
+    }
+
+    fn encode(
+        &self,
+        alloc: Global,
+        bytes: ArrayBytes,
+        elements: &Elements,
+        shape: &[u64],
+        _: &CodecOptions,
+    ) -> Result<Vec<u8>, CodecError> {
+        let data_type = elements.data_type();
+        if !self.suits(data_type) {
+            return Err(CodecError::Fit);
+        }
+        let Some(count) = count_places(shape) else {
+            return Err(CodecError::Size);
+        };
+        if let Err(error) = bytes.validate(data_type, count) {
+            return Err(error);
+        }
+        match bytes {
+            ArrayBytes::Fixed(bytes) => Ok(self.ordered(alloc, data_type, bytes)?),
+            ArrayBytes::Variable(_bytes, _offsets) => Err(CodecError::ExpectedFixedLengthBytes),
+            ArrayBytes::Optional(_inner, _mask) => Err(CodecError::ExpectedFixedLengthBytes),
+        }
+    }
+
+    fn decode(
+        &self,
+        alloc: Global,
+        value: Vec<u8>,
+        elements: &Elements,
+        shape: &[u64],
+        _: &CodecOptions,
+    ) -> Result<ArrayBytes, CodecError> {
+        let data_type = elements.data_type();
+        if !self.suits(data_type) {
+            return Err(CodecError::Fit);
+        }
+        let Some(count) = count_places(shape) else {
+            return Err(CodecError::Size);
+        };
+        match byte_count(data_type, count) {
+            Ok(length) => if value.len() as u64 != length {
+                return Err(CodecError::Damage);
+            },
+            Err(error) => return Err(error),
+        }
+        let bytes = ArrayBytes::Fixed(self.ordered(alloc, data_type, value)?);
+        match bytes.validate(data_type, count) {
+            Ok(()) => Ok(bytes),
+            Err(_) => Err(CodecError::Damage),
+        }
+    }
+
+    fn partial_decode<D: BytesPartialDecoderTraits>(
+        &self,
+        alloc: Global,
+        source: &mut D,
+        elements: &Elements,
+        shape: &[u64],
+        region: &ArraySubset,
+        _: &CodecOptions,
+    ) -> Result<ArrayBytes, CodecError> {
+        if !self.suits(elements.data_type()) {
+            return Err(CodecError::Fit);
+        }
+        if !is_inside(shape, region) {
+            return Err(CodecError::IncompatibleIndexer);
+        }
+        let part = ArrayPart {
+            elements,
+            shape,
+            region,
+        };
+        match read_value(alloc, source) {
+            Ok(Some(value)) => decode_part(alloc, *self, value.as_slice(), part),
+            Ok(None) => fill_part(alloc, part),
+            Err(error) => Err(error),
+        }
+    }
+
+    fn try_clone(&self, _: Global) -> Result<BytesCodec, AllocError> {
+        Ok(*self)
+    }
+
+    ghost lawful = { λ codec. tt };
+}

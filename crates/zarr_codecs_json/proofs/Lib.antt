@@ -1,0 +1,3 @@
+pub mod ReadLists
+pub mod Valid
+pub mod PrintedTexts

@@ -1,0 +1,8 @@
+//! Elements of commands and answers as JSON, straight to bytes and from them.
+#![tactic(auto)]
+
+pub mod printing;
+pub mod reading;
+
+pub use printing::{Printed, push_elements};
+pub use reading::{GivenElements, elements_in};

@@ -1,0 +1,2 @@
+//! What the metadata of codecs says: definitions.
+#![tactic(auto)]

@@ -1,0 +1,2 @@
+pub mod InsideArray
+pub mod Extracts

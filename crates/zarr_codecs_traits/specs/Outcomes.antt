@@ -1,0 +1,111 @@
+-- What calls of codecs answer.
+use Rattle.std.specs.Prelude.{◌≡◌, ◌⊎◌, ℕ, List, Bool, Option, Some, None, Result, Ok, Err, Vec, IsTrue, true, false, map, length, ◌==◌, ◌&&◌}
+use Rattle.std.specs.List.{list_all}
+use Rattle.std.specs.declared.alloc.Global.{Global}
+use Rattle.zarr_grids_boxes.specs.Boxes.{Region, product, places, is_in_box, ravel}
+use Rattle.zarr_grids_metadata.specs.ExtensionPoints.{ExtensionPoint}
+use Rattle.zarr_grids_metadata.specs.declared.error.PluginCreateError.{PluginCreateError}
+use Rattle.zarr_grids_metadata.specs.declared.error.PluginCreateError.TheVariants as plugin
+use Rattle.zarr_codecs_meaning.specs.Chains.{ByteCodec, Chain}
+use Rattle.zarr_codecs_meaning.specs.Chunks.{chunk_part}
+use Rattle.zarr_codecs_meaning.specs.Decoding.{decoded}
+use Rattle.zarr_codecs_meaning.specs.Encoding.{encoded}
+use Rattle.zarr_codecs_meaning.specs.Fits.{fits, is_lossless}
+use Rattle.zarr_codecs_meaning.specs.Payloads.{Payload, cells_in}
+use Rattle.zarr_codecs_meaning.specs.Refusals.{CodecRefuses, PassesIndex}
+use Rattle.zarr_codecs_meaning.specs.Standing.{Stands}
+use Rattle.zarr_codecs_meaning.specs.Types.{Cell, Elements}
+use Rattle.zarr_codecs_arrays.specs.Outcomes.{IsTooLarge, IsInvalid, IsValid}
+use Rattle.zarr_codecs_arrays.specs.Views.{payload_of}
+use Rattle.zarr_codecs_arrays.specs.declared.array_bytes.ArrayBytes.{ArrayBytes}
+use Rattle.zarr_codecs_arrays.specs.declared.error.CodecError.{CodecError}
+use Rattle.zarr_codecs_arrays.specs.declared.error.CodecError.TheVariants as error
+
+-- ---- codecs between bytes
+
+-- what a caller's codec makes of bytes: it refuses where the function has no value, memory aside
+abbrev pub MakesBytes : (List ℕ → Option (List ℕ)) → List ℕ → Result (Vec ℕ Global) CodecError → Type 0
+MakesBytes encode bytes (Ok made) = encode bytes ≡ Some made.items
+MakesBytes encode bytes (Err error.Codec) = encode bytes ≡ None
+MakesBytes encode bytes (Err error.Memory) = Unit {0}
+MakesBytes encode bytes (Err e) = ⊥
+
+-- what a caller's codec undoes bytes to: they are damaged where the function has no value, memory aside
+abbrev pub UndoesBytes : (List ℕ → Option (List ℕ)) → List ℕ → Result (Vec ℕ Global) CodecError → Type 0
+UndoesBytes decode bytes (Ok given) = decode bytes ≡ Some given.items
+UndoesBytes decode bytes (Err error.Damage) = decode bytes ≡ None
+UndoesBytes decode bytes (Err error.Memory) = Unit {0}
+UndoesBytes decode bytes (Err e) = ⊥
+
+-- a codec is made of metadata where codecs are read from it, memory aside
+abbrev pub Creates : {B : Type 0} → (ExtensionPoint → Option ByteCodec) → (B → ByteCodec) → ExtensionPoint → Result B PluginCreateError → Type 0
+Creates reads meaning point (Ok codec) = reads point ≡ Some (meaning codec)
+Creates reads meaning point (Err plugin.Memory) = Unit {0}
+Creates reads meaning point (Err e) = reads point ≡ None
+
+-- ---- codecs between arrays and bytes
+
+-- a value was made of the elements of an array: what encoding them means, where what is made depends on them alone; and one that stands for them, where the chain keeps every bit
+pub record IsEncoded (chain : Chain) (exact : Bool) (elements : Elements) (shape : List ℕ) (payload : Payload) (cells : List Cell) (value : List ℕ) : Type 0 where
+  pub valid : IsValid elements.type payload (product shape) cells
+  pub fit : fits chain elements.type shape ≡ true
+  pub encodes : IsTrue exact → encoded chain elements shape cells ≡ Some value
+  pub stands : is_lossless chain elements.type ≡ true → Stands chain elements shape value cells
+
+-- the elements of an array are not encoded: a caller's codec refuses, or an offset or a length is too large for where it is written
+pub record IsRefused (chain : Chain) (elements : Elements) (shape : List ℕ) (payload : Payload) (cells : List Cell) (refuses : Chain → Elements → List ℕ → List Cell → Type 0) : Type 0 where
+  pub valid : IsValid elements.type payload (product shape) cells
+  pub fit : fits chain elements.type shape ≡ true
+  pub is : refuses chain elements shape cells
+
+-- what a chain makes of the elements of an array, or why it makes nothing
+abbrev pub Encodes : Chain → Bool → Elements → List ℕ → Payload → Result (Vec ℕ Global) CodecError → Type 0
+Encodes chain exact elements shape payload (Ok value) = (cells : List Cell) × IsEncoded chain exact elements shape payload cells value.items
+Encodes chain exact elements shape payload (Err error.Fit) = fits chain elements.type shape ≡ false
+Encodes chain exact elements shape payload (Err error.Codec) = (cells : List Cell) × IsRefused chain elements shape payload cells CodecRefuses
+Encodes chain exact elements shape payload (Err error.Size) = IsTooLarge elements.type (product shape) ⊎ ((cells : List Cell) × IsRefused chain elements shape payload cells PassesIndex)
+Encodes chain exact elements shape payload (Err error.Memory) = Unit {0}
+Encodes chain exact elements shape payload (Err e) = (fits chain elements.type shape ≡ true) × IsInvalid elements.type payload (product shape) e
+
+-- the elements of an array that a value is decoded to
+pub record IsDecoded (chain : Chain) (elements : Elements) (shape value : List ℕ) (payload : Payload) : Type 0 where
+  pub cells : List Cell
+  pub fit : fits chain elements.type shape ≡ true
+  pub lists : cells_in elements.type payload ≡ Some cells
+  pub is : decoded chain elements shape value ≡ Some cells
+
+-- the elements of an array that a value is decoded to, or why there are none
+abbrev pub Decodes : Chain → Elements → List ℕ → List ℕ → Result ArrayBytes CodecError → Type 0
+Decodes chain elements shape value (Ok bytes) = IsDecoded chain elements shape value (payload_of bytes)
+Decodes chain elements shape value (Err error.Fit) = fits chain elements.type shape ≡ false
+Decodes chain elements shape value (Err error.Damage) = (fits chain elements.type shape ≡ true) × (decoded chain elements shape value ≡ None)
+Decodes chain elements shape value (Err error.Size) = IsTooLarge elements.type (product shape)
+Decodes chain elements shape value (Err error.Memory) = Unit {0}
+Decodes chain elements shape value (Err e) = ⊥
+
+-- whether a box lies in a shape of as many dimensions
+abbrev pub lies_in : List ℕ → Region → Bool
+lies_in shape region = (length region.start == length shape) && list_all (λ place. is_in_box (map (λ size. 0) shape) shape place) (places region.start region.shape)
+
+-- the numbers of the places of a box in a shape, row-major
+abbrev pub numbers_of : List ℕ → Region → List ℕ
+numbers_of shape region = map (λ place. ravel place shape) (places region.start region.shape)
+
+-- the elements at the places of a box, of what is stored
+pub record IsPart (chain : Chain) (elements : Elements) (shape : List ℕ) (stored : Option (List ℕ)) (region : Region) (payload : Payload) : Type 0 where
+  pub cells : List Cell
+  pub fit : fits chain elements.type shape ≡ true
+  pub inside : lies_in shape region ≡ true
+  pub lists : cells_in elements.type payload ≡ Some cells
+  pub is : chunk_part chain elements shape stored (numbers_of shape region) ≡ Some cells
+
+-- the elements at the places of a box, of what is stored, or why there are none
+abbrev pub DecodesPart : Chain → Elements → List ℕ → Option (List ℕ) → Region → Result ArrayBytes CodecError → Type 0
+DecodesPart chain elements shape stored region (Ok bytes) = IsPart chain elements shape stored region (payload_of bytes)
+DecodesPart chain elements shape stored region (Err error.Fit) = fits chain elements.type shape ≡ false
+DecodesPart chain elements shape stored region (Err error.IncompatibleIndexer) = lies_in shape region ≡ false
+DecodesPart chain elements shape stored region (Err error.Damage) = (fits chain elements.type shape ≡ true) × (lies_in shape region ≡ true) × (chunk_part chain elements shape stored (numbers_of shape region) ≡ None)
+DecodesPart chain elements shape stored region (Err error.Size) = IsTooLarge elements.type (product shape)
+DecodesPart chain elements shape stored region (Err error.Source) = Unit {0}
+DecodesPart chain elements shape stored region (Err error.Memory) = Unit {0}
+DecodesPart chain elements shape stored region (Err e) = ⊥

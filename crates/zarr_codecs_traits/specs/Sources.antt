@@ -1,0 +1,61 @@
+-- What sources of bytes answer.
+use Rattle.std.specs.Prelude.{ℕ, ◌+◌, ◌-◌, ◌^◌, min, map, List, Vec, Bool, Option, None, Some, option_map, length, take, drop, false, nat_lt, IsTrue, Result, Ok, Err}
+use Rattle.std.specs.List.{list_any}
+use Rattle.std.specs.declared.alloc.Global.{Global}
+use Rattle.zarr_codecs_arrays.specs.declared.error.CodecError.{CodecError}
+use Rattle.zarr_codecs_arrays.specs.declared.error.CodecError.TheVariants as error
+use Rattle.zarr_codecs_traits.specs.declared.byte_range.ByteRange.{ByteRange}
+use Rattle.zarr_codecs_traits.specs.declared.memory_source.MemorySource.{MemorySource}
+
+-- the bytes of a value in a range
+abbrev pub bytes_at : List ℕ → ByteRange → List ℕ
+bytes_at value range = take range.length (drop range.offset value)
+
+-- the bytes in each of the ranges, or none where there is no value
+abbrev pub parts_of : Option (List ℕ) → List ByteRange → Option (List (List ℕ))
+parts_of contents ranges = option_map (λ value. map (bytes_at value) ranges) contents
+
+-- whether a range ends past the end of a value
+abbrev pub ends_past : List ℕ → ByteRange → Bool
+ends_past value range = nat_lt (length value) (range.offset + range.length)
+
+-- whether one of the ranges ends past the end of the value, if there is one
+abbrev pub any_past_end : Option (List ℕ) → List ByteRange → Bool
+any_past_end None ranges = false
+any_past_end (Some value) ranges = list_any (ends_past value) ranges
+
+-- the bytes of each part
+abbrev pub part_bytes : List (Vec ℕ Global) → List (List ℕ)
+part_bytes parts = map (λ (part : Vec ℕ Global). part.items) parts
+
+-- the bytes of each part that was given, if any were
+abbrev pub part_lists : Option (Vec (Vec ℕ Global) Global) → Option (List (List ℕ))
+part_lists found = option_map (λ (parts : Vec (Vec ℕ Global) Global). part_bytes parts.items) found
+
+-- the count of refused calls after a call: one more where the source refused (a count stands still at 2^128 - 1)
+abbrev pub refused_after : {A : Type 0} → ℕ → Result A CodecError → ℕ
+refused_after count (Ok value) = count
+refused_after count (Err error.Source) = min (count + 1) (2 ^ 128 - 1)
+refused_after count (Err e) = count
+
+-- why a source is not read: it refuses, or memory ran out
+abbrev pub ReadRefused : {A : Type 0} → Result A CodecError → Type 0
+ReadRefused (Ok value) = Unit {0}
+ReadRefused (Err error.Source) = Unit {0}
+ReadRefused (Err error.Memory) = Unit {0}
+ReadRefused (Err e) = ⊥
+
+-- why ranges are not read: one ends past the value's end, or the source is not read
+abbrev pub RangesRefused : {A : Type 0} → Option (List ℕ) → List ByteRange → Result A CodecError → Type 0
+RangesRefused contents ranges (Err error.Damage) = IsTrue (any_past_end contents ranges)
+RangesRefused contents ranges result = ReadRefused result
+
+-- ---- the source in memory
+
+-- the bytes of a value, if there is one
+abbrev pub value_bytes : Option (Vec ℕ Global) → Option (List ℕ)
+value_bytes value = option_map (λ (bytes : Vec ℕ Global). bytes.items) value
+
+-- the value that a source in memory holds, if it holds one
+abbrev pub source_contents : MemorySource → Option (List ℕ)
+source_contents source = value_bytes source.value

@@ -1,0 +1,54 @@
+//! Ranges of a value that are read.
+ghost use Rattle.std.specs.Prelude.{◌≡◌, map, false, IfOk};
+ghost use Rattle.std.specs.List.{list_any};
+ghost use Rattle.zarr_codecs_traits.specs.Sources.{bytes_at, ends_past, part_bytes};
+
+use std::alloc::{AllocError, Global};
+
+/// The bytes of a value from `offset` on, as many as `length`.
+#[derive(Clone, Copy, Debug, PartialEq, Eq)]
+pub struct ByteRange {
+    pub offset: u64,
+    pub length: u64,
+}
+
+/// Whether one of the ranges ends past the end of a value.
+pub(crate) fn any_ends_past(value: &[u8], ranges: &[ByteRange]) -> bool
+    ensures { result ≡ list_any (ends_past value.now) ranges.now }
+{
+    for range in ranges {
+        let Some(end) = range.offset.checked_add(range.length) else {
+            return true;
+        };
+        if end > value.len() as u64 {
+            return true;
+        }
+    }
+    false
+}
+
+/// The bytes of a value in a range.
+fn bytes_at(value: &[u8], range: ByteRange) -> &[u8]
+    requires { ends_past value.now range ≡ false }
+    ensures { result.now ≡ bytes_at value.now range }
+{
+    let start = range.offset as usize;
+    &value[start..start + range.length as usize]
+}
+
+/// A copy of the bytes in each range.
+#[tactic(auto, using(crate::proofs::PartLemmas::part_bytes_push))]
+pub(crate) fn read_ranges(
+    alloc: Global,
+    value: &[u8],
+    ranges: &[ByteRange],
+) -> Result<Vec<Vec<u8>>, AllocError>
+    requires { list_any (ends_past value.now) ranges.now ≡ false }
+    ensures { IfOk result (λ parts. part_bytes parts.items ≡ map (bytes_at value.now) ranges.now) }
+{
+    let mut parts = Vec::with_capacity(alloc, ranges.len())?;
+    for range in ranges {
+        parts.push(Vec::from_slice(alloc, bytes_at(value, *range))?)?;
+    }
+    Ok(parts)
+}

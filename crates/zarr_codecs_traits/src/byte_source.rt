@@ -1,0 +1,55 @@
+//! Sources of bytes that are read in part.
+ghost use Rattle.std.specs.Prelude.{◌≡◌, ◌≤◌, ℕ, List, Bool, Option, IsTrue, IfOk, option_map, length};
+ghost use Rattle.zarr_codecs_traits.specs.Sources.{ReadRefused, RangesRefused, any_past_end, part_lists, parts_of, refused_after};
+
+use crate::byte_range::ByteRange;
+use std::alloc::Global;
+use zarr_codecs_arrays::CodecError;
+
+/// A source of the bytes of one value, which can be read in part. Reading changes nothing in what
+/// it holds.
+pub trait BytesPartialDecoderTraits {
+    /// The value, if there is one.
+    ghost contents: { Self → Option (List ℕ) };
+
+    /// Whether its calls answer by what it holds.
+    ghost is_honest: { Self → Bool };
+
+    /// How many calls were refused by what stands behind it.
+    ghost refused_calls: { Self → ℕ };
+
+    /// Whether the second is the first after calls: a source of the same value, with all else that
+    /// stands behind it as it was.
+    ghost follows: { Self → Self → Type 0 };
+
+    /// How many bytes the value has, or `None` where there is none. `Source` where the source
+    /// refuses.
+    fn size(&mut self) -> Result<Option<u64>, CodecError>
+        ensures size { IsTrue (is_honest self.old) →
+            IfOk result (λ size. size ≡ option_map length (contents self.old)) }
+        ensures cause { ReadRefused result }
+        ensures refused { refused_calls self.new ≡ refused_after (refused_calls self.old) result }
+        ensures follows { follows self.old self.new };
+
+    /// The bytes of the value in each range, or `None` where there is no value. `Source` where the
+    /// source refuses, and `Damage` where a range ends past the end of the value.
+    fn partial_decode(
+        &mut self,
+        alloc: Global,
+        ranges: &[ByteRange],
+    ) -> Result<Option<Vec<Vec<u8>>>, CodecError>
+        ensures parts { IsTrue (is_honest self.old) → IfOk result
+            (λ found. part_lists found ≡ parts_of (contents self.old) ranges.now) }
+        ensures cause { IsTrue (is_honest self.old) →
+            RangesRefused (contents self.old) ranges.now result }
+        ensures refused { refused_calls self.new ≡ refused_after (refused_calls self.old) result }
+        ensures follows { follows self.old self.new };
+
+    ghost same: { (a b : Self) → follows a b → contents a ≡ contents b };
+
+    ghost honest: { (a b : Self) → follows a b → is_honest a ≡ is_honest b };
+
+    ghost stays: { (a : Self) → follows a a };
+
+    ghost goes_on: { (a b c : Self) → follows a b → follows b c → follows a c };
+}
