@@ -1,0 +1,286 @@
+-- What the new value of one chunk makes of a store.
+use Rattle.std.proofs.Common.{◌≡◌, ◌≢◌, ◌∙◌, ℕ, zero, suc, ◌<◌, Bool, true, false, if◌then◌else◌, ◌&&◌, ◌||◌, cond, List, [], ◌∷◌, length, map, get_or, replicate, refl, sym, ap, subst, arith, Option, Some, None, is_some, ⊎_elim, bytes_eq}
+use Rattle.std.specs.Prelude.{MatchBool}
+use Rattle.std.specs.List.{range_with_len, list_all}
+use Rattle.std.specs.FinMap.{get, get-insert, get-remove}
+use Rattle.std.proofs.Math.Bool.{and-true, and-false}
+use Rattle.std.proofs.lemmas.Bool.{false≢true, lt-ltb}
+use Rattle.std.proofs.lemmas.Cmp.{nat_list_cmp_total}
+use Rattle.std.proofs.lemmas.List.{ext_get_or, get_or-replicate, length-replicate}
+use Rattle.std.proofs.lemmas.List.FromFn.{get_or-map-range_with_len, length-map-range_with_len}
+use Rattle.std.proofs.lemmas.Map.Text.{is_eq-slice_cmp}
+use Rattle.std.proofs.lemmas.Simd.{map-map}
+use Rattle.std.proofs.lemmas.Slice.Eq.{bytes_eq-Decides}
+use Rattle.zarr_grids_boxes.specs.Boxes.{Region, product, places, place_at, is_in_box}
+use Rattle.zarr_grids_boxes.proofs.Places.{places_by_number}
+use Rattle.zarr_grids_boxes.proofs.InBox.{in_box-place_at, ravel-place_at}
+use Rattle.zarr_grids_chunks.specs.Grids.{Grid, IsInGrid, chunk_box, lies_in_chunk}
+use Rattle.zarr_grids_chunks.proofs.Filters.{told}
+use Rattle.zarr_grids_chunks.proofs.Partition.{lies_here}
+use Rattle.zarr_grids_cover.proofs.ChunkBoxes.{chunk_box-rank}
+use Rattle.zarr_grids_cover.proofs.ChunkLaws.{chunks_apart}
+use Rattle.zarr_grids_keys.specs.Keys.{chunk_key}
+use Rattle.zarr_codecs_meaning.specs.Chains.{Chain}
+use Rattle.zarr_codecs_meaning.specs.Chunks.{chunk_decoded, chunk_part, IsStored}
+use Rattle.zarr_codecs_meaning.specs.Fits.{fits}
+use Rattle.zarr_codecs_meaning.specs.Laws.{AreCells}
+use Rattle.zarr_codecs_meaning.specs.Standing.{Stands, ChunkStands}
+use Rattle.zarr_codecs_meaning.specs.Types.{Cell, of_bytes, absent, present, is_value, is_fill, same_cell, Elements}
+use Rattle.zarr_codecs_meaning.proofs.Chunks.{stored_decoded, stored_part, stored_once}
+use Rattle.zarr_codecs_meaning.proofs.DecodedElements.{all_filled}
+use Rattle.zarr_codecs_meaning.proofs.Lists.{some_same}
+use Rattle.zarr_codecs_meaning.proofs.PartReading.{part_read}
+use Rattle.zarr_codecs_options.specs.declared.codec_options.CodecOptions.{CodecOptions}
+use Rattle.zarr_array_meaning.specs.Boxes.{cell_of_box, with_chunks}
+use Rattle.zarr_array_meaning.specs.Chunks.{number_in, stored_at, fits_box, decoded_at, part_at, ReadsCell, holds_box, is_listed}
+use Rattle.zarr_array_meaning.specs.Documents.{Document}
+use Rattle.zarr_array_meaning.specs.Standing.{ChunkStandsAt, IsLossless, IsGood, AreValues}
+use Rattle.zarr_array_meaning.specs.StoreMaps.{StoreMap}
+use Rattle.zarr_array_meaning.specs.Writing.{HasKeys, WroteChunks}
+use Rattle.zarr_array_core.specs.ChunkValues.{CellsBecome, MakesValue, with_value}
+use Rattle.zarr_array_core.proofs.ChunkCells.{all_in_range, held_place}
+use Rattle.zarr_array_core.proofs.FixedCells.{cell_of_places, number_below}
+use Rattle.zarr_array_core.proofs.Listed.{listed_one, one_listed}
+
+-- ---- lists of the cells of a box
+
+-- cells that are those at the places of a box
+pub cells_at_places : (box : Region) (cells : List Cell) (at_place : List ℕ → Cell) (fill : Cell) → length box.start ≡ length box.shape → length cells ≡ product box.shape
+    → ((place : List ℕ) → is_in_box box.start box.shape place ≡ true → cell_of_box box cells fill place ≡ at_place place) → cells ≡ map at_place (places box.start box.shape)
+cells_at_places box cells at_place fill rank many h =
+    let count = product box.shape in
+    let at = place_at box.start box.shape in
+    let listed : map at_place (places box.start box.shape) ≡ map (λ k. at_place (at k)) (range_with_len 0 count) = ap (map at_place) (places_by_number box.start box.shape rank) ∙ map-map at_place at (range_with_len 0 count) in
+    ext_get_or fill cells (map (λ k. at_place (at k)) (range_with_len 0 count)) (many ∙ sym (length-map-range_with_len (λ k. at_place (at k)) 0 count))
+    (λ i below.
+    let low : i < count = omega (arith, many, below) in
+    ap (λ k. get_or cells k fill) (sym (ravel-place_at box.start box.shape i rank low)) ∙ (h (at i) (in_box-place_at box.start box.shape i rank low) ∙ sym (get_or-map-range_with_len (λ k. at_place (at k)) 0 count i i fill low (omega arith))))
+    ∙ sym listed
+
+length-at_places : (box : Region) (at_place : List ℕ → Cell) → length box.start ≡ length box.shape → length (map at_place (places box.start box.shape)) ≡ product box.shape
+length-at_places box at_place rank = ap length (ap (map at_place) (places_by_number box.start box.shape rank) ∙ map-map at_place (place_at box.start box.shape) (range_with_len 0 (product box.shape))) ∙ length-map-range_with_len (λ k. at_place (place_at box.start box.shape k)) 0 (product box.shape)
+
+-- functions that agree on the places of a box
+pub same_at_places : (box : Region) (f g : List ℕ → Cell) (fill : Cell) → length box.start ≡ length box.shape → ((place : List ℕ) → is_in_box box.start box.shape place ≡ true → f place ≡ g place) → map f (places box.start box.shape) ≡ map g (places box.start box.shape)
+same_at_places box f g fill rank h =
+    cells_at_places box (map f (places box.start box.shape)) g fill rank (length-at_places box f rank) (λ place t. cell_of_places box f fill place rank t ∙ h place t)
+
+pub values_at_places : (test : Cell → Bool) (box : Region) (cells : List ℕ → Cell) → length box.start ≡ length box.shape → ((place : List ℕ) → is_in_box box.start box.shape place ≡ true → test (cells place) ≡ true) → list_all test (map cells (places box.start box.shape)) ≡ true
+values_at_places test box cells rank h =
+    let at = place_at box.start box.shape in
+    ap (list_all test) (ap (map cells) (places_by_number box.start box.shape rank) ∙ map-map cells at (range_with_len 0 (product box.shape)))
+    ∙ all_in_range test (λ k. cells (at k)) 0 (product box.shape) (λ k low below. h (at k) (in_box-place_at box.start box.shape k rank (omega arith)))
+
+-- ---- a chunk's value
+
+box_rank : (grid : Grid) (chunk : List ℕ) (box : Region) → IsInGrid grid chunk box → length box.start ≡ length box.shape
+box_rank grid chunk box below = let r = chunk_box-rank grid chunk box below.has_box in r.0 ∙ sym r.1
+
+-- of a value that is decoded whole, each place is read as its cell
+pub part_of_decoded : (chain : Chain) (elements : Elements) (shape : List ℕ) (stored : Option (List ℕ)) (cells : List Cell) (n : ℕ) → fits chain elements.type shape ≡ true → n < product shape → chunk_decoded chain elements shape stored ≡ Some cells
+    → chunk_part chain elements shape stored (n ∷ []) ≡ Some (get_or cells n elements.fill ∷ [])
+part_of_decoded chain elements shape None cells n fit below h = ap (λ c. Some (c ∷ [])) (sym (get_or-replicate (product shape) n elements.fill elements.fill below) ∙ ap (λ (cs : List Cell). get_or cs n elements.fill) (some_same h))
+part_of_decoded chain elements shape (Some value) cells n fit below h = part_read chain elements shape value cells (n ∷ []) fit h (ap (λ (b : Bool). b && true) (lt-ltb n (product shape) below))
+
+cells_are : (document : Document) (region : Region) (given : List Cell) (stored : Option (List ℕ)) (box : Region) (cells : List Cell) → IsGood document → CellsBecome document region given stored box cells → AreCells document.elements box.shape cells
+cells_are document region given stored box cells good becomes = record { fill = good.fill; values = becomes.values; whole = becomes.many }
+
+stored_where : (document : Document) (box : Region) (stored : Option (List ℕ)) (cells : List Cell) → fits_box document box ≡ true → ChunkStands document.chain document.elements box.shape stored cells → IsStored document.chain document.elements box.shape stored cells
+stored_where document box stored cells fit stands = subst (λ (b : Bool). MatchBool b (ChunkStands document.chain document.elements box.shape stored cells) ((stored ≡ None) × (is_fill document.elements.fill cells ≡ true))) (sym fit) stands
+
+-- where a place isn't the box's, the box doesn't hold the chunk
+not_held : (region box : Region) (place : List ℕ) (t : Bool) → holds_box region box ≡ t → length region.start ≡ length region.shape → length box.start ≡ length box.shape → length region.start ≡ length box.start
+    → is_in_box box.start box.shape place ≡ true → is_in_box region.start region.shape place ≡ false → holds_box region box ≡ false
+not_held region box place true h r b l inside outside = absurd (false≢true (sym outside ∙ held_place region box place r b l h inside))
+not_held region box place false h r b l inside outside = h
+
+-- ---- a key that got a value
+
+get-with_value : (store : StoreMap) (key other : List ℕ) (made : Option (List ℕ)) → get (with_value store key made) other ≡ (if bytes_eq other key then made else get store other)
+get-with_value store key other None = get-remove nat_list_cmp_total store key other ∙ ap (λ b. cond b None (get store other)) (is_eq-slice_cmp other key)
+get-with_value store key other (Some value) = get-insert nat_list_cmp_total store key value other ∙ ap (λ b. cond b (Some value) (get store other)) (is_eq-slice_cmp other key)
+
+pub value_same : (store : StoreMap) (key : List ℕ) (made : Option (List ℕ)) → get (with_value store key made) key ≡ made
+value_same store key made = get-with_value store key key made ∙ ap (λ (b : Bool). if b then made else get store key) ((bytes_eq-Decides key key).1 refl)
+
+pub value_other : (store : StoreMap) (key other : List ℕ) (made : Option (List ℕ)) → other ≢ key → get (with_value store key made) other ≡ get store other
+value_other store key other made ne = ⊎_elim
+    (λ t. absurd (ne ((bytes_eq-Decides other key).0 t)))
+    (λ t. get-with_value store key other made ∙ ap (λ (b : Bool). if b then made else get store other) t)
+    (told (bytes_eq other key))
+
+-- ---- what is so of one chunk
+
+-- keys of two chunks are two
+pub record AreApart (path : List ℕ) (document : Document) : Type 0 where
+  pub keys : (c d : List ℕ) (box other : Region) → IsInGrid document.grid c box → IsInGrid document.grid d other → d ≢ c → chunk_key path document.keys d ≢ chunk_key path document.keys c
+
+-- a chunk in the grid that a write gives a value, and what is known of the write
+pub record IsWrite (path : List ℕ) (document : Document) (region : Region) (given : List Cell) (options : CodecOptions) (chunk : List ℕ) (box : Region) (old : StoreMap) (made : Option (List ℕ)) : Type 0 where
+  pub good : IsGood document
+  pub apart : AreApart path document
+  pub region_rank : length region.start ≡ length region.shape
+  pub rank : length region.start ≡ length box.start
+  pub below : IsInGrid document.grid chunk box
+  pub makes : MakesValue document region given options.store_empty_chunks box (stored_at path document old chunk) made
+
+-- a fact of the one chunk that is listed
+at_one : (grid : Grid) (P : List ℕ → Region → Type 0) (chunk d : List ℕ) (box other : Region) → IsInGrid grid chunk box → IsInGrid grid d other → is_listed (chunk ∷ []) d ≡ true → P chunk box → P d other
+at_one grid P chunk d box other below over l p =
+    let e : d ≡ chunk = listed_one chunk d l in
+    let q : box ≡ other = some_same (sym below.has_box ∙ (ap (chunk_box grid) (sym e) ∙ over.has_box)) in
+    subst (λ (k : List ℕ). P k other) (sym e) (subst (λ (r : Region). P chunk r) q p)
+
+abbrev pub new_store : List ℕ → Document → StoreMap → List ℕ → Option (List ℕ) → StoreMap
+new_store path document old chunk made = with_value old (chunk_key path document.keys chunk) made
+
+chunk_stored_now : (path : List ℕ) (document : Document) (region : Region) (given : List Cell) (options : CodecOptions) (chunk : List ℕ) (box : Region) (old : StoreMap) (made : Option (List ℕ)) (w : IsWrite path document region given options chunk box old made) → IsLossless document
+    → IsStored document.chain document.elements box.shape (stored_at path document (new_store path document old chunk made) chunk) w.makes.cells
+chunk_stored_now path document region given options chunk box old made w lossless =
+    subst (λ (o : Option (List ℕ)). IsStored document.chain document.elements box.shape o w.makes.cells) (sym (value_same old (chunk_key path document.keys chunk) made)) (stored_where document box made w.makes.cells w.makes.fit (w.makes.is.stands lossless))
+
+-- each place shows its new cell
+chunk_part_now : (path : List ℕ) (document : Document) (region : Region) (given : List Cell) (options : CodecOptions) (chunk : List ℕ) (box : Region) (old : StoreMap) (made : Option (List ℕ)) (place : List ℕ) (w : IsWrite path document region given options chunk box old made) → IsLossless document
+    → is_in_box box.start box.shape place ≡ true → ReadsCell path document (new_store path document old chunk made) chunk box place (cell_of_box box w.makes.cells document.elements.fill place)
+chunk_part_now path document region given options chunk box old made place w lossless t =
+    stored_part document.chain document.elements box.shape (stored_at path document (new_store path document old chunk made) chunk) w.makes.cells (number_in box place ∷ []) w.good.lawful lossless
+    (cells_are document region given (stored_at path document old chunk) box w.makes.cells w.good w.makes.becomes)
+    (chunk_stored_now path document region given options chunk box old made w lossless) (ap (λ (b : Bool). b && true) (lt-ltb (number_in box place) (product box.shape) (number_below box place t)))
+
+shows_at : (path : List ℕ) (document : Document) (region : Region) (given : List Cell) (options : CodecOptions) (chunk : List ℕ) (box : Region) (old : StoreMap) (made : Option (List ℕ)) (place : List ℕ) (t : Bool) (w : IsWrite path document region given options chunk box old made) → IsLossless document
+    → is_in_box box.start box.shape place ≡ true → is_in_box region.start region.shape place ≡ t
+    → MatchBool t (ReadsCell path document (new_store path document old chunk made) chunk box place (cell_of_box region given document.elements.fill place))
+    (part_at path document (new_store path document old chunk made) chunk box place ≡ part_at path document old chunk box place)
+shows_at path document region given options chunk box old made place true w lossless inside e =
+    chunk_part_now path document region given options chunk box old made place w lossless inside ∙ ap (λ c. Some (c ∷ [])) (w.makes.becomes.written place e inside)
+shows_at path document region given options chunk box old made place false w lossless inside e =
+    let rank = box_rank document.grid chunk box w.below in
+    let kept = w.makes.becomes.kept (not_held region box place (holds_box region box) refl w.region_rank rank w.rank inside e) in
+    chunk_part_now path document region given options chunk box old made place w lossless inside
+    ∙ (ap (λ c. Some (c ∷ [])) (kept.2 place e inside) ∙ sym (part_of_decoded document.chain document.elements box.shape (stored_at path document old chunk) kept.0 (number_in box place) w.makes.fit (number_below box place inside) kept.1))
+
+-- the new cells, where the chunk stood for others
+cell_after : (path : List ℕ) (document : Document) (region : Region) (given : List Cell) (options : CodecOptions) (chunk : List ℕ) (box : Region) (old : StoreMap) (made : Option (List ℕ)) (cells : List ℕ → Cell) (place : List ℕ) (t : Bool) (w : IsWrite path document region given options chunk box old made) → IsLossless document
+    → AreValues document cells → ChunkStandsAt path document old chunk box cells → is_in_box box.start box.shape place ≡ true → is_in_box region.start region.shape place ≡ t
+    → cell_of_box box w.makes.cells document.elements.fill place ≡ (if t then cell_of_box region given document.elements.fill place else cells place)
+cell_after path document region given options chunk box old made cells place true w lossless values st inside e = w.makes.becomes.written place e inside
+cell_after path document region given options chunk box old made cells place false w lossless values st inside e =
+    let rank = box_rank document.grid chunk box w.below in
+    let kept = w.makes.becomes.kept (not_held region box place (holds_box region box) refl w.region_rank rank w.rank inside e) in
+    let listed = map cells (places box.start box.shape) in
+    let are : AreCells document.elements box.shape listed = record { fill = w.good.fill; values = values_at_places (is_value document.elements.type) box cells rank (λ p i. values chunk box p w.below i); whole = length-at_places box cells rank } in
+    let before : kept.0 ≡ listed = some_same (sym kept.1 ∙ stored_decoded document.chain document.elements box.shape (stored_at path document old chunk) listed w.good.lawful lossless are st) in
+    kept.2 place e inside ∙ (ap (λ (cs : List Cell). cell_of_box box cs document.elements.fill place) before ∙ cell_of_places box cells document.elements.fill place rank inside)
+
+keeps_here : (path : List ℕ) (document : Document) (region : Region) (given : List Cell) (options : CodecOptions) (chunk : List ℕ) (box : Region) (old : StoreMap) (made : Option (List ℕ)) (cells : List ℕ → Cell) (w : IsWrite path document region given options chunk box old made) → IsLossless document
+    → AreValues document cells → ChunkStandsAt path document old chunk box cells
+    → ChunkStandsAt path document (new_store path document old chunk made) chunk box (with_chunks document.grid region (chunk ∷ []) (cell_of_box region given document.elements.fill) cells)
+keeps_here path document region given options chunk box old made cells w lossless values st =
+    let rank = box_rank document.grid chunk box w.below in
+    let fill = document.elements.fill in
+    let after = with_chunks document.grid region (chunk ∷ []) (cell_of_box region given fill) cells in
+    let same : w.makes.cells ≡ map after (places box.start box.shape) = cells_at_places box w.makes.cells after fill rank w.makes.becomes.many (λ place inside.
+    let in_region = is_in_box region.start region.shape place in
+    let lies : lies_in_chunk document.grid place chunk ≡ true = lies_here document.grid chunk place box w.below.has_box ∙ inside in
+    cell_after path document region given options chunk box old made cells place in_region w lossless values st inside refl
+    ∙ sym (ap (λ (b : Bool). if in_region && (b || false) then cell_of_box region given fill place else cells place) lies ∙ ap (λ (b : Bool). if b then cell_of_box region given fill place else cells place) (and-true in_region))) in
+    subst (λ (cs : List Cell). IsStored document.chain document.elements box.shape (stored_at path document (new_store path document old chunk made) chunk) cs) same (chunk_stored_now path document region given options chunk box old made w lossless)
+
+stored_apart : (path : List ℕ) (document : Document) (region : Region) (given : List Cell) (options : CodecOptions) (chunk d : List ℕ) (box other : Region) (old : StoreMap) (made : Option (List ℕ)) (w : IsWrite path document region given options chunk box old made) → IsInGrid document.grid d other → d ≢ chunk
+    → stored_at path document (new_store path document old chunk made) d ≡ stored_at path document old d
+stored_apart path document region given options chunk d box other old made w over ne =
+    value_other old (chunk_key path document.keys chunk) (chunk_key path document.keys d) made (w.apart.keys chunk d box other w.below over ne)
+
+keeps_apart : (path : List ℕ) (document : Document) (region : Region) (given : List Cell) (options : CodecOptions) (chunk d : List ℕ) (box other : Region) (old : StoreMap) (made : Option (List ℕ)) (cells : List ℕ → Cell) (w : IsWrite path document region given options chunk box old made)
+    → IsInGrid document.grid d other → d ≢ chunk → ChunkStandsAt path document old d other cells
+    → ChunkStandsAt path document (new_store path document old chunk made) d other (with_chunks document.grid region (chunk ∷ []) (cell_of_box region given document.elements.fill) cells)
+keeps_apart path document region given options chunk d box other old made cells w over ne st =
+    let fill = document.elements.fill in
+    let after = with_chunks document.grid region (chunk ∷ []) (cell_of_box region given fill) cells in
+    let rank = box_rank document.grid d other over in
+    let same : map cells (places other.start other.shape) ≡ map after (places other.start other.shape) = same_at_places other cells after fill rank (λ place inside.
+    let in_region = is_in_box region.start region.shape place in
+    ⊎_elim
+    (λ lies. absurd (ne (chunks_apart document.grid d chunk place (lies_here document.grid d place other over.has_box ∙ inside) lies)))
+    (λ lies. sym (ap (λ (b : Bool). if in_region && (b || false) then cell_of_box region given fill place else cells place) lies ∙ ap (λ (b : Bool). if b then cell_of_box region given fill place else cells place) (and-false in_region)))
+    (told (lies_in_chunk document.grid place chunk))) in
+    let now = sym (stored_apart path document region given options chunk d box other old made w over ne) in
+    subst (λ (cs : List Cell). IsStored document.chain document.elements other.shape (stored_at path document (new_store path document old chunk made) d) cs) same
+    (subst (λ (o : Option (List ℕ)). IsStored document.chain document.elements other.shape o (map cells (places other.start other.shape))) now st)
+
+keeps_one : (path : List ℕ) (document : Document) (region : Region) (given : List Cell) (options : CodecOptions) (chunk d : List ℕ) (box other : Region) (old : StoreMap) (made : Option (List ℕ)) (cells : List ℕ → Cell) (w : IsWrite path document region given options chunk box old made) → IsLossless document
+    → AreValues document cells → IsInGrid document.grid d other → ChunkStandsAt path document old d other cells
+    → ChunkStandsAt path document (new_store path document old chunk made) d other (with_chunks document.grid region (chunk ∷ []) (cell_of_box region given document.elements.fill) cells)
+keeps_one path document region given options chunk d box other old made cells w lossless values over st = ⊎_elim
+    (λ t. at_one document.grid (λ k r. ChunkStandsAt path document old k r cells → ChunkStandsAt path document (new_store path document old chunk made) k r (with_chunks document.grid region (chunk ∷ []) (cell_of_box region given document.elements.fill) cells))
+    chunk d box other w.below over (one_listed chunk d ((bytes_eq-Decides d chunk).0 t)) (λ s. keeps_here path document region given options chunk box old made cells w lossless values s) st)
+    (λ t. keeps_apart path document region given options chunk d box other old made cells w over (λ e. false≢true (sym t ∙ (bytes_eq-Decides d chunk).1 e)) st)
+    (told (bytes_eq d chunk))
+
+makes_here : (path : List ℕ) (document : Document) (region : Region) (given : List Cell) (options : CodecOptions) (chunk : List ℕ) (box : Region) (old : StoreMap) (made : Option (List ℕ)) (w : IsWrite path document region given options chunk box old made) → IsLossless document → holds_box region box ≡ true
+    → ChunkStandsAt path document (new_store path document old chunk made) chunk box (cell_of_box region given document.elements.fill)
+makes_here path document region given options chunk box old made w lossless holds =
+    let rank = box_rank document.grid chunk box w.below in
+    let fill = document.elements.fill in
+    let same : w.makes.cells ≡ map (cell_of_box region given fill) (places box.start box.shape) = cells_at_places box w.makes.cells (cell_of_box region given fill) fill rank w.makes.becomes.many
+    (λ place inside. w.makes.becomes.written place (held_place region box place w.region_rank rank w.rank holds inside) inside) in
+    subst (λ (cs : List Cell). IsStored document.chain document.elements box.shape (stored_at path document (new_store path document old chunk made) chunk) cs) same (chunk_stored_now path document region given options chunk box old made w lossless)
+
+-- ---- keys
+
+some_or : (made : Option (List ℕ)) → (made ≡ None → ⊥) → is_some made ≡ true
+some_or None h = absurd (h refl)
+some_or (Some value) h = refl
+
+same_self : (cell : Cell) → same_cell cell cell ≡ true
+same_self (of_bytes bytes) = (bytes_eq-Decides bytes bytes).1 refl
+same_self absent = refl
+same_self (present cell) = same_self cell
+
+fill_filled : (fill : Cell) (n : ℕ) → same_cell fill fill ≡ true → is_fill fill (replicate n fill) ≡ true
+fill_filled fill zero h = refl
+fill_filled fill (suc n) h = ap (λ (b : Bool). b && is_fill fill (replicate n fill)) h ∙ fill_filled fill n h
+
+no_fill_value : (path : List ℕ) (document : Document) (region : Region) (given : List Cell) (options : CodecOptions) (chunk : List ℕ) (box : Region) (old : StoreMap) (made : Option (List ℕ)) (value : List ℕ) (w : IsWrite path document region given options chunk box old made) → IsLossless document
+    → options.store_empty_chunks ≡ false → stored_at path document (new_store path document old chunk made) chunk ≡ Some value → Stands document.chain document.elements box.shape value (replicate (product box.shape) document.elements.fill) → ⊥
+no_fill_value path document region given options chunk box old made value w lossless empty found stands =
+    let fill = document.elements.fill in
+    let filled = replicate (product box.shape) fill in
+    let is : made ≡ Some value = sym (value_same old (chunk_key path document.keys chunk) made) ∙ found in
+    let not_fill = w.makes.is.present value is empty in
+    let are : AreCells document.elements box.shape filled = record { fill = w.good.fill; values = all_filled (is_value document.elements.type) fill (product box.shape) w.good.fill; whole = length-replicate (product box.shape) fill } in
+    let stood : IsStored document.chain document.elements box.shape made filled = subst (λ (o : Option (List ℕ)). IsStored document.chain document.elements box.shape o filled) (sym is) (stored_where document box (Some value) filled w.makes.fit stands) in
+    let same : w.makes.cells ≡ filled = stored_once document.chain document.elements box.shape made w.makes.cells filled w.good.lawful lossless (cells_are document region given (stored_at path document old chunk) box w.makes.cells w.good w.makes.becomes) are
+    (stored_where document box made w.makes.cells w.makes.fit (w.makes.is.stands lossless)) stood in
+    false≢true (sym not_fill ∙ (ap (is_fill fill) same ∙ fill_filled fill (product box.shape) (same_self fill)))
+
+keys_one : (path : List ℕ) (document : Document) (region : Region) (given : List Cell) (options : CodecOptions) (chunk : List ℕ) (box : Region) (old : StoreMap) (made : Option (List ℕ)) (w : IsWrite path document region given options chunk box old made)
+    → HasKeys path document region options (chunk ∷ []) (new_store path document old chunk made)
+keys_one path document region given options chunk box old made w = record {
+  stored = λ empty d other over part l.
+      at_one document.grid (λ k r. is_some (stored_at path document (new_store path document old chunk made) k) ≡ true) chunk d box other w.below over l
+      (ap is_some (value_same old (chunk_key path document.keys chunk) made) ∙ some_or made (λ none. false≢true (sym (w.makes.is.absent none).0 ∙ empty)));
+  erased = λ lossless empty d other over part l value found.
+      at_one document.grid (λ k r. stored_at path document (new_store path document old chunk made) k ≡ Some value → Stands document.chain document.elements r.shape value (replicate (product r.shape) document.elements.fill) → ⊥) chunk d box other w.below over l
+      (λ f s. no_fill_value path document region given options chunk box old made value w lossless empty f s) found;
+}
+
+-- ---- one chunk written
+
+pub wrote_one : (path : List ℕ) (document : Document) (region : Region) (given : List Cell) (options : CodecOptions) (chunk : List ℕ) (box : Region) (old : StoreMap) (made : Option (List ℕ)) → IsWrite path document region given options chunk box old made
+    → WroteChunks path document region given options (chunk ∷ []) old (new_store path document old chunk made)
+wrote_one path document region given options chunk box old made w = record {
+  fit = λ d other over l. at_one document.grid (λ k r. fits_box document r ≡ true) chunk d box other w.below over l w.makes.fit;
+  undamaged = λ d other over l part whole.
+      at_one document.grid (λ k r. holds_box region r ≡ false → is_some (decoded_at path document old k r) ≡ true) chunk d box other w.below over l (λ h. ap is_some (w.makes.becomes.kept h).1) part;
+  shows = λ lossless d other place over l inside.
+      at_one document.grid (λ k r. is_in_box r.start r.shape place ≡ true → MatchBool (is_in_box region.start region.shape place) (ReadsCell path document (new_store path document old chunk made) k r place (cell_of_box region given document.elements.fill place))
+      (part_at path document (new_store path document old chunk made) k r place ≡ part_at path document old k r place)) chunk d box other w.below over l
+      (λ i. shows_at path document region given options chunk box old made place (is_in_box region.start region.shape place) w lossless i refl) inside;
+  keeps = λ lossless cells values d other over st. keeps_one path document region given options chunk d box other old made cells w lossless values over st;
+  makes = λ lossless d other over l holds.
+      at_one document.grid (λ k r. holds_box region r ≡ true → ChunkStandsAt path document (new_store path document old chunk made) k r (cell_of_box region given document.elements.fill)) chunk d box other w.below over l
+      (λ h. makes_here path document region given options chunk box old made w lossless h) holds;
+  others = λ key ne. value_other old (chunk_key path document.keys chunk) key made (ne chunk (one_listed chunk chunk refl));
+  keys = keys_one path document region given options chunk box old made w;
+}

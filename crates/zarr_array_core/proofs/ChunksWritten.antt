@@ -1,0 +1,251 @@
+-- What a write of a box, chunk by chunk, leaves.
+use Rattle.std.proofs.Common.{◌≡◌, ◌≢◌, ◌∙◌, ℕ, ◌+◌, ◌<◌, Bool, true, false, if◌then◌else◌, ◌&&◌, ◌||◌, List, [], ◌∷◌, ◌++◌, length, map, get_or, slice_get, refl, sym, ap, subst, arith, Option, Some, is_some, inl, ⊎_elim}
+use Rattle.std.specs.Prelude.{MatchBool}
+use Rattle.std.specs.List.{list_all, list_any}
+use Rattle.std.proofs.Math.Bool.{and-false}
+use Rattle.std.proofs.lemmas.Bool.{false≢true}
+use Rattle.std.proofs.lemmas.List.FromFn.{get_or-map-range_with_len}
+use Rattle.std.proofs.lemmas.Option.{slice_get-get_or}
+use Rattle.zarr_grids_boxes.specs.Boxes.{Region, product, places, place_at, is_in_box}
+use Rattle.zarr_grids_boxes.proofs.Places.{places_by_number}
+use Rattle.zarr_grids_boxes.proofs.InBox.{ravel-place_at, length-places}
+use Rattle.zarr_grids_boxes.proofs.Walking.{start_in_box}
+use Rattle.zarr_grids_chunks.specs.Grids.{Grid, IsInGrid, IsCovered, lies_in_chunk, intersecting}
+use Rattle.zarr_grids_chunks.proofs.Partition.{intersecting-any}
+use Rattle.zarr_grids_cover.specs.Intersecting.{AreIntersecting}
+use Rattle.zarr_grids_cover.proofs.ChunkBoxes.{chunk_box-rank}
+use Rattle.zarr_grids_keys.specs.Keys.{chunk_key}
+use Rattle.zarr_codecs_meaning.specs.Chunks.{chunk_decoded, chunk_part, IsStored}
+use Rattle.zarr_codecs_meaning.specs.Payloads.{Payload, cells_in}
+use Rattle.zarr_codecs_meaning.specs.Types.{Cell, is_value}
+use Rattle.zarr_codecs_options.specs.declared.codec_options.CodecOptions.{CodecOptions}
+use Rattle.zarr_array_meaning.specs.Boxes.{cell_of_box, with_chunks}
+use Rattle.zarr_array_meaning.specs.Chunks.{number_in, stored_at, IsMet, is_listed}
+use Rattle.zarr_array_meaning.specs.Documents.{Document}
+use Rattle.zarr_array_meaning.specs.Standing.{ChunkStandsAt, IsGood, AreValues}
+use Rattle.zarr_array_meaning.specs.StoreMaps.{StoreMap}
+use Rattle.zarr_array_meaning.specs.Writing.{ChunkBecomes, HasKeys, WroteChunks}
+use Rattle.zarr_array_core.specs.ChunkValues.{CellsBecome, MakesValue, NewValueStops, with_value}
+use Rattle.zarr_array_core.specs.Outcomes.{ChunkStops, WriteStops}
+use Rattle.zarr_array_core.specs.declared.error.ChunkError.{ChunkError}
+use Rattle.zarr_array_core.specs.declared.error.ChunkError.TheVariants as error
+use Rattle.zarr_array_core.proofs.ChunkCells.{cell_value}
+use Rattle.zarr_array_core.proofs.ChunkWritten.{AreApart, wrote_one}
+use Rattle.zarr_array_core.proofs.Listed.{list_any-append, listed_one, one_listed, listed_more, before_listed, last_listed, listed_number}
+use Rattle.zarr_array_core.proofs.MetChunks.{first_chunks, first_chunks-more, first_chunks-all, first_chunks-take, first_chunks-below, length-intersecting}
+
+-- ---- cells of several chunks
+
+with_chunks-more : (grid : Grid) (region : Region) (cs : List (List ℕ)) (c : List ℕ) (given cells : List ℕ → Cell) (p : List ℕ)
+    → with_chunks grid region (c ∷ []) given (with_chunks grid region cs given cells) p ≡ with_chunks grid region (cs ++ c ∷ []) given cells p
+with_chunks-more grid region cs c given cells p =
+    cases (is_in_box region.start region.shape p) (lies_in_chunk grid p c) (list_any (lies_in_chunk grid p) cs)
+    ∙ ap (λ b. if is_in_box region.start region.shape p && b then given p else cells p) (sym (list_any-append (lies_in_chunk grid p) cs c)) where
+      cases : (i a b : Bool) → (if i && (a || false) then given p else (if i && b then given p else cells p)) ≡ (if i && (b || a) then given p else cells p)
+      cases true true true = refl
+      cases true true false = refl
+      cases true false true = refl
+      cases true false false = refl
+      cases false a b = refl
+
+with_chunks-none : (grid : Grid) (region : Region) (given cells : List ℕ → Cell) (p : List ℕ) → with_chunks grid region [] given cells p ≡ cells p
+with_chunks-none grid region given cells p = ap (λ b. if b then given p else cells p) (and-false (is_in_box region.start region.shape p))
+
+with_chunks-value : (test : Cell → Bool) (t : Bool) (one other : Cell) → test one ≡ true → test other ≡ true → test (if t then one else other) ≡ true
+with_chunks-value test true one other a b = a
+with_chunks-value test false one other a b = b
+
+stands_same : (path : List ℕ) (document : Document) (store : StoreMap) (chunk : List ℕ) (box : Region) (f g : List ℕ → Cell) → ((p : List ℕ) → f p ≡ g p) → ChunkStandsAt path document store chunk box f → ChunkStandsAt path document store chunk box g
+stands_same path document store chunk box f g h st = let P : (List ℕ → Cell) → Type 0 = λ k. ChunkStandsAt path document store chunk box k in subst P (λ i p. h p i) st
+
+-- ---- no chunk
+
+pub wrote_none : (path : List ℕ) (document : Document) (region : Region) (given : List Cell) (options : CodecOptions) (store : StoreMap) → WroteChunks path document region given options [] store store
+wrote_none path document region given options store = record {
+  fit = λ d other over l. absurd (false≢true l);
+  undamaged = λ d other over l part whole. absurd (false≢true l);
+  shows = λ lossless d other place over l inside. absurd (false≢true l);
+  keeps = λ lossless cells values d other over st.
+      stands_same path document store d other cells (with_chunks document.grid region [] (cell_of_box region given document.elements.fill) cells) (λ p. sym (with_chunks-none document.grid region (cell_of_box region given document.elements.fill) cells p)) st;
+  makes = λ lossless d other over l holds. absurd (false≢true l);
+  others = λ key ne. refl;
+  keys = record { stored = λ e d other over part l. absurd (false≢true l); erased = λ lossless e d other over part l value found. absurd (false≢true l) };
+}
+
+-- ---- one more chunk
+
+-- a chunk in the grid that comes after others in the grid
+pub record IsNext (path : List ℕ) (document : Document) (given : List Cell) (cs : List (List ℕ)) (c : List ℕ) (box : Region) : Type 0 where
+  pub good : IsGood document
+  pub apart : AreApart path document
+  pub values : list_all (is_value document.elements.type) given ≡ true
+  pub below : IsInGrid document.grid c box
+  pub fresh : is_listed cs c ≡ false
+  pub in_grid : (d : List ℕ) → is_listed cs d ≡ true → (other : Region) × IsInGrid document.grid d other
+
+-- what is stored for the others stays
+stays : (path : List ℕ) (document : Document) (region : Region) (given : List Cell) (options : CodecOptions) (cs : List (List ℕ)) (c d : List ℕ) (box other : Region) (mid new : StoreMap) → IsNext path document given cs c box → WroteChunks path document region given options (c ∷ []) mid new
+    → IsInGrid document.grid d other → d ≢ c → stored_at path document new d ≡ stored_at path document mid d
+stays path document region given options cs c d box other mid new is next over ne =
+    next.others (chunk_key path document.keys d) (λ k l e. is.apart.keys c d box other is.below over ne (e ∙ ap (chunk_key path document.keys) (listed_one c k l)))
+
+-- what is stored for the chunk is what was stored before the others
+untouched : (path : List ℕ) (document : Document) (region : Region) (given : List Cell) (options : CodecOptions) (cs : List (List ℕ)) (c : List ℕ) (box : Region) (old mid : StoreMap) → IsNext path document given cs c box → WroteChunks path document region given options cs old mid
+    → stored_at path document mid c ≡ stored_at path document old c
+untouched path document region given options cs c box old mid is first =
+    first.others (chunk_key path document.keys c) (λ d l e.
+    let there = is.in_grid d l in
+    is.apart.keys d c there.0 box there.1 is.below (λ q. false≢true (sym is.fresh ∙ (ap (is_listed cs) q ∙ l))) e)
+
+more_keys : (path : List ℕ) (document : Document) (region : Region) (given : List Cell) (options : CodecOptions) (cs : List (List ℕ)) (c : List ℕ) (box : Region) (old mid new : StoreMap) → IsNext path document given cs c box
+    → WroteChunks path document region given options cs old mid → WroteChunks path document region given options (c ∷ []) mid new → HasKeys path document region options (cs ++ c ∷ []) new
+more_keys path document region given options cs c box old mid new is first next = record {
+  stored = λ e d other over part l. ⊎_elim
+      (λ here. next.keys.stored e d other over part (one_listed c d here))
+      (λ (ne, k). ap is_some (stays path document region given options cs c d box other mid new is next over ne) ∙ first.keys.stored e d other over part k)
+      (listed_more cs c d l);
+  erased = λ lossless e d other over part l value found. ⊎_elim
+      (λ here. next.keys.erased lossless e d other over part (one_listed c d here) value found)
+      (λ (ne, k). first.keys.erased lossless e d other over part k value (sym (stays path document region given options cs c d box other mid new is next over ne) ∙ found))
+      (listed_more cs c d l);
+}
+
+-- what a chunk's place shows, by what was stored for it before, and by what is stored now
+abbrev Shows : Document → Region → List Cell → Region → List ℕ → Option (List ℕ) → Option (List ℕ) → Type 0
+Shows document region given box place before after =
+    let part = λ (stored : Option (List ℕ)). chunk_part document.chain document.elements box.shape stored (number_in box place ∷ []) in
+    MatchBool (is_in_box region.start region.shape place) (part after ≡ Some (cell_of_box region given document.elements.fill place ∷ [])) (part after ≡ part before)
+
+pub wrote_more : (path : List ℕ) (document : Document) (region : Region) (given : List Cell) (options : CodecOptions) (cs : List (List ℕ)) (c : List ℕ) (box : Region) (old mid new : StoreMap) → IsNext path document given cs c box
+    → WroteChunks path document region given options cs old mid → WroteChunks path document region given options (c ∷ []) mid new → WroteChunks path document region given options (cs ++ c ∷ []) old new
+wrote_more path document region given options cs c box old mid new is first next = record {
+  fit = λ d other over l. ⊎_elim (λ here. next.fit d other over (one_listed c d here)) (λ (ne, k). first.fit d other over k) (listed_more cs c d l);
+  undamaged = λ d other over l part whole. ⊎_elim
+      (λ here. subst (λ (o : Option (List ℕ)). is_some (decoded_of d other o) ≡ true) (before d here) (next.undamaged d other over (one_listed c d here) part whole))
+      (λ (ne, k). first.undamaged d other over k part whole)
+      (listed_more cs c d l);
+  shows = λ lossless d other place over l inside. ⊎_elim
+      (λ here. subst (λ (o : Option (List ℕ)). Shows document region given other place o (stored_at path document new d)) (before d here) (next.shows lossless d other place over (one_listed c d here) inside))
+      (λ (ne, k). subst (λ (o : Option (List ℕ)). Shows document region given other place (stored_at path document old d) o) (sym (stays path document region given options cs c d box other mid new is next over ne)) (first.shows lossless d other place over k inside))
+      (listed_more cs c d l);
+  keeps = λ lossless cells values d other over st.
+      let middle = with_chunks document.grid region cs (cell_of_box region given fill) cells in
+      let middle_values : AreValues document middle = λ k r p b i. with_chunks-value (is_value document.elements.type) (is_in_box region.start region.shape p && list_any (lies_in_chunk document.grid p) cs) (cell_of_box region given fill p) (cells p)
+      (cell_value (is_value document.elements.type) region given fill p is.good.fill is.values) (values k r p b i) in
+      stands_same path document new d other (with_chunks document.grid region (c ∷ []) (cell_of_box region given fill) middle) (with_chunks document.grid region (cs ++ c ∷ []) (cell_of_box region given fill) cells)
+      (with_chunks-more document.grid region cs c (cell_of_box region given fill) cells) (next.keeps lossless middle middle_values d other over (first.keeps lossless cells values d other over st));
+  makes = λ lossless d other over l holds. ⊎_elim
+      (λ here. next.makes lossless d other over (one_listed c d here) holds)
+      (λ (ne, k). stands_moved d other (stays path document region given options cs c d box other mid new is next over ne) (first.makes lossless d other over k holds))
+      (listed_more cs c d l);
+  others = λ key ne. next.others key (λ d l. ne d (last_listed cs c d (listed_one c d l))) ∙ first.others key (λ d l. ne d (before_listed cs c d l));
+  keys = more_keys path document region given options cs c box old mid new is first next;
+} where
+  fill : Cell
+  fill = document.elements.fill
+
+  before : (d : List ℕ) → d ≡ c → stored_at path document mid d ≡ stored_at path document old d
+  before d e = subst (λ (k : List ℕ). stored_at path document mid k ≡ stored_at path document old k) (sym e) (untouched path document region given options cs c box old mid is first)
+
+  decoded_of : List ℕ → Region → Option (List ℕ) → Option (List Cell)
+  decoded_of d other stored = chunk_decoded document.chain document.elements other.shape stored
+
+  stands_moved : (d : List ℕ) (other : Region) → stored_at path document new d ≡ stored_at path document mid d → ChunkStandsAt path document mid d other (cell_of_box region given document.elements.fill) → ChunkStandsAt path document new d other (cell_of_box region given document.elements.fill)
+  stands_moved d other e st = subst (λ (o : Option (List ℕ)). IsStored document.chain document.elements other.shape o (map (cell_of_box region given document.elements.fill) (places other.start other.shape))) (sym e) st
+
+-- ---- the walk
+
+-- what is known of a write of a box
+pub record IsWalk (path : List ℕ) (document : Document) (region chunks : Region) (given : List Cell) : Type 0 where
+  pub good : IsGood document
+  pub apart : AreApart path document
+  pub values : list_all (is_value document.elements.type) given ≡ true
+  pub region_rank : length region.start ≡ length region.shape
+  pub grid_rank : length region.start ≡ length document.grid
+  pub chunks_rank : length chunks.start ≡ length chunks.shape
+  pub intersecting : AreIntersecting document.grid region chunks
+
+-- a chunk is none of those before it
+first_chunks-fresh : (chunks : Region) (n : ℕ) (t : Bool) → length chunks.start ≡ length chunks.shape → n < product chunks.shape → is_listed (first_chunks chunks n) (place_at chunks.start chunks.shape n) ≡ t → t ≡ false
+first_chunks-fresh chunks n false l below h = refl
+first_chunks-fresh chunks n true l below h =
+    let k = listed_number (place_at chunks.start chunks.shape) 0 n (place_at chunks.start chunks.shape n) h in
+    let b = k.1 in
+    let same : n ≡ k.0 = sym (ravel-place_at chunks.start chunks.shape n l below) ∙ (ap (λ p. number_in chunks p) k.2 ∙ ravel-place_at chunks.start chunks.shape k.0 l (omega arith)) in
+    absurd (omega arith)
+
+next_is : (path : List ℕ) (document : Document) (region chunks : Region) (given : List Cell) (n : ℕ) (chunk : List ℕ) (box : Region) → IsWalk path document region chunks given → n < product chunks.shape → chunk ≡ place_at chunks.start chunks.shape n → IsInGrid document.grid chunk box
+    → IsNext path document given (first_chunks chunks n) chunk box
+next_is path document region chunks given n chunk box walk below e here = record {
+  good = walk.good;
+  apart = walk.apart;
+  values = walk.values;
+  below = here;
+  fresh = ap (is_listed (first_chunks chunks n)) e ∙ first_chunks-fresh chunks n (is_listed (first_chunks chunks n) (place_at chunks.start chunks.shape n)) walk.chunks_rank below refl;
+  in_grid = λ d l. first_chunks-below document.grid chunks n d walk.chunks_rank walk.intersecting.below (omega arith) l;
+}
+
+pub wrote_next : (path : List ℕ) (document : Document) (region chunks : Region) (given : List Cell) (options : CodecOptions) (n : ℕ) (chunk : List ℕ) (box : Region) (made : Option (List ℕ)) (old mid new : StoreMap) → IsWalk path document region chunks given → n < product chunks.shape
+    → chunk ≡ place_at chunks.start chunks.shape n → IsInGrid document.grid chunk box → MakesValue document region given options.store_empty_chunks box (stored_at path document mid chunk) made → new ≡ with_value mid (chunk_key path document.keys chunk) made
+    → WroteChunks path document region given options (first_chunks chunks n) old mid → WroteChunks path document region given options (first_chunks chunks (n + 1)) old new
+wrote_next path document region chunks given options n chunk box made old mid new walk below e here makes is wrote =
+    let rank = walk.grid_rank ∙ sym (chunk_box-rank document.grid chunk box here.has_box).0 in
+    let one = wrote_one path document region given options chunk box mid made (record { good = walk.good; apart = walk.apart; region_rank = walk.region_rank; rank = rank; below = here; makes = makes }) in
+    let all = wrote_more path document region given options (first_chunks chunks n) chunk box old mid (with_value mid (chunk_key path document.keys chunk) made) (next_is path document region chunks given n chunk box walk below e here) wrote one in
+    let listed : first_chunks chunks n ++ chunk ∷ [] ≡ first_chunks chunks (n + 1) = ap (λ k. first_chunks chunks n ++ k ∷ []) e ∙ sym (first_chunks-more chunks n) in
+    subst (λ (cs : List (List ℕ)). WroteChunks path document region given options cs old new) listed (subst (λ (m : StoreMap). WroteChunks path document region given options (first_chunks chunks n ++ chunk ∷ []) old m) (sym is) all)
+
+-- all chunks were written
+pub wrote_all : (path : List ℕ) (document : Document) (region chunks : Region) (given : List Cell) (options : CodecOptions) (n : ℕ) (old new : StoreMap) → IsWalk path document region chunks given → n ≡ product chunks.shape
+    → WroteChunks path document region given options (first_chunks chunks n) old new → WroteChunks path document region given options (intersecting document.grid region) old new
+wrote_all path document region chunks given options n old new walk end wrote =
+    subst (λ (cs : List (List ℕ)). WroteChunks path document region given options cs old new) (first_chunks-all document.grid region chunks n walk.chunks_rank walk.intersecting end) wrote
+
+-- ---- a chunk that is not written
+
+becomes_at : (path : List ℕ) (document : Document) (region : Region) (given : List Cell) (chunk : List ℕ) (box : Region) (store : StoreMap) (cells : List Cell) → CellsBecome document region given (stored_at path document store chunk) box cells → ChunkBecomes path document store region given chunk box cells
+becomes_at path document region given chunk box store cells becomes = record { many = becomes.many; written = becomes.written; kept = becomes.kept }
+
+chunk_stops : (path : List ℕ) (document : Document) (region : Region) (given : List Cell) (options : CodecOptions) (chunk : List ℕ) (box : Region) (store : StoreMap) (e : ChunkError) → NewValueStops document region given options.store_empty_chunks box (stored_at path document store chunk) e
+    → ChunkStops path document store region given options chunk box e
+chunk_stops path document region given options chunk box store error.Fit h = h
+chunk_stops path document region given options chunk box store (error.Storage e) h = h
+chunk_stops path document region given options chunk box store error.Damage h = record { fit = h.0; part = h.1.0; lost = h.1.1 }
+chunk_stops path document region given options chunk box store error.Codec h = record { fit = h.fit; cells = h.cells; becomes = becomes_at path document region given chunk box store h.cells h.becomes; called = h.refuses.0; refuses = h.refuses.1 }
+chunk_stops path document region given options chunk box store error.Size h = record { fit = h.fit; cells = h.cells; becomes = becomes_at path document region given chunk box store h.cells h.becomes; called = h.refuses.0; passes = inl h.refuses.1 }
+chunk_stops path document region given options chunk box store error.Memory h = tt
+
+met : (document : Document) (region chunks : Region) (n : ℕ) (chunk : List ℕ) (box : Region) → length chunks.start ≡ length chunks.shape → AreIntersecting document.grid region chunks → n < product chunks.shape → chunk ≡ place_at chunks.start chunks.shape n → IsInGrid document.grid chunk box
+    → IsMet document.grid region n chunk box
+met document region chunks n chunk box l m below e here = record {
+  listed = ap (λ (cs : List (List ℕ)). slice_get cs n) (sym m.listed) ∙ (slice_get-get_or (places chunks.start chunks.shape) n [] (omega (arith, below, length-places chunks.start chunks.shape l))
+      ∙ ap Some (ap (λ (cs : List (List ℕ)). get_or cs n []) (places_by_number chunks.start chunks.shape l) ∙ (get_or-map-range_with_len (place_at chunks.start chunks.shape) 0 (product chunks.shape) n n [] below (omega arith) ∙ sym e)));
+  has_box = here.has_box;
+}
+
+pub write_stops : (path : List ℕ) (document : Document) (region chunks : Region) (given : List Cell) (payload : Payload) (options : CodecOptions) (n : ℕ) (chunk : List ℕ) (box : Region) (e : ChunkError) (old mid new : StoreMap) → IsWalk path document region chunks given
+    → cells_in document.elements.type payload ≡ Some given → n < product chunks.shape → chunk ≡ place_at chunks.start chunks.shape n → IsInGrid document.grid chunk box
+    → NewValueStops document region given options.store_empty_chunks box (stored_at path document mid chunk) e → new ≡ mid
+    → WroteChunks path document region given options (first_chunks chunks n) old mid → WriteStops path document region payload options old new (record { applied = n; error = e })
+write_stops path document region chunks given payload options n chunk box e old mid new walk lists below at here stops same wrote =
+    let is = next_is path document region chunks given n chunk box walk below at here in
+    let before = untouched path document region given options (first_chunks chunks n) chunk box old mid is wrote in
+    record {
+      cells = given;
+      lists = lists;
+      chunk = chunk;
+      box = box;
+      met = met document region chunks n chunk box walk.chunks_rank walk.intersecting below at here;
+      stops = chunk_stops path document region given options chunk box old e (subst (λ (o : Option (List ℕ)). NewValueStops document region given options.store_empty_chunks box o e) before stops);
+      wrote = subst (λ (cs : List (List ℕ)). WroteChunks path document region given options cs old new) (first_chunks-take document.grid region chunks n walk.chunks_rank walk.intersecting (omega arith))
+          (subst (λ (m : StoreMap). WroteChunks path document region given options (first_chunks chunks n) old m) (sym same) wrote);
+    }
+
+-- some chunk is intersecting
+pub some_chunk : (grid : Grid) (region chunks : Region) → length region.shape ≡ length region.start → length chunks.start ≡ length chunks.shape → 0 < product region.shape → IsCovered grid region → AreIntersecting grid region chunks → 0 < product chunks.shape
+some_chunk grid region chunks l r some covered m =
+    let any = not_none (λ c. lies_in_chunk grid region.start c) (intersecting grid region) (intersecting-any grid region region.start covered (start_in_box region.start region.shape l some)) in
+    omega (arith, any, length-intersecting grid region chunks r m) where
+      not_none : (p : List ℕ → Bool) (cs : List (List ℕ)) → list_any p cs ≡ true → 0 < length cs
+      not_none p [] h = absurd (false≢true h)
+      not_none p (c ∷ cs) h = omega arith

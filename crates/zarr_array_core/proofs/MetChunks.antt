@@ -1,0 +1,55 @@
+-- The chunks that a box intersects, one by one.
+use Rattle.std.proofs.Common.{◌≡◌, ◌∙◌, ℕ, ◌+◌, ◌<◌, ◌≤◌, true, List, [], ◌∷◌, ◌++◌, length, map, take, sym, ap, arith, bytes_eq}
+use Rattle.std.specs.List.{range_with_len, list_any}
+use Rattle.std.proofs.lemmas.List.FromFn.{map-range_with_len_more}
+use Rattle.zarr_grids_boxes.specs.Boxes.{Region, product, places, place_at, is_in_box}
+use Rattle.zarr_grids_boxes.proofs.Places.{places_by_number, take_places}
+use Rattle.zarr_grids_boxes.proofs.InBox.{in_box-place_at, length-places}
+use Rattle.zarr_grids_chunks.specs.Grids.{Grid, IsInGrid, AreInGrid, chunk_indices, intersects, intersecting}
+use Rattle.zarr_grids_chunks.proofs.Filters.{filter-any}
+use Rattle.zarr_grids_chunks.proofs.Partition.{any_places}
+use Rattle.zarr_grids_cover.specs.Intersecting.{AreIntersecting}
+use Rattle.zarr_array_meaning.specs.Chunks.{is_listed}
+use Rattle.zarr_array_core.proofs.Listed.{listed_number}
+
+-- the first chunks of a box of chunk indices
+abbrev pub first_chunks : Region → ℕ → List (List ℕ)
+first_chunks chunks n = map (place_at chunks.start chunks.shape) (range_with_len 0 n)
+
+pub first_chunks-more : (chunks : Region) (n : ℕ) → first_chunks chunks (n + 1) ≡ first_chunks chunks n ++ place_at chunks.start chunks.shape n ∷ []
+first_chunks-more chunks n = map-range_with_len_more (place_at chunks.start chunks.shape) 0 n n (omega arith)
+
+pub first_chunks-places : (chunks : Region) (n : ℕ) → length chunks.start ≡ length chunks.shape → n ≡ product chunks.shape → first_chunks chunks n ≡ places chunks.start chunks.shape
+first_chunks-places chunks n l e = ap (first_chunks chunks) e ∙ sym (places_by_number chunks.start chunks.shape l)
+
+pub first_chunks-taken : (chunks : Region) (n : ℕ) → length chunks.start ≡ length chunks.shape → n ≤ product chunks.shape → first_chunks chunks n ≡ take n (places chunks.start chunks.shape)
+first_chunks-taken chunks n l h = sym (take_places chunks.start chunks.shape n l h)
+
+pub first_chunks-all : (grid : Grid) (region chunks : Region) (n : ℕ) → length chunks.start ≡ length chunks.shape → AreIntersecting grid region chunks → n ≡ product chunks.shape → first_chunks chunks n ≡ intersecting grid region
+first_chunks-all grid region chunks n l m e = first_chunks-places chunks n l e ∙ m.listed
+
+pub first_chunks-take : (grid : Grid) (region chunks : Region) (n : ℕ) → length chunks.start ≡ length chunks.shape → AreIntersecting grid region chunks → n ≤ product chunks.shape → first_chunks chunks n ≡ take n (intersecting grid region)
+first_chunks-take grid region chunks n l m h = first_chunks-taken chunks n l h ∙ ap (take n) m.listed
+
+pub length-intersecting : (grid : Grid) (region chunks : Region) → length chunks.start ≡ length chunks.shape → AreIntersecting grid region chunks → length (intersecting grid region) ≡ product chunks.shape
+length-intersecting grid region chunks l m = sym (ap length m.listed) ∙ length-places chunks.start chunks.shape l
+
+-- one of them
+pub met_here : (grid : Grid) (chunks : Region) (n : ℕ) (chunk : List ℕ) → length chunks.start ≡ length chunks.shape → AreInGrid grid chunks → n < product chunks.shape → chunk ≡ place_at chunks.start chunks.shape n
+    → (box : Region) × IsInGrid grid chunk box
+met_here grid chunks n chunk l below h e = below.below chunk (ap (is_in_box chunks.start chunks.shape) e ∙ in_box-place_at chunks.start chunks.shape n l h)
+
+pub shares_here : (grid : Grid) (region chunks : Region) (n : ℕ) (chunk : List ℕ) → length chunks.start ≡ length chunks.shape → AreIntersecting grid region chunks → n < product chunks.shape → chunk ≡ place_at chunks.start chunks.shape n
+    → intersects grid region chunk ≡ true
+shares_here grid region chunks n chunk l m h e =
+    let c = place_at chunks.start chunks.shape n in
+    ap (intersects grid region) e
+    ∙ filter-any (intersects grid region) c (chunk_indices grid) (ap (list_any (bytes_eq c)) (sym m.listed) ∙ any_places chunks.start chunks.shape c l (in_box-place_at chunks.start chunks.shape n l h))
+
+pub first_chunks-below : (grid : Grid) (chunks : Region) (n : ℕ) (d : List ℕ) → length chunks.start ≡ length chunks.shape → AreInGrid grid chunks → n ≤ product chunks.shape → is_listed (first_chunks chunks n) d ≡ true
+    → (box : Region) × IsInGrid grid d box
+first_chunks-below grid chunks n d l below h t =
+    let k = listed_number (place_at chunks.start chunks.shape) 0 n d t in
+    let b = k.1 in
+    let i : k.0 < product chunks.shape = omega arith in
+    met_here grid chunks k.0 d l below i k.2

@@ -1,0 +1,213 @@
+-- A read of a box, chunk by chunk.
+use Rattle.std.proofs.Common.{◌≡◌, ◌∙◌, ℕ, ◌+◌, ◌*◌, ◌<◌, Bool, true, false, ◌||◌, List, [], ◌∷◌, ◌++◌, length, replicate, take, drop, refl, sym, ap, subst, ⊎_elim, arith, Option, Some, None, is_some, Result, Ok, Err, IfErr, Vec, bytes_eq}
+use Rattle.std.specs.Prelude.{MatchOption}
+use Rattle.std.specs.declared.alloc.Global.{Global}
+use Rattle.std.specs.FinMap.{get}
+use Rattle.std.specs.List.{list_any}
+use Rattle.std.specs.Option.{option_map_or}
+use Rattle.std.proofs.lemmas.Bool.{false≢true}
+use Rattle.std.proofs.lemmas.Grind.{common_steps}
+use Rattle.std.proofs.lemmas.List.{get_or-replicate}
+use Rattle.std.proofs.lemmas.Slice.Eq.{bytes_eq-Decides}
+use Rattle.zarr_grids_boxes.specs.Boxes.{Region, product, place_at, is_in_box, share_place}
+use Rattle.zarr_grids_boxes.proofs.Dimensions.{ravel_below}
+use Rattle.zarr_grids_boxes.proofs.Places.{in_box_below}
+use Rattle.zarr_grids_boxes.proofs.Sharing.{share_place-of}
+use Rattle.zarr_grids_chunks.specs.Grids.{Grid, IsInGrid, chunk_box, lies_in_chunk, intersects, intersecting}
+use Rattle.zarr_grids_chunks.proofs.Filters.{told}
+use Rattle.zarr_grids_chunks.proofs.Partition.{lies_here}
+use Rattle.zarr_grids_cover.proofs.ChunkLaws.{chunks_apart}
+use Rattle.zarr_grids_cover.specs.Intersecting.{AreIntersecting}
+use Rattle.zarr_codecs_meaning.specs.Chunks.{chunk_part}
+use Rattle.zarr_codecs_meaning.specs.Payloads.{fixed, fixed_cells}
+use Rattle.zarr_codecs_meaning.specs.Types.{Cell, byte_width}
+use Rattle.zarr_array_meaning.specs.Boxes.{cell_of_box, IsPlaceOf, IsRead}
+use Rattle.zarr_array_meaning.specs.Chunks.{number_in, stored_at, fits_box, ReadsCell, is_listed}
+use Rattle.zarr_array_meaning.specs.Documents.{Document}
+use Rattle.zarr_array_meaning.specs.StoreMaps.{StoreMap}
+use Rattle.zarr_array_storage.specs.Stores.{value_bytes}
+use Rattle.zarr_array_core.specs.Outcomes.{GivesBox, ReadStops, refused_after, refused_with}
+use Rattle.zarr_array_core.specs.Parts.{cell_in, IsPlaced, GivesChunk, ValueStops}
+use Rattle.zarr_array_core.specs.declared.error.ChunkError.{ChunkError}
+use Rattle.zarr_array_core.specs.declared.error.ChunkError.TheVariants as error
+use Rattle.zarr_array_core.proofs.FixedCells.{length-fixed_cells}
+use Rattle.zarr_array_core.proofs.Listed.{list_any-append, listed_more, intersecting_listed}
+use Rattle.zarr_array_core.proofs.MetChunks.{first_chunks, first_chunks-more, first_chunks-all}
+use Rattle.zarr_array_core.proofs.Payloads.{fixed_listed}
+use Rattle.zarr_array_core.proofs.Placed.{same_box}
+
+-- what a store gave for a chunk
+pub found_value : (store : StoreMap) (key other : List ℕ) (found : Option (Vec ℕ Global)) (value : Vec ℕ Global) → value_bytes found ≡ get store key → key ≡ other → found ≡ Some value → get store other ≡ Some value.items
+found_value store key other found value gave same is = sym (gave ∙ ap (get store) same) ∙ ap value_bytes is
+
+-- ---- why a chunk is not read
+value_stops : (path : List ℕ) (document : Document) (store : StoreMap) (region : Region) (chunk value : List ℕ) (box : Region) (e : ChunkError) → IsInGrid document.grid chunk box → intersects document.grid region chunk ≡ true
+    → stored_at path document store chunk ≡ Some value → ValueStops document region box value e → ReadStops path document store region e
+value_stops path document store region chunk value box error.Fit below shares found h = record { chunk = chunk; box = box; below = below; shares = shares; stored = ap is_some found; fit = h }
+value_stops path document store region chunk value box (error.Storage s) below shares found h = elim h [ ]
+value_stops path document store region chunk value box error.Damage below shares found h = record {
+  chunk = chunk;
+  box = box;
+  place = h.place;
+  is = record { below = below; of_region = h.of_region; of_chunk = h.of_chunk };
+  fit = h.fit;
+  lost = ap (λ (o : Option (List ℕ)). chunk_part document.chain document.elements box.shape o (number_in box h.place ∷ [])) found ∙ h.lost;
+}
+value_stops path document store region chunk value box error.Codec below shares found h = h
+value_stops path document store region chunk value box error.Size below shares found h = h
+value_stops path document store region chunk value box error.Memory below shares found h = h
+
+pub chunk_stops : {A : Type 0} (path : List ℕ) (document : Document) (store : StoreMap) (region : Region) (chunk value : List ℕ) (found : (box : Region) × IsInGrid document.grid chunk box) (result : Result A ChunkError)
+    → intersects document.grid region chunk ≡ true → stored_at path document store chunk ≡ Some value
+    → IfErr result (λ e. (box : Region) → IsInGrid document.grid chunk box → ValueStops document region box value e) → IfErr result (ReadStops path document store region)
+chunk_stops path document store region chunk value found (Ok done) shares stored h = tt
+chunk_stops path document store region chunk value found (Err e) shares stored h = value_stops path document store region chunk value found.0 e found.1 shares stored (h found.0 found.1)
+
+value_counts : (document : Document) (region box : Region) (value : List ℕ) (e : ChunkError) (count : ℕ) → ValueStops document region box value e → refused_with e count ≡ count
+value_counts document region box value error.Fit count h = refl
+value_counts document region box value (error.Storage s) count h = elim h [ ]
+value_counts document region box value error.Damage count h = refl
+value_counts document region box value error.Codec count h = refl
+value_counts document region box value error.Size count h = refl
+value_counts document region box value error.Memory count h = refl
+
+-- no value makes the store refuse
+pub chunk_counts : {A : Type 0} (document : Document) (region : Region) (chunk value : List ℕ) (found : (box : Region) × IsInGrid document.grid chunk box) (result : Result A ChunkError) (count : ℕ)
+    → IfErr result (λ e. (box : Region) → IsInGrid document.grid chunk box → ValueStops document region box value e) → refused_after count result ≡ count
+chunk_counts document region chunk value found (Ok done) count h = refl
+chunk_counts document region chunk value found (Err e) count h = value_counts document region found.0 value e count (h found.0 found.1)
+
+-- ---- the chunks that were read so far: their places show what is read of them, and the other places are fill values
+pub record ReadSoFar (path : List ℕ) (document : Document) (width : ℕ) (store : StoreMap) (region : Region) (chunks : List (List ℕ)) (bytes : List ℕ) : Type 0 where
+  pub each : (chunk : List ℕ) (box : Region) (place : List ℕ) → IsPlaceOf document region chunk box place → is_listed chunks chunk ≡ true → ReadsCell path document store chunk box place (cell_in document width region bytes place)
+  pub rest : (place : List ℕ) → is_in_box region.start region.shape place ≡ true → list_any (lies_in_chunk document.grid place) chunks ≡ false → cell_in document width region bytes place ≡ document.elements.fill
+  pub fit : (chunk : List ℕ) (box : Region) → IsInGrid document.grid chunk box → is_listed chunks chunk ≡ true → is_some (stored_at path document store chunk) ≡ true → fits_box document box ≡ true
+
+-- no chunk
+pub read_none : (path : List ℕ) (document : Document) (width : ℕ) (store : StoreMap) (region : Region) (bytes : List ℕ) → fixed_cells width bytes ≡ replicate (product region.shape) document.elements.fill → ReadSoFar path document width store region [] bytes
+read_none path document width store region bytes fill = record {
+  each = λ chunk box place is listed. absurd (false≢true listed);
+  rest = λ place t none.
+      let below = ravel_below _ region.shape (in_box_below region.start region.shape place t) in
+      ap (λ (cells : List Cell). cell_of_box region cells document.elements.fill place) fill ∙ get_or-replicate (product region.shape) (number_in region place) document.elements.fill document.elements.fill below;
+  fit = λ chunk box below listed. absurd (false≢true listed);
+}
+
+-- a chunk among those in which a place lies
+any_lies : (grid : Grid) (place : List ℕ) (cs : List (List ℕ)) → list_any (lies_in_chunk grid place) cs ≡ true → (c : List ℕ) × (is_listed cs c ≡ true) × (lies_in_chunk grid place c ≡ true)
+any_lies grid place [] h = absurd (false≢true h)
+any_lies grid place (c ∷ cs) h = at_first c cs (lies_in_chunk grid place c) refl h (any_lies grid place cs) where
+  at_first : (c : List ℕ) (cs : List (List ℕ)) (b : Bool) → lies_in_chunk grid place c ≡ b → (b || list_any (lies_in_chunk grid place) cs) ≡ true
+      → (list_any (lies_in_chunk grid place) cs ≡ true → (d : List ℕ) × (is_listed cs d ≡ true) × (lies_in_chunk grid place d ≡ true))
+      → (d : List ℕ) × (is_listed (c ∷ cs) d ≡ true) × (lies_in_chunk grid place d ≡ true)
+  at_first c cs true e h later = (c, ap (λ b. b || is_listed cs c) ((bytes_eq-Decides c c).1 refl), e)
+  at_first c cs false e h later = let found = later h in (found.0, or_later (bytes_eq found.0 c) (is_listed cs found.0) found.1, found.2) where
+    or_later : (a b : Bool) → b ≡ true → (a || b) ≡ true
+    or_later true b h = refl
+    or_later false b h = h
+
+-- what a place of a chunk with no value shows
+empty_shows : (path : List ℕ) (document : Document) (store : StoreMap) (chunk : List ℕ) (box : Region) (place : List ℕ) (cell : Cell) → stored_at path document store chunk ≡ None → cell ≡ document.elements.fill → ReadsCell path document store chunk box place cell
+empty_shows path document store chunk box place cell none e =
+    ap (λ (o : Option (List ℕ)). chunk_part document.chain document.elements box.shape o (number_in box place ∷ [])) none ∙ ap (λ (c : Cell). Some (c ∷ [])) (sym e)
+
+-- ---- one more chunk
+
+-- what stays where a place lies outside of the chunk
+stays : (path : List ℕ) (document : Document) (width : ℕ) (store : StoreMap) (region : Region) (chunk : List ℕ) (box : Region) (old new place : List ℕ) (stored : Option (List ℕ))
+    → MatchOption stored (new ≡ old) (λ value. IsPlaced document width region box value old new) → is_in_box region.start region.shape place ≡ true → is_in_box box.start box.shape place ≡ false
+    → cell_in document width region new place ≡ cell_in document width region old place
+stays path document width store region chunk box old new place None h t out = ap (λ bytes. cell_in document width region bytes place) h
+stays path document width store region chunk box old new place (Some value) h t out = h.kept place t out
+
+-- what the chunk itself shows
+shows : (path : List ℕ) (document : Document) (width : ℕ) (store : StoreMap) (region : Region) (cs : List (List ℕ)) (chunk : List ℕ) (box : Region) (old new place : List ℕ) (stored : Option (List ℕ)) → stored_at path document store chunk ≡ stored
+    → MatchOption stored (new ≡ old) (λ value. IsPlaced document width region box value old new) → IsPlaceOf document region chunk box place → ReadSoFar path document width store region cs old
+    → ReadsCell path document store chunk box place (cell_in document width region new place)
+shows path document width store region cs chunk box old new place (Some value) found h is first =
+    ap (λ (o : Option (List ℕ)). chunk_part document.chain document.elements box.shape o (number_in box place ∷ [])) found ∙ h.shown place is.of_region is.of_chunk
+shows path document width store region cs chunk box old new place None found h is first =
+    subst (λ bytes. ReadsCell path document store chunk box place (cell_in document width region bytes place)) (sym h)
+    (⊎_elim
+    (λ t.
+    let among = any_lies document.grid place cs t in
+    let same : among.0 ≡ chunk = chunks_apart document.grid among.0 chunk place among.2 (lies_here document.grid chunk place box is.below.has_box ∙ is.of_chunk) in
+    first.each chunk box place is (ap (is_listed cs) (sym same) ∙ among.1))
+    (λ t. empty_shows path document store chunk box place (cell_in document width region old place) found (first.rest place is.of_region t))
+    (told (list_any (lies_in_chunk document.grid place) cs)))
+
+fits_stored : (document : Document) (width : ℕ) (region box : Region) (old new : List ℕ) (stored : Option (List ℕ)) → MatchOption stored (new ≡ old) (λ value. IsPlaced document width region box value old new) → is_some stored ≡ true → fits_box document box ≡ true
+fits_stored document width region box old new None h some = absurd (false≢true some)
+fits_stored document width region box old new (Some value) h some = h.fit
+
+-- of two tests, where one or the other holds
+neither : (a b : Bool) → (a || b) ≡ false → (a ≡ false) × (b ≡ false)
+neither true b h = absurd (false≢true (sym h))
+neither false b h = (refl, h)
+
+outside : (grid : Grid) (place c d : List ℕ) (box other : Region) → chunk_box grid c ≡ Some box → chunk_box grid d ≡ Some other → (d ≡ c → ⊥) → is_in_box other.start other.shape place ≡ true → is_in_box box.start box.shape place ≡ false
+outside grid place c d box other h g ne t = ⊎_elim
+    (λ i. absurd (ne (chunks_apart grid d c place (lies_here grid d place other g ∙ t) (lies_here grid c place box h ∙ i))))
+    (λ i. i)
+    (told (is_in_box box.start box.shape place))
+
+read_more : (path : List ℕ) (document : Document) (width : ℕ) (store : StoreMap) (region : Region) (cs : List (List ℕ)) (c : List ℕ) (box : Region) (old new : List ℕ) → IsInGrid document.grid c box
+    → GivesChunk path document width store region c box old new → ReadSoFar path document width store region cs old → ReadSoFar path document width store region (cs ++ c ∷ []) new
+read_more path document width store region cs c box old new below gives first = record {
+  each = λ d other place is l. ⊎_elim
+      (λ e.
+      let here : IsInGrid document.grid c other = subst (λ (k : List ℕ). IsInGrid document.grid k other) e is.below in
+      let same : box ≡ other = same_box document.grid c box other below here in
+      subst (λ (k : List ℕ). ReadsCell path document store k other place (cell_in document width region new place)) (sym e)
+      (subst (λ (b : Region). ReadsCell path document store c b place (cell_in document width region new place)) same
+      (shows path document width store region cs c box old new place (stored_at path document store c) refl gives (record { below = below; of_region = is.of_region; of_chunk = ap (λ (b : Region). is_in_box b.start b.shape place) same ∙ is.of_chunk }) first)))
+      (λ (ne, k).
+      let out = outside document.grid place c d box other below.has_box is.below.has_box ne is.of_chunk in
+      let same = stays path document width store region c box old new place (stored_at path document store c) gives is.of_region out in
+      subst (λ (cell : Cell). ReadsCell path document store d other place cell) (sym same) (first.each d other place is k))
+      (listed_more cs c d l);
+  rest = λ place t none.
+      let apart = neither (list_any (lies_in_chunk document.grid place) cs) (lies_in_chunk document.grid place c) (sym (list_any-append (lies_in_chunk document.grid place) cs c) ∙ none) in
+      stays path document width store region c box old new place (stored_at path document store c) gives t (sym (lies_here document.grid c place box below.has_box) ∙ apart.1) ∙ first.rest place t apart.0;
+  fit = λ d other over l some. ⊎_elim
+      (λ e.
+      let here : IsInGrid document.grid c other = subst (λ (k : List ℕ). IsInGrid document.grid k other) e over in
+      let same : box ≡ other = same_box document.grid c box other below here in
+      subst (λ (b : Region). fits_box document b ≡ true) same (fits_stored document width region box old new (stored_at path document store c) gives (ap (λ (k : List ℕ). is_some (stored_at path document store k)) (sym e) ∙ some)))
+      (λ (ne, k). first.fit d other over k some)
+      (listed_more cs c d l);
+}
+
+-- ---- all chunks
+pub read_all : (path : List ℕ) (document : Document) (width : ℕ) (store : StoreMap) (region : Region) (bytes : List ℕ) → 0 < width → length bytes ≡ product region.shape * width
+    → ReadSoFar path document width store region (intersecting document.grid region) bytes → IsRead path document store region (fixed_cells width bytes)
+read_all path document width store region bytes some long read = record {
+  many = length-fixed_cells width (product region.shape) bytes some long;
+  each = λ chunk box place is. read.each chunk box place is (intersecting_listed document.grid region chunk box is.below (meets chunk box place is));
+  fit = λ chunk box below shares stored. read.fit chunk box below (intersecting_listed document.grid region chunk box below shares) stored;
+} where
+  meets : (chunk : List ℕ) (box : Region) (place : List ℕ) → IsPlaceOf document region chunk box place → intersects document.grid region chunk ≡ true
+  meets chunk box place is = ap (λ (o : Option Region). option_map_or (λ (b : Region). share_place b.start b.shape region.start region.shape) o false) is.below.has_box
+      ∙ share_place-of box.start box.shape region.start region.shape place is.of_chunk is.of_region
+
+-- ---- the chunks of a box of chunk indices
+pub read_next : (path : List ℕ) (document : Document) (width : ℕ) (store : StoreMap) (region chunks : Region) (n : ℕ) (chunk : List ℕ) (old new : List ℕ) → (found : (box : Region) × IsInGrid document.grid chunk box) → chunk ≡ place_at chunks.start chunks.shape n
+    → ((box : Region) → IsInGrid document.grid chunk box → GivesChunk path document width store region chunk box old new)
+    → ReadSoFar path document width store region (first_chunks chunks n) old → ReadSoFar path document width store region (first_chunks chunks (n + 1)) new
+read_next path document width store region chunks n chunk old new found e gives first =
+    rw (first_chunks-more chunks n, ← e) (read_more path document width store region (first_chunks chunks n) chunk found.0 old new found.1 (gives found.0 found.1) first)
+
+pub read_end : (path : List ℕ) (document : Document) (width : ℕ) (store : StoreMap) (region chunks : Region) (n count : ℕ) (bytes : List ℕ) → length chunks.start ≡ length chunks.shape → AreIntersecting document.grid region chunks → count ≡ product chunks.shape → n ≡ count
+    → 0 < width → length bytes ≡ product region.shape * width → ReadSoFar path document width store region (first_chunks chunks n) bytes → IsRead path document store region (fixed_cells width bytes)
+read_end path document width store region chunks n count bytes l are is end some long read =
+    read_all path document width store region bytes some long (subst (λ (cs : List (List ℕ)). ReadSoFar path document width store region cs bytes) (first_chunks-all document.grid region chunks n l are (end ∙ is)) read)
+
+-- ---- the whole box, in a vector whose items were all written
+written_over : (n : ℕ) (xs ys : List ℕ) → length xs ≡ n → take n (xs ++ drop (length xs) ys) ≡ xs
+written_over n xs ys h = grind (arith, common_steps)
+
+pub gives_box : (path : List ℕ) (document : Document) (width : ℕ) (store : StoreMap) (region : Region) (n count : ℕ) (bytes rest : List ℕ) → byte_width document.elements.type ≡ Some width → 0 < width → length bytes ≡ n → length bytes ≡ length rest
+    → length rest ≡ count * width → count ≡ product region.shape → IsRead path document store region (fixed_cells width bytes) → GivesBox path document store region (fixed (take n (bytes ++ drop (length bytes) rest)))
+gives_box path document width store region n count bytes rest sized some size same long total read =
+    subst (λ (given : List ℕ). GivesBox path document store region (fixed given)) (sym (written_over n bytes rest size))
+    (record { cells = fixed_cells width bytes; lists = fixed_listed document.elements.type width (product region.shape) bytes sized some (same ∙ (long ∙ ap (λ k. k * width) total)); read = read })

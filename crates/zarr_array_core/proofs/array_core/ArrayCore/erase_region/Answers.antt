@@ -1,0 +1,44 @@
+use Rattle.std.proofs.Common.{◌≡◌, ◌∙◌, ◌<◌, sym, rules, arith}
+use Rattle.zarr_grids_boxes.specs.Boxes.{Region, product}
+use Rattle.zarr_grids_boxes.specs.Subsets.{region_of}
+use Rattle.zarr_array_core.specs.Views.{document_of, path_of}
+use Rattle.zarr_array_core.proofs.Erased.{erased_none, erased_next, erased_all, erased_stops}
+use Rattle.zarr_array_core.proofs.array_core.ArrayCore.erase_region.Goals as goal
+
+pub returns-then-count-eq0-clause-ok : goal.returns-then-count-eq0-clause-ok
+returns-then-count-eq0-clause-ok g c = λ honest.
+    let chunks : Region = region_of c.args.chunks.now in
+    let total : c.unwrap-count.result ≡ product chunks.shape = search rules in
+    let store = g.S.ReadableStorageTraits.held c.args.store.now in
+    let document = document_of g.C.ArrayToBytesCodecTraits.meaning c.args.self.now in
+    erased_all (path_of c.args.self.now) document chunks 0 c.unwrap-count.result store store (sym c.args.chunks.now.same) total (sym c.if-count-eq0.true) (erased_none (path_of c.args.self.now) document store)
+
+pub returns-in-Err-clause-err : goal.returns-in-Err-clause-err
+returns-in-Err-clause-err g c = λ honest.
+    let chunks : Region = region_of c.args.chunks.now in
+    let total : c.unwrap-count.result ≡ product chunks.shape = search rules in
+    let below : c.loop-n.n < product chunks.shape = omega (arith, c.loop-n-test.true) in
+    let kept = c.in-Err.ensures.err (rw c.loop-n.invariant.honest honest) in
+    erased_stops (path_of c.args.self.now) (document_of g.C.ArrayToBytesCodecTraits.meaning c.args.self.now) chunks c.loop-n.n c.in-Err.error (g.S.ReadableStorageTraits.held c.args.store.now) (g.S.ReadableStorageTraits.held c.loop-n.store)
+    (g.S.ReadableStorageTraits.held c.erase_chunk.new.store) (sym c.args.chunks.now.same) below c.in-Err.ensures.stops kept (c.loop-n.invariant.erased honest)
+
+pub loop-n-preserved : goal.loop-n-preserved
+loop-n-preserved g c =
+    let chunks : Region = region_of c.args.chunks.now in
+    let at_place = rw (c.start.ensures, c.shape-in-loop-n.ensures) at c.place_into.ensures in
+    let step = c.in-Ok-erase_chunk.ensures in
+    let kept = c.loop-n.invariant in
+    record {
+      erased = λ honest. erased_next (path_of c.args.self.now) (document_of g.C.ArrayToBytesCodecTraits.meaning c.args.self.now) chunks c.loop-n.n c.place_into.new.place (g.S.ReadableStorageTraits.held c.args.store.now)
+          (g.S.ReadableStorageTraits.held c.loop-n.store) (g.S.ReadableStorageTraits.held c.erase_chunk.new.store) at_place (step.ok (rw kept.honest honest)) (kept.erased honest);
+      honest = step.honest ∙ kept.honest;
+      refused = step.refused ∙ kept.refused;
+      counts = (omega (arith, step.counts.0, kept.counts.0), omega (arith, step.counts.1, kept.counts.1));
+    }
+
+pub returns-clause-ok : goal.returns-clause-ok
+returns-clause-ok g c = λ honest.
+    let chunks : Region = region_of c.args.chunks.now in
+    let total : c.unwrap-count.result ≡ product chunks.shape = search rules in
+    erased_all (path_of c.args.self.now) (document_of g.C.ArrayToBytesCodecTraits.meaning c.args.self.now) chunks c.loop-n.n c.unwrap-count.result (g.S.ReadableStorageTraits.held c.args.store.now) (g.S.ReadableStorageTraits.held c.loop-n.store)
+    (sym c.args.chunks.now.same) total (omega arith) (c.loop-n.invariant.erased honest)

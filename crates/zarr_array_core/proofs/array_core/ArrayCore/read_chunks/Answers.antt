@@ -1,0 +1,49 @@
+use Rattle.std.proofs.Common.{◌≡◌, ◌∙◌, ◌<◌, sym, rules, arith}
+use Rattle.zarr_grids_boxes.specs.Boxes.{Region, product}
+use Rattle.zarr_grids_boxes.specs.Subsets.{region_of}
+use Rattle.zarr_array_core.specs.Views.{document_of, path_of}
+use Rattle.zarr_array_core.proofs.MetChunks.{met_here, shares_here}
+use Rattle.zarr_array_core.proofs.ReadSoFar.{read_next, read_end}
+use Rattle.zarr_array_core.proofs.array_core.ArrayCore.read_chunks.Goals as goal
+
+pub read_chunk-requires-clause-below : goal.read_chunk-requires-clause-below
+read_chunk-requires-clause-below g c =
+    let chunks : Region = region_of c.args.read.chunks.now in
+    let at_place = rw (c.start-first.ensures, c.shape-shape.ensures) at c.place_into.ensures in
+    let total : c.unwrap-count.result ≡ product chunks.shape = search rules in
+    let below : c.loop-n.n < product chunks.shape = omega (arith, c.loop-n-test.true) in
+    met_here (document_of g.C.ArrayToBytesCodecTraits.meaning c.args.self.now).grid chunks c.loop-n.n c.place_into.new.place (sym c.args.read.chunks.now.same) c.requires.intersecting.below below at_place
+
+pub read_chunk-requires-clause-shares : goal.read_chunk-requires-clause-shares
+read_chunk-requires-clause-shares g c =
+    let chunks : Region = region_of c.args.read.chunks.now in
+    let at_place = rw (c.start-first.ensures, c.shape-shape.ensures) at c.place_into.ensures in
+    let total : c.unwrap-count.result ≡ product chunks.shape = search rules in
+    let below : c.loop-n.n < product chunks.shape = omega (arith, c.loop-n-test.true) in
+    shares_here (document_of g.C.ArrayToBytesCodecTraits.meaning c.args.self.now).grid (region_of c.args.read.region.now) chunks c.loop-n.n c.place_into.new.place (sym c.args.read.chunks.now.same) c.requires.intersecting below at_place
+
+pub loop-n-preserved : goal.loop-n-preserved
+loop-n-preserved g c =
+    let document = document_of g.C.ArrayToBytesCodecTraits.meaning c.args.self.now in
+    let chunks : Region = region_of c.args.read.chunks.now in
+    let at_place = rw (c.start-first.ensures, c.shape-shape.ensures) at c.place_into.ensures in
+    let total : c.unwrap-count.result ≡ product chunks.shape = search rules in
+    let below : c.loop-n.n < product chunks.shape = omega (arith, c.loop-n-test.true) in
+    let found = met_here document.grid chunks c.loop-n.n c.place_into.new.place (sym c.args.read.chunks.now.same) c.requires.intersecting.below below at_place in
+    let step = c.in-Ok.ensures in
+    let kept = c.loop-n.invariant in
+    record {
+      read = λ honest. read_next (path_of c.args.self.now) document c.args.self.now.width (g.S.ReadableStorageTraits.held c.args.store.now) (region_of c.args.read.region.now) chunks c.loop-n.n c.place_into.new.place c.loop-n.target
+          c.read_chunk.new.target found at_place (rw kept.held at (step.ok (rw kept.honest honest))) (kept.read honest);
+      held = step.held ∙ kept.held;
+      honest = step.honest ∙ kept.honest;
+      refused = step.refused ∙ kept.refused;
+      accepted = step.accepted ∙ kept.accepted;
+    }
+
+pub returns-clause-ok : goal.returns-clause-ok
+returns-clause-ok g c = λ honest.
+    let chunks : Region = region_of c.args.read.chunks.now in
+    let total : c.unwrap-count.result ≡ product chunks.shape = search rules in
+    read_end (path_of c.args.self.now) (document_of g.C.ArrayToBytesCodecTraits.meaning c.args.self.now) c.args.self.now.width (g.S.ReadableStorageTraits.held c.args.store.now) (region_of c.args.read.region.now) chunks c.loop-n.n c.unwrap-count.result
+    c.loop-n.target (sym c.args.read.chunks.now.same) c.requires.intersecting total (omega arith) c.args.self.now.some (c.loop-n.auto.target ∙ c.requires.target) (c.loop-n.invariant.read honest)

@@ -1,0 +1,105 @@
+use Rattle.std.proofs.Common.{◌≡◌, ◌∙◌, ◌<◌, IsTrue, refl, sym, rules, arith}
+use Rattle.zarr_codecs_meaning.specs.Payloads.{fixed, fixed_cells}
+use Rattle.zarr_grids_boxes.specs.Boxes.{Region, product, place_at}
+use Rattle.zarr_grids_boxes.specs.Subsets.{region_of}
+use Rattle.zarr_grids_overlay.specs.Overlays.{extent_of}
+use Rattle.zarr_array_core.specs.Views.{document_of, path_of}
+use Rattle.zarr_array_core.specs.declared.error.ChunkError.TheVariants as error
+use Rattle.zarr_array_core.proofs.BoxWalks.{walk_of, given_listed}
+use Rattle.zarr_array_core.proofs.ChunksWritten.{wrote_none, wrote_next, wrote_all, write_stops}
+use Rattle.zarr_array_core.proofs.MetChunks.{met_here, shares_here}
+use Rattle.zarr_array_core.proofs.array_core.ArrayCore.write_chunks.Goals as goal
+
+pub returns-in_default-clause-err : goal.returns-in_default-clause-err
+returns-in_default-clause-err g c = λ honest.
+    let array = c.args.self.now in
+    let path = path_of array in
+    let document = document_of g.C.ArrayToBytesCodecTraits.meaning array in
+    let region = extent_of c.args.write.now.region in
+    let chunks : Region = region_of c.args.chunks.now in
+    let bytes = c.args.write.now.bytes.now in
+    let options = c.args.write.now.options.now in
+    let old = g.S.ReadableStorageTraits.held c.args.store.now in
+    let walk = walk_of g.C.ArrayToBytesCodecTraits.meaning g.met.C.ArrayToBytesCodecTraits.lawful array region chunks (fixed_cells array.width bytes) (sym c.args.write.now.region.same) (sym c.args.chunks.now.same) c.requires.rank c.requires.intersecting c.requires.values in
+    let lists = given_listed g.C.ArrayToBytesCodecTraits.meaning array (product region.shape) bytes c.requires.many in
+    let chunk = place_at chunks.start chunks.shape 0 in
+    let here = met_here document.grid chunks 0 chunk walk.chunks_rank walk.intersecting.below c.requires.some refl in
+    write_stops path document region chunks (fixed_cells array.width bytes) (fixed bytes) options 0 chunk here.0 error.Memory old old old walk lists c.requires.some refl here.1 tt refl (wrote_none path document region (fixed_cells array.width bytes) options old)
+
+pub write_at-requires-clause-below : goal.write_at-requires-clause-below
+write_at-requires-clause-below g c =
+    let chunks : Region = region_of c.args.chunks.now in
+    let at_place = rw (c.start.ensures, c.shape-in-loop-n.ensures) at c.place_into.ensures in
+    let total : c.unwrap-count.result ≡ product chunks.shape = search rules in
+    let below : c.loop-n.n < product chunks.shape = omega (arith, c.loop-n-test.true) in
+    met_here (document_of g.C.ArrayToBytesCodecTraits.meaning c.args.self.now).grid chunks c.loop-n.n c.place_into.new.place (sym c.args.chunks.now.same) c.requires.intersecting.below below at_place
+
+pub write_at-requires-clause-shares : goal.write_at-requires-clause-shares
+write_at-requires-clause-shares g c =
+    let chunks : Region = region_of c.args.chunks.now in
+    let at_place = rw (c.start.ensures, c.shape-in-loop-n.ensures) at c.place_into.ensures in
+    let total : c.unwrap-count.result ≡ product chunks.shape = search rules in
+    let below : c.loop-n.n < product chunks.shape = omega (arith, c.loop-n-test.true) in
+    shares_here (document_of g.C.ArrayToBytesCodecTraits.meaning c.args.self.now).grid (extent_of c.args.write.now.region) chunks c.loop-n.n c.place_into.new.place (sym c.args.chunks.now.same) c.requires.intersecting below at_place
+
+pub returns-in-Err-clause-err : goal.returns-in-Err-clause-err
+returns-in-Err-clause-err g c = λ honest.
+    let array = c.args.self.now in
+    let path = path_of array in
+    let document = document_of g.C.ArrayToBytesCodecTraits.meaning array in
+    let region = extent_of c.args.write.now.region in
+    let chunks : Region = region_of c.args.chunks.now in
+    let bytes = c.args.write.now.bytes.now in
+    let options = c.args.write.now.options.now in
+    let old = g.S.ReadableStorageTraits.held c.args.store.now in
+    let walk = walk_of g.C.ArrayToBytesCodecTraits.meaning g.met.C.ArrayToBytesCodecTraits.lawful array region chunks (fixed_cells array.width bytes) (sym c.args.write.now.region.same) (sym c.args.chunks.now.same) c.requires.rank c.requires.intersecting c.requires.values in
+    let lists = given_listed g.C.ArrayToBytesCodecTraits.meaning array (product region.shape) bytes c.requires.many in
+    let mid = g.S.ReadableStorageTraits.held c.loop-n.store in
+    let new = g.S.ReadableStorageTraits.held c.write_at.new.store in
+    let at_place = rw (c.start.ensures, c.shape-in-loop-n.ensures) at c.place_into.ensures in
+    let total : c.unwrap-count.result ≡ product chunks.shape = search rules in
+    let below : c.loop-n.n < product chunks.shape = omega (arith, c.loop-n-test.true) in
+    let still : IsTrue (g.S.ReadableStorageTraits.is_honest c.loop-n.store) = rw c.loop-n.invariant.honest honest in
+    let stops = c.in-Err.ensures.err still in
+    write_stops path document region chunks (fixed_cells array.width bytes) (fixed bytes) options c.loop-n.n c.place_into.new.place stops.0 c.in-Err.error old mid new walk lists below at_place stops.1 stops.2 (c.in-Err.ensures.kept still) (c.loop-n.invariant.wrote honest)
+
+pub loop-n-preserved : goal.loop-n-preserved
+loop-n-preserved g c =
+    let array = c.args.self.now in
+    let path = path_of array in
+    let document = document_of g.C.ArrayToBytesCodecTraits.meaning array in
+    let region = extent_of c.args.write.now.region in
+    let chunks : Region = region_of c.args.chunks.now in
+    let bytes = c.args.write.now.bytes.now in
+    let options = c.args.write.now.options.now in
+    let old = g.S.ReadableStorageTraits.held c.args.store.now in
+    let walk = walk_of g.C.ArrayToBytesCodecTraits.meaning g.met.C.ArrayToBytesCodecTraits.lawful array region chunks (fixed_cells array.width bytes) (sym c.args.write.now.region.same) (sym c.args.chunks.now.same) c.requires.rank c.requires.intersecting c.requires.values in
+    let mid = g.S.ReadableStorageTraits.held c.loop-n.store in
+    let new = g.S.ReadableStorageTraits.held c.write_at.new.store in
+    let at_place = rw (c.start.ensures, c.shape-in-loop-n.ensures) at c.place_into.ensures in
+    let total : c.unwrap-count.result ≡ product chunks.shape = search rules in
+    let below : c.loop-n.n < product chunks.shape = omega (arith, c.loop-n-test.true) in
+    let step = c.in-Ok-write_at.ensures in
+    let kept = c.loop-n.invariant in
+    record {
+      wrote = λ honest.
+          let made = step.ok (rw kept.honest honest) in
+          wrote_next path document region chunks (fixed_cells array.width bytes) options c.loop-n.n c.place_into.new.place made.0 made.1 old mid new walk below at_place made.2 made.3 made.4 (kept.wrote honest);
+      honest = step.honest ∙ kept.honest;
+      refused = step.refused ∙ kept.refused;
+      counts = (omega (arith, step.counts.0, kept.counts.0), omega (arith, step.counts.1, kept.counts.1));
+    }
+
+pub returns-clause-ok : goal.returns-clause-ok
+returns-clause-ok g c = λ honest.
+    let array = c.args.self.now in
+    let path = path_of array in
+    let document = document_of g.C.ArrayToBytesCodecTraits.meaning array in
+    let region = extent_of c.args.write.now.region in
+    let chunks : Region = region_of c.args.chunks.now in
+    let bytes = c.args.write.now.bytes.now in
+    let options = c.args.write.now.options.now in
+    let old = g.S.ReadableStorageTraits.held c.args.store.now in
+    let walk = walk_of g.C.ArrayToBytesCodecTraits.meaning g.met.C.ArrayToBytesCodecTraits.lawful array region chunks (fixed_cells array.width bytes) (sym c.args.write.now.region.same) (sym c.args.chunks.now.same) c.requires.rank c.requires.intersecting c.requires.values in
+    let total : c.unwrap-count.result ≡ product chunks.shape = search rules in
+    wrote_all path document region chunks (fixed_cells array.width bytes) options c.loop-n.n old (g.S.ReadableStorageTraits.held c.loop-n.store) walk (omega arith) (c.loop-n.invariant.wrote honest)

@@ -1,0 +1,30 @@
+use Rattle.std.proofs.Common.{◌≡◌, ◌∙◌, ◌*◌, length, ap, sym, arith, Some}
+use Rattle.zarr_codecs_arrays.specs.Views.{payload_of}
+use Rattle.zarr_codecs_arrays.specs.declared.array_bytes.ArrayBytes.{ArrayBytes}
+use Rattle.zarr_codecs_meaning.specs.Payloads.{fixed, cells_in}
+use Rattle.zarr_grids_boxes.specs.Boxes.{product}
+use Rattle.zarr_grids_boxes.specs.Subsets.{region_of}
+use Rattle.zarr_array_core.specs.Views.{document_of}
+use Rattle.zarr_array_core.proofs.ChunksWritten.{some_chunk}
+use Rattle.zarr_array_core.proofs.MetChunks.{length-intersecting}
+use Rattle.zarr_array_core.proofs.Payloads.{fixed_elements}
+use Rattle.zarr_array_core.proofs.array_core.ArrayCore.write_region.Goals as goal
+
+pub write_chunks-requires-clause-some : goal.write_chunks-requires-clause-some
+write_chunks-requires-clause-some g c =
+    some_chunk (document_of g.C.ArrayToBytesCodecTraits.meaning c.args.self.now).grid (region_of c.args.region.now) (region_of c.args.chunks.now) c.args.region.now.same (sym c.args.chunks.now.same) c.requires.some c.requires.covered c.requires.intersecting
+
+pub write_chunks-requires-clause-many : goal.write_chunks-requires-clause-many
+write_chunks-requires-clause-many g c =
+    let type = (document_of g.C.ArrayToBytesCodecTraits.meaning c.args.self.now).elements.type in
+    let width = c.args.self.now.width in
+    let valid = c.requires.valid.1 in
+    let lists : cells_in type (fixed c.in-Fixed.given.items) ≡ Some c.requires.valid.0 = ap (λ (bytes : ArrayBytes). cells_in type (payload_of bytes)) (sym c.in-Fixed.is) ∙ valid.is.lists in
+    let long = (fixed_elements type width c.in-Fixed.given.items c.requires.valid.0 c.args.self.now.sized lists).long in
+    ap length c.as_slice.ensures.value ∙ (long ∙ ap (λ n. n * width) (valid.is.many ∙ ap product (sym c.shape-shape.ensures)))
+
+pub returns-clause-counts : goal.returns-clause-counts
+returns-clause-counts g c =
+    let counts = c.write_chunks.ensures.counts in
+    let all = length-intersecting (document_of g.C.ArrayToBytesCodecTraits.meaning c.args.self.now).grid (region_of c.args.region.now) (region_of c.args.chunks.now) (sym c.args.chunks.now.same) c.requires.intersecting in
+    (counts.0, omega (arith, counts.1, all))

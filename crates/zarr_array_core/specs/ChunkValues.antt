@@ -1,0 +1,102 @@
+-- The value of one chunk after a write.
+use Rattle.std.specs.Prelude.{◌≡◌, ℕ, List, length, Option, Some, None, Bool, true, false}
+use Rattle.std.specs.FinMap.{insert, remove}
+use Rattle.std.specs.List.{list_all}
+use Rattle.zarr_grids_boxes.specs.Boxes.{Region, product, is_in_box}
+use Rattle.zarr_codecs_meaning.specs.Chunks.{chunk_decoded}
+use Rattle.zarr_codecs_meaning.specs.Fits.{is_lossless}
+use Rattle.zarr_codecs_meaning.specs.Refusals.{CodecRefuses, PassesIndex}
+use Rattle.zarr_codecs_meaning.specs.Standing.{ChunkStands}
+use Rattle.zarr_codecs_meaning.specs.Types.{Cell, is_value, is_fill}
+use Rattle.zarr_codecs_arrays.specs.declared.error.CodecError.{CodecError}
+use Rattle.zarr_codecs_arrays.specs.declared.error.CodecError.TheVariants as codec_error
+use Rattle.zarr_array_core.specs.declared.error.ChunkError.{ChunkError}
+use Rattle.zarr_array_core.specs.declared.error.ChunkError.TheVariants as error
+use Rattle.zarr_array_meaning.specs.Boxes.{cell_of_box}
+use Rattle.zarr_array_meaning.specs.Chunks.{fits_box, holds_box}
+use Rattle.zarr_array_meaning.specs.Documents.{Document}
+use Rattle.zarr_array_meaning.specs.StoreMaps.{StoreMap}
+
+-- the cells of a chunk after a write of a box: values, the given ones in the box, and those that its stored value was decoded to where cells are to stay
+pub record CellsBecome (document : Document) (region : Region) (given : List Cell) (stored : Option (List ℕ)) (box : Region) (cells : List Cell) : Type 0 where
+  pub many : length cells ≡ product box.shape
+  pub values : list_all (is_value document.elements.type) cells ≡ true
+  pub written : (place : List ℕ) → is_in_box region.start region.shape place ≡ true → is_in_box box.start box.shape place ≡ true
+      → cell_of_box box cells document.elements.fill place ≡ cell_of_box region given document.elements.fill place
+  pub kept : holds_box region box ≡ false → (before : List Cell) × (chunk_decoded document.chain document.elements box.shape stored ≡ Some before)
+      × ((place : List ℕ) → is_in_box region.start region.shape place ≡ false → is_in_box box.start box.shape place ≡ true
+      → cell_of_box box cells document.elements.fill place ≡ cell_of_box box before document.elements.fill place)
+
+-- why what is stored for a chunk is not decoded
+abbrev pub DecodeStops : Document → List ℕ → Option (List ℕ) → ChunkError → Type 0
+DecodeStops document shape stored error.Damage = chunk_decoded document.chain document.elements shape stored ≡ None
+DecodeStops document shape stored error.Memory = Unit {0}
+DecodeStops document shape stored e = ⊥
+
+-- cells are to have a value: they are not all fill, or empty chunks are stored
+abbrev pub HasValue : Document → Bool → List Cell → Type 0
+HasValue document store_empty cells = store_empty ≡ false → is_fill document.elements.fill cells ≡ false
+
+-- the value of a chunk with these cells, which stands for them; or none where they are all fill and empty chunks aren't stored
+pub record IsNewValue (document : Document) (store_empty : Bool) (shape : List ℕ) (cells : List Cell) (stored : Option (List ℕ)) : Type 0 where
+  pub absent : stored ≡ None → (store_empty ≡ false) × (is_fill document.elements.fill cells ≡ true)
+  pub present : (value : List ℕ) → stored ≡ Some value → HasValue document store_empty cells
+  pub stands : is_lossless document.chain document.elements.type ≡ true → ChunkStands document.chain document.elements shape stored cells
+
+-- an error with which a codec refuses to encode cells that are an array's
+abbrev pub IsRefusal : CodecError → Type 0
+IsRefusal codec_error.Codec = Unit {0}
+IsRefusal codec_error.Size = Unit {0}
+IsRefusal codec_error.Memory = Unit {0}
+IsRefusal e = ⊥
+
+-- why a chunk is not written where its codecs refuse
+abbrev pub refusal_of : CodecError → ChunkError
+refusal_of codec_error.Codec = error.Codec
+refusal_of codec_error.Size = error.Size
+refusal_of e = error.Memory
+
+-- why cells are not encoded
+abbrev pub EncodeRefuses : Document → List ℕ → List Cell → ChunkError → Type 0
+EncodeRefuses document shape cells error.Codec = CodecRefuses document.chain document.elements shape cells
+EncodeRefuses document shape cells error.Size = PassesIndex document.chain document.elements shape cells
+EncodeRefuses document shape cells error.Memory = Unit {0}
+EncodeRefuses document shape cells e = ⊥
+
+-- why cells that are to have a value get none
+abbrev pub EncodeStops : Document → Bool → List ℕ → List Cell → ChunkError → Type 0
+EncodeStops document store_empty shape cells e = HasValue document store_empty cells × EncodeRefuses document shape cells e
+
+-- why the new cells of a chunk are not made
+abbrev pub MergeStops : Document → Region → Region → Option (List ℕ) → ChunkError → Type 0
+MergeStops document region box stored error.Damage = (holds_box region box ≡ false) × (chunk_decoded document.chain document.elements box.shape stored ≡ None)
+MergeStops document region box stored (error.Storage e) = Unit {0}
+MergeStops document region box stored error.Memory = Unit {0}
+MergeStops document region box stored e = ⊥
+
+-- what a store holds after a chunk got a value, or lost the one that it had
+abbrev pub with_value : StoreMap → List ℕ → Option (List ℕ) → StoreMap
+with_value store key None = remove store key
+with_value store key (Some value) = insert store key value
+
+-- a chunk that fits gets the cells of a box where it lies in it, and the value that stands for its new cells
+pub record MakesValue (document : Document) (region : Region) (given : List Cell) (store_empty : Bool) (box : Region) (stored made : Option (List ℕ)) : Type 0 where
+  pub fit : fits_box document box ≡ true
+  pub cells : List Cell
+  pub becomes : CellsBecome document region given stored box cells
+  pub is : IsNewValue document store_empty box.shape cells made
+
+-- the cells that a chunk is to get, and that they are not encoded
+pub record NotEncoded (document : Document) (region : Region) (given : List Cell) (store_empty : Bool) (box : Region) (stored : Option (List ℕ)) (error : ChunkError) : Type 0 where
+  pub fit : fits_box document box ≡ true
+  pub cells : List Cell
+  pub becomes : CellsBecome document region given stored box cells
+  pub refuses : EncodeStops document store_empty box.shape cells error
+
+-- why a chunk gets no new value
+abbrev pub NewValueStops : Document → Region → List Cell → Bool → Region → Option (List ℕ) → ChunkError → Type 0
+NewValueStops document region given store_empty box stored error.Fit = fits_box document box ≡ false
+NewValueStops document region given store_empty box stored (error.Storage e) = fits_box document box ≡ true
+NewValueStops document region given store_empty box stored error.Damage = (fits_box document box ≡ true) × MergeStops document region box stored error.Damage
+NewValueStops document region given store_empty box stored error.Memory = Unit {0}
+NewValueStops document region given store_empty box stored e = NotEncoded document region given store_empty box stored e

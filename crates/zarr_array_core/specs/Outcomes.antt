@@ -1,0 +1,99 @@
+-- What calls over the chunks of an array answer and leave.
+use Rattle.std.specs.Prelude.{◌≡◌, ℕ, ◌+◌, ◌<◌, ◌≤◌, List, take, length, Some, Result, Ok, Err, true, false}
+use Rattle.zarr_grids_boxes.specs.Boxes.{Region, product, places}
+use Rattle.zarr_grids_chunks.specs.Grids.{IsInGrid, intersecting, intersects}
+use Rattle.zarr_codecs_meaning.specs.Payloads.{Payload, cells_in}
+use Rattle.zarr_codecs_meaning.specs.Types.{Cell}
+use Rattle.zarr_codecs_options.specs.declared.codec_options.CodecOptions.{CodecOptions}
+use Rattle.zarr_codecs_arrays.specs.Outcomes.{IsTooLarge}
+use Rattle.zarr_array_meaning.specs.Boxes.{IsRead, IsDamagedIn, IsUnfitIn}
+use Rattle.zarr_array_meaning.specs.Chunks.{IsMet, fits_box}
+use Rattle.zarr_array_meaning.specs.Documents.{Document}
+use Rattle.zarr_array_meaning.specs.StoreMaps.{StoreMap, counted}
+use Rattle.zarr_array_meaning.specs.Writing.{IsPartDamaged, IsCodecRefused, IsOversized, WroteChunks, ErasedChunks}
+use Rattle.zarr_array_core.specs.declared.error.ChunkError.{ChunkError}
+use Rattle.zarr_array_core.specs.declared.error.ChunkError.TheVariants as error
+use Rattle.zarr_array_core.specs.declared.error.ManyError.{ManyError}
+
+-- a box of places, and each chunk that it intersects, has fewer than 2^63 elements and bytes
+pub record IsSmall (document : Document) (region : Region) : Type 0 where
+  pub whole : ¬ IsTooLarge document.elements.type (product region.shape)
+  pub chunks : (chunk : List ℕ) (box : Region) → IsInGrid document.grid chunk box → intersects document.grid region chunk ≡ true → ¬ IsTooLarge document.elements.type (product box.shape)
+
+-- a payload is the cells of a box, as they are read from a store
+pub record GivesBox (path : List ℕ) (document : Document) (store : StoreMap) (region : Region) (payload : Payload) : Type 0 where
+  pub cells : List Cell
+  pub lists : cells_in document.elements.type payload ≡ Some cells
+  pub read : IsRead path document store region cells
+
+-- why a box is not read
+abbrev pub ReadStops : List ℕ → Document → StoreMap → Region → ChunkError → Type 0
+ReadStops path document store region error.Fit = IsUnfitIn path document store region
+ReadStops path document store region (error.Storage e) = Unit {0}
+ReadStops path document store region error.Damage = IsDamagedIn path document store region
+ReadStops path document store region error.Memory = Unit {0}
+ReadStops path document store region e = ⊥
+
+-- the count of refused store calls rises by one where the store refused, and else stays
+abbrev pub refused_with : ChunkError → ℕ → ℕ
+refused_with (error.Storage e) count = counted count 1
+refused_with e count = count
+
+-- the count of refused store calls after a call over chunks
+abbrev pub refused_after : {A : Type 0} → ℕ → Result A ChunkError → ℕ
+refused_after count (Ok value) = count
+refused_after count (Err e) = refused_with e count
+
+-- the count of refused store calls after a call over several chunks
+abbrev pub refused_by_many : {A : Type 0} → ℕ → Result A ManyError → ℕ
+refused_by_many count (Ok value) = count
+refused_by_many count (Err e) = refused_with e.error count
+
+-- the cells of a box were written
+pub record WritesBox (path : List ℕ) (document : Document) (region : Region) (payload : Payload) (options : CodecOptions) (old new : StoreMap) : Type 0 where
+  pub cells : List Cell
+  pub lists : cells_in document.elements.type payload ≡ Some cells
+  pub wrote : WroteChunks path document region cells options (intersecting document.grid region) old new
+
+-- why a chunk is not written
+abbrev pub ChunkStops : List ℕ → Document → StoreMap → Region → List Cell → CodecOptions → List ℕ → Region → ChunkError → Type 0
+ChunkStops path document store region cells options chunk box error.Fit = fits_box document box ≡ false
+ChunkStops path document store region cells options chunk box (error.Storage e) = fits_box document box ≡ true
+ChunkStops path document store region cells options chunk box error.Damage = IsPartDamaged path document store region chunk box
+ChunkStops path document store region cells options chunk box error.Codec = IsCodecRefused path document store region cells options.store_empty_chunks chunk box
+ChunkStops path document store region cells options chunk box error.Size = IsOversized path document store region cells options.store_empty_chunks chunk box
+ChunkStops path document store region cells options chunk box error.Memory = Unit {0}
+
+-- the cells of a box were written to the first of the chunks that it intersects, and why the next one was not written
+pub record WriteStops (path : List ℕ) (document : Document) (region : Region) (payload : Payload) (options : CodecOptions) (old new : StoreMap) (stopped : ManyError) : Type 0 where
+  pub cells : List Cell
+  pub lists : cells_in document.elements.type payload ≡ Some cells
+  pub chunk : List ℕ
+  pub box : Region
+  pub met : IsMet document.grid region stopped.applied chunk box
+  pub stops : ChunkStops path document old region cells options chunk box stopped.error
+  pub wrote : WroteChunks path document region cells options (take stopped.applied (intersecting document.grid region)) old new
+
+-- a count after at most n more; it stands still at 2^128 - 1
+abbrev pub CountsUpTo : ℕ → ℕ → ℕ → Type 0
+CountsUpTo n old new = (counted old 0 ≤ new) × (new ≤ old + n)
+
+-- at most one writing call of the store for each chunk that a box intersects
+abbrev pub CountsWrites : Document → Region → ℕ → ℕ → Type 0
+CountsWrites document region old new = CountsUpTo (length (intersecting document.grid region)) old new
+
+-- why a call of the store, and so an erasure of a chunk, stops
+abbrev pub IsErasureStop : ChunkError → Type 0
+IsErasureStop (error.Storage e) = Unit {0}
+IsErasureStop error.Memory = Unit {0}
+IsErasureStop e = ⊥
+
+-- the first of the chunks were erased, and why the next one was not
+pub record EraseStops (path : List ℕ) (document : Document) (chunks : Region) (old new : StoreMap) (stopped : ManyError) : Type 0 where
+  pub fewer : stopped.applied < product chunks.shape
+  pub stops : IsErasureStop stopped.error
+  pub erased : ErasedChunks path document (take stopped.applied (places chunks.start chunks.shape)) old new
+
+-- at most one writing call of the store for each of these chunks
+abbrev pub CountsErasures : Region → ℕ → ℕ → Type 0
+CountsErasures chunks old new = CountsUpTo (product chunks.shape) old new

@@ -1,0 +1,137 @@
+//! One chunk written.
+ghost use Rattle.std.specs.Prelude.{◌≡◌, IsTrue, OnOk, OnErr, IfErr};
+ghost use Rattle.zarr_array_core.specs.ChunkValues.{with_value};
+ghost use Rattle.zarr_array_core.specs.Outcomes.{IsErasureStop, CountsUpTo, refused_after};
+ghost use Rattle.zarr_array_storage.specs.Stores.{value_bytes};
+
+use crate::array_core::ArrayCore;
+use crate::chunk_value::BoxWrite;
+use crate::error::ChunkError;
+use crate::holding::holds_box;
+use crate::store_calls::{erase, get, set};
+use zarr_array_storage::WritableStorageTraits;
+use zarr_codecs_traits::ArrayToBytesCodecTraits;
+use zarr_grids_keys::StoreKey;
+use zarr_grids_overlay::Extent;
+
+/// Puts a chunk's value at its key, or takes the key away where there is none.
+fn put_value<S: WritableStorageTraits>(
+    store: &mut S,
+    key: &StoreKey,
+    value: Option<Vec<u8>>,
+) -> Result<(), ChunkError>
+    ensures ok { IsTrue (S.is_honest store.old) → OnOk result
+        (S.held store.new ≡ with_value (S.held store.old) key.now (value_bytes value)) }
+    ensures err { IsTrue (S.is_honest store.old) →
+        OnErr result (S.held store.new ≡ S.held store.old) }
+    ensures stops { IfErr result IsErasureStop }
+    ensures honest { S.is_honest store.new ≡ S.is_honest store.old }
+    ensures refused { S.refused_calls store.new ≡
+        refused_after (S.refused_calls store.old) result }
+    ensures counts { CountsUpTo 1 (S.accepted_writes store.old) (S.accepted_writes store.new) }
+{
+    match value {
+        Some(value) => set(store, key, value.as_slice()),
+        None => erase(store, key),
+    }
+}
+
+impl<C: ArrayToBytesCodecTraits> ArrayCore<C> {
+    ghost use Rattle.std.specs.Prelude.{◌≡◌, ◌*◌, ℕ, List, Option, true, length, IsTrue, IfOk, OnOk, OnErr, IfErr};
+    ghost use Rattle.std.specs.FinMap as map;
+    ghost use Rattle.std.specs.List.{list_all};
+    ghost use Rattle.zarr_array_core.specs.ChunkValues.{CellsBecome, MergeStops, MakesValue, NewValueStops, with_value};
+    ghost use Rattle.zarr_array_core.specs.Outcomes.{CountsUpTo, refused_after};
+    ghost use Rattle.zarr_array_core.specs.Views.{document_of};
+    ghost use Rattle.zarr_codecs_arrays.specs.Outcomes.{IsTooLarge};
+    ghost use Rattle.zarr_codecs_meaning.specs.Fits.{fits};
+    ghost use Rattle.zarr_codecs_meaning.specs.Payloads.{fixed_cells};
+    ghost use Rattle.zarr_codecs_meaning.specs.Types.{is_value};
+    ghost use Rattle.zarr_grids_boxes.specs.Boxes.{product};
+    ghost use Rattle.zarr_grids_overlay.specs.Overlays.{extent_of};
+
+    /// The elements of a chunk after a write. Of a chunk that lies in its box nothing is fetched.
+    fn cells_after<S: WritableStorageTraits>(
+        &self,
+        store: &mut S,
+        key: &StoreKey,
+        write: &BoxWrite,
+        chunk: Extent,
+    ) -> Result<Vec<u8>, ChunkError>
+        requires small { ¬ IsTooLarge (document_of C.meaning self.now).elements.type
+            (product chunk.shape.now) }
+        requires fit { fits (document_of C.meaning self.now).chain
+            (document_of C.meaning self.now).elements.type chunk.shape.now ≡ true }
+        requires rank { length write.now.region.start.now ≡ length chunk.start.now }
+        requires many { length write.now.bytes.now
+            ≡ product write.now.region.shape.now * self.now.width }
+        requires values { list_all (is_value (document_of C.meaning self.now).elements.type)
+            (fixed_cells self.now.width write.now.bytes.now) ≡ true }
+        ensures ok { IfOk result (λ bytes. (stored : Option (List ℕ))
+            × (IsTrue (S.is_honest store.old) → stored ≡ map.get (S.held store.old) key.now)
+            × CellsBecome (document_of C.meaning self.now) (extent_of write.now.region)
+            (fixed_cells self.now.width write.now.bytes.now) stored
+            (extent_of chunk.entry) (fixed_cells self.now.width bytes.items)) }
+        ensures length { IfOk result
+            (λ bytes. length bytes.items ≡ product chunk.entry.shape.now * self.now.width) }
+        ensures err { IsTrue (S.is_honest store.old) → IfErr result
+            (MergeStops (document_of C.meaning self.now) (extent_of write.now.region)
+            (extent_of chunk.entry) (map.get (S.held store.old) key.now)) }
+        ensures held { S.held store.new ≡ S.held store.old }
+        ensures honest { S.is_honest store.new ≡ S.is_honest store.old }
+        ensures refused { S.refused_calls store.new ≡
+            refused_after (S.refused_calls store.old) result }
+        ensures accepted { S.accepted_writes store.new ≡ S.accepted_writes store.old }
+    {
+        if holds_box(write.region, chunk) {
+            return self.whole_cells(write, chunk);
+        }
+        let stored = get(store, key)?;
+        self.part_cells(write, chunk, stored)
+    }
+
+    /// Writes the elements of a box that lie in a chunk.
+    pub(crate) fn write_chunk<S: WritableStorageTraits>(
+        &self,
+        store: &mut S,
+        key: &StoreKey,
+        write: &BoxWrite,
+        chunk: Extent,
+    ) -> Result<(), ChunkError>
+        requires small { ¬ IsTooLarge (document_of C.meaning self.now).elements.type
+            (product chunk.shape.now) }
+        requires rank { length write.now.region.start.now ≡ length chunk.start.now }
+        requires many { length write.now.bytes.now
+            ≡ product write.now.region.shape.now * self.now.width }
+        requires values { list_all (is_value (document_of C.meaning self.now).elements.type)
+            (fixed_cells self.now.width write.now.bytes.now) ≡ true }
+        ensures ok { IsTrue (S.is_honest store.old) → OnOk result ((made : Option (List ℕ))
+            × MakesValue (document_of C.meaning self.now) (extent_of write.now.region)
+            (fixed_cells self.now.width write.now.bytes.now)
+            write.now.options.now.store_empty_chunks (extent_of chunk.entry)
+            (map.get (S.held store.old) key.now) made
+            × (S.held store.new ≡ with_value (S.held store.old) key.now made)) }
+        ensures err { IsTrue (S.is_honest store.old) → IfErr result
+            (NewValueStops (document_of C.meaning self.now) (extent_of write.now.region)
+            (fixed_cells self.now.width write.now.bytes.now)
+            write.now.options.now.store_empty_chunks (extent_of chunk.entry)
+            (map.get (S.held store.old) key.now)) }
+        ensures kept { IsTrue (S.is_honest store.old) →
+            OnErr result (S.held store.new ≡ S.held store.old) }
+        ensures honest { S.is_honest store.new ≡ S.is_honest store.old }
+        ensures refused { S.refused_calls store.new ≡
+            refused_after (S.refused_calls store.old) result }
+        ensures counts { CountsUpTo 1 (S.accepted_writes store.old)
+            (S.accepted_writes store.new) }
+    {
+        if !self
+            .codecs
+            .fits(write.alloc, self.elements.data_type(), chunk.shape)?
+        {
+            return Err(ChunkError::Fit);
+        }
+        let bytes = self.cells_after(store, key, write, chunk)?;
+        let value = self.encode_chunk(write, chunk.shape, bytes)?;
+        put_value(store, key, value)
+    }
+}

@@ -1,0 +1,17 @@
+//! Boxes of one array read from a store and written to it, chunk by chunk, whatever the codecs.
+#![tactic(auto)]
+
+pub mod array_core;
+pub mod chunk;
+mod chunk_value;
+mod chunk_writing;
+pub mod erasing;
+pub mod error;
+mod holding;
+pub mod reading;
+pub mod store_calls;
+mod texts;
+pub mod writing;
+
+pub use array_core::ArrayCore;
+pub use error::{ChunkError, ManyError};

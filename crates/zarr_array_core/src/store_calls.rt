@@ -1,0 +1,87 @@
+//! Calls of a store, whose refusals are those of calls over chunks.
+ghost use Rattle.std.specs.Prelude.{◌≡◌, ℕ, IsTrue, IfOk, OnOk, OnErr, IfErr, if◌then◌else◌};
+ghost use Rattle.std.specs.FinMap.{get, insert, remove};
+ghost use Rattle.zarr_array_storage.specs.Refusals.{IfByteRange, is_counted};
+ghost use Rattle.zarr_array_storage.specs.Stores.{counted, value_bytes};
+ghost use Rattle.zarr_array_core.specs.Outcomes.{IsErasureStop, CountsUpTo, refused_after, refused_with};
+
+use crate::error::ChunkError;
+use zarr_array_storage::{ReadableStorageTraits, StorageError, WritableStorageTraits};
+use zarr_grids_keys::StoreKey;
+
+/// Why a call over chunks stops where the store refuses for this reason.
+fn of_storage(error: StorageError) -> ChunkError
+    requires { IfByteRange error ⊥ }
+    ensures stops { IsErasureStop result }
+    ensures refused { (count : ℕ) → refused_with result count
+        ≡ (if is_counted error then counted count 1 else count) }
+{
+    match error {
+        StorageError::Memory => ChunkError::Memory,
+        StorageError::InvalidByteRange => unreachable!(),
+        error => ChunkError::Storage(error),
+    }
+}
+
+/// The value at a key, or `None` where it has none.
+pub(crate) fn get<S: ReadableStorageTraits>(
+    store: &mut S,
+    key: &StoreKey,
+) -> Result<Option<Vec<u8>>, ChunkError>
+    ensures value { IsTrue (S.is_honest store.old) →
+        IfOk result (λ found. value_bytes found ≡ get (S.held store.old) key.now) }
+    ensures stops { IfErr result IsErasureStop }
+    ensures held { S.held store.new ≡ S.held store.old }
+    ensures honest { S.is_honest store.new ≡ S.is_honest store.old }
+    ensures refused { S.refused_calls store.new ≡
+        refused_after (S.refused_calls store.old) result }
+    ensures accepted { S.accepted_writes store.new ≡ S.accepted_writes store.old }
+{
+    match store.get(key) {
+        Ok(found) => Ok(found),
+        Err(error) => Err(of_storage(error)),
+    }
+}
+
+/// Puts a value at a key.
+pub(crate) fn set<S: WritableStorageTraits>(
+    store: &mut S,
+    key: &StoreKey,
+    value: &[u8],
+) -> Result<(), ChunkError>
+    ensures ok { IsTrue (S.is_honest store.old) → OnOk result
+        (S.held store.new ≡ insert (S.held store.old) key.now value.now) }
+    ensures err { IsTrue (S.is_honest store.old) →
+        OnErr result (S.held store.new ≡ S.held store.old) }
+    ensures stops { IfErr result IsErasureStop }
+    ensures honest { S.is_honest store.new ≡ S.is_honest store.old }
+    ensures refused { S.refused_calls store.new ≡
+        refused_after (S.refused_calls store.old) result }
+    ensures counts { CountsUpTo 1 (S.accepted_writes store.old) (S.accepted_writes store.new) }
+{
+    match store.set(key, value) {
+        Ok(()) => Ok(()),
+        Err(error) => Err(of_storage(error)),
+    }
+}
+
+/// Takes the value at a key away. A key that has none is fine.
+pub(crate) fn erase<S: WritableStorageTraits>(
+    store: &mut S,
+    key: &StoreKey,
+) -> Result<(), ChunkError>
+    ensures ok { IsTrue (S.is_honest store.old) → OnOk result
+        (S.held store.new ≡ remove (S.held store.old) key.now) }
+    ensures err { IsTrue (S.is_honest store.old) →
+        OnErr result (S.held store.new ≡ S.held store.old) }
+    ensures stops { IfErr result IsErasureStop }
+    ensures honest { S.is_honest store.new ≡ S.is_honest store.old }
+    ensures refused { S.refused_calls store.new ≡
+        refused_after (S.refused_calls store.old) result }
+    ensures counts { CountsUpTo 1 (S.accepted_writes store.old) (S.accepted_writes store.new) }
+{
+    match store.erase(key) {
+        Ok(()) => Ok(()),
+        Err(error) => Err(of_storage(error)),
+    }
+}

@@ -1,0 +1,178 @@
+//! Boxes written chunk by chunk.
+use crate::array_core::ArrayCore;
+use crate::chunk_value::BoxWrite;
+use crate::error::{ChunkError, ManyError};
+use std::alloc::Global;
+use zarr_array_storage::WritableStorageTraits;
+use zarr_codecs_arrays::ArrayBytes;
+use zarr_codecs_options::CodecOptions;
+use zarr_codecs_traits::ArrayToBytesCodecTraits;
+use zarr_grids_boxes::ArraySubset;
+use zarr_grids_boxes::walk::{count_places, place_into};
+use zarr_grids_overlay::Extent;
+
+impl<C: ArrayToBytesCodecTraits> ArrayCore<C> {
+    ghost use Rattle.std.specs.Prelude.{◌≡◌, ◌<◌, ◌*◌, ℕ, List, Option, true, length, IsTrue, OnOk, OnErr, IfErr};
+    ghost use Rattle.std.specs.List.{list_all};
+    ghost use Rattle.zarr_grids_boxes.specs.Boxes.{Region, product};
+    ghost use Rattle.zarr_grids_boxes.specs.Subsets.{region_of};
+    ghost use Rattle.zarr_grids_chunks.specs.Grids.{IsCovered, IsInGrid, intersects, intersecting};
+    ghost use Rattle.zarr_grids_cover.specs.Intersecting.{AreIntersecting};
+    ghost use Rattle.zarr_grids_keys.specs.Keys.{chunk_key};
+    ghost use Rattle.zarr_grids_overlay.specs.Overlays.{extent_of};
+    ghost use Rattle.zarr_codecs_meaning.specs.Payloads.{fixed, fixed_cells};
+    ghost use Rattle.zarr_codecs_meaning.specs.Types.{Cell, is_value};
+    ghost use Rattle.zarr_codecs_arrays.specs.Outcomes.{IsValid};
+    ghost use Rattle.zarr_codecs_arrays.specs.Views.{payload_of};
+    ghost use Rattle.zarr_array_meaning.specs.Chunks.{stored_at};
+    ghost use Rattle.zarr_array_meaning.specs.Writing.{WroteChunks};
+    ghost use Rattle.zarr_array_core.specs.Views.{document_of, path_of};
+    ghost use Rattle.zarr_array_core.specs.ChunkValues.{MakesValue, NewValueStops, with_value};
+    ghost use Rattle.zarr_array_core.specs.Outcomes.{WritesBox, WriteStops, CountsWrites, CountsUpTo, IsSmall, refused_after, refused_by_many};
+
+    /// Writes the elements of a region that is not empty, row-major, chunk by chunk: `bytes` are as
+    /// many values of the array's data type as the region has places, and `chunks` is the box of
+    /// the chunks that it intersects. A chunk that becomes all fill loses its key, unless empty
+    /// chunks are stored. Each chunk takes at most one writing call of the store. A chunk that lies
+    /// in the region is written whatever is stored for it, and nothing is fetched for it.
+    ///
+    /// `Fit` where a chunk does not fit its codecs, `Damage` where a part of a chunk is to stay and
+    /// what is stored cannot be decoded, `Codec` where a codec refuses to encode, `Size` where an
+    /// offset or a length is too large for where it is written, `Storage` where the store refuses.
+    /// The chunks before the one that stopped stay written.
+    pub fn write_region<S: WritableStorageTraits>(
+        &self,
+        alloc: Global,
+        store: &mut S,
+        region: &ArraySubset,
+        chunks: &ArraySubset,
+        bytes: &ArrayBytes,
+        options: &CodecOptions,
+    ) -> Result<(), ManyError>
+        requires covered { IsCovered (document_of C.meaning self.now).grid (region_of region.now) }
+        requires some { 0 < product region.now.shape.items }
+        requires small { IsSmall (document_of C.meaning self.now) (region_of region.now) }
+        requires intersecting { AreIntersecting (document_of C.meaning self.now).grid
+            (region_of region.now) (region_of chunks.now) }
+        requires valid { (cells : List Cell)
+            × IsValid (document_of C.meaning self.now).elements.type
+            (payload_of bytes.now) (product region.now.shape.items) cells }
+        ensures ok { IsTrue (S.is_honest store.old) → OnOk result
+            (WritesBox (path_of self.now) (document_of C.meaning self.now) (region_of region.now)
+            (payload_of bytes.now) options.now (S.held store.old) (S.held store.new)) }
+        ensures err { IsTrue (S.is_honest store.old) → IfErr result
+            (WriteStops (path_of self.now) (document_of C.meaning self.now) (region_of region.now)
+            (payload_of bytes.now) options.now (S.held store.old) (S.held store.new)) }
+        ensures honest { S.is_honest store.new ≡ S.is_honest store.old }
+        ensures refused { S.refused_calls store.new ≡
+            refused_by_many (S.refused_calls store.old) result }
+        ensures counts { CountsWrites (document_of C.meaning self.now) (region_of region.now)
+            (S.accepted_writes store.old) (S.accepted_writes store.new) }
+    {
+        let ArrayBytes::Fixed(given) = bytes else {
+            unreachable!();
+        };
+        let (start, shape) = (region.start(), region.shape());
+        let write = BoxWrite {
+            alloc,
+            region: Extent { start, shape },
+            bytes: given.as_slice(),
+            options,
+        };
+        self.write_chunks(store, &write, chunks)
+    }
+
+    /// Writes the elements of a box to each chunk that it intersects.
+    fn write_chunks<S: WritableStorageTraits>(
+        &self,
+        store: &mut S,
+        write: &BoxWrite,
+        chunks: &ArraySubset,
+    ) -> Result<(), ManyError>
+        requires rank { length write.now.region.start.now
+            ≡ length (document_of C.meaning self.now).grid }
+        requires some { 0 < product chunks.now.shape.items }
+        requires small { IsSmall (document_of C.meaning self.now) (extent_of write.now.region) }
+        requires intersecting { AreIntersecting (document_of C.meaning self.now).grid
+            (extent_of write.now.region) (region_of chunks.now) }
+        requires many { length write.now.bytes.now
+            ≡ product write.now.region.shape.now * self.now.width }
+        requires values { list_all (is_value (document_of C.meaning self.now).elements.type)
+            (fixed_cells self.now.width write.now.bytes.now) ≡ true }
+        ensures ok { IsTrue (S.is_honest store.old) → OnOk result (WroteChunks (path_of self.now)
+            (document_of C.meaning self.now) (extent_of write.now.region)
+            (fixed_cells self.now.width write.now.bytes.now) write.now.options.now
+            (intersecting (document_of C.meaning self.now).grid (extent_of write.now.region))
+            (S.held store.old) (S.held store.new)) }
+        ensures err { IsTrue (S.is_honest store.old) → IfErr result (WriteStops (path_of self.now)
+            (document_of C.meaning self.now) (extent_of write.now.region)
+            (fixed write.now.bytes.now) write.now.options.now
+            (S.held store.old) (S.held store.new)) }
+        ensures honest { S.is_honest store.new ≡ S.is_honest store.old }
+        ensures refused { S.refused_calls store.new ≡
+            refused_by_many (S.refused_calls store.old) result }
+        ensures counts { CountsUpTo (product chunks.now.shape.items)
+            (S.accepted_writes store.old) (S.accepted_writes store.new) }
+    {
+        let count = count_places(chunks.shape()).unwrap();
+        let Ok(mut room) = vec![in write.alloc; 0; chunks.dimensionality()] else {
+            let error = ChunkError::Memory;
+            return Err(ManyError { applied: 0, error });
+        };
+        let chunk = room.as_mut_slice();
+        for n in 0..count {
+            place_into(chunks.start(), chunks.shape(), count, n, chunk);
+            match self.write_at(store, write, chunk) {
+                Ok(()) => {}
+                Err(error) => return Err(ManyError { applied: n, error }),
+            }
+        }
+        Ok(())
+    }
+
+    /// Writes the elements of a box that lie in a chunk.
+    fn write_at<S: WritableStorageTraits>(
+        &self,
+        store: &mut S,
+        write: &BoxWrite,
+        chunk: &[u64],
+    ) -> Result<(), ChunkError>
+        requires below { (box : Region)
+            × IsInGrid (document_of C.meaning self.now).grid chunk.now box }
+        requires shares { intersects (document_of C.meaning self.now).grid
+            (extent_of write.now.region) chunk.now ≡ true }
+        requires small { IsSmall (document_of C.meaning self.now) (extent_of write.now.region) }
+        requires rank { length write.now.region.start.now
+            ≡ length (document_of C.meaning self.now).grid }
+        requires many { length write.now.bytes.now
+            ≡ product write.now.region.shape.now * self.now.width }
+        requires values { list_all (is_value (document_of C.meaning self.now).elements.type)
+            (fixed_cells self.now.width write.now.bytes.now) ≡ true }
+        ensures ok { IsTrue (S.is_honest store.old) → OnOk result
+            ((box : Region) × (made : Option (List ℕ))
+            × IsInGrid (document_of C.meaning self.now).grid chunk.now box
+            × MakesValue (document_of C.meaning self.now) (extent_of write.now.region)
+            (fixed_cells self.now.width write.now.bytes.now)
+            write.now.options.now.store_empty_chunks box (stored_at (path_of self.now)
+            (document_of C.meaning self.now) (S.held store.old) chunk.now) made
+            × (S.held store.new ≡ with_value (S.held store.old) (chunk_key (path_of self.now)
+            (document_of C.meaning self.now).keys chunk.now) made)) }
+        ensures err { IsTrue (S.is_honest store.old) → IfErr result (λ e. (box : Region)
+            × IsInGrid (document_of C.meaning self.now).grid chunk.now box
+            × NewValueStops (document_of C.meaning self.now) (extent_of write.now.region)
+            (fixed_cells self.now.width write.now.bytes.now)
+            write.now.options.now.store_empty_chunks box (stored_at (path_of self.now)
+            (document_of C.meaning self.now) (S.held store.old) chunk.now) e) }
+        ensures kept { IsTrue (S.is_honest store.old) →
+            OnErr result (S.held store.new ≡ S.held store.old) }
+        ensures honest { S.is_honest store.new ≡ S.is_honest store.old }
+        ensures refused { S.refused_calls store.new ≡
+            refused_after (S.refused_calls store.old) result }
+        ensures counts { CountsUpTo 1 (S.accepted_writes store.old) (S.accepted_writes store.new) }
+    {
+        let key = self.key_of(write.alloc, chunk)?;
+        let own = self.box_of(write.alloc, chunk)?;
+        let (start, shape) = (own.start(), own.shape());
+        self.write_chunk(store, &key, write, Extent { start, shape })
+    }
+}

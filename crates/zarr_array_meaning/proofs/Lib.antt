@@ -1,0 +1,6 @@
+pub mod Points
+pub mod ReadsBack
+pub mod Showing
+pub mod ShownValues
+pub mod WrittenDocuments
+pub mod WrittenFields

@@ -1,0 +1,89 @@
+-- Written documents: they open, say the same with the mark, and stay when they are written again.
+use Rattle.std.proofs.Common.{◌≡◌, ℕ, List, bytes_eq, codes, Bool, true, false, Option, Some, None, option_map, if◌then◌else◌, refl, ap, ◌∙◌}
+use Rattle.serde_json.specs.Data.{Data, null, boolean, number, string, array, object, Members, put}
+use Rattle.serde_json.specs.Find.{get_member}
+use Rattle.zarr_grids_metadata.proofs.PutLemmas.{get_put_same, get_put_other, put_put}
+use Rattle.zarr_array_meaning.specs.Parts.{dimension_names_in}
+use Rattle.zarr_array_meaning.specs.Written.{mark, marked, is_given, is_left_out, written_value, written_fields, given_attributes, written_members, written_document}
+use Rattle.zarr_array_meaning.proofs.WrittenFields.{get_member-written_fields, get_member-left_out, written_fields-put}
+
+-- ---- the fields
+
+-- what is put among the fields: the attributes with the mark
+abbrev pub marked_attributes : Members → Data
+marked_attributes ms = object (marked (given_attributes ms))
+
+abbrev pub names_given : Members → Bool
+names_given ms = is_given (get_member (codes "dimension_names") ms)
+
+pub get_attributes : (ms : Members) → get_member (codes "attributes") (written_members ms) ≡ Some (marked_attributes ms)
+get_attributes ms = get_put_same (codes "attributes") (marked_attributes ms) (written_fields (names_given ms) ms)
+
+-- a field that stands beside the attributes, and is written
+pub get_written : (k : List ℕ) (ms : Members) → bytes_eq k (codes "attributes") ≡ false → is_left_out (names_given ms) k ≡ false → get_member k (written_members ms) ≡ option_map (written_value k) (get_member k ms)
+get_written k ms apart kept =
+    get_put_other k (codes "attributes") (marked_attributes ms) (written_fields (names_given ms) ms) apart ∙ get_member-written_fields (names_given ms) k ms kept
+
+pub get_left_out : (k : List ℕ) (ms : Members) → bytes_eq k (codes "attributes") ≡ false → is_left_out (names_given ms) k ≡ true → get_member k (written_members ms) ≡ None
+get_left_out k ms apart out =
+    get_put_other k (codes "attributes") (marked_attributes ms) (written_fields (names_given ms) ms) apart ∙ get_member-left_out (names_given ms) k ms out
+
+plain : (k : List ℕ) (o : Option Data) → ((d : Data) → written_value k d ≡ d) → option_map (written_value k) o ≡ o
+plain k None h = refl
+plain k (Some d) h = rw (h d)
+
+-- one that is written as it is
+pub get_plain : (k : List ℕ) (ms : Members) → bytes_eq k (codes "attributes") ≡ false → is_left_out (names_given ms) k ≡ false → ((d : Data) → written_value k d ≡ d) → get_member k (written_members ms) ≡ get_member k ms
+get_plain k ms apart kept h = get_written k ms apart kept ∙ plain k (get_member k ms) h
+
+-- ---- the names
+
+abbrev pub get_names : Members → Option Data
+get_names ms = get_member (codes "dimension_names") ms
+
+get_names_at : (given : Bool) (ms : Members) → names_given ms ≡ given → get_names (written_members ms) ≡ (if given then get_names ms else None)
+get_names_at true ms is = get_plain (codes "dimension_names") ms refl (rw is) (λ d. refl)
+get_names_at false ms is = get_left_out (codes "dimension_names") ms refl (rw is)
+
+given_at : (given : Bool) (o : Option Data) → is_given o ≡ given → is_given (if given then o else None) ≡ given
+given_at true o is = is
+given_at false o is = refl
+
+names_given-written : (ms : Members) → names_given (written_members ms) ≡ names_given ms
+names_given-written ms = ap is_given (get_names_at (names_given ms) ms refl) ∙ given_at (names_given ms) (get_names ms) refl
+
+names_at : (o : Option Data) (dimensions : ℕ) → dimension_names_in dimensions (if is_given o then o else None) ≡ dimension_names_in dimensions o
+names_at None dimensions = refl
+names_at (Some null) dimensions = refl
+names_at (Some (boolean b)) dimensions = refl
+names_at (Some (number n)) dimensions = refl
+names_at (Some (string s)) dimensions = refl
+names_at (Some (array ds)) dimensions = refl
+names_at (Some (object ms)) dimensions = refl
+
+pub names-written : (ms : Members) (dimensions : ℕ) → dimension_names_in dimensions (get_names (written_members ms)) ≡ dimension_names_in dimensions (get_names ms)
+names-written ms dimensions = ap (dimension_names_in dimensions) (get_names_at (names_given ms) ms refl) ∙ names_at (get_names ms) dimensions
+
+-- ---- written once
+
+given_attributes-written : (ms : Members) → given_attributes (written_members ms) ≡ marked (given_attributes ms)
+given_attributes-written ms = rw (get_attributes ms)
+
+written_members-twice : (ms : Members) → written_members (written_members ms) ≡ written_members ms
+written_members-twice ms =
+    let written = written_members ms in
+    let attributes = marked_attributes ms in
+    let fields = written_fields (names_given ms) ms in
+    let same : marked_attributes written ≡ attributes = ap (λ as'. object (marked as')) (given_attributes-written ms) ∙ ap object (put_put (codes "_zarrs") mark mark (given_attributes ms)) in
+    ap (λ d. put (codes "attributes") d (written_fields (names_given written) written)) same
+    ∙ ap (λ given. put (codes "attributes") attributes (written_fields given written)) (names_given-written ms)
+    ∙ ap (put (codes "attributes") attributes) (written_fields-put (names_given ms) (codes "attributes") attributes ms refl refl)
+    ∙ put_put (codes "attributes") attributes attributes fields
+
+pub written_document-twice : (d : Data) → written_document (written_document d) ≡ written_document d
+written_document-twice null = refl
+written_document-twice (boolean b) = refl
+written_document-twice (number n) = refl
+written_document-twice (string s) = refl
+written_document-twice (array ds) = refl
+written_document-twice (object ms) = ap object (written_members-twice ms)

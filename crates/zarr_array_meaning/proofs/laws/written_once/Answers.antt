@@ -1,0 +1,5 @@
+use Rattle.zarr_array_meaning.proofs.WrittenDocuments.{written_document-twice}
+use Rattle.zarr_array_meaning.proofs.laws.written_once.Goals as goal
+
+pub returns : goal.returns
+returns c = written_document-twice

@@ -1,0 +1,47 @@
+-- Boxes of cells read from a store, whatever is stored.
+use Rattle.std.specs.Prelude.{◌≡◌, ℕ, List, length, slice_index_or, Option, None, true, false, is_some, ◌&&◌, if◌then◌else◌}
+use Rattle.std.specs.List.{list_any}
+use Rattle.zarr_grids_boxes.specs.Boxes.{Region, product, is_in_box}
+use Rattle.zarr_grids_chunks.specs.Grids.{Grid, IsInGrid, intersects, lies_in_chunk}
+use Rattle.zarr_codecs_meaning.specs.Types.{Cell}
+use Rattle.zarr_array_meaning.specs.Chunks.{number_in, stored_at, fits_box, part_at, ReadsCell}
+use Rattle.zarr_array_meaning.specs.Documents.{Document}
+use Rattle.zarr_array_meaning.specs.StoreMaps.{StoreMap}
+
+-- the cell that a box's list of cells has at a place of the box
+abbrev pub cell_of_box : Region → List Cell → Cell → List ℕ → Cell
+cell_of_box region cells other place = slice_index_or cells (number_in region place) other
+
+-- the cells after those of a box that lie in one of these chunks were replaced by new ones
+abbrev pub with_chunks : Grid → Region → List (List ℕ) → (List ℕ → Cell) → (List ℕ → Cell) → List ℕ → Cell
+with_chunks grid region chunks new old place = if is_in_box region.start region.shape place && list_any (lies_in_chunk grid place) chunks then new place else old place
+
+-- a place of a box that lies in a chunk in the grid
+pub record IsPlaceOf (document : Document) (region : Region) (chunk : List ℕ) (box : Region) (place : List ℕ) : Type 0 where
+  pub below : IsInGrid document.grid chunk box
+  pub of_region : is_in_box region.start region.shape place ≡ true
+  pub of_chunk : is_in_box box.start box.shape place ≡ true
+
+-- cells are those of a box as they are read: each is what its chunk's value is decoded to at its place, and the fill value where nothing is stored
+pub record IsRead (path : List ℕ) (document : Document) (store : StoreMap) (region : Region) (cells : List Cell) : Type 0 where
+  pub many : length cells ≡ product region.shape
+  pub each : (chunk : List ℕ) (box : Region) (place : List ℕ) → IsPlaceOf document region chunk box place → ReadsCell path document store chunk box place (cell_of_box region cells document.elements.fill place)
+  pub fit : (chunk : List ℕ) (box : Region) → IsInGrid document.grid chunk box → intersects document.grid region chunk ≡ true → is_some (stored_at path document store chunk) ≡ true → fits_box document box ≡ true
+
+-- a chunk that a box intersects fits the chain, and a place of both is damaged
+pub record IsDamagedIn (path : List ℕ) (document : Document) (store : StoreMap) (region : Region) : Type 0 where
+  pub chunk : List ℕ
+  pub box : Region
+  pub place : List ℕ
+  pub is : IsPlaceOf document region chunk box place
+  pub fit : fits_box document box ≡ true
+  pub lost : part_at path document store chunk box place ≡ None
+
+-- a chunk that a box intersects does not fit the chain, and has a value
+pub record IsUnfitIn (path : List ℕ) (document : Document) (store : StoreMap) (region : Region) : Type 0 where
+  pub chunk : List ℕ
+  pub box : Region
+  pub below : IsInGrid document.grid chunk box
+  pub shares : intersects document.grid region chunk ≡ true
+  pub stored : is_some (stored_at path document store chunk) ≡ true
+  pub fit : fits_box document box ≡ false

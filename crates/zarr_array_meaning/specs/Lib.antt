@@ -1,0 +1,10 @@
+pub mod StoreMaps
+pub mod Parts
+pub mod Documents
+pub mod Written
+pub mod Texts
+pub mod Laws
+pub mod Chunks
+pub mod Boxes
+pub mod Standing
+pub mod Writing

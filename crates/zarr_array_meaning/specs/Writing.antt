@@ -1,0 +1,82 @@
+-- What writing a box of cells makes of the chunks that it intersects.
+use Rattle.std.specs.Prelude.{◌≡◌, ◌⊎◌, ℕ, ◌^◌, ◌≤◌, List, length, replicate, Some, None, Bool, true, false, not, ◌&&◌, is_some, MatchBool}
+use Rattle.zarr_grids_boxes.specs.Boxes.{Region, product, is_in_box}
+use Rattle.zarr_grids_chunks.specs.Grids.{IsInGrid}
+use Rattle.zarr_codecs_meaning.specs.Types.{Cell, is_fill}
+use Rattle.zarr_codecs_options.specs.declared.codec_options.CodecOptions.{CodecOptions}
+use Rattle.zarr_codecs_meaning.specs.Encoding.{encoded}
+use Rattle.zarr_codecs_meaning.specs.Partial.{encodes_in_part}
+use Rattle.zarr_codecs_meaning.specs.Refusals.{CodecRefuses, PassesIndex}
+use Rattle.zarr_codecs_meaning.specs.Standing.{Stands}
+use Rattle.zarr_array_meaning.specs.Boxes.{cell_of_box, with_chunks}
+use Rattle.zarr_array_meaning.specs.Chunks.{stored_at, fits_box, decoded_at, part_at, ReadsCell, holds_box, is_listed, KeepsOtherKeys}
+use Rattle.zarr_array_meaning.specs.Documents.{Document}
+use Rattle.zarr_array_meaning.specs.Standing.{ChunkStandsAt, IsLossless, AreValues}
+use Rattle.zarr_array_meaning.specs.StoreMaps.{StoreMap}
+
+-- the cells of a chunk after a write of a box: the given ones in the box, and those that were decoded where cells are to stay
+pub record ChunkBecomes (path : List ℕ) (document : Document) (store : StoreMap) (region : Region) (values : List Cell) (chunk : List ℕ) (box : Region) (cells : List Cell) : Type 0 where
+  pub many : length cells ≡ product box.shape
+  pub written : (place : List ℕ) → is_in_box region.start region.shape place ≡ true → is_in_box box.start box.shape place ≡ true
+      → cell_of_box box cells document.elements.fill place ≡ cell_of_box region values document.elements.fill place
+  pub kept : holds_box region box ≡ false → (before : List Cell) × (decoded_at path document store chunk box ≡ Some before)
+      × ((place : List ℕ) → is_in_box region.start region.shape place ≡ false → is_in_box box.start box.shape place ≡ true
+      → cell_of_box box cells document.elements.fill place ≡ cell_of_box box before document.elements.fill place)
+
+-- a chunk of which a part is to stay is damaged
+pub record IsPartDamaged (path : List ℕ) (document : Document) (store : StoreMap) (region : Region) (chunk : List ℕ) (box : Region) : Type 0 where
+  pub fit : fits_box document box ≡ true
+  pub part : holds_box region box ≡ false
+  pub lost : decoded_at path document store chunk box ≡ None
+
+-- the caller's codec refuses bytes that encoding the chunk's new cells calls for; cells that are all fill are encoded only where empty chunks are stored
+pub record IsCodecRefused (path : List ℕ) (document : Document) (store : StoreMap) (region : Region) (values : List Cell) (store_empty : Bool) (chunk : List ℕ) (box : Region) : Type 0 where
+  pub fit : fits_box document box ≡ true
+  pub cells : List Cell
+  pub becomes : ChunkBecomes path document store region values chunk box cells
+  pub called : store_empty ≡ false → is_fill document.elements.fill cells ≡ false
+  pub refuses : CodecRefuses document.chain document.elements box.shape cells
+
+-- an offset or a length passes where it is written, or the chunk's value has 2^63 bytes or more
+pub record IsOversized (path : List ℕ) (document : Document) (store : StoreMap) (region : Region) (values : List Cell) (store_empty : Bool) (chunk : List ℕ) (box : Region) : Type 0 where
+  pub fit : fits_box document box ≡ true
+  pub cells : List Cell
+  pub becomes : ChunkBecomes path document store region values chunk box cells
+  pub called : store_empty ≡ false → is_fill document.elements.fill cells ≡ false
+  pub passes : PassesIndex document.chain document.elements box.shape cells ⊎ ((value : List ℕ) × (encoded document.chain document.elements box.shape cells ≡ Some value) × (2 ^ 63 ≤ length value))
+
+-- whether a write may encode a chunk in part: the option says so, a part of the chunk is to stay, and the chain can
+abbrev pub may_be_in_part : Document → CodecOptions → Region → Region → Bool
+may_be_in_part document options region box = options.experimental_partial_encoding && (not (holds_box region box) && encodes_in_part document.chain)
+
+-- of these chunks each that is written whole has a key where empty chunks are stored; where they aren't, none has a value that stands for the fill value alone
+pub record HasKeys (path : List ℕ) (document : Document) (region : Region) (options : CodecOptions) (chunks : List (List ℕ)) (store : StoreMap) : Type 0 where
+  pub stored : options.store_empty_chunks ≡ true → (chunk : List ℕ) (box : Region) → IsInGrid document.grid chunk box → may_be_in_part document options region box ≡ false → is_listed chunks chunk ≡ true
+      → is_some (stored_at path document store chunk) ≡ true
+  pub erased : IsLossless document → options.store_empty_chunks ≡ false → (chunk : List ℕ) (box : Region) → IsInGrid document.grid chunk box → may_be_in_part document options region box ≡ false → is_listed chunks chunk ≡ true
+      → (value : List ℕ) → stored_at path document store chunk ≡ Some value → ¬ Stands document.chain document.elements box.shape value (replicate (product box.shape) document.elements.fill)
+
+-- whatever was stored, each of these chunks is read as the given cells at the places of the box, and as before at its other places
+abbrev pub ShowsWritten : List ℕ → Document → Region → List Cell → List (List ℕ) → StoreMap → StoreMap → Type 0
+ShowsWritten path document region values chunks old new = (chunk : List ℕ) (box : Region) (place : List ℕ) → IsInGrid document.grid chunk box → is_listed chunks chunk ≡ true → is_in_box box.start box.shape place ≡ true
+    → MatchBool (is_in_box region.start region.shape place) (ReadsCell path document new chunk box place (cell_of_box region values document.elements.fill place))
+    (part_at path document new chunk box place ≡ part_at path document old chunk box place)
+
+-- the cells of a box are given to some of the chunks that it intersects. Where the chain keeps every bit, each chunk is read so afterwards; one that stood for its cells stands for its new ones;
+-- and one that lies in the box stands for the given cells, whatever was stored. Each chunk fits, one of which a part is to stay was not damaged, and only those chunks' keys changed
+pub record WroteChunks (path : List ℕ) (document : Document) (region : Region) (values : List Cell) (options : CodecOptions) (chunks : List (List ℕ)) (old new : StoreMap) : Type 0 where
+  pub fit : (chunk : List ℕ) (box : Region) → IsInGrid document.grid chunk box → is_listed chunks chunk ≡ true → fits_box document box ≡ true
+  pub undamaged : (chunk : List ℕ) (box : Region) → IsInGrid document.grid chunk box → is_listed chunks chunk ≡ true → holds_box region box ≡ false → may_be_in_part document options region box ≡ false
+      → is_some (decoded_at path document old chunk box) ≡ true
+  pub shows : IsLossless document → ShowsWritten path document region values chunks old new
+  pub keeps : IsLossless document → (cells : List ℕ → Cell) → AreValues document cells → (chunk : List ℕ) (box : Region) → IsInGrid document.grid chunk box → ChunkStandsAt path document old chunk box cells
+      → ChunkStandsAt path document new chunk box (with_chunks document.grid region chunks (cell_of_box region values document.elements.fill) cells)
+  pub makes : IsLossless document → (chunk : List ℕ) (box : Region) → IsInGrid document.grid chunk box → is_listed chunks chunk ≡ true → holds_box region box ≡ true
+      → ChunkStandsAt path document new chunk box (cell_of_box region values document.elements.fill)
+  pub others : KeepsOtherKeys path document chunks old new
+  pub keys : HasKeys path document region options chunks new
+
+-- some chunks are erased: they have no key, and no other key changed
+pub record ErasedChunks (path : List ℕ) (document : Document) (chunks : List (List ℕ)) (old new : StoreMap) : Type 0 where
+  pub gone : (chunk : List ℕ) → is_listed chunks chunk ≡ true → stored_at path document new chunk ≡ None
+  pub others : KeepsOtherKeys path document chunks old new

@@ -1,0 +1,84 @@
+-- The documents that are written (this project's profile): the tree of a document that was read, with each extension point in its shortest form and a mark among the attributes.
+use Rattle.std.specs.Prelude.{ℕ, List, [], ◌∷◌, bytes_eq, codes, Bool, true, false, not, ◌&&◌, ◌||◌, if◌then◌else◌, Option, Some, None, option_and_then, unwrap_or}
+use Rattle.std.specs.List.{list_any}
+use Rattle.serde_json.specs.Data.{Data, null, boolean, number, string, array, object, Items, no_items, item, Members, no_members, member, put}
+use Rattle.serde_json.specs.Find.{get_member, as_object}
+use Rattle.zarr_grids_metadata.specs.ExtensionPoints.{written_point_in}
+use Rattle.zarr_array_meaning.specs.Documents.{Metadata}
+
+-- each extension point of a list, as it is written
+abbrev pub written_points : Items → Items
+written_points no_items = no_items
+written_points (item d ds) = item (written_point_in d) (written_points ds)
+
+-- the codecs as they are written
+abbrev pub written_codecs : Data → Data
+written_codecs null = null
+written_codecs (boolean b) = boolean b
+written_codecs (number n) = number n
+written_codecs (string s) = string s
+written_codecs (array ds) = array (written_points ds)
+written_codecs (object ms) = object ms
+
+-- the mark that is put among the attributes
+abbrev pub mark : Data
+mark = object (
+    member (codes "description") (string (codes "This array was created with zarrs")) (
+    member (codes "repository") (string (codes "https://github.com/zarrs/zarrs")) (
+    member (codes "version") (string (codes "0.23.13")) no_members)))
+
+-- attributes with the mark
+abbrev pub marked : Members → Members
+marked attributes = put (codes "_zarrs") mark attributes
+
+-- the fields whose value is one extension point
+abbrev pub point_names : List (List ℕ)
+point_names = codes "data_type" ∷ codes "chunk_grid" ∷ codes "chunk_key_encoding" ∷ []
+
+-- whether dimension names are given: the field is there, and not null
+abbrev pub is_given : Option Data → Bool
+is_given None = false
+is_given (Some null) = false
+is_given (Some (boolean b)) = true
+is_given (Some (number n)) = true
+is_given (Some (string s)) = true
+is_given (Some (array ds)) = true
+is_given (Some (object ms)) = true
+
+-- whether a field isn't written: storage transformers never are, and dimension names only where they are given
+abbrev pub is_left_out : Bool → List ℕ → Bool
+is_left_out has_names name = bytes_eq name (codes "storage_transformers") || (bytes_eq name (codes "dimension_names") && not has_names)
+
+-- the value of a field, as it is written
+abbrev pub written_value : List ℕ → Data → Data
+written_value name d = if list_any (bytes_eq name) point_names then written_point_in d else (if bytes_eq name (codes "codecs") then written_codecs d else d)
+
+-- the fields that are written, each with its value
+abbrev pub written_fields : Bool → Members → Members
+written_fields has_names no_members = no_members
+written_fields has_names (member name d ms) = if is_left_out has_names name then written_fields has_names ms else member name (written_value name d) (written_fields has_names ms)
+
+-- members with a field that is put among them as it is written, unless it is left out
+abbrev pub with_field : Bool → List ℕ → Data → Members → Members
+with_field has_names name d ms = if is_left_out has_names name then ms else put name (written_value name d) ms
+
+-- the attributes that a document gives
+abbrev pub given_attributes : Members → Members
+given_attributes ms = unwrap_or (option_and_then as_object (get_member (codes "attributes") ms)) no_members
+
+-- the document that is written for a document
+abbrev pub written_members : Members → Members
+written_members ms = put (codes "attributes") (object (marked (given_attributes ms))) (written_fields (is_given (get_member (codes "dimension_names") ms)) ms)
+
+-- the document that is written for a document: each extension point in its shortest form, no storage transformers, no null names, and the attribute `_zarrs` added to the given ones; a tree that is no object stays
+abbrev pub written_document : Data → Data
+written_document null = null
+written_document (boolean b) = boolean b
+written_document (number n) = number n
+written_document (string s) = string s
+written_document (array ds) = array ds
+written_document (object ms) = object (written_members ms)
+
+-- what a document says, with the mark
+abbrev pub with_mark : Metadata → Metadata
+with_mark metadata = record metadata { attributes = marked metadata.attributes }

@@ -1,0 +1,3 @@
+pub mod Grids
+pub mod Meanings
+pub mod Views

@@ -1,0 +1,122 @@
+//! What the fields of a document say.
+ghost use Rattle.std.specs.Prelude.{◌≡◌, ◌≢◌, IfOk, IfErr, Ok, Err, true, map, option_map};
+ghost use Rattle.std.specs.Option.{ok_or};
+ghost use Rattle.serde_json.specs.View.{view, items_view};
+ghost use Rattle.zarr_grids_metadata.specs.Views.{point_of};
+ghost use Rattle.zarr_codecs_meaning.specs.Types.{is_fixed};
+ghost use Rattle.zarr_codecs_types.specs.FillMetadata.{cell_in};
+ghost use Rattle.zarr_codecs_types.specs.Views.{type_of};
+ghost use Rattle.zarr_codecs_arrays.specs.Views.{elements_of};
+ghost use Rattle.zarr_codecs_metadata.specs.Chains.{chain_in, points_in};
+ghost use Rattle.zarr_codecs_chains.specs.Views as chains;
+ghost use Rattle.zarr_array_metadata.specs.Meanings.{TakesBytes};
+ghost use Rattle.zarr_array_meaning.specs.Parts.{type_in, has_no_transformers, is_empty_list};
+
+use serde_json::Value;
+use std::alloc::{AllocError, Global};
+use zarr_array_meaning::DocumentError;
+use zarr_codecs_arrays::Elements;
+use zarr_codecs_chains::CodecChain;
+use zarr_codecs_traits::BytesToBytesCodecTraits;
+use zarr_codecs_types::{DataType, DataTypeError, FillValue, FillValueError};
+use zarr_grids_metadata::{MetadataV3, PluginCreateError};
+
+/// The codecs; `Codecs` where they make no chain that is known.
+pub(crate) fn codecs_in<B: BytesToBytesCodecTraits>(
+    alloc: Global,
+    codecs: &Value,
+) -> Result<CodecChain<B>, DocumentError>
+    ensures ok { IfOk result (λ chain. ok_or (chain_in B.reads (view codecs.now))
+        DocumentError.Codecs ≡ Ok (chains.meaning_of B.meaning chain)) }
+    ensures err { IfErr result (λ e. e ≢ DocumentError.Memory
+        → ok_or (chain_in B.reads (view codecs.now)) DocumentError.Codecs ≡ Err e) }
+{
+    let Some(codecs) = codecs.as_array() else {
+        return Err(DocumentError::Codecs);
+    };
+    let Some(points) = points_in(alloc, codecs.as_slice())? else {
+        return Err(DocumentError::Codecs);
+    };
+    match CodecChain::from_metadata(alloc, points.as_slice()) {
+        Ok(chain) => Ok(chain),
+        Err(PluginCreateError::Memory) => Err(DocumentError::Memory),
+        Err(_) => Err(DocumentError::Codecs),
+    }
+}
+
+/// The extension points of a list, where each of its values is one.
+fn points_in(alloc: Global, values: &[Value]) -> Result<Option<Vec<MetadataV3>>, AllocError>
+    ensures { IfOk result (λ found.
+        option_map (λ points. map point_of points.items) found
+        ≡ points_in (items_view values.now)) }
+{
+    let mut points = Vec::with_capacity(alloc, values.len())?;
+    for value in values {
+        let Some(point) = MetadataV3::from_value(alloc, value)? else {
+            return Ok(None);
+        };
+        points.push(point)?;
+    }
+    Ok(Some(points))
+}
+
+/// The data type, which is one of elements of one size; `DataTypes` where it is none of those.
+#[tactic(auto, using(crate::proofs::DataTypes::takes_bytes))]
+pub(crate) fn type_in(alloc: Global, data_type: &Value) -> Result<DataType, DocumentError>
+    ensures ok { IfOk result (λ found. ok_or (type_in (view data_type.now))
+        DocumentError.DataTypes ≡ Ok (type_of found)) }
+    ensures fixed { IfOk result (λ found. is_fixed (type_of found) ≡ true) }
+    ensures bytes { IfOk result (λ found. TakesBytes (type_of found)) }
+    ensures err { IfErr result (λ e. e ≢ DocumentError.Memory
+        → ok_or (type_in (view data_type.now)) DocumentError.DataTypes ≡ Err e) }
+{
+    match DataType::from_metadata(alloc, data_type) {
+        Ok(data_type) => if data_type.is_fixed() {
+            Ok(data_type)
+        } else {
+            Err(DocumentError::DataTypes)
+        },
+        Err(DataTypeError::Memory) => Err(DocumentError::Memory),
+        Err(DataTypeError::Unsupported) => Err(DocumentError::DataTypes),
+    }
+}
+
+/// Elements of a data type; `FillValue` where the field is no value of it.
+pub(crate) fn elements_in(
+    alloc: Global,
+    data_type: DataType,
+    fill_value: &Value,
+) -> Result<Elements, DocumentError>
+    ensures kind { IfOk result (λ found. (elements_of found).type ≡ type_of data_type) }
+    ensures fill { IfOk result (λ found. ok_or (cell_in (type_of data_type) (view fill_value.now))
+        DocumentError.FillValue ≡ Ok (elements_of found).fill) }
+    ensures err { IfErr result (λ e. e ≢ DocumentError.Memory
+        → ok_or (cell_in (type_of data_type) (view fill_value.now)) DocumentError.FillValue
+        ≡ Err e) }
+{
+    match FillValue::from_metadata(alloc, &data_type, fill_value) {
+        Ok(fill_value) => { Elements::new(data_type, fill_value).ok_or(DocumentError::FillValue) }
+        Err(FillValueError::Memory) => Err(DocumentError::Memory),
+        Err(FillValueError::NotOfType) => Err(DocumentError::FillValue),
+    }
+}
+
+/// Whether storage transformers are absent or an empty list.
+pub(crate) fn has_no_transformers(transformers: Option<&Value>) -> bool
+    ensures { result ≡ has_no_transformers (option_map (λ v. view v.now) transformers.entry) }
+{
+    match transformers {
+        None => true,
+        Some(transformers) => is_empty_list(transformers),
+    }
+}
+
+#[tactic(auto, using(crate::proofs::Lists::empty_list))]
+fn is_empty_list(value: &Value) -> bool
+    ensures { result ≡ is_empty_list (view value.now) }
+{
+    match value.as_array() {
+        Some(items) => items.is_empty(),
+        None => false,
+    }
+}

@@ -1,0 +1,166 @@
+//! The document that is written for an array.
+ghost use Rattle.std.specs.Prelude.{◌≡◌, IfOk, OnOk, codes, option_map, option_and_then};
+ghost use Rattle.serde_json.specs.Find.{get_member, as_object};
+ghost use Rattle.serde_json.specs.View.{view, items_view, members_view};
+ghost use Rattle.zarr_array_meaning.specs.Written.{mark, marked, is_given, is_left_out, written_value, with_field, written_points, written_codecs, written_fields, given_attributes, written_members, written_document};
+
+use serde_json::{Map, Value, json, put};
+use std::alloc::{AllocError, Global};
+use zarr_grids_metadata::{member, written_point};
+
+/// The tree that is written for a document: each extension point in its shortest form, no storage
+/// transformers, no dimension names that are null, and among the attributes the mark `_zarrs`. A
+/// value that is no object stays. `Err` only where an allocation failed.
+pub fn written_document(alloc: Global, tree: &Value) -> Result<Value, AllocError>
+    ensures { IfOk result (λ written. view written ≡ written_document (view tree.now)) }
+{
+    match tree {
+        Value::Object(members) => Ok(Value::Object(written_members(alloc, members)?)),
+        _ => tree.clone(),
+    }
+}
+
+fn written_members(
+    alloc: Global,
+    members: &Map<String, Value>,
+) -> Result<Map<String, Value>, AllocError>
+    ensures { IfOk result (λ written. members_view written.entries
+        ≡ written_members (members_view members.now.entries)) }
+{
+    let has_names = is_given(member(members, "dimension_names"));
+    let mut written = written_fields(alloc, has_names, members)?;
+    let attributes = marked_attributes(alloc, members)?;
+    put(&mut written, alloc, "attributes", Value::Object(attributes))?;
+    Ok(written)
+}
+
+/// Whether a field is there and not null.
+fn is_given(field: Option<&Value>) -> bool
+    ensures { result ≡ is_given (option_map (λ v. view v.now) field.entry) }
+{
+    match field {
+        Some(value) => !value.is_null(),
+        None => false,
+    }
+}
+
+/// The fields that are written, each with its value.
+fn written_fields(
+    alloc: Global,
+    has_names: bool,
+    members: &Map<String, Value>,
+) -> Result<Map<String, Value>, AllocError>
+    ensures { IfOk result (λ written. members_view written.entries
+        ≡ written_fields has_names (members_view members.now.entries)) }
+{
+    let mut written = Map::new(alloc);
+    for (name, value) in members.iter() {
+        write_field(&mut written, alloc, has_names, name.as_str(), value)?;
+    }
+    Ok(written)
+}
+
+/// Puts a field with its written value, unless it is left out.
+fn write_field(
+    written: &mut Map<String, Value>,
+    alloc: Global,
+    has_names: bool,
+    name: &str,
+    value: &Value,
+) -> Result<(), AllocError>
+    ensures { OnOk result (members_view written.new.entries
+        ≡ with_field has_names name.now (view value.now) (members_view written.old.entries)) }
+{
+    if is_left_out(has_names, name) {
+        return Ok(());
+    }
+    let value = written_value(alloc, name, value)?;
+    put(written, alloc, name, value)
+}
+
+/// Whether a field with this name is not written.
+fn is_left_out(has_names: bool, name: &str) -> bool
+    ensures { result ≡ is_left_out has_names name.now }
+{
+    match name {
+        "storage_transformers" => true,
+        "dimension_names" => !has_names,
+        _ => false,
+    }
+}
+
+/// The value of a field, as it is written.
+fn written_value(alloc: Global, name: &str, value: &Value) -> Result<Value, AllocError>
+    ensures { IfOk result (λ written. view written ≡ written_value name.now (view value.now)) }
+{
+    match name {
+        "data_type" | "chunk_grid" | "chunk_key_encoding" => written_point(alloc, value),
+        "codecs" => written_codecs(alloc, value),
+        _ => value.clone(),
+    }
+}
+
+fn written_codecs(alloc: Global, codecs: &Value) -> Result<Value, AllocError>
+    ensures { IfOk result (λ written. view written ≡ written_codecs (view codecs.now)) }
+{
+    match codecs {
+        Value::Array(codecs) => Ok(Value::Array(written_points(alloc, codecs.as_slice())?)),
+        _ => codecs.clone(),
+    }
+}
+
+fn written_points(alloc: Global, points: &[Value]) -> Result<Vec<Value>, AllocError>
+    ensures { IfOk result
+        (λ written. items_view written.items ≡ written_points (items_view points.now)) }
+{
+    let mut written = Vec::with_capacity(alloc, points.len())?;
+    for point in points {
+        written.push(written_point(alloc, point)?)?;
+    }
+    Ok(written)
+}
+
+/// The attributes that are given, with the mark among them.
+fn marked_attributes(
+    alloc: Global,
+    members: &Map<String, Value>,
+) -> Result<Map<String, Value>, AllocError>
+    ensures { IfOk result (λ attributes. members_view attributes.entries
+        ≡ marked (given_attributes (members_view members.now.entries))) }
+{
+    let mut attributes = given_attributes(alloc, members)?;
+    put(&mut attributes, alloc, "_zarrs", mark(alloc)?)?;
+    Ok(attributes)
+}
+
+fn given_attributes(
+    alloc: Global,
+    members: &Map<String, Value>,
+) -> Result<Map<String, Value>, AllocError>
+    ensures { IfOk result (λ attributes. members_view attributes.entries
+        ≡ given_attributes (members_view members.now.entries)) }
+{
+    match attributes_of(members) {
+        Some(attributes) => attributes.clone(),
+        None => Ok(Map::new(alloc)),
+    }
+}
+
+fn attributes_of(members: &Map<String, Value>) -> Option<&Map<String, Value>>
+    ensures { option_map (λ attributes. members_view attributes.now.entries) result
+        ≡ option_and_then as_object
+        (get_member (codes "attributes") (members_view members.now.entries)) }
+{
+    member(members, "attributes").and_then(Value::as_object)
+}
+
+/// The mark that is put among the attributes.
+fn mark(alloc: Global) -> Result<Value, AllocError>
+    ensures { IfOk result (λ written. view written ≡ mark) }
+{
+    json!(in alloc; {
+        "description": "This array was created with zarrs",
+        "repository": "https://github.com/zarrs/zarrs",
+        "version": "0.23.13"
+    })
+}
