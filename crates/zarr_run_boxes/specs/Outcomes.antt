@@ -1,0 +1,98 @@
+-- What commands over the cells of one array answer and leave.
+use Rattle.std.specs.Prelude.{◌≡◌, ◌⊎◌, ℕ, ◌<◌, List, take, Some, Result, Ok, Err}
+use Rattle.zarr_grids_boxes.specs.Boxes.{Region, product, places}
+use Rattle.zarr_grids_chunks.specs.Grids.{IsInGrid}
+use Rattle.zarr_codecs_meaning.specs.Payloads.{Payload, cells_in}
+use Rattle.zarr_codecs_meaning.specs.Types.{Cell}
+use Rattle.zarr_array_core.specs.declared.error.ChunkError.{ChunkError}
+use Rattle.zarr_array_core.specs.declared.error.ChunkError.TheVariants as error
+use Rattle.zarr_array_meaning.specs.Boxes.{IsRead, IsDamagedIn, IsUnfitIn}
+use Rattle.zarr_array_meaning.specs.Documents.{Document}
+use Rattle.zarr_array_meaning.specs.StoreMaps.{StoreMap}
+use Rattle.zarr_array_meaning.specs.Writing.{ErasedChunks}
+use Rattle.zarr_run_meaning.specs.declared.cause.Cause.{Cause}
+use Rattle.zarr_run_meaning.specs.declared.cause.Cause.TheVariants as cause
+use Rattle.zarr_run_meaning.specs.Causes.{IsTarget, AreTargets, HasTooLarge, HasTooLargeChunk, ReadRefuses, EraseRefuses, EraseStops}
+use Rattle.zarr_run_meaning.specs.Requests.{Target}
+use Rattle.zarr_run_meaning.specs.Steps.{refused_after}
+use Rattle.zarr_run_boxes.specs.declared.refusal.Refusal.{Refusal}
+
+-- the count of refused store calls after a command
+abbrev pub refused_by : {A : Type 0} → ℕ → Result A Refusal → ℕ
+refused_by count (Ok value) = count
+refused_by count (Err refusal) = refused_after refusal.cause count
+
+-- the count of refused store calls after a read
+abbrev pub refused_with : {A : Type 0} → ℕ → Result A Cause → ℕ
+refused_with count (Ok value) = count
+refused_with count (Err c) = refused_after c count
+
+-- nothing was changed before the refusal
+pub record IsUntouched (refusal : Refusal) (old new : StoreMap) : Type 0 where
+  pub applied : refusal.applied ≡ 0
+  pub same : new ≡ old
+
+-- a payload is the cells that a read asks for
+pub record ReadsTarget (path : List ℕ) (document : Document) (store : StoreMap) (target : Target) (payload : Payload) : Type 0 where
+  pub box : Region
+  pub is : IsTarget document.grid target box
+  pub small : ¬ HasTooLarge document box
+  pub values : List Cell
+  pub lists : cells_in document.elements.type payload ≡ Some values
+  pub read : IsRead path document store box values
+
+-- a read was refused
+abbrev pub ReadRefused : List ℕ → Document → StoreMap → Target → Cause → Type 0
+ReadRefused path document store target c = ReadRefuses path document store target c ⊎ (c ≡ cause.Memory)
+
+-- the chunks that an erasure names were erased
+pub record ErasesTarget (path : List ℕ) (document : Document) (chunks : Region) (old new : StoreMap) : Type 0 where
+  pub below : AreTargets document.grid chunks
+  pub small : ¬ HasTooLargeChunk document chunks
+  pub erased : ErasedChunks path document (places chunks.start chunks.shape) old new
+
+-- an erasure stopped at a chunk: exactly the chunks before it are erased
+pub record ErasedFirst (path : List ℕ) (document : Document) (chunks : Region) (old new : StoreMap) (refusal : Refusal) : Type 0 where
+  pub below : AreTargets document.grid chunks
+  pub small : ¬ HasTooLargeChunk document chunks
+  pub stops : EraseStops refusal.cause
+  pub fewer : refusal.applied < product chunks.shape
+  pub erased : ErasedChunks path document (take refusal.applied (places chunks.start chunks.shape)) old new
+
+-- an erasure was refused: as a whole, at a chunk, or for want of memory before a chunk was touched
+abbrev pub EraseRefused : List ℕ → Document → Region → StoreMap → StoreMap → Refusal → Type 0
+EraseRefused path document chunks old new refusal =
+    (IsUntouched refusal old new × (EraseRefuses document chunks refusal.cause ⊎ (refusal.cause ≡ cause.Memory))) ⊎ ErasedFirst path document chunks old new refusal
+
+-- the cause that an error over a chunk becomes
+abbrev pub cause_of : ChunkError → Cause
+cause_of error.Fit = cause.Fit
+cause_of (error.Storage e) = cause.Store
+cause_of error.Damage = cause.Damage
+cause_of error.Codec = cause.Codec
+cause_of error.Size = cause.Size
+cause_of error.Memory = cause.Memory
+
+-- why a chunk has no box to be written or read: it is none in the grid or has none, or memory is short
+abbrev pub ChunkRefused : Document → List ℕ → Cause → Type 0
+ChunkRefused document chunk c = (c ≡ cause.Memory) ⊎ ((c ≡ cause.Region) × ((box : Region) → ¬ IsInGrid document.grid chunk box))
+
+-- why the chunks that a covered box intersects are not taken: it or one of them is too large, or memory is short
+abbrev pub ChunksRefused : Document → Region → Cause → Type 0
+ChunksRefused document region c = (c ≡ cause.Memory) ⊎ ((c ≡ cause.Size) × HasTooLarge document region)
+
+-- a payload is the cells of a covered box
+pub record GivesCovered (path : List ℕ) (document : Document) (store : StoreMap) (region : Region) (payload : Payload) : Type 0 where
+  pub small : ¬ HasTooLarge document region
+  pub values : List Cell
+  pub lists : cells_in document.elements.type payload ≡ Some values
+  pub read : IsRead path document store region values
+
+-- why a covered box is not read
+abbrev pub CoveredReadRefused : List ℕ → Document → StoreMap → Region → Cause → Type 0
+CoveredReadRefused path document store region cause.Size = HasTooLarge document region
+CoveredReadRefused path document store region cause.Fit = (¬ HasTooLarge document region) × IsUnfitIn path document store region
+CoveredReadRefused path document store region cause.Damage = (¬ HasTooLarge document region) × IsDamagedIn path document store region
+CoveredReadRefused path document store region cause.Store = ¬ HasTooLarge document region
+CoveredReadRefused path document store region cause.Memory = Unit {0}
+CoveredReadRefused path document store region c = ⊥

@@ -1,0 +1,46 @@
+//! Chunks that commands erase.
+ghost use Rattle.std.specs.Prelude.{◌≡◌, IsTrue, OnOk, IfErr};
+ghost use Rattle.zarr_grids_boxes.specs.Subsets.{region_of};
+ghost use Rattle.zarr_array_core.specs.Views.{document_of, path_of};
+ghost use Rattle.zarr_run_boxes.specs.Outcomes.{ErasesTarget, EraseRefused, refused_by};
+
+use crate::refusal::Refusal;
+use crate::targets::has_too_large_chunk;
+use std::alloc::Global;
+use zarr_array_core::ArrayCore;
+use zarr_array_storage::WritableStorageTraits;
+use zarr_codecs_traits::ArrayToBytesCodecTraits;
+use zarr_grids_boxes::ArraySubset;
+use zarr_grids_chunk_grids::ChunkGridTraits;
+use zarr_grids_cover::are_in_grid;
+use zarr_run_meaning::Cause;
+
+/// Takes the keys of the chunks of a box of chunk indices away, row-major. `Region` where the box
+/// has other dimensions than the grid or a chunk that is none in it, `Size` where there are 2^63
+/// chunks or more or one of them has as many cells or bytes, `Store` where the store refuses.
+pub fn erase_chunks<C: ArrayToBytesCodecTraits, S: WritableStorageTraits>(
+    alloc: Global,
+    array: &ArrayCore<C>,
+    store: &mut S,
+    chunks: &ArraySubset,
+) -> Result<(), Refusal>
+    ensures ok { IsTrue (S.is_honest store.old) → OnOk result
+        (ErasesTarget (path_of array.now) (document_of C.meaning array.now)
+        (region_of chunks.now) (S.held store.old) (S.held store.new)) }
+    ensures err { IsTrue (S.is_honest store.old) → IfErr result
+        (EraseRefused (path_of array.now) (document_of C.meaning array.now)
+        (region_of chunks.now) (S.held store.old) (S.held store.new)) }
+    ensures honest { S.is_honest store.new ≡ S.is_honest store.old }
+    ensures refused { S.refused_calls store.new ≡ refused_by (S.refused_calls store.old) result }
+{
+    if !are_in_grid(array.grid().dimensions(), chunks) {
+        return Err(Refusal::whole(Cause::Region));
+    }
+    if has_too_large_chunk(array, chunks) {
+        return Err(Refusal::whole(Cause::Size));
+    }
+    match array.erase_region(alloc, store, chunks) {
+        Ok(()) => Ok(()),
+        Err(stopped) => Err(Refusal::at_chunk(&stopped)),
+    }
+}

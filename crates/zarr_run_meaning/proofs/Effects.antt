@@ -1,0 +1,145 @@
+-- What a step does to the arrays and to what is stored, by kinds.
+use Rattle.std.proofs.Common.{◌≡◌, ◌∙◌, ℕ, List, length, take, refl, sym, ap, ⊎_elim, true, Option, Some, None, option_and_then}
+use Rattle.std.specs.List.{list_all}
+use Rattle.serde_json.specs.Data.{Data}
+use Rattle.serde_json.specs.Find.{as_array}
+use Rattle.zarr_grids_boxes.specs.Boxes.{Region, product, places}
+use Rattle.zarr_grids_chunks.specs.Grids.{Grid, intersecting}
+use Rattle.zarr_codecs_meaning.specs.Types.{Cell, DataType, is_value}
+use Rattle.zarr_codecs_meaning.specs.Payloads.{values_only, cells_in}
+use Rattle.zarr_codecs_meaning.proofs.Lists.{bind_some, if_some, some_same}
+use Rattle.zarr_codecs_metadata.specs.Chains.{ReadsCodecs}
+use Rattle.zarr_codecs_options.specs.declared.codec_options.CodecOptions.{CodecOptions}
+use Rattle.zarr_codecs_options.specs.declared.subchunk_write_order.SubchunkWriteOrder.{SubchunkWriteOrder}
+use Rattle.zarr_codecs_types.specs.Given.{GivenCells, given_bytes, given_json, given_in, elements_in}
+use Rattle.zarr_array_meaning.specs.Chunks.{is_listed}
+use Rattle.zarr_run_meaning.specs.declared.cause.Cause.{Cause}
+use Rattle.zarr_run_meaning.specs.declared.cause.Cause.TheVariants as cause
+use Rattle.zarr_run_meaning.specs.Causes.{AreTargets}
+use Rattle.zarr_run_meaning.specs.Changes.{Creates, Reopens, Opens, WritesChunks, ErasesChunks}
+use Rattle.zarr_run_meaning.specs.Requests.{Request, create, reopen, write, read, erase, Answer, done, cells, refused}
+use Rattle.zarr_run_meaning.specs.Sound.{AsksLossless}
+use Rattle.zarr_run_meaning.specs.Steps.{Stays, WritesFirst, ErasesFirst, RefusesHeld, RefusesWrite, RefusesRead, RefusesErase, Refuses, RefusesAt, Step}
+use Rattle.zarr_run_meaning.specs.Worlds.{Held, World, held_at}
+use Rattle.zarr_run_meaning.proofs.Keys.{AreBelow, listed_take, listed_inside}
+
+only_values : (type : DataType) (cs values : List Cell) → values_only type cs ≡ Some values → list_all (is_value type) values ≡ true
+only_values type cs values e = let kept = if_some (list_all (is_value type) cs) (Some cs) values e in ap (list_all (is_value type)) (sym (some_same kept.1)) ∙ kept.0
+
+-- the values of a write are values of the type
+pub given_values : (type : DataType) (given : GivenCells) (values : List Cell) → given_in type given ≡ Some values → list_all (is_value type) values ≡ true
+given_values type (given_bytes payload) values h = let found = bind_some (values_only type) (cells_in type payload) values h in only_values type found.0 values found.2
+given_values type (given_json d) values h = let found = bind_some (values_only type) (option_and_then (elements_in type) (as_array d)) values h in only_values type found.0 values found.2
+
+-- ---- kinds of effects
+
+-- the cells of a box were given to some of the chunks that it intersects
+pub record Wrote (old new : World) : Type 0 where
+  pub path : List ℕ
+  pub held : Held
+  pub found : held_at path old.arrays ≡ Some held
+  pub box : Region
+  pub values : List Cell
+  pub options : CodecOptions
+  pub chunks : List (List ℕ)
+  pub few : (chunk : List ℕ) → is_listed chunks chunk ≡ true → is_listed (intersecting held.document.grid box) chunk ≡ true
+  pub many : length values ≡ product box.shape
+  pub are : list_all (is_value held.document.elements.type) values ≡ true
+  pub writes : WritesChunks held box values options chunks old new
+
+-- some chunks in the grid were erased
+pub record Erased (old new : World) : Type 0 where
+  pub path : List ℕ
+  pub held : Held
+  pub found : held_at path old.arrays ≡ Some held
+  pub chunks : List (List ℕ)
+  pub below : AreBelow held.document.grid chunks
+  pub erases : ErasesChunks held chunks old new
+
+-- what a step does
+pub data Effect (reads : ReadsCodecs) (request : Request) (old new : World) : Type 0 where
+  kept : new.arrays ≡ old.arrays → new.store ≡ old.store → Effect reads request old new
+  created : (path : List ℕ) (document : Data) (order : SubchunkWriteOrder) → (AsksLossless reads request → AsksLossless reads (create path document order)) → Creates reads path document order old new → Effect reads request old new
+  reordered : (path : List ℕ) (order : SubchunkWriteOrder) → Reopens path order old new → Effect reads request old new
+  opened : (path : List ℕ) (order : SubchunkWriteOrder) → Opens reads path order old new → Effect reads request old new
+  wrote : Wrote old new → Effect reads request old new
+  erased : Erased old new → Effect reads request old new
+
+-- ---- refusals
+
+-- how a command with a path is refused, by what came first
+at_cases : (reads : ReadsCodecs) (path : List ℕ) (request : Request) (c : Cause) (n : ℕ) (old new : World) (P : Type 0) → RefusesAt reads path request c n old new → (Stays c n old new → P) → (Refuses reads request c n old new → P) → P
+at_cases reads path request cause.Path n old new P h stays refuses = stays h.1
+at_cases reads path request cause.Memory n old new P h stays refuses = ⊎_elim stays (λ r. refuses r.1) h
+at_cases reads path request c n old new P h stays refuses = refuses h.1
+
+-- how a command on a held array is refused
+held_cases : (o : Option Held) (refuses : Held → Cause → ℕ → World → World → Type 0) (c : Cause) (n : ℕ) (old new : World) (P : Type 0) → RefusesHeld o refuses c n old new → (Stays c n old new → P) → ((h : Held) → o ≡ Some h → refuses h c n old new → P) → P
+held_cases None refuses cause.NoArray n old new P r stays held = stays r
+held_cases None refuses c n old new P r stays held = absurd r
+held_cases (Some h) refuses c n old new P r stays held = held h refl r
+
+module _ (reads : ReadsCodecs) (request : Request) (c : Cause) (n : ℕ) (old new : World) where
+  stayed : Stays c n old new → Effect reads request old new
+  stayed s = kept (ap (λ (w : World). w.arrays) s.is) (ap (λ (w : World). w.store) s.is)
+
+-- ---- effects of writes and erasures
+
+wrote_some : (path : List ℕ) (h : Held) (options : CodecOptions) (box : Region) (values : List Cell) (chunks : List (List ℕ)) (old new : World) → held_at path old.arrays ≡ Some h
+    → ((chunk : List ℕ) → is_listed chunks chunk ≡ true → is_listed (intersecting h.document.grid box) chunk ≡ true)
+    → list_all (is_value h.document.elements.type) values ≡ true → length values ≡ product box.shape → WritesChunks h box values options chunks old new → Wrote old new
+wrote_some path h options box values chunks old new found few are many writes =
+    record { path = path; held = h; found = found; box = box; values = values; options = options; chunks = chunks; few = few; many = many; are = are; writes = writes }
+
+targets_below : (grid : Grid) (chunks : Region) → AreTargets grid chunks → AreBelow grid (places chunks.start chunks.shape)
+targets_below grid chunks are = record { below = λ c l. are.1.below c (listed_inside chunks.start chunks.shape c are.0 l) }
+
+first_below : (grid : Grid) (n : ℕ) (chunks : List (List ℕ)) → AreBelow grid chunks → AreBelow grid (take n chunks)
+first_below grid n chunks are = record { below = λ c l. are.below c (listed_take n chunks c l) }
+
+-- ---- each step has an effect
+
+pub step_effect : (reads : ReadsCodecs) (old new : World) (request : Request) (answer : Answer) → Step reads old request answer new → Effect reads request old new
+step_effect reads old new (create path document order) done s = created path document order (λ asks. asks) s.0
+step_effect reads old new (create path document order) (cells payload) s = absurd s
+step_effect reads old new (create path document order) (refused c n) s =
+    let r : Request = create path document order in
+    at_cases reads path r c n old new (Effect reads r old new) s (stayed reads r c n old new) (λ h. stayed reads r c n old new h.1)
+step_effect reads old new (reopen path order) done s = ⊎_elim (λ h. reordered path order h) (λ h. opened path order h) s.0
+step_effect reads old new (reopen path order) (cells payload) s = absurd s
+step_effect reads old new (reopen path order) (refused c n) s =
+    let r : Request = reopen path order in
+    at_cases reads path r c n old new (Effect reads r old new) s (stayed reads r c n old new) (λ h. stayed reads r c n old new h.1)
+step_effect reads old new (write path target given options) done s =
+    let w = s.0 in
+    wrote (wrote_some path w.held options w.box w.values (intersecting w.held.document.grid w.box) old new w.found (λ c l. l) (given_values w.held.document.elements.type given w.values w.is.gives.0) w.is.gives.1 w.writes)
+step_effect reads old new (write path target given options) (cells payload) s = absurd s
+step_effect reads old new (write path target given options) (refused c n) s =
+    let r : Request = write path target given options in
+    at_cases reads path r c n old new (Effect reads r old new) s (stayed reads r c n old new) (λ h.
+    held_cases (held_at path old.arrays) (RefusesWrite target given options) c n old new (Effect reads r old new) h (stayed reads r c n old new) (λ g found.
+    ⊎_elim (λ whole. stayed reads r c n old new whole.1) (λ (first : WritesFirst g target given options c n old new).
+    wrote (wrote_some path g options first.box first.values (take n (intersecting g.document.grid first.box)) old new found (λ d l. listed_take n (intersecting g.document.grid first.box) d l) (given_values g.document.elements.type given first.values first.is.gives.0) first.is.gives.1 first.writes))))
+step_effect reads old new (read path target options) done s = absurd s
+step_effect reads old new (read path target options) (cells payload) s = kept (ap (λ (w : World). w.arrays) s.1) (ap (λ (w : World). w.store) s.1)
+step_effect reads old new (read path target options) (refused c n) s =
+    let r : Request = read path target options in
+    at_cases reads path r c n old new (Effect reads r old new) s (stayed reads r c n old new) (λ h.
+    held_cases (held_at path old.arrays) (RefusesRead target) c n old new (Effect reads r old new) h (stayed reads r c n old new) (λ g found q. stayed reads r c n old new q.1))
+step_effect reads old new (erase path chunks) done s =
+    let e = s.0 in
+    erased (record { path = path; held = e.held; found = e.found; chunks = places chunks.start chunks.shape; below = targets_below e.held.document.grid chunks e.below; erases = e.erases })
+step_effect reads old new (erase path chunks) (cells payload) s = absurd s
+step_effect reads old new (erase path chunks) (refused c n) s =
+    let r : Request = erase path chunks in
+    at_cases reads path r c n old new (Effect reads r old new) s (stayed reads r c n old new) (λ h.
+    held_cases (held_at path old.arrays) (RefusesErase chunks) c n old new (Effect reads r old new) h (stayed reads r c n old new) (λ g found.
+    ⊎_elim (λ whole. stayed reads r c n old new whole.1) (λ (first : ErasesFirst g chunks c n old new).
+    erased (record {
+      path = path;
+      held = g;
+      found = found;
+      chunks = take n (places chunks.start chunks.shape);
+      below = first_below g.document.grid n (places chunks.start chunks.shape) (targets_below g.document.grid chunks first.below);
+      erases = first.erases;
+    }))))

@@ -1,0 +1,14 @@
+pub mod FillLemmas
+pub mod FoundTables
+pub mod TableLemmas
+pub mod Arrays
+pub mod Documents
+pub mod Tables
+pub mod Keys
+pub mod Effects
+pub mod Reading
+pub mod Beginning
+pub mod Frames
+pub mod Standing
+pub mod Sound
+pub mod Reopening

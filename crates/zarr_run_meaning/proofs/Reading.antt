@@ -1,0 +1,127 @@
+-- What is read in a sound world.
+use Rattle.std.proofs.Common.{◌≡◌, ◌∙◌, ℕ, List, [], ◌∷◌, map, length, refl, sym, ap, subst, ⊎_elim, true, Option, Some, None, is_some}
+use Rattle.std.specs.Prelude.{nat_lt, ◌&&◌}
+use Rattle.std.proofs.lemmas.Bool.{lt-ltb, false≢true, MatchBool-at_false}
+use Rattle.std.proofs.lemmas.Option.{none-some}
+use Rattle.zarr_grids_boxes.specs.Boxes.{Region, product, places, is_in_box}
+use Rattle.zarr_grids_boxes.proofs.Steps.{number_in_grid}
+use Rattle.zarr_grids_chunks.specs.Grids.{IsInGrid}
+use Rattle.zarr_grids_cover.proofs.ChunkBoxes.{chunk_box-rank}
+use Rattle.zarr_codecs_meaning.specs.Types.{Cell}
+use Rattle.zarr_codecs_meaning.proofs.Chunks.{stored_part, stored_decoded}
+use Rattle.zarr_codecs_metadata.specs.Chains.{ReadsCodecs}
+use Rattle.zarr_array_meaning.specs.Boxes.{IsDamagedIn, IsUnfitIn}
+use Rattle.zarr_array_meaning.specs.Chunks.{number_in, stored_at, decoded_at, ReadsCell, IsMet}
+use Rattle.zarr_array_meaning.specs.Documents.{Document}
+use Rattle.zarr_array_meaning.specs.Standing.{ChunkStandsAt, IsLossless, IsGood, AreValues}
+use Rattle.zarr_array_meaning.specs.StoreMaps.{StoreMap}
+use Rattle.zarr_array_meaning.specs.Texts.{HasDocument}
+use Rattle.zarr_array_meaning.specs.Writing.{IsPartDamaged}
+use Rattle.zarr_array_meaning.proofs.Showing.{are_cells, listed_at}
+use Rattle.zarr_run_meaning.specs.declared.cause.Cause.TheVariants as cause
+use Rattle.zarr_run_meaning.specs.Causes.{ReopenRefuses}
+use Rattle.zarr_run_meaning.specs.Laws.{NeverDamaged, ReadsFit}
+use Rattle.zarr_run_meaning.specs.Requests.{Request, create, reopen, write, read, erase, refused}
+use Rattle.zarr_run_meaning.specs.Sound.{IsSound, IsSoundAt, ReadsGood}
+use Rattle.zarr_run_meaning.specs.Steps.{RefusesHeld, RefusesWrite, RefusesRead, RefusesErase, WritesFirst, ErasesFirst, Step}
+use Rattle.zarr_run_meaning.specs.Tables.{cell}
+use Rattle.zarr_run_meaning.specs.Worlds.{Held, World, held_at}
+use Rattle.zarr_run_meaning.proofs.Arrays.{held_at-path}
+use Rattle.zarr_run_meaning.proofs.Keys.{number_listed, listed_below}
+
+-- ---- what stands is read
+
+pub box_same : (document : Document) (chunk : List ℕ) (box : Region) → IsInGrid document.grid chunk box → length box.start ≡ length box.shape
+box_same document chunk box below = let rank = chunk_box-rank document.grid chunk box below.has_box in rank.0 ∙ sym rank.1
+
+module _ (path : List ℕ) (document : Document) (store : StoreMap) (chunk : List ℕ) (box : Region) (cells : List ℕ → Cell) (good : IsGood document) (lossless : IsLossless document) (values : AreValues document cells) (below : IsInGrid document.grid chunk box) (stands : ChunkStandsAt path document store chunk box cells) where
+  pub standing_decoded : decoded_at path document store chunk box ≡ Some (map cells (places box.start box.shape))
+  standing_decoded = stored_decoded document.chain document.elements box.shape (stored_at path document store chunk) (map cells (places box.start box.shape)) good.lawful lossless
+      (are_cells document chunk box cells (box_same document chunk box below) good values below) stands
+
+  pub standing_reads : (place : List ℕ) → is_in_box box.start box.shape place ≡ true → ReadsCell path document store chunk box place (cells place)
+  standing_reads place inside =
+      let n = number_in box place in
+      let low : (nat_lt n (product box.shape) && true) ≡ true = rw (lt-ltb n (product box.shape) (number_in_grid box.start box.shape place inside)) refl in
+      stored_part document.chain document.elements box.shape (stored_at path document store chunk) (map cells (places box.start box.shape)) (n ∷ []) good.lawful lossless
+      (are_cells document chunk box cells (box_same document chunk box below) good values below) stands low
+      ∙ ap (λ (c : Cell). Some (c ∷ [])) (listed_at cells box place document.elements.fill inside)
+
+-- ---- nothing is damaged
+
+module _ (reads : ReadsCodecs) (store : StoreMap) (h : Held) (good : ReadsGood reads) (sound : IsSoundAt reads store h) where
+  no_part_damaged : (region : Region) (n : ℕ) (chunk : List ℕ) (box : Region) → IsMet h.document.grid region n chunk box → IsPartDamaged h.path h.document store region chunk box → ⊥
+  no_part_damaged region n chunk box met damaged =
+      let among = listed_below h.document.grid region chunk (number_listed _ n chunk met.listed) in
+      let below : IsInGrid h.document.grid chunk box = record { below = among.1.below; has_box = met.has_box } in
+      none-some (map (cell h.document.elements.fill h.table) (places box.start box.shape)) (sym damaged.lost
+      ∙ standing_decoded h.path h.document store chunk box (cell h.document.elements.fill h.table) (good h.tree h.document sound.says) sound.lossless sound.values below (sound.stands chunk box below))
+
+  none_damaged : (region : Region) → IsDamagedIn h.path h.document store region → ⊥
+  none_damaged region damaged =
+      none-some _ (sym damaged.lost
+      ∙ standing_reads h.path h.document store damaged.chunk damaged.box (cell h.document.elements.fill h.table) (good h.tree h.document sound.says) sound.lossless sound.values damaged.is.below (sound.stands damaged.chunk damaged.box damaged.is.below) damaged.place damaged.is.of_chunk)
+
+  -- its document is the one that is stored
+  none_changed : (path : List ℕ) → path ≡ h.path → (old : World) → old.store ≡ store → ReopenRefuses reads old path (Some h) cause.DocumentChanged → ⊥
+  none_changed path same old is refuses =
+      let P : List ℕ → StoreMap → Type 0 = λ p s. HasDocument p h.tree s in
+      let Q : List ℕ → Type 0 = λ p. HasDocument p h.tree old.store in
+      refuses h.tree (subst Q (sym same) (subst (P h.path) (sym is) sound.stored)) refl
+
+-- a chunk that does not fit has no value
+unfit_none : (reads : ReadsCodecs) (store : StoreMap) (h : Held) (region : Region) → IsSoundAt reads store h → IsUnfitIn h.path h.document store region → ⊥
+unfit_none reads store h region sound unfit =
+    let none = MatchBool-at_false _ _ unfit.fit (sound.stands unfit.chunk unfit.box unfit.below) in
+    false≢true (sym (ap is_some none.0) ∙ unfit.stored)
+
+-- ---- the laws
+
+module _ (reads : ReadsCodecs) (old new : World) (n : ℕ) (good : ReadsGood reads) (sound : IsSound reads old) where
+  undamaged : (request : Request) → Step reads old request (refused cause.Damage n) new → ⊥
+  undamaged (create path document order) s = s.1.0
+  undamaged (reopen path order) s = go (held_at path old.arrays) s.1.0 where
+    go : (o : Option Held) → ReopenRefuses reads old path o cause.Damage → ⊥
+    go None r = r
+    go (Some h) r = r
+  undamaged (write path target given options) s = go (held_at path old.arrays) refl s.1 where
+    go : (o : Option Held) → held_at path old.arrays ≡ o → RefusesHeld o (RefusesWrite target given options) cause.Damage n old new → ⊥
+    go None e r = r
+    go (Some h) e r = ⊎_elim (λ whole. whole.0) (λ (first : WritesFirst h target given options cause.Damage n old new).
+        no_part_damaged reads old.store h good (sound.each path h e) first.box n first.stops.chunk first.stops.box first.stops.met first.stops.refuses) r
+  undamaged (read path target options) s = go (held_at path old.arrays) refl s.1 where
+    go : (o : Option Held) → held_at path old.arrays ≡ o → RefusesHeld o (RefusesRead target) cause.Damage n old new → ⊥
+    go None e r = r
+    go (Some h) e r = none_damaged reads old.store h good (sound.each path h e) r.0.0 r.0.3
+  undamaged (erase path chunks) s = go (held_at path old.arrays) refl s.1 where
+    go : (o : Option Held) → held_at path old.arrays ≡ o → RefusesHeld o (RefusesErase chunks) cause.Damage n old new → ⊥
+    go None e r = r
+    go (Some h) e r = ⊎_elim (λ whole. whole.0) (λ (first : ErasesFirst h chunks cause.Damage n old new). first.stops) r
+
+  unchanged : (request : Request) → Step reads old request (refused cause.DocumentChanged n) new → ⊥
+  unchanged (create path document order) s = s.1.0
+  unchanged (reopen path order) s = go (held_at path old.arrays) refl s.1.0 where
+    go : (o : Option Held) → held_at path old.arrays ≡ o → ReopenRefuses reads old path o cause.DocumentChanged → ⊥
+    go None e r = r
+    go (Some h) e r = none_changed reads old.store h good (sound.each path h e) path (held_at-path path old.arrays h e) old refl r
+  unchanged (write path target given options) s = go (held_at path old.arrays) s.1 where
+    go : (o : Option Held) → RefusesHeld o (RefusesWrite target given options) cause.DocumentChanged n old new → ⊥
+    go None r = r
+    go (Some h) r = ⊎_elim (λ whole. whole.0) (λ (first : WritesFirst h target given options cause.DocumentChanged n old new). first.stops.refuses) r
+  unchanged (read path target options) s = go (held_at path old.arrays) s.1 where
+    go : (o : Option Held) → RefusesHeld o (RefusesRead target) cause.DocumentChanged n old new → ⊥
+    go None r = r
+    go (Some h) r = r.0
+  unchanged (erase path chunks) s = go (held_at path old.arrays) s.1 where
+    go : (o : Option Held) → RefusesHeld o (RefusesErase chunks) cause.DocumentChanged n old new → ⊥
+    go None r = r
+    go (Some h) r = ⊎_elim (λ whole. whole.0) (λ (first : ErasesFirst h chunks cause.DocumentChanged n old new). first.stops) r
+
+pub never_damaged : NeverDamaged
+never_damaged reads old new request n good sound = (undamaged reads old new n good sound request, unchanged reads old new n good sound request)
+
+pub reads_fit : ReadsFit
+reads_fit reads old new path target options n sound s = go (held_at path old.arrays) refl s.1 where
+  go : (o : Option Held) → held_at path old.arrays ≡ o → RefusesHeld o (RefusesRead target) cause.Fit n old new → ⊥
+  go None e r = r
+  go (Some h) e r = unfit_none reads old.store h r.0.0 (sound.each path h e) r.0.3

@@ -1,0 +1,147 @@
+-- A store that a session leaves, opened by another one.
+use Rattle.std.proofs.Common.{◌≡◌, ◌∙◌, ◌⊎◌, inl, inr, ⊎_elim, ℕ, true, List, [], ◌∷◌, ◌++◌, refl, sym, ap, subst, Option, Some, None, Result, Ok, IsErr, IsUtf8}
+use Rattle.std.specs.FinMap.{get}
+use Rattle.std.proofs.lemmas.Bool.{false≢true}
+use Rattle.std.proofs.lemmas.Option.{none-some, same_Some}
+use Rattle.serde_json.specs.Data.{Data}
+use Rattle.serde_json.specs.Read.{read}
+use Rattle.zarr_grids_boxes.specs.Boxes.{Region, is_in_box}
+use Rattle.zarr_grids_chunks.specs.Grids.{IsInGrid}
+use Rattle.zarr_grids_keys.specs.Paths.{is_node_path}
+use Rattle.zarr_codecs_meaning.specs.Types.{is_value}
+use Rattle.zarr_codecs_metadata.specs.Chains.{ReadsCodecs}
+use Rattle.zarr_codecs_options.specs.declared.subchunk_write_order.SubchunkWriteOrder.{SubchunkWriteOrder}
+use Rattle.zarr_array_meaning.specs.Documents.{read_document}
+use Rattle.zarr_array_meaning.specs.StoreMaps.{StoreMap}
+use Rattle.zarr_array_meaning.specs.Texts.{HasDocument}
+use Rattle.zarr_run_meaning.specs.declared.cause.Cause.{Cause}
+use Rattle.zarr_run_meaning.specs.declared.cause.Cause.TheVariants as cause
+use Rattle.zarr_run_meaning.specs.Causes.{ReopenRefuses, IsNoDocument}
+use Rattle.zarr_run_meaning.specs.Changes.{Opens}
+use Rattle.zarr_run_meaning.specs.Laws.{IsReopenedAs, ReopensAlike, ReopenedSound}
+use Rattle.zarr_run_meaning.specs.Requests.{reopen, Answer, done, cells, refused}
+use Rattle.zarr_run_meaning.specs.Sound.{IsSoundAt, IsSound, ReadsGood}
+use Rattle.zarr_run_meaning.specs.Steps.{RefusesAt, Step}
+use Rattle.zarr_run_meaning.specs.Tables.{cell}
+use Rattle.zarr_run_meaning.specs.Worlds.{Held, World, held_at, IsTableAt}
+use Rattle.zarr_run_meaning.proofs.Arrays.{held_at-path, held_once, held_at-new}
+use Rattle.zarr_run_meaning.proofs.Reading.{standing_reads}
+use Rattle.zarr_run_meaning.proofs.Standing.{stands_alike}
+
+-- ---- the document that is stored
+
+ok_once : {A E : Type 0} (r : Result A E) (x y : A) → r ≡ Ok x → r ≡ Ok y → x ≡ y
+ok_once r x y e f = cc
+
+-- one tree is stored at a path
+tree_once : (path : List ℕ) (tree other : Data) (store : StoreMap) → HasDocument path tree store → HasDocument path other store → tree ≡ other
+tree_once path tree other store d e =
+    let text = same_Some d.text e.text (sym d.found ∙ e.found) in
+    same_Some tree other (sym d.reads ∙ ap read text ∙ e.reads)
+
+ok_no_error : {A E : Type 0} (r : Result A E) (x : A) → r ≡ Ok x → IsErr r → ⊥
+ok_no_error {A} {E} r x e h = let P : Result A E → Type 0 = λ s. IsErr s in false≢true (subst P e h)
+
+-- ---- a path that is opened again
+
+module _ (reads : ReadsCodecs) (closed old new : World) (path : List ℕ) (h : Held) (order : SubchunkWriteOrder) (good : ReadsGood reads) (sound : IsSound reads closed) (found : held_at path closed.arrays ≡ Some h) (same : old.store ≡ closed.store) (none : held_at path old.arrays ≡ None) where
+  at : path ≡ h.path
+  at = held_at-path path closed.arrays h found
+
+  there : IsSoundAt reads closed.store h
+  there = sound.each path h found
+
+  -- the document is stored there still
+  stored : HasDocument path h.tree old.store
+  stored =
+      let P : List ℕ → Type 0 = λ p. HasDocument p h.tree old.store in
+      let Q : StoreMap → Type 0 = λ s. HasDocument h.path h.tree s in
+      subst P (sym at) (subst Q (sym same) there.stored)
+
+  opened_alike : Opens reads path order old new → IsReopenedAs h order done new
+  opened_alike o = record { is = refl; table = o.begins.table; held = again; cells = shown } where
+    tree : o.tree ≡ h.tree
+    tree = tree_once path o.tree h.tree old.store o.stored stored
+
+    document : o.meaning ≡ h.document
+    document = ok_once (read_document reads o.tree) o.meaning h.document o.opens (ap (read_document reads) tree ∙ there.says)
+
+    begun : Held
+    begun = record { path = path; tree = o.tree; document = o.meaning; order = order; table = o.begins.table }
+
+    is : begun ≡ record h { order = order; table = o.begins.table }
+    is = λ i. record { path = at i; tree = tree i; document = document i; order = order; table = o.begins.table }
+
+    again : held_at h.path new.arrays ≡ Some (record h { order = order; table = o.begins.table })
+    again = ap (held_at h.path) o.begins.holds ∙ ap (λ q. held_at q (old.arrays ++ begun ∷ [])) (sym at) ∙ held_at-new path old.arrays begun none refl ∙ ap Some is
+
+    shows : IsTableAt h.path h.document closed.store o.begins.table
+    shows =
+        let P : Held → Type 0 = λ x. IsTableAt x.path x.document old.store x.table in
+        let Q : StoreMap → Type 0 = λ s. IsTableAt h.path h.document s o.begins.table in
+        subst Q same (subst P is o.begins.shows)
+
+    shown : (chunk : List ℕ) (box : Region) (place : List ℕ) → IsInGrid h.document.grid chunk box → is_in_box box.start box.shape place ≡ true → cell h.document.elements.fill o.begins.table place ≡ cell h.document.elements.fill h.table place
+    shown chunk box place below inside =
+        sym (shows there.lossless chunk box place (cell h.document.elements.fill h.table place) below inside
+        (standing_reads h.path h.document closed.store chunk box (cell h.document.elements.fill h.table) (good h.tree h.document there.says) there.lossless there.values below (there.stands chunk box below) place inside))
+
+  abbrev Alike : Answer → Type 0
+  Alike answer = IsReopenedAs h order answer new ⊎ (answer ≡ refused cause.Memory 0) ⊎ (answer ≡ refused cause.Store 0)
+
+  -- no cause but a refused call is left
+  refused_open : (c : Cause) (n : ℕ) → ReopenRefuses reads old path None c → n ≡ 0 → Alike (refused c n)
+  refused_open cause.NoArray n r zero = absurd (none-some stored.text (sym r.zarr_json ∙ stored.found))
+  refused_open cause.Document n r zero = absurd (⊎_elim
+      (λ (no : IsNoDocument reads path old.store).
+      let text = same_Some no.0 stored.text (sym no.1 ∙ stored.found) in
+      let P : List ℕ → Type 0 = λ t. IsUtf8 t in
+      ok_no_error (read_document reads h.tree) h.document there.says (no.2 h.tree (subst P (sym text) stored.utf8) (ap read text ∙ stored.reads)))
+      (λ older. none-some stored.text (sym older.0 ∙ stored.found))
+      r)
+  refused_open cause.Store n r zero = inr (inr (ap (refused cause.Store) zero))
+  refused_open c n r zero = absurd r
+
+  refused_alike : (c : Cause) (n : ℕ) → RefusesAt reads path (reopen path order) c n old new → Alike (refused c n)
+  refused_alike cause.Path n r = absurd (false≢true (sym r.0 ∙ ap is_node_path at ∙ there.node))
+  refused_alike cause.Memory n r = ⊎_elim (λ s. inr (inl (ap (refused cause.Memory) s.applied))) (λ s. inr (inl (ap (refused cause.Memory) s.1.1.applied))) r
+  refused_alike c n r = let P : Option Held → Type 0 = λ o. ReopenRefuses reads old path o c in refused_open c n (subst P none r.1.0) r.1.1.applied
+
+  pub alike : (answer : Answer) → Step reads old (reopen path order) answer new → Alike answer
+  alike done s = ⊎_elim (λ again. absurd (none-some again.held (sym none ∙ again.found))) (λ o. inl (opened_alike o)) s.0
+  alike (cells payload) s = absurd s
+  alike (refused c n) s = refused_alike c n s
+
+pub reopens_alike : ReopensAlike
+reopens_alike reads closed old new path h order answer good sound found same none s = alike reads closed old new path h order good sound found same none answer s
+
+-- ---- a world whose arrays were opened again
+
+-- an array with its cells again
+again_sound : (reads : ReadsCodecs) (closed new : World) (h : Held) (order : SubchunkWriteOrder) → IsSoundAt reads closed.store h → new.store ≡ closed.store → (r : IsReopenedAs h order done new) → IsSoundAt reads new.store (record h { order = order; table = r.table })
+again_sound reads closed new h order s same r =
+    let P : StoreMap → Type 0 = λ store. IsSoundAt reads store (record h { order = order; table = r.table }) in
+    subst P (sym same) (record {
+      node = s.node;
+      says = s.says;
+      stored = s.stored;
+      lossless = s.lossless;
+      flat = s.flat;
+      values = λ chunk box place below inside. ap (is_value h.document.elements.type) (r.cells chunk box place below inside) ∙ s.values chunk box place below inside;
+      stands = λ chunk box below. stands_alike h.path h.document closed.store chunk box (cell h.document.elements.fill h.table) (cell h.document.elements.fill r.table) below
+          (λ place inside. sym (r.cells chunk box place below inside)) (s.stands chunk box below);
+    })
+
+pub reopened_sound : ReopenedSound
+reopened_sound reads closed new good sound same are again only = record {
+  apart = are;
+  each = λ path h e.
+      let g = only path h e in
+      let r = again path g.0 g.1 in
+      let P : Held → Type 0 = λ x. IsSoundAt reads new.store x in
+      subst P (sym (held_once path g.0.path new.arrays h (record g.0 { order = r.0; table = r.1.table }) e r.1.held (held_at-path path closed.arrays g.0 g.1))) (again_sound reads closed new g.0 r.0 (sound.each path g.0 g.1) same r.1);
+  owned = λ key value e.
+      let own = sound.owned key value (ap (λ m. get m key) (sym same) ∙ e) in
+      let r = again own.0.path own.0 own.1 in
+      (record own.0 { order = r.0; table = r.1.table }, r.1.held, own.2);
+}

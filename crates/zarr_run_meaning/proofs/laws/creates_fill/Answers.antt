@@ -1,0 +1,5 @@
+use Rattle.zarr_run_meaning.proofs.Sound.{creates_fill}
+use Rattle.zarr_run_meaning.proofs.laws.creates_fill.Goals as goal
+
+pub returns : goal.returns
+returns c = creates_fill

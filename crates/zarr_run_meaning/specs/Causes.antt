@@ -1,0 +1,136 @@
+-- When a cause may be answered: the conditions of each, where none before it in the command's order holds.
+use Rattle.std.specs.Prelude.{◌≡◌, ◌⊎◌, ℕ, ◌*◌, ◌^◌, ◌≤◌, List, length, true, false, Option, Some, None, IsErr, IsOk, IsSome, IsUtf8, MatchOption}
+use Rattle.std.specs.FinMap.{get}
+use Rattle.serde_json.specs.Data.{Data}
+use Rattle.serde_json.specs.Read.{read}
+use Rattle.zarr_grids_boxes.specs.Boxes.{Region, product, is_in_box}
+use Rattle.zarr_grids_chunks.specs.Grids.{Grid, IsInGrid, AreInGrid, IsCovered, intersects}
+use Rattle.zarr_grids_keys.specs.Documents.{document_key}
+use Rattle.zarr_grids_keys.specs.declared.document_name.DocumentName.TheVariants.{ZarrJson, ZArray}
+use Rattle.zarr_grids_metadata.specs.Trees.{SameTree}
+use Rattle.zarr_codecs_meaning.specs.Types.{DataType, byte_width, Cell}
+use Rattle.zarr_codecs_metadata.specs.Chains.{ReadsCodecs}
+use Rattle.zarr_codecs_options.specs.declared.codec_options.CodecOptions.{CodecOptions}
+use Rattle.zarr_codecs_types.specs.Given.{GivenCells, given_in}
+use Rattle.zarr_array_meaning.specs.Boxes.{IsDamagedIn, IsUnfitIn}
+use Rattle.zarr_array_meaning.specs.Chunks.{IsMet, fits_box}
+use Rattle.zarr_array_meaning.specs.Documents.{Document, read_document}
+use Rattle.zarr_array_meaning.specs.StoreMaps.{StoreMap}
+use Rattle.zarr_array_meaning.specs.Texts.{HasDocument, HasNoDocument}
+use Rattle.zarr_array_meaning.specs.Writing.{IsPartDamaged, IsCodecRefused, IsOversized}
+use Rattle.zarr_run_meaning.specs.declared.cause.Cause.{Cause}
+use Rattle.zarr_run_meaning.specs.declared.cause.Cause.TheVariants as cause
+use Rattle.zarr_run_meaning.specs.Requests.{Target, in_box, in_chunk}
+use Rattle.zarr_run_meaning.specs.Worlds.{Held, World, is_taken}
+
+-- ---- what a command means
+
+-- the box of cells that a command means: the box itself, where its places are covered, or the box of a chunk in the grid
+abbrev pub IsTarget : Grid → Target → Region → Type 0
+IsTarget grid (in_box region) box = (box ≡ region) × IsCovered grid region
+IsTarget grid (in_chunk chunk) box = IsInGrid grid chunk box
+
+-- the chunks that an erasure means: the box of their indices has a length for each start, and each of them lies in the grid
+abbrev pub AreTargets : Grid → Region → Type 0
+AreTargets grid chunks = (length chunks.start ≡ length chunks.shape) × AreInGrid grid chunks
+
+-- what a write gives: as many values of the type as the box has places
+abbrev pub Gives : Document → Region → GivenCells → List Cell → Type 0
+Gives document region given values = (given_in document.elements.type given ≡ Some values) × (length values ≡ product region.shape)
+
+-- ---- sizes
+
+-- a box with this shape has 2^63 cells or more, or 2^63 bytes or more, where the cells are of one size
+abbrev pub IsTooLarge : DataType → List ℕ → Type 0
+IsTooLarge type shape = (2 ^ 63 ≤ product shape) ⊎ MatchOption (byte_width type) ⊥ (λ width. 2 ^ 63 ≤ product shape * width)
+
+-- a box of places, or a chunk that it intersects, is too large
+abbrev pub HasTooLarge : Document → Region → Type 0
+HasTooLarge document region = IsTooLarge document.elements.type region.shape
+    ⊎ ((chunk : List ℕ) × (box : Region) × IsInGrid document.grid chunk box × (intersects document.grid region chunk ≡ true) × IsTooLarge document.elements.type box.shape)
+
+-- a box of chunk indices has 2^63 chunks or more, or a chunk that is too large
+abbrev pub HasTooLargeChunk : Document → Region → Type 0
+HasTooLargeChunk document chunks = (2 ^ 63 ≤ product chunks.shape)
+    ⊎ ((chunk : List ℕ) × (box : Region) × IsInGrid document.grid chunk box × (is_in_box chunks.start chunks.shape chunk ≡ true) × IsTooLarge document.elements.type box.shape)
+
+-- ---- documents
+
+-- a document of an array, of Zarr version 3 or 2, is stored at a path
+abbrev pub HasSomeDocument : List ℕ → StoreMap → Type 0
+HasSomeDocument path store = IsSome (get store (document_key path ZarrJson)) ⊎ IsSome (get store (document_key path ZArray))
+
+-- what is stored under the key of a path's document is no text of a document that opens
+abbrev pub IsNoDocument : ReadsCodecs → List ℕ → StoreMap → Type 0
+IsNoDocument reads path store = (text : List ℕ) × (get store (document_key path ZarrJson) ≡ Some text) × ((tree : Data) → IsUtf8 text → read text ≡ Some tree → IsErr (read_document reads tree))
+
+-- a document of Zarr version 2 is stored at a path, and none of version 3: it is not opened so far
+abbrev pub HasOlderAlone : List ℕ → StoreMap → Type 0
+HasOlderAlone path store = (get store (document_key path ZarrJson) ≡ None) × IsSome (get store (document_key path ZArray))
+
+-- ---- the causes of each command, once its path is a node path
+
+-- a create: first the held arrays, then the document, then what is stored
+abbrev pub CreateRefuses : ReadsCodecs → World → List ℕ → Data → Cause → Type 0
+CreateRefuses reads world path document cause.PathTaken = (is_taken path world.arrays ≡ true) ⊎ ((is_taken path world.arrays ≡ false) × IsOk (read_document reads document) × HasSomeDocument path world.store)
+CreateRefuses reads world path document cause.Document = (is_taken path world.arrays ≡ false) × IsErr (read_document reads document)
+CreateRefuses reads world path document cause.Store = (is_taken path world.arrays ≡ false) × IsOk (read_document reads document)
+CreateRefuses reads world path document c = ⊥
+
+-- a reopening: where an array is held at the path, another tree is stored or none; else no document is stored, or none that opens
+abbrev pub ReopenRefuses : ReadsCodecs → World → List ℕ → Option Held → Cause → Type 0
+ReopenRefuses reads world path (Some h) cause.DocumentChanged = (tree : Data) → HasDocument path tree world.store → ¬ SameTree tree h.tree
+ReopenRefuses reads world path None cause.NoArray = HasNoDocument path world.store
+ReopenRefuses reads world path None cause.Document = IsNoDocument reads path world.store ⊎ HasOlderAlone path world.store
+ReopenRefuses reads world path found cause.Store = Unit {0}
+ReopenRefuses reads world path found c = ⊥
+
+-- the box and the cells that a write means, before a chunk is touched
+pub record IsGiven (document : Document) (target : Target) (given : GivenCells) (box : Region) (values : List Cell) : Type 0 where
+  pub is : IsTarget document.grid target box
+  pub gives : Gives document box given values
+
+-- a write, before a chunk is touched
+abbrev pub WriteRefuses : Document → Target → GivenCells → Cause → Type 0
+WriteRefuses document target given cause.Region = (box : Region) → ¬ IsTarget document.grid target box
+WriteRefuses document target given cause.Data = (box : Region) × IsTarget document.grid target box × ((values : List Cell) → ¬ Gives document box given values)
+WriteRefuses document target given cause.Size = (box : Region) × (values : List Cell) × IsGiven document target given box values × HasTooLarge document box
+WriteRefuses document target given c = ⊥
+
+-- a write, at a chunk that the box intersects
+abbrev pub ChunkRefuses : List ℕ → Document → StoreMap → Region → List Cell → CodecOptions → List ℕ → Region → Cause → Type 0
+ChunkRefuses path document store region values options chunk box cause.Fit = fits_box document box ≡ false
+ChunkRefuses path document store region values options chunk box cause.Store = fits_box document box ≡ true
+ChunkRefuses path document store region values options chunk box cause.Damage = IsPartDamaged path document store region chunk box
+ChunkRefuses path document store region values options chunk box cause.Codec = IsCodecRefused path document store region values options.store_empty_chunks chunk box
+ChunkRefuses path document store region values options chunk box cause.Size = IsOversized path document store region values options.store_empty_chunks chunk box
+ChunkRefuses path document store region values options chunk box cause.Memory = Unit {0}
+ChunkRefuses path document store region values options chunk box c = ⊥
+
+-- a write stops at the chunk at this place among those that the box intersects
+pub record StopsAt (path : List ℕ) (document : Document) (store : StoreMap) (region : Region) (values : List Cell) (options : CodecOptions) (n : ℕ) (c : Cause) : Type 0 where
+  pub chunk : List ℕ
+  pub box : Region
+  pub met : IsMet document.grid region n chunk box
+  pub refuses : ChunkRefuses path document store region values options chunk box c
+
+-- a read
+abbrev pub ReadRefuses : List ℕ → Document → StoreMap → Target → Cause → Type 0
+ReadRefuses path document store target cause.Region = (box : Region) → ¬ IsTarget document.grid target box
+ReadRefuses path document store target cause.Size = (box : Region) × IsTarget document.grid target box × HasTooLarge document box
+ReadRefuses path document store target cause.Fit = (box : Region) × IsTarget document.grid target box × (¬ HasTooLarge document box) × IsUnfitIn path document store box
+ReadRefuses path document store target cause.Damage = (box : Region) × IsTarget document.grid target box × (¬ HasTooLarge document box) × IsDamagedIn path document store box
+ReadRefuses path document store target cause.Store = (box : Region) × IsTarget document.grid target box × (¬ HasTooLarge document box)
+ReadRefuses path document store target c = ⊥
+
+-- an erasure, before a chunk is touched
+abbrev pub EraseRefuses : Document → Region → Cause → Type 0
+EraseRefuses document chunks cause.Region = ¬ AreTargets document.grid chunks
+EraseRefuses document chunks cause.Size = AreTargets document.grid chunks × HasTooLargeChunk document chunks
+EraseRefuses document chunks c = ⊥
+
+-- an erasure, at a chunk
+abbrev pub EraseStops : Cause → Type 0
+EraseStops cause.Store = Unit {0}
+EraseStops cause.Memory = Unit {0}
+EraseStops c = ⊥

@@ -1,0 +1,113 @@
+-- What commands change.
+use Rattle.std.specs.Prelude.{◌≡◌, ℕ, List, [], ◌∷◌, ◌++◌, map, true, false, Some, None, Ok}
+use Rattle.std.specs.FinMap.{insert}
+use Rattle.serde_json.specs.Data.{Data}
+use Rattle.zarr_grids_boxes.specs.Boxes.{Region, places}
+use Rattle.zarr_grids_chunks.specs.Grids.{intersecting}
+use Rattle.zarr_grids_keys.specs.Documents.{document_key}
+use Rattle.zarr_grids_keys.specs.Paths.{is_node_path}
+use Rattle.zarr_grids_keys.specs.declared.document_name.DocumentName.TheVariants.{ZarrJson}
+use Rattle.zarr_grids_metadata.specs.Trees.{SameTree}
+use Rattle.zarr_codecs_meaning.specs.Types.{Cell}
+use Rattle.zarr_codecs_meaning.specs.Payloads.{Payload, cells_in}
+use Rattle.zarr_codecs_metadata.specs.Chains.{ReadsCodecs}
+use Rattle.zarr_codecs_options.specs.declared.codec_options.CodecOptions.{CodecOptions}
+use Rattle.zarr_codecs_options.specs.declared.subchunk_write_order.SubchunkWriteOrder.{SubchunkWriteOrder}
+use Rattle.zarr_codecs_types.specs.Given.{GivenCells}
+use Rattle.zarr_array_meaning.specs.Boxes.{IsRead}
+use Rattle.zarr_array_meaning.specs.Documents.{Document, read_document}
+use Rattle.zarr_array_meaning.specs.Standing.{IsLossless}
+use Rattle.zarr_array_meaning.specs.Texts.{IsTextOf, HasDocument, HasNoDocument}
+use Rattle.zarr_array_meaning.specs.Writing.{WroteChunks, ErasedChunks}
+use Rattle.zarr_array_meaning.specs.Written.{written_document}
+use Rattle.zarr_run_meaning.specs.Causes.{IsTarget, AreTargets, IsGiven, HasTooLarge, HasTooLargeChunk}
+use Rattle.zarr_run_meaning.specs.Requests.{Target}
+use Rattle.zarr_run_meaning.specs.Tables.{Table, cell, updated, changes, changes_in, fills}
+use Rattle.zarr_run_meaning.specs.Worlds.{Held, World, held_at, is_taken, with_order, IsTableAt, WithTable}
+
+-- an array begins to be held: its table has the cells that its stored chunks show
+pub record Begins (path : List ℕ) (tree : Data) (document : Document) (order : SubchunkWriteOrder) (old new : World) : Type 0 where
+  pub free : held_at path old.arrays ≡ None
+  pub table : Table
+  pub shows : IsTableAt path document old.store table
+  pub holds : new.arrays ≡ old.arrays ++ record { path = path; tree = tree; document = document; order = order; table = table } ∷ []
+
+-- a create that is done: the path was free, and the document is written; no other key changed
+pub record Creates (reads : ReadsCodecs) (path : List ℕ) (document : Data) (order : SubchunkWriteOrder) (old new : World) : Type 0 where
+  pub node : is_node_path path ≡ true
+  pub free : is_taken path old.arrays ≡ false
+  pub fresh : HasNoDocument path old.store
+  pub meaning : Document
+  pub opens : read_document reads document ≡ Ok meaning
+  pub begins : Begins path (written_document document) meaning order old new
+  pub text : List ℕ
+  pub writes : IsTextOf (written_document document) text
+  pub stores : new.store ≡ insert old.store (document_key path ZarrJson) text
+
+-- an array that is held gets a write order: the tree that is stored is the one that was written or opened
+pub record Reopens (path : List ℕ) (order : SubchunkWriteOrder) (old new : World) : Type 0 where
+  pub node : is_node_path path ≡ true
+  pub held : Held
+  pub found : held_at path old.arrays ≡ Some held
+  pub tree : Data
+  pub stored : HasDocument path tree old.store
+  pub same : SameTree tree held.tree
+  pub updates : new.arrays ≡ with_order path order old.arrays
+  pub stores : new.store ≡ old.store
+
+-- an array that was not held is opened from the document that is stored
+pub record Opens (reads : ReadsCodecs) (path : List ℕ) (order : SubchunkWriteOrder) (old new : World) : Type 0 where
+  pub node : is_node_path path ≡ true
+  pub tree : Data
+  pub stored : HasDocument path tree old.store
+  pub meaning : Document
+  pub opens : read_document reads tree ≡ Ok meaning
+  pub begins : Begins path tree meaning order old new
+  pub stores : new.store ≡ old.store
+
+-- the cells of a box are given to some of the chunks that it intersects: the table has them, and the store
+pub record WritesChunks (h : Held) (region : Region) (values : List Cell) (options : CodecOptions) (chunks : List (List ℕ)) (old new : World) : Type 0 where
+  pub table : Table
+  pub is : table ≡ updated h.document.elements.fill h.table (changes_in h.document.grid chunks (changes region values))
+  pub updates : WithTable h.path table new.store old.arrays new.arrays
+  pub stores : WroteChunks h.path h.document region values options chunks old.store new.store
+
+-- a write that is done
+pub record Writes (path : List ℕ) (target : Target) (given : GivenCells) (options : CodecOptions) (old new : World) : Type 0 where
+  pub node : is_node_path path ≡ true
+  pub held : Held
+  pub found : held_at path old.arrays ≡ Some held
+  pub box : Region
+  pub values : List Cell
+  pub is : IsGiven held.document target given box values
+  pub small : ¬ HasTooLarge held.document box
+  pub writes : WritesChunks held box values options (intersecting held.document.grid box) old new
+
+-- a payload is the cells of a box: those that are read from the store, which are the table's where the chain keeps every bit
+pub record Reads (path : List ℕ) (target : Target) (payload : Payload) (old : World) : Type 0 where
+  pub node : is_node_path path ≡ true
+  pub held : Held
+  pub found : held_at path old.arrays ≡ Some held
+  pub box : Region
+  pub is : IsTarget held.document.grid target box
+  pub small : ¬ HasTooLarge held.document box
+  pub values : List Cell
+  pub lists : cells_in held.document.elements.type payload ≡ Some values
+  pub read : IsRead held.path held.document old.store box values
+  pub table : IsLossless held.document → values ≡ map (cell held.document.elements.fill held.table) (places box.start box.shape)
+
+-- some chunks are erased: their cells are the fill value
+pub record ErasesChunks (h : Held) (chunks : List (List ℕ)) (old new : World) : Type 0 where
+  pub table : Table
+  pub is : table ≡ updated h.document.elements.fill h.table (fills h.document.grid h.document.elements.fill chunks)
+  pub updates : WithTable h.path table new.store old.arrays new.arrays
+  pub stores : ErasedChunks h.path h.document chunks old.store new.store
+
+-- an erasure that is done
+pub record Erases (path : List ℕ) (chunks : Region) (old new : World) : Type 0 where
+  pub node : is_node_path path ≡ true
+  pub held : Held
+  pub found : held_at path old.arrays ≡ Some held
+  pub below : AreTargets held.document.grid chunks
+  pub small : ¬ HasTooLargeChunk held.document chunks
+  pub erases : ErasesChunks held (places chunks.start chunks.shape) old new

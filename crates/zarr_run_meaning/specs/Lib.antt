@@ -1,0 +1,9 @@
+pub mod Tables
+pub mod Requests
+pub mod Worlds
+pub mod Causes
+pub mod Changes
+pub mod Steps
+pub mod Runs
+pub mod Sound
+pub mod Laws

@@ -1,0 +1,36 @@
+-- What is asked of a session, and what it answers.
+use Rattle.std.specs.Prelude.{ℕ, List}
+use Rattle.serde_json.specs.Data.{Data}
+use Rattle.zarr_grids_boxes.specs.Boxes.{Region}
+use Rattle.zarr_codecs_meaning.specs.Payloads.{Payload}
+use Rattle.zarr_codecs_options.specs.declared.codec_options.CodecOptions.{CodecOptions}
+use Rattle.zarr_codecs_options.specs.declared.subchunk_write_order.SubchunkWriteOrder.{SubchunkWriteOrder}
+use Rattle.zarr_codecs_types.specs.Given.{GivenCells}
+use Rattle.zarr_run_meaning.specs.declared.cause.Cause.{Cause}
+
+-- the cells that a command means: those of a box, or those of a chunk
+pub data Target : Type 0 where
+  in_box : (region : Region) → Target
+  in_chunk : (chunk : List ℕ) → Target
+
+-- a command, without the memory that holds it
+pub data Request : Type 0 where
+  create : (path : List ℕ) (document : Data) (order : SubchunkWriteOrder) → Request
+  reopen : (path : List ℕ) (order : SubchunkWriteOrder) → Request
+  write : (path : List ℕ) (target : Target) (cells : GivenCells) (options : CodecOptions) → Request
+  read : (path : List ℕ) (target : Target) (options : CodecOptions) → Request
+  erase : (path : List ℕ) (chunks : Region) → Request
+
+-- a reply, without the memory that holds it
+pub data Answer : Type 0 where
+  done : Answer
+  cells : Payload → Answer
+  refused : (cause : Cause) (applied : ℕ) → Answer
+
+-- the path that a command names
+abbrev pub path_of : Request → List ℕ
+path_of (create path document order) = path
+path_of (reopen path order) = path
+path_of (write path target values options) = path
+path_of (read path target options) = path
+path_of (erase path chunks) = path

@@ -1,0 +1,95 @@
+-- What a session may answer to a command, and what each command changes.
+use Rattle.std.specs.Prelude.{◌≡◌, ◌⊎◌, ℕ, ◌<◌, List, take, true, false, Option, Some, None}
+use Rattle.zarr_grids_boxes.specs.Boxes.{Region, product, places}
+use Rattle.zarr_grids_chunks.specs.Grids.{intersecting}
+use Rattle.zarr_grids_keys.specs.Paths.{is_node_path}
+use Rattle.zarr_codecs_meaning.specs.Types.{Cell}
+use Rattle.zarr_codecs_metadata.specs.Chains.{ReadsCodecs}
+use Rattle.zarr_codecs_options.specs.declared.codec_options.CodecOptions.{CodecOptions}
+use Rattle.zarr_codecs_types.specs.Given.{GivenCells}
+use Rattle.zarr_array_meaning.specs.StoreMaps.{counted}
+use Rattle.zarr_run_meaning.specs.declared.cause.Cause.{Cause}
+use Rattle.zarr_run_meaning.specs.declared.cause.Cause.TheVariants as cause
+use Rattle.zarr_run_meaning.specs.Causes.{CreateRefuses, ReopenRefuses, WriteRefuses, ReadRefuses, EraseRefuses, EraseStops, AreTargets, IsGiven, HasTooLarge, HasTooLargeChunk, StopsAt}
+use Rattle.zarr_run_meaning.specs.Changes.{Creates, Reopens, Opens, Writes, WritesChunks, Reads, Erases, ErasesChunks}
+use Rattle.zarr_run_meaning.specs.Requests.{Target, Request, create, reopen, write, read, erase, Answer, done, cells, refused}
+use Rattle.zarr_run_meaning.specs.Worlds.{Held, World, held_at}
+
+-- the count of refused store calls rises by one with the cause Store, and with no other
+abbrev pub refused_after : Cause → ℕ → ℕ
+refused_after cause.Store count = counted count 1
+refused_after c count = count
+
+-- a command that is refused before it changed anything
+pub record Stays (c : Cause) (n : ℕ) (old new : World) : Type 0 where
+  pub applied : n ≡ 0
+  pub is : new ≡ record old { refused = refused_after c old.refused }
+
+-- a write that stopped at a chunk: of the chunks that the box intersects exactly those before it are written
+pub record WritesFirst (h : Held) (target : Target) (given : GivenCells) (options : CodecOptions) (c : Cause) (n : ℕ) (old new : World) : Type 0 where
+  pub box : Region
+  pub values : List Cell
+  pub is : IsGiven h.document target given box values
+  pub small : ¬ HasTooLarge h.document box
+  pub stops : StopsAt h.path h.document old.store box values options n c
+  pub writes : WritesChunks h box values options (take n (intersecting h.document.grid box)) old new
+  pub count : new.refused ≡ refused_after c old.refused
+
+-- an erasure that stopped at a chunk: exactly the chunks before it are erased
+pub record ErasesFirst (h : Held) (chunks : Region) (c : Cause) (n : ℕ) (old new : World) : Type 0 where
+  pub below : AreTargets h.document.grid chunks
+  pub small : ¬ HasTooLargeChunk h.document chunks
+  pub stops : EraseStops c
+  pub fewer : n < product chunks.shape
+  pub erases : ErasesChunks h (take n (places chunks.start chunks.shape)) old new
+  pub count : new.refused ≡ refused_after c old.refused
+
+-- a refusal of a command on a held array: there is none, or the array refuses
+abbrev pub RefusesHeld : Option Held → (Held → Cause → ℕ → World → World → Type 0) → Cause → ℕ → World → World → Type 0
+RefusesHeld None refuses cause.NoArray n old new = Stays cause.NoArray n old new
+RefusesHeld None refuses c n old new = ⊥
+RefusesHeld (Some h) refuses c n old new = refuses h c n old new
+
+-- how a held array refuses a write: as a whole, or at a chunk
+abbrev pub RefusesWrite : Target → GivenCells → CodecOptions → Held → Cause → ℕ → World → World → Type 0
+RefusesWrite target given options h c n old new = (WriteRefuses h.document target given c × Stays c n old new) ⊎ WritesFirst h target given options c n old new
+
+-- how a held array refuses a read
+abbrev pub RefusesRead : Target → Held → Cause → ℕ → World → World → Type 0
+RefusesRead target h c n old new = ReadRefuses h.path h.document old.store target c × Stays c n old new
+
+-- how a held array refuses an erasure: as a whole, or at a chunk
+abbrev pub RefusesErase : Region → Held → Cause → ℕ → World → World → Type 0
+RefusesErase chunks h c n old new = (EraseRefuses h.document chunks c × Stays c n old new) ⊎ ErasesFirst h chunks c n old new
+
+-- how a command with a node path is refused, running out of memory before anything changed aside
+abbrev pub Refuses : ReadsCodecs → Request → Cause → ℕ → World → World → Type 0
+Refuses reads (create path document order) c n old new = CreateRefuses reads old path document c × Stays c n old new
+Refuses reads (reopen path order) c n old new = ReopenRefuses reads old path (held_at path old.arrays) c × Stays c n old new
+Refuses reads (write path target given options) c n old new = RefusesHeld (held_at path old.arrays) (RefusesWrite target given options) c n old new
+Refuses reads (read path target options) c n old new = RefusesHeld (held_at path old.arrays) (RefusesRead target) c n old new
+Refuses reads (erase path chunks) c n old new = RefusesHeld (held_at path old.arrays) (RefusesErase chunks) c n old new
+
+-- how a command is refused: its path comes first, and running out of memory before anything changed may come anywhere
+abbrev pub RefusesAt : ReadsCodecs → List ℕ → Request → Cause → ℕ → World → World → Type 0
+RefusesAt reads path request cause.Path n old new = (is_node_path path ≡ false) × Stays cause.Path n old new
+RefusesAt reads path request cause.Memory n old new = Stays cause.Memory n old new ⊎ ((is_node_path path ≡ true) × Refuses reads request cause.Memory n old new)
+RefusesAt reads path request c n old new = (is_node_path path ≡ true) × Refuses reads request c n old new
+
+-- a command that is done refused no store call
+abbrev pub Done : (World → World → Type 0) → World → World → Type 0
+Done change old new = change old new × (new.refused ≡ old.refused)
+
+-- from old, a session may give this answer to the command and go on to new
+abbrev pub Step : ReadsCodecs → World → Request → Answer → World → Type 0
+Step reads old (create path document order) done new = Done (Creates reads path document order) old new
+Step reads old (reopen path order) done new = Done (λ before after. Reopens path order before after ⊎ Opens reads path order before after) old new
+Step reads old (write path target given options) done new = Done (Writes path target given options) old new
+Step reads old (erase path chunks) done new = Done (Erases path chunks) old new
+Step reads old (read path target options) (cells payload) new = Reads path target payload old × (new ≡ old)
+Step reads old (create path document order) (refused c n) new = RefusesAt reads path (create path document order) c n old new
+Step reads old (reopen path order) (refused c n) new = RefusesAt reads path (reopen path order) c n old new
+Step reads old (write path target given options) (refused c n) new = RefusesAt reads path (write path target given options) c n old new
+Step reads old (read path target options) (refused c n) new = RefusesAt reads path (read path target options) c n old new
+Step reads old (erase path chunks) (refused c n) new = RefusesAt reads path (erase path chunks) c n old new
+Step reads old request answer new = ⊥

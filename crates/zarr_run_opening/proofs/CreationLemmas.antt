@@ -1,0 +1,205 @@
+-- A create in a world.
+use Rattle.std.proofs.Common.{◌≡◌, ◌∙◌, ℕ, List, [], ◌∷◌, ◌++◌, refl, sym, ap, subst, IsTrue, ⊎_elim, inl, inr, Some, None, Result, Ok, Err, IsOk, IsSome}
+use Rattle.std.specs.FinMap.{get, insert}
+use Rattle.std.specs.Result.{IfErr, OnOk, OnErr}
+use Rattle.std.proofs.lemmas.Bool.{false≢true}
+use Rattle.serde_json.specs.Data.{Data}
+use Rattle.zarr_grids_keys.specs.Documents.{document_key, document_name}
+use Rattle.zarr_grids_keys.specs.Keys.{chunk_key, encoded_key}
+use Rattle.zarr_grids_keys.specs.Paths.{is_node_path}
+use Rattle.zarr_grids_keys.specs.Related.{is_related}
+use Rattle.zarr_grids_keys.specs.declared.document_name.DocumentName.TheVariants.{ZarrJson}
+use Rattle.zarr_codecs_meaning.specs.Chains.{ByteCodec}
+use Rattle.zarr_codecs_metadata.specs.Chains.{ReadsCodecs}
+use Rattle.zarr_codecs_options.specs.declared.subchunk_write_order.SubchunkWriteOrder.{SubchunkWriteOrder}
+use Rattle.zarr_array_meaning.specs.Documents.{Document, read_document}
+use Rattle.zarr_array_meaning.specs.StoreMaps.{StoreMap}
+use Rattle.zarr_run_meaning.specs.Steps.{Step, refused_after}
+use Rattle.zarr_run_meaning.specs.Tables.{Table}
+use Rattle.zarr_run_meaning.specs.Worlds.{Held, World, held_at, IsTableAt}
+use Rattle.zarr_run_meaning.specs.declared.cause.Cause.{Cause}
+use Rattle.zarr_run_meaning.specs.declared.cause.Cause.TheVariants as cause
+use Rattle.zarr_run_meaning.proofs.FoundTables.{table_found}
+use Rattle.zarr_grids_keys.proofs.HeadLemmas.{chunk_key-no_own_document}
+use Rattle.zarr_grids_keys.proofs.RelatedLemmas.{is_related-comm, is_related-refl, key_under-unrelated}
+use Rattle.zarr_array_meaning.specs.Texts.{HasNoDocument}
+use Rattle.zarr_array_meaning.specs.Written.{written_document}
+use Rattle.zarr_run_meaning.specs.Causes.{HasSomeDocument}
+use Rattle.zarr_run_meaning.specs.Requests.{create, Answer, done, refused}
+use Rattle.zarr_run_opening.specs.Arrays.{IsFreeIn, KeepsArrays}
+use Rattle.zarr_run_opening.specs.Calls.{refused_by, DocumentRefused}
+use Rattle.zarr_run_opening.specs.Creations.{IsPrepared, PreparationRefused, HasEither, IsStored, StoringRefused}
+use Rattle.zarr_run_opening.specs.Sessions.{Arrays, array_at, document_of, IsIn, answer_of}
+use Rattle.zarr_run_opening.specs.declared.creating.Prepared.{Prepared}
+use Rattle.zarr_run_opening.proofs.HoldsLemmas.{table_kept, agreed_none, held_kept, taken_in_world, unrelated_held, free_in_world, node_in_world, in_refused, stays, put_other, none_from}
+use Rattle.zarr_run_opening.proofs.BeginLemmas.{in_begun}
+use Rattle.zarr_run_opening.proofs.WorldLemmas.{held_at-path}
+
+-- no array is held at a free path
+pub none_at : {B : Type 0} (arrays : Arrays B) (path : List ℕ) → IsTrue (is_node_path path) → IsFreeIn arrays path → array_at arrays path ≡ None
+none_at arrays path node free = none_from (array_at arrays path) (λ array e. false≢true (sym (free path array node e) ∙ is_related-refl path))
+
+ok_of : {A E : Type 0} (r : Result A E) (x : A) → r ≡ Ok x → IsOk r
+ok_of {A} {E} r x e = let P : Result A E → Type 0 = λ r. IsOk r in subst P (sym e) refl
+
+-- what a create found and left
+pub record Creates {B : Type 0} (meaning : B → ByteCodec) (reads : ReadsCodecs) (path : List ℕ) (d : Data) (order : SubchunkWriteOrder) (prepared : Prepared B) (old new : Arrays B) (store store' : StoreMap) (n n' : ℕ) (r : Result (Unit {0}) Cause) : Type 0 where
+  pub node : IsTrue (is_node_path path)
+  pub free : IsFreeIn old path
+  pub is : IsPrepared meaning reads path d order prepared
+  pub ok : OnOk r (IsStored path prepared old new store store')
+  pub refused : IfErr r (StoringRefused prepared store)
+  pub keeps : OnErr r (KeepsArrays old new)
+  pub same : OnErr r (store' ≡ store)
+  pub calls : n' ≡ refused_by n r
+
+-- a step to a world that a state is in
+abbrev pub StepsTo : {B : Type 0} → (B → ByteCodec) → ReadsCodecs → World → List ℕ → Data → SubchunkWriteOrder → Answer → Arrays B → StoreMap → ℕ → Type 0
+StepsTo meaning reads before path d order answer new store n = (after : World) × Step reads before (create path d order) answer after × IsIn meaning reads (new, (store, n)) after
+
+module _ (B : Type 0) (meaning : B → ByteCodec) (reads : ReadsCodecs) (path : List ℕ) (d : Data) (order : SubchunkWriteOrder) (old : Arrays B) (store : StoreMap) (n : ℕ) (w : World) (k : IsIn meaning reads (old, (store, n)) w) where
+  preparation_refused : (c : Cause) → PreparationRefused reads old path d c → Step reads w (create path d order) (refused c 0) (record w { refused = refused_after c w.refused })
+  preparation_refused cause.Path why = (why, stays cause.Path w)
+  preparation_refused cause.PathTaken why = (why.0, (inl (taken_in_world B meaning reads old store n w path k why.1), stays cause.PathTaken w))
+  preparation_refused cause.Document why = (why.0, ((free_in_world B meaning reads old store n w path k why.1, why.2), stays cause.Document w))
+  preparation_refused cause.Memory why = inl (stays cause.Memory w)
+  preparation_refused cause.NoArray why = absurd why
+  preparation_refused cause.Region why = absurd why
+  preparation_refused cause.Data why = absurd why
+  preparation_refused cause.Size why = absurd why
+  preparation_refused cause.Fit why = absurd why
+  preparation_refused cause.Codec why = absurd why
+  preparation_refused cause.Store why = absurd why
+  preparation_refused cause.Damage why = absurd why
+  preparation_refused cause.DocumentChanged why = absurd why
+
+  no_call : (c : Cause) → PreparationRefused reads old path d c → refused_after c n ≡ n
+  no_call cause.Path why = refl
+  no_call cause.PathTaken why = refl
+  no_call cause.NoArray why = refl
+  no_call cause.Document why = refl
+  no_call cause.Region why = refl
+  no_call cause.Data why = refl
+  no_call cause.Size why = refl
+  no_call cause.Fit why = refl
+  no_call cause.Codec why = refl
+  no_call cause.Store why = absurd why
+  no_call cause.Damage why = refl
+  no_call cause.Memory why = refl
+  no_call cause.DocumentChanged why = refl
+
+  -- a create that is refused before the store is called
+  pub not_prepared : (c : Cause) → PreparationRefused reads old path d c → StepsTo meaning reads w path d order (refused c 0) old store n
+  not_prepared c why = (
+    record w { refused = refused_after c w.refused },
+    preparation_refused c why,
+    in_refused B meaning reads old old store store n n c w k (λ q. refl) refl (sym (no_call c why)),
+  )
+
+  module _ (prepared : Prepared B) (node : IsTrue (is_node_path path)) (free : IsFreeIn old path) (is : IsPrepared meaning reads path d order prepared) where
+    opens : IsOk (read_document reads d)
+    opens = ok_of (read_document reads d) (document_of meaning prepared.array) is.opens
+
+    has_some : HasEither store prepared.key prepared.older → HasSomeDocument path w.store
+    has_some e =
+        let P : List ℕ → Type 0 = λ key. IsSome (get w.store key) in
+        let Q : StoreMap → Type 0 = λ (s : StoreMap). HasEither s prepared.key prepared.older in
+        ⊎_elim (λ here. inl (subst P is.key here)) (λ here. inr (subst P is.older here)) (subst Q (sym k.store) e)
+
+    storing_refused : (c : Cause) → StoringRefused prepared store c → Step reads w (create path d order) (refused c 0) (record w { refused = refused_after c w.refused })
+    storing_refused cause.PathTaken why = (node, (inr (free_in_world B meaning reads old store n w path k free, opens, has_some why), stays cause.PathTaken w))
+    storing_refused cause.Store why = (node, ((free_in_world B meaning reads old store n w path k free, opens), stays cause.Store w))
+    storing_refused cause.Memory why = inl (stays cause.Memory w)
+    storing_refused cause.Path why = absurd why
+    storing_refused cause.NoArray why = absurd why
+    storing_refused cause.Document why = absurd why
+    storing_refused cause.Region why = absurd why
+    storing_refused cause.Data why = absurd why
+    storing_refused cause.Size why = absurd why
+    storing_refused cause.Fit why = absurd why
+    storing_refused cause.Codec why = absurd why
+    storing_refused cause.Damage why = absurd why
+    storing_refused cause.DocumentChanged why = absurd why
+
+    module _ (new : Arrays B) (store' : StoreMap) (c : IsStored path prepared old new store store') where
+      get_other : (q : List ℕ) → (q ≡ document_key path ZarrJson → ⊥) → get store' q ≡ get store q
+      get_other q ne = ap (λ (m : StoreMap). get m q) c.writes ∙ put_other store prepared.key prepared.text.items q (λ e. ne (e ∙ is.key))
+
+      fresh : HasNoDocument path w.store
+      fresh = record {
+        zarr_json = ap (get w.store) (sym is.key) ∙ ap (λ (m : StoreMap). get m prepared.key) k.store ∙ c.fresh.none;
+        zarray = ap (get w.store) (sym is.older) ∙ ap (λ (m : StoreMap). get m prepared.older) k.store ∙ c.fresh.none_older;
+      }
+
+      stores : store' ≡ insert w.store (document_key path ZarrJson) prepared.text.items
+      stores = c.writes ∙ ap (λ key. insert store key prepared.text.items) is.key ∙ ap (λ (m : StoreMap). insert m (document_key path ZarrJson) prepared.text.items) (sym k.store)
+
+      abbrev document : Document
+      document = document_of meaning prepared.array
+
+      abbrev found : (table : Table) × IsTableAt path document store table
+      found = let t = table_found path document store in (t.0, t.1)
+
+      own_chunks : (chunk : List ℕ) → get store' (chunk_key path document.keys chunk) ≡ get store (chunk_key path document.keys chunk)
+      own_chunks chunk = get_other (chunk_key path document.keys chunk) (chunk_key-no_own_document path document.keys chunk ZarrJson)
+
+      other_chunks : (q : List ℕ) (h : Held) → held_at q w.arrays ≡ Some h → (chunk : List ℕ) → get store' (chunk_key h.path h.document.keys chunk) ≡ get store (chunk_key h.path h.document.keys chunk)
+      other_chunks q h e chunk = get_other (chunk_key h.path h.document.keys chunk)
+          (key_under-unrelated h.path path (encoded_key h.document.keys chunk) (document_name ZarrJson) (node_in_world B meaning reads old store n w q h k e) node
+          (is_related-comm h.path path ∙ ap (is_related path) (sym (held_at-path q w.arrays h e)) ∙ unrelated_held B meaning reads old store n w path k free q h e))
+
+      abbrev begun : Held
+      begun = record { path = path; tree = written_document d; document = document; order = order; table = found.0 }
+
+      free_at : held_at path w.arrays ≡ None
+      free_at = agreed_none B meaning reads store (array_at old path) (held_at path w.arrays) (k.agree path) (none_at old path node free)
+
+      pub created : StepsTo meaning reads w path d order done new store' n
+      created =
+          let P : StoreMap → Type 0 = λ (s : StoreMap). IsTableAt path document s found.0 in (
+            record { arrays = w.arrays ++ begun ∷ []; store = store'; refused = n },
+            (
+              record {
+                node = node;
+                free = free_in_world B meaning reads old store n w path k free;
+                fresh = fresh;
+                meaning = document;
+                opens = is.opens;
+                begins = record { free = free_at; table = found.0; shows = subst P (sym k.store) found.1; holds = refl };
+                text = prepared.text.items;
+                writes = is.text;
+                stores = stores;
+              },
+              sym k.refused,
+            ),
+            in_begun B meaning reads path (written_document d) order old new store store' n w k prepared.array is.opened found.0 (table_kept path document store store' found.0 own_chunks found.1) node free_at c.held c.others
+                (λ array q h e held. held_kept B meaning reads array store store' h held (other_chunks q h e)),
+          )
+
+-- what a create found and left is a step in each world
+pub create_steps : {B : Type 0} (meaning : B → ByteCodec) (reads : ReadsCodecs) (path : List ℕ) (d : Data) (order : SubchunkWriteOrder) (prepared : Prepared B) (old new : Arrays B) (store store' : StoreMap) (n n' : ℕ) (r : Result (Unit {0}) Cause)
+    → Creates meaning reads path d order prepared old new store store' n n' r → (w : World) → IsIn meaning reads (old, (store, n)) w → StepsTo meaning reads w path d order (answer_of r) new store' n'
+create_steps {B} meaning reads path d order prepared old new store store' n n' (Ok x) c w k =
+    let P : ℕ → Type 0 = λ m. StepsTo meaning reads w path d order done new store' m in
+    subst P (sym c.calls) (created B meaning reads path d order old store n w k prepared c.node c.free c.is new store' c.ok)
+create_steps {B} meaning reads path d order prepared old new store store' n n' (Err e) c w k = (
+  record w { refused = refused_after e w.refused },
+  storing_refused B meaning reads path d order old store n w k prepared c.node c.free c.is e c.refused,
+  in_refused B meaning reads old new store store' n n' e w k c.keeps c.same c.calls,
+)
+
+-- a document that is refused
+pub document_refused : {B : Type 0} (reads : ReadsCodecs) (arrays : Arrays B) (path : List ℕ) (d : Data) (c : Cause) → IsTrue (is_node_path path) → IsFreeIn arrays path → DocumentRefused reads d c → PreparationRefused reads arrays path d c
+document_refused reads arrays path d cause.Document node free why = (node, free, why)
+document_refused reads arrays path d cause.Memory node free why = tt
+document_refused reads arrays path d cause.Path node free why = absurd why
+document_refused reads arrays path d cause.PathTaken node free why = absurd why
+document_refused reads arrays path d cause.NoArray node free why = absurd why
+document_refused reads arrays path d cause.Region node free why = absurd why
+document_refused reads arrays path d cause.Data node free why = absurd why
+document_refused reads arrays path d cause.Size node free why = absurd why
+document_refused reads arrays path d cause.Fit node free why = absurd why
+document_refused reads arrays path d cause.Codec node free why = absurd why
+document_refused reads arrays path d cause.Store node free why = absurd why
+document_refused reads arrays path d cause.Damage node free why = absurd why
+document_refused reads arrays path d cause.DocumentChanged node free why = absurd why

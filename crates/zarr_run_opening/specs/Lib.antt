@@ -1,0 +1,5 @@
+pub mod Arrays
+pub mod Calls
+pub mod Creations
+pub mod Reopenings
+pub mod Sessions

@@ -1,0 +1,13 @@
+//! The arrays that a session holds: how they are found by their paths, created and opened.
+#![tactic(auto)]
+
+mod arrays;
+pub mod creating;
+pub mod held;
+mod opening;
+pub mod reopening;
+mod store_calls;
+
+pub use creating::create;
+pub use held::HeldArray;
+pub use reopening::reopen;

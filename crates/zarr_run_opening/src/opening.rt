@@ -1,0 +1,62 @@
+//! Arrays opened from the trees of their documents.
+ghost use Rattle.std.specs.Prelude.{◌≡◌, IsTrue, IfOk, IfErr, Ok};
+ghost use Rattle.serde_json.specs.View.{view};
+ghost use Rattle.zarr_grids_keys.specs.Paths.{is_node_path};
+ghost use Rattle.zarr_codecs_chains.specs.Views.{meaning_of};
+ghost use Rattle.zarr_array_core.specs.Views.{path_of, document_of};
+ghost use Rattle.zarr_array_meaning.specs.Documents.{read_document};
+ghost use Rattle.zarr_run_opening.specs.Calls.{DocumentRefused};
+
+use serde_json::Value;
+use std::alloc::{AllocError, Global};
+use zarr_array_core::ArrayCore;
+use zarr_array_meaning::DocumentError;
+use zarr_array_metadata::{ArrayDocument, read_document};
+use zarr_codecs_chains::CodecChain;
+use zarr_codecs_traits::BytesToBytesCodecTraits;
+use zarr_grids_keys::NodePath;
+use zarr_run_meaning::Cause;
+
+/// The array at a path whose document is a tree. `Document` where it cannot be opened.
+pub(crate) fn open_tree<B: BytesToBytesCodecTraits>(
+    alloc: Global,
+    path: &str,
+    tree: &Value,
+) -> Result<ArrayCore<CodecChain<B>>, Cause>
+    requires { IsTrue (is_node_path path.now) }
+    ensures path { IfOk result (λ array. path_of array ≡ path.now) }
+    ensures says { IfOk result (λ array. read_document B.reads (view tree.now)
+        ≡ Ok (document_of (meaning_of B.meaning) array)) }
+    ensures err { IfErr result (DocumentRefused B.reads (view tree.now)) }
+{
+    let document = match read_document(alloc, tree) {
+        Ok(document) => document,
+        Err(DocumentError::Memory) => return Err(Cause::Memory),
+        Err(_) => return Err(Cause::Document),
+    };
+    let Ok(at) = node_path(alloc, path) else {
+        return Err(Cause::Memory);
+    };
+    let ArrayDocument {
+        grid,
+        keys,
+        elements,
+        codecs,
+    } = document;
+    match ArrayCore::new(at, grid, keys, elements, codecs) {
+        Some(array) => Ok(array),
+        None => unreachable!(),
+    }
+}
+
+/// A node path, in memory of its own.
+fn node_path(alloc: Global, path: &str) -> Result<NodePath, AllocError>
+    requires { IsTrue (is_node_path path.now) }
+    ensures { IfOk result (λ copy. copy ≡ path.now) }
+{
+    let text = String::from_str(alloc, path)?;
+    match NodePath::new(text) {
+        Ok(copy) => Ok(copy),
+        Err(_) => unreachable!(),
+    }
+}

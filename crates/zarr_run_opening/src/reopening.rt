@@ -1,0 +1,202 @@
+//! Arrays that commands open again, or for the first time.
+ghost use Rattle.std.specs.Prelude.{◌≡◌, IsTrue, IfOk, IfErr, OnOk, OnErr};
+ghost use Rattle.zarr_grids_keys.specs.Paths.{is_node_path};
+ghost use Rattle.zarr_run_meaning.specs.Requests as ask;
+ghost use Rattle.zarr_run_meaning.specs.Steps.{refused_after};
+ghost use Rattle.zarr_run_opening.specs.Arrays.{KeepsArrays, KeepsOtherArrays};
+ghost use Rattle.zarr_run_opening.specs.Calls.{IsStoreCause, refused_by};
+ghost use Rattle.zarr_run_opening.specs.Reopenings.{IsStoredAt, HasSameDocument, ComparisonRefused, IsOpenedFrom, OpeningRefused, NothingRefused, Reopened};
+ghost use Rattle.zarr_run_opening.specs.Sessions.{StepsFrom, answer_of, array_at};
+
+use crate::arrays::{find, hold, set_order};
+use crate::held::HeldArray;
+use crate::opening::open_tree;
+use crate::store_calls::{get, store_key};
+use serde_json::Value;
+use std::alloc::Global;
+use std::collections::BTreeMap;
+use zarr_array_storage::ReadableStorageTraits;
+use zarr_codecs_options::SubchunkWriteOrder;
+use zarr_codecs_traits::BytesToBytesCodecTraits;
+use zarr_grids_keys::{DocumentName, is_node_path};
+use zarr_grids_metadata::same_tree;
+use zarr_run_meaning::Cause;
+
+/// What is stored under the key of a path's document.
+#[derive(Drop)]
+enum StoredDocument {
+    Nothing,
+    /// No text, or one that reads as no tree.
+    NoTree,
+    Tree(Value),
+}
+
+/// Gives the array that is held at a path another write order, where its document is still stored:
+/// else `DocumentChanged`. Where no array is held there, opens the document that is stored:
+/// `NoArray` where none is, `Document` where it cannot be opened. `Path` where the text is no node
+/// path, `Store` where the store refuses.
+pub fn reopen<B: BytesToBytesCodecTraits, S: ReadableStorageTraits>(
+    alloc: Global,
+    arrays: &mut BTreeMap<String, HeldArray<B>>,
+    store: &mut S,
+    path: &str,
+    order: SubchunkWriteOrder,
+) -> Result<(), Cause>
+    ensures steps { IsTrue (S.is_honest store.old) → StepsFrom B.meaning B.reads
+        (arrays.old, (S.held store.old, S.refused_calls store.old))
+        (ask.reopen path.now order) (answer_of result)
+        (arrays.new, (S.held store.new, S.refused_calls store.new)) }
+    ensures honest { S.is_honest store.new ≡ S.is_honest store.old }
+{
+    if !is_node_path(path) {
+        return Err(Cause::Path);
+    }
+    reopened(alloc, arrays, store, path, order)
+}
+
+/// Reopens an array at a node path, or says why not.
+fn reopened<B: BytesToBytesCodecTraits, S: ReadableStorageTraits>(
+    alloc: Global,
+    arrays: &mut BTreeMap<String, HeldArray<B>>,
+    store: &mut S,
+    path: &str,
+    order: SubchunkWriteOrder,
+) -> Result<(), Cause>
+    requires { IsTrue (is_node_path path.now) }
+    ensures found { IsTrue (S.is_honest store.old) → Reopened B.meaning B.reads
+        (array_at arrays.old path.now) path.now order (S.held store.old) result arrays.new }
+    ensures others { OnOk result (KeepsOtherArrays path.now arrays.old arrays.new) }
+    ensures arrays { OnErr result (KeepsArrays arrays.old arrays.new) }
+    ensures held { S.held store.new ≡ S.held store.old }
+    ensures honest { S.is_honest store.new ≡ S.is_honest store.old }
+    ensures calls { S.refused_calls store.new ≡ refused_by (S.refused_calls store.old) result }
+{
+    if let Some(array) = find(arrays, path) {
+        match compare(alloc, store, path, array) {
+            Ok(()) => {}
+            Err(cause) => return Err(cause),
+        }
+        set_order(arrays, path, order);
+        return Ok(());
+    }
+    let array = match open(alloc, store, path, order) {
+        Ok(array) => array,
+        Err(cause) => return Err(cause),
+    };
+    let Ok(at) = String::from_str(alloc, path) else {
+        return Err(Cause::Memory);
+    };
+    match hold(arrays, at, array) {
+        Ok(()) => Ok(()),
+        Err(_) => Err(Cause::Memory),
+    }
+}
+
+/// Tests whether the document of an array is stored.
+fn compare<B: BytesToBytesCodecTraits, S: ReadableStorageTraits>(
+    alloc: Global,
+    store: &mut S,
+    path: &str,
+    array: &HeldArray<B>,
+) -> Result<(), Cause>
+    requires { IsTrue (is_node_path path.now) }
+    ensures ok { IsTrue (S.is_honest store.old) →
+        OnOk result (HasSameDocument path.now array.now (S.held store.old)) }
+    ensures refused { IsTrue (S.is_honest store.old) →
+        IfErr result (ComparisonRefused path.now array.now (S.held store.old)) }
+    ensures held { S.held store.new ≡ S.held store.old }
+    ensures honest { S.is_honest store.new ≡ S.is_honest store.old }
+    ensures calls { S.refused_calls store.new ≡ refused_by (S.refused_calls store.old) result }
+{
+    match stored_document(alloc, store, path) {
+        Ok(StoredDocument::Tree(tree)) => {
+            if same_tree(&tree, &array.tree) {
+                Ok(())
+            } else {
+                Err(Cause::DocumentChanged)
+            }
+        }
+        Ok(_) => Err(Cause::DocumentChanged),
+        Err(cause) => Err(cause),
+    }
+}
+
+/// Opens the document that is stored.
+fn open<B: BytesToBytesCodecTraits, S: ReadableStorageTraits>(
+    alloc: Global,
+    store: &mut S,
+    path: &str,
+    order: SubchunkWriteOrder,
+) -> Result<HeldArray<B>, Cause>
+    requires { IsTrue (is_node_path path.now) }
+    ensures ok { IsTrue (S.is_honest store.old) →
+        IfOk result (IsOpenedFrom B.meaning B.reads path.now (S.held store.old) order) }
+    ensures refused { IsTrue (S.is_honest store.old) →
+        IfErr result (OpeningRefused B.reads path.now (S.held store.old)) }
+    ensures held { S.held store.new ≡ S.held store.old }
+    ensures honest { S.is_honest store.new ≡ S.is_honest store.old }
+    ensures calls { S.refused_calls store.new ≡ refused_by (S.refused_calls store.old) result }
+{
+    let tree = match stored_document(alloc, store, path) {
+        Ok(StoredDocument::Tree(tree)) => tree,
+        Ok(StoredDocument::NoTree) => return Err(Cause::Document),
+        Ok(StoredDocument::Nothing) => return Err(cause_of_none(alloc, store, path)),
+        Err(cause) => return Err(cause),
+    };
+    match open_tree(alloc, path, &tree) {
+        Ok(core) => Ok(HeldArray { core, tree, order }),
+        Err(cause) => Err(cause),
+    }
+}
+
+/// Why no array is opened where no document of Zarr version 3 is stored: one of version 2 is none
+/// that can be opened so far.
+fn cause_of_none<S: ReadableStorageTraits>(alloc: Global, store: &mut S, path: &str) -> Cause
+    requires { IsTrue (is_node_path path.now) }
+    ensures cause { IsTrue (S.is_honest store.old) →
+        NothingRefused path.now (S.held store.old) result }
+    ensures held { S.held store.new ≡ S.held store.old }
+    ensures honest { S.is_honest store.new ≡ S.is_honest store.old }
+    ensures calls { S.refused_calls store.new ≡ refused_after result (S.refused_calls store.old) }
+{
+    let Ok(key) = store_key(alloc, path, DocumentName::ZArray) else {
+        return Cause::Memory;
+    };
+    match get(store, &key) {
+        Ok(Some(_)) => Cause::Document,
+        Ok(None) => Cause::NoArray,
+        Err(cause) => cause,
+    }
+}
+
+/// What is stored under the key of a path's document.
+fn stored_document<S: ReadableStorageTraits>(
+    alloc: Global,
+    store: &mut S,
+    path: &str,
+) -> Result<StoredDocument, Cause>
+    requires { IsTrue (is_node_path path.now) }
+    ensures is { IsTrue (S.is_honest store.old) →
+        IfOk result (IsStoredAt path.now (S.held store.old)) }
+    ensures cause { IfErr result IsStoreCause }
+    ensures held { S.held store.new ≡ S.held store.old }
+    ensures honest { S.is_honest store.new ≡ S.is_honest store.old }
+    ensures calls { S.refused_calls store.new ≡ refused_by (S.refused_calls store.old) result }
+{
+    let Ok(key) = store_key(alloc, path, DocumentName::ZarrJson) else {
+        return Err(Cause::Memory);
+    };
+    let Some(text) = get(store, &key)? else {
+        return Ok(StoredDocument::Nothing);
+    };
+    match Value::from_slice(alloc, text.as_slice()) {
+        Ok(tree) => Ok(StoredDocument::Tree(tree)),
+        Err(error) => {
+            if error.is_memory() {
+                Err(Cause::Memory)
+            } else {
+                Ok(StoredDocument::NoTree)
+            }
+        }
+    }
+}
