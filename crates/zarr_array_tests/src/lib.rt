@@ -1,8 +1,14 @@
-//! Tests of stores, and of why an array document is refused, which no story shows.
+//! Tests of stores, and of what array documents say and why they are refused, which no story shows.
 #![tactic(auto)]
 
 #[cfg(test)]
 mod documents;
+#[cfg(test)]
+mod metadata;
+#[cfg(test)]
+mod reversing;
+#[cfg(test)]
+mod samples;
 #[cfg(test)]
 mod storage;
 #[cfg(test)]

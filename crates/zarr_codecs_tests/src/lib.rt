@@ -1,8 +1,19 @@
-//! Tests of data types, fill values and cells, using only the public names of `zarr_codecs_types`.
+//! Tests of data types, fill values, elements and codec chains, using only public names.
 #![tactic(auto)]
 
+pub mod byte_codecs;
+#[cfg(test)]
+mod chain_metadata;
+#[cfg(test)]
+mod chains;
+#[cfg(test)]
+mod elements;
 #[cfg(test)]
 mod fill_values;
+#[cfg(test)]
+mod json;
+#[cfg(test)]
+mod parts;
 #[cfg(test)]
 mod samples;
 #[cfg(test)]

@@ -1,8 +1,12 @@
 //! Types and fill values that the tests share.
+use crate::byte_codecs::TestCodec;
 use serde_json::Value;
-use std::alloc::Global;
+use std::alloc::{AllocError, Global};
 use std::test::Fail;
+use zarr_codecs_arrays::{ArrayBytes, Elements};
+use zarr_codecs_chains::CodecChain;
 use zarr_codecs_types::{Component, DataType, DataTypeError, FillValue, FillValueError, Sign};
+use zarr_grids_metadata::{MetadataV3, PluginCreateError};
 
 pub(crate) const OPTIONAL: &str =
     r#"{"name": "zarrs.optional", "configuration": {"name": "uint8"}}"#;
@@ -28,6 +32,35 @@ pub(crate) fn fill_of(
         Ok(value) => FillValue::from_metadata(alloc, data_type, &value),
         Err(_) => Err(FillValueError::Memory),
     }
+}
+
+/// The elements of a type and a fill value that texts say.
+pub(crate) fn elements_of(alloc: Global, type_text: &str, fill: &str) -> Result<Elements, Fail> {
+    let data_type = type_of(alloc, type_text)?;
+    let fill_value = fill_of(alloc, &data_type, fill)?;
+    match Elements::new(data_type, fill_value) {
+        Some(elements) => Ok(elements),
+        None => Err(Fail::new("the fill value is no value of the type")),
+    }
+}
+
+/// The chain that the texts of its codecs say.
+pub(crate) fn chain_of(
+    alloc: Global,
+    texts: &[&str],
+) -> Result<CodecChain<TestCodec>, PluginCreateError> {
+    let mut metadatas = Vec::new(alloc);
+    for text in texts {
+        metadatas
+            .push(MetadataV3::from_text(alloc, text)?)
+            .map_err(AllocError::from)?;
+    }
+    CodecChain::from_metadata(alloc, metadatas.as_slice())
+}
+
+/// Elements of one size.
+pub(crate) fn fixed(alloc: Global, bytes: &[u8]) -> Result<ArrayBytes, Fail> {
+    Ok(ArrayBytes::Fixed(bytes.to_vec(alloc)?))
 }
 
 /// A 16-bit number without a sign and a 4-bit one with a sign, in three bytes.

@@ -1,0 +1,53 @@
+-- The bytes codecs that the tests bring.
+use Rattle.std.specs.Prelude.{◌≡◌, ℕ, List, [], ◌∷◌, reverse, length, codes, bytes_eq, Option, Some, None, true, if◌then◌else◌}
+use Rattle.std.proofs.Common.{Bool, false, ap, ◌∙◌, sym, refl}
+use Rattle.std.proofs.lemmas.List.{reverse-reverse, length-reverse}
+use Rattle.zarr_grids_metadata.specs.ExtensionPoints.{ExtensionPoint, named}
+use Rattle.zarr_codecs_meaning.specs.Chains.{ByteCodec, BytesRepresentation}
+use Rattle.zarr_codecs_meaning.specs.Fits.{is_size_as}
+use Rattle.zarr_codecs_meaning.specs.Laws.{IsLawful}
+use Rattle.zarr_codecs_tests.specs.declared.byte_codecs.TestCodec.{TestCodec}
+use Rattle.zarr_codecs_tests.specs.declared.byte_codecs.TestCodec.TheVariants.{Reverse, Refuse}
+
+-- bytes other than 1, 2, 3
+abbrev pub unless_stated : List ℕ → Option (List ℕ)
+unless_stated bytes = if bytes_eq bytes (1 ∷ 2 ∷ 3 ∷ []) then None else Some bytes
+
+-- `x-reverse` makes of bytes the bytes from the last to the first; `x-refuse` leaves them as they are, and refuses some
+abbrev pub codec_of : TestCodec → ByteCodec
+codec_of Reverse = record { encode = λ bytes. Some (reverse bytes); decode = λ bytes. Some (reverse bytes); representation = λ known. known }
+codec_of Refuse = record { encode = unless_stated; decode = unless_stated; representation = λ known. known }
+
+-- the metadata of a codec: its name
+abbrev pub point_of_codec : TestCodec → ExtensionPoint
+point_of_codec Reverse = named (codes "x-reverse")
+point_of_codec Refuse = named (codes "x-refuse")
+
+-- the codec that a name says
+abbrev pub codec_in : ExtensionPoint → Option ByteCodec
+codec_in point = if bytes_eq point.name (codes "x-reverse") then Some (codec_of Reverse) else (if bytes_eq point.name (codes "x-refuse") then Some (codec_of Refuse) else None)
+
+reversed_twice : (given made : List ℕ) → Some (reverse given) ≡ Some made → Some (reverse made) ≡ Some given
+reversed_twice given made h = let e : reverse given ≡ made = cc in ap (λ ns. Some (reverse ns)) (sym e) ∙ ap (λ ns. Some ns) (reverse-reverse given)
+
+reversed_size : (known : BytesRepresentation) (given made : List ℕ) → Some (reverse given) ≡ Some made → is_size_as known (length given) ≡ true → is_size_as known (length made) ≡ true
+reversed_size known given made h size = let e : reverse given ≡ made = cc in ap (is_size_as known) (ap length (sym e) ∙ length-reverse given) ∙ size
+
+same_unless : (b : Bool) (given made : List ℕ) → (if b then None else Some given) ≡ Some made → given ≡ made
+same_unless true given made h = cc
+same_unless false given made h = cc
+
+unless_same : (given made : List ℕ) → unless_stated given ≡ Some made → given ≡ made
+unless_same given made h = same_unless (bytes_eq given (1 ∷ 2 ∷ 3 ∷ [])) given made h
+
+pub codec_lawful : (codec : TestCodec) → IsLawful (codec_of codec)
+codec_lawful Reverse = record { undoes = reversed_twice; honest = reversed_size; monotone = λ known wider h. h }
+codec_lawful Refuse = record {
+  undoes = λ given made h. let e = unless_same given made h in ap unless_stated (sym e) ∙ (h ∙ ap (λ ns. Some ns) (sym e));
+  honest = λ known given made h size. ap (λ ns. is_size_as known (length ns)) (sym (unless_same given made h)) ∙ size;
+  monotone = λ known wider h. h;
+}
+
+pub codec_reads_back : (codec : TestCodec) → codec_in (point_of_codec codec) ≡ Some (codec_of codec)
+codec_reads_back Reverse = refl
+codec_reads_back Refuse = refl

@@ -1,0 +1,75 @@
+//! Bytes codecs that the tests bring.
+ghost use Rattle.std.specs.Prelude.{◌≡◌, reverse, IfOk};
+
+use std::alloc::{AllocError, Global};
+use zarr_codecs_arrays::CodecError;
+use zarr_codecs_traits::BytesToBytesCodecTraits;
+use zarr_grids_metadata::{MetadataV3, PluginCreateError};
+
+/// `Reverse` puts bytes the other way round. `Refuse` leaves them as they are, and refuses the
+/// bytes 1, 2, 3.
+#[derive(Clone, Copy, Debug, PartialEq, Eq)]
+pub enum TestCodec {
+    Reverse,
+    Refuse,
+}
+
+impl BytesToBytesCodecTraits for TestCodec {
+    ghost use Rattle.zarr_codecs_tests.specs.ByteCodecs.{codec_of, point_of_codec, codec_in, codec_lawful, codec_reads_back};
+
+    ghost meaning = { codec_of };
+
+    ghost described = { point_of_codec };
+
+    ghost reads = { codec_in };
+
+    fn encode(&self, alloc: Global, bytes: &[u8]) -> Result<Vec<u8>, CodecError> {
+        match self {
+            TestCodec::Reverse => Ok(reversed(alloc, bytes)?),
+            TestCodec::Refuse => {
+                if bytes == [1, 2, 3].as_slice() {
+                    return Err(CodecError::Codec);
+                }
+                Ok(bytes.to_vec(alloc)?)
+            }
+        }
+    }
+
+    fn decode(&self, alloc: Global, bytes: &[u8]) -> Result<Vec<u8>, CodecError> {
+        match self {
+            TestCodec::Reverse => Ok(reversed(alloc, bytes)?),
+            TestCodec::Refuse => {
+                if bytes == [1, 2, 3].as_slice() {
+                    return Err(CodecError::Damage);
+                }
+                Ok(bytes.to_vec(alloc)?)
+            }
+        }
+    }
+
+    fn metadata(&self, alloc: Global) -> Result<MetadataV3, AllocError> {
+        let name = match self {
+            TestCodec::Reverse => "x-reverse",
+            TestCodec::Refuse => "x-refuse",
+        };
+        Ok(MetadataV3::new(String::from_str(alloc, name)?))
+    }
+
+    fn create(_: Global, metadata: &MetadataV3) -> Result<TestCodec, PluginCreateError> {
+        match metadata.name() {
+            "x-reverse" => Ok(TestCodec::Reverse),
+            "x-refuse" => Ok(TestCodec::Refuse),
+            _ => Err(PluginCreateError::NameUnsupported),
+        }
+    }
+
+    ghost lawful = { codec_lawful };
+
+    ghost reads_back = { codec_reads_back };
+}
+
+fn reversed(alloc: Global, bytes: &[u8]) -> Result<Vec<u8>, AllocError>
+    ensures { IfOk result (λ v. v.items ≡ reverse bytes.now) }
+{
+    bytes.iter().rev().copied().collect(alloc)
+}
