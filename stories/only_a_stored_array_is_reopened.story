@@ -1,4 +1,4 @@
-A path is reopened only where its own document is stored.
+A path is reopened only where its own document of version 3 is stored.
 
 before:
   a/.zarray = $zeros
@@ -6,7 +6,11 @@ before:
   a/c/0/0 = 01 02 03 04
   ab/zarr.json = $zeros
 
+# A document of version 2 alone.
 > {"op":"reopen","path":"/a"}
+< {"applied":0,"refused":"Document"}
+
+# No document.
 > {"op":"reopen","path":"/"}
 > {"op":"reopen","path":"/b"}
 > {"op":"reopen","path":"/a/b/c"}

@@ -70,6 +70,9 @@ class CheckOutput:
     lines: List[str]
     functions: Dict[str, FunctionLine]
     errors: List[Placed]
+    # The processor seconds of the check, and of each function's proof, where they were measured.
+    seconds: float = 0.0
+    seconds_of: Dict[str, float] = field(default_factory=dict)
 
     @property
     def reached_the_prover(self) -> bool:
@@ -84,8 +87,11 @@ class CheckOutput:
 
     def of_function(self, path: str) -> List[FunctionLine]:
         """The lines of a function and of the closures in it."""
-        closures = path + "::"
-        return [it for name, it in self.functions.items() if name == path or name.replace("fn::", "").startswith(closures)]
+        return [it for name, it in self.functions.items() if is_in(name, path)]
+
+    def seconds_for(self, path: str) -> float:
+        """The processor seconds that the proofs of a function and of the closures in it took."""
+        return sum(it for name, it in self.seconds_of.items() if is_in(name, path))
 
     def waits(self, line: FunctionLine) -> Set[str]:
         """The functions that a function waits for, less those whose proofs were only left out."""
@@ -96,6 +102,11 @@ class CheckOutput:
         own = "proofs/" + path.replace("::", "/") + "/"
         notes = [note for it in self.of_function(path) for note in it.notes]
         return [it for it in self.errors if it.file.startswith(own)] + notes
+
+
+def is_in(name: str, path: str) -> bool:
+    """Whether a name is that of the function with this path, or of a closure in it."""
+    return name == path or name.replace("fn::", "").startswith(path + "::")
 
 
 def read_output(status: int, text: str) -> CheckOutput:

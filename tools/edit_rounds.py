@@ -6,7 +6,7 @@ from __future__ import annotations
 
 import enum
 from collections import Counter
-from dataclasses import dataclass, field
+from dataclasses import dataclass, field, replace
 from typing import Callable, Dict, List, Optional, Set, Tuple
 
 from check_output import CheckOutput, Placed
@@ -31,11 +31,13 @@ class Verdict(enum.Enum):
 
 @dataclass(frozen=True)
 class Judgement:
-    """The verdict on an edit, the function that it is in, and the goal that failed, or why there is none."""
+    """The verdict on an edit, the function that it is in, the goal that failed, or why there is none, and the processor seconds that the
+    proof took, or the check of an edit that was tried alone."""
 
     verdict: Verdict
     function: str = ""
     goal: str = ""
+    seconds: float = 0.0
 
 
 @dataclass
@@ -134,6 +136,8 @@ class Rounds:
         edited = {it.function for it in batch}
         for trial in batch:
             self._judge(trial, output, edited, len(batch) == 1)
+            if trial.judgement:
+                trial.judgement = replace(trial.judgement, seconds=output.seconds_for(trial.judgement.function))
 
     def _without_function(self, unknown: List[Trial], batch: List[Trial]) -> None:
         """Leaves those edits to be tried alone whose function the check knows by another name, and tries the others."""
@@ -208,7 +212,8 @@ class Rounds:
             return Judgement(Verdict.PROVED)
         failed = [it for it in output.functions.values() if not it.is_proved and not output.waits(it)]
         notes = [note for it in output.functions.values() for note in it.notes]
-        return refusal(failed[0].path if failed else "", output.errors + notes, failed[0].text if failed else "")
+        judgement = refusal(failed[0].path if failed else "", output.errors + notes, failed[0].text if failed else "")
+        return replace(judgement, seconds=output.seconds)
 
 
 def refusal(function: str, faults: List[Placed], said: str) -> Judgement:

@@ -16,6 +16,7 @@ from check_output import CheckOutput, read_output
 
 KIT = os.path.dirname(os.path.dirname(os.path.realpath(shutil.which("rt") or "/opt/rattle/bin/rt")))
 PARTS = ("src", "specs", "proofs")
+TICKS = os.sysconf("SC_CLK_TCK")
 
 
 @dataclass(frozen=True)
@@ -113,6 +114,29 @@ pub {name}_spec : {{M : Type 1}} → statement M
 PROOF_FILES = ("Answers.antt", "Invariants.antt", "Proof.antt")
 
 
+class Clock:
+    """How many processor seconds a check takes for the proof of each function, as it goes by `--progress`. What comes before the
+    first function ends counts for none."""
+
+    def __init__(self, pid: int):
+        self.pid, self.last, self.seconds_of = pid, -1.0, {}
+
+    def read(self, line: str) -> None:
+        """Takes a line that the check has just printed."""
+        found = re.match(r"checked \w+::(\S+), \d+ of \d+", line)
+        if not found:
+            return
+        try:
+            with open(f"/proc/{self.pid}/stat", encoding="ascii", errors="replace") as it:
+                fields = it.read().rpartition(")")[2].split()
+        except OSError:
+            return
+        now = (int(fields[11]) + int(fields[12])) / TICKS
+        if self.last >= 0:
+            self.seconds_of[found[1]] = now - self.last
+        self.last = now
+
+
 class Room:
     """A folder for checks of a crate with other texts; what they prove is kept there from one to the next.
 
@@ -137,7 +161,8 @@ class Room:
         output = self._run(words)
         if output.unknown_function:
             return output
-        refused = {it for it in holes if any(error.file == self._proofs(it) + "Proof.antt" for error in output.errors)}
+        faulty = {os.path.normpath(line.partition(":")[0]) for line in output.lines if re.search(r": error(\[[\w-]+\])?: ", line)}
+        refused = {it for it in holes if self._proofs(it) + "Proof.antt" in faulty}
         is_of_source = any(it.file.startswith("src/") for it in output.errors)
         if holes and (refused or not output.reached_the_prover and not is_of_source):
             # Where a proof by a hole is not taken, the function has its own again.
@@ -169,17 +194,22 @@ class Room:
     def _run(self, words: List[str]) -> CheckOutput:
         if Room.is_stopped:
             raise InterruptedError("the run was stopped")
-        said = f"{self.folder}/said"
-        with open(said, "w") as it:
-            ran = subprocess.Popen(words, cwd=self.folder, stdin=subprocess.DEVNULL, stdout=it, stderr=subprocess.STDOUT, start_new_session=True)
+        ran = subprocess.Popen(
+            [*words, "--progress"], cwd=self.folder, stdin=subprocess.DEVNULL, stdout=subprocess.PIPE, stderr=subprocess.STDOUT, start_new_session=True, errors="replace"
+        )
         Room.running.add(ran.pid)
+        lines, clock = [], Clock(ran.pid)
+        for line in ran.stdout or ():
+            lines.append(line)
+            clock.read(line)
         _, status, used = os.wait4(ran.pid, 0)
         Room.running.discard(ran.pid)
         ran.returncode = os.WEXITSTATUS(status) if os.WIFEXITED(status) else -os.WTERMSIG(status)
-        self.seconds += used.ru_utime + used.ru_stime
+        output = read_output(ran.returncode, "".join(lines))
+        output.seconds, output.seconds_of = used.ru_utime + used.ru_stime, clock.seconds_of
+        self.seconds += output.seconds
         self.checks += 1
-        with open(said, encoding="utf-8", errors="replace") as it:
-            return read_output(ran.returncode, it.read())
+        return output
 
     @staticmethod
     def stop_all() -> None:

@@ -65,6 +65,16 @@ def block_name(kind: str, head: str) -> str:
     return name
 
 
+def end_of_declaration(text: str) -> int:
+    """Where a function of a trait ends: at the semicolon of one that has no body, else with the text."""
+    depth = 0
+    for at, letter in enumerate(text):
+        depth += (letter in "([{") - (letter in ")]}")
+        if letter == ";" and depth == 0:
+            return at + 1
+    return len(text)
+
+
 class Sources:
     """The texts of a crate and its functions."""
 
@@ -98,6 +108,7 @@ class Sources:
             close = re.compile(rf"(?m)^{it[1]}(?:}}|{{}})[ ]*$|^{it[1]}\{{.*}}$").search(text, it.end())
             above = [block for block in blocks if block[0] < it.start()]
             path = module_of(file)
+            end = close.end() if close else len(text)
             if it[1] and above:
                 _, name, kind, head = above[-1]
                 if kind == "impl" and " for " not in head:
@@ -105,13 +116,20 @@ class Sources:
                     of_type = [known for known in self.modules if name.startswith(known)]
                     path = self.modules.get(max(of_type, key=len, default=""), path)
                 path = [*path, name]
-            found.append(Function("::".join([*path, it[2]]), file, it.start(), close.end() if close else len(text)))
+                end = it.start() + end_of_declaration(text[it.start() : end]) if kind == "trait" else end
+            found.append(Function("::".join([*path, it[2]]), file, it.start(), end))
         return found
 
     def with_bodies(self) -> List[str]:
-        """The functions that have a body, tests and the body of a program aside."""
-        bodies = [it for it in self.functions if re.search(r"[}]\s*$", self.texts[it.file][it.start : it.end])]
+        """The functions that have a body and a proof of their own: not tests, the body of a program, and those that call themselves."""
+        bodies = [it for it in self.functions if re.search(r"[}]\s*$", self.texts[it.file][it.start : it.end]) and not self._calls_itself(it)]
         return [it.path for it in bodies if it.path != "main" and not it.path.startswith("tests::")]
+
+    def _calls_itself(self, function: Function) -> bool:
+        """Whether a function calls itself: by its bare name, or a method by `self` or `Self`."""
+        text = self.texts[function.file][function.start : function.end]
+        before = r"\b(?:self\.|Self::)" if text.startswith((" ", "\t")) else r"(?<![\w.:])"
+        return bool(re.search(rf"{before}{function.name}\(", text.partition(f"fn {function.name}")[2]))
 
     def function_at(self, file: str, start: int, end: int) -> Optional[Function]:
         """The function in whose text this part of a file lies."""

@@ -14,6 +14,7 @@ from check_output import read_output  # noqa: E402
 from edit_files import DoesNotApply, apply_edit, edit_files, parse_edit  # noqa: E402
 from edit_queue import Queue  # noqa: E402
 from edit_rounds import Rounds, Verdict, refusal  # noqa: E402
+from rattle_crates import Crate, Room  # noqa: E402
 from rattle_sources import Sources, block_name  # noqa: E402
 
 SOURCE = """//! Small functions.
@@ -122,6 +123,10 @@ class ReadingOutput(unittest.TestCase):
         judged = {name: refusal(name, self.output.faults_of(f"a::{name}"), "").verdict for name in ("first", "third")}
         self.assertEqual(judged, {"first": Verdict.REFUSED, "third": Verdict.SHAPE})
 
+    def test_the_seconds_of_a_function_are_those_of_its_closures_too(self):
+        self.output.seconds_of = {"a::first": 1.0, "fn::a::first::0": 2.0, "a::first_of_all": 4.0}
+        self.assertEqual(self.output.seconds_for("a::first"), 3.0)
+
     def test_a_clause_that_cannot_be_read_is_no_refusal(self):
         output = read_output(1, "src/lib.rt:3:9: error: `f`: `nothing` is not in scope\nlogic=not-proved\n")
         self.assertTrue(output.errors[0].cannot_be_read)
@@ -148,6 +153,17 @@ class ChoosingBatches(unittest.TestCase):
         sources = Sources({"src/lib.rt": "mod walking;\n\nstruct Walk;\n", "src/walking.rt": code})
         self.assertEqual([it.path for it in sources.functions], ["Walk::start", "walking::WalkIterator::next"])
 
+    def test_a_function_that_a_trait_only_declares_has_no_body(self):
+        code = "trait Walk {\n    fn start(&self, at: [u8; 4])\n        ensures { ⊤ };\n\n    fn next(&self) {\n        self.start([0; 4]);\n    }\n}\n"
+        sources = Sources({"src/lib.rt": code})
+        self.assertEqual(sources.with_bodies(), ["Walk::next"])
+        self.assertTrue(all(code[it.start : it.end].endswith((" };", "    }")) for it in sources.functions))
+
+    def test_a_function_that_calls_itself_has_no_proof_of_its_own(self):
+        code = "fn count(n: u64) -> u64 {\n    count(n - 1)\n}\n\nimpl Words {\n    fn len(&self) -> u64 {\n        self.words.len() + len(self)\n    }\n"
+        code += "\n    fn last(&self) -> u64 {\n        self.last()\n    }\n}\n"
+        self.assertEqual(Sources({"src/lib.rt": code}).with_bodies(), ["Words::len"])
+
     def test_an_edit_whose_function_the_check_does_not_know_is_tried_alone(self):
         asked = []
 
@@ -164,6 +180,23 @@ class ChoosingBatches(unittest.TestCase):
     def test_blocks_are_named_as_a_check_names_them(self):
         self.assertEqual(block_name("impl", "<'a> Iterator for Walk<'a> "), "WalkIterator")
         self.assertEqual(block_name("impl", " From<std::alloc::AllocError> for Fault "), "FaultFromAllocError")
+
+
+class LeavingProofsOut(unittest.TestCase):
+    def test_only_a_function_whose_hole_is_not_taken_has_its_proof_again(self):
+        said = ["./proofs/a/loops/Proof.antt: error[reserved-name]: rattle generates the module at this path\n", "only=1 holes=1\n"]
+        left_out = []
+
+        class Recorded(Room):
+            def _write(self, texts, holes):
+                left_out.append(sorted(holes))
+
+            def _run(self, words):
+                return read_output(1, said.pop(0))
+
+        room = Recorded(Crate("tiny", "/nowhere", [], []), {}, ["a::first", "a::loops", "a::second"], "/nowhere")
+        self.assertEqual(room.check({}, ["a::first"]).lines, ["only=1 holes=1"])
+        self.assertEqual(left_out, [["a::loops", "a::second"], ["a::second"]])
 
 
 class WaitingForLibraries(unittest.TestCase):

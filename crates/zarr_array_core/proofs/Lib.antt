@@ -11,6 +11,8 @@ pub mod ReadSoFar
 pub mod OneText
 pub mod ChunkPayloads
 pub mod ChunkCells
+pub mod PartBoxes
+pub mod PartPatches
 pub mod ChunkWritten
 pub mod ChunksWritten
 pub mod BoxWalks

@@ -42,7 +42,7 @@ place_at-shifted (s ∷ ss) (o ∷ os) (e ∷ es) n m l =
     let first : s - o + n / product es ≡ s + n / product es - o = omega arith in
     rw (first, place_at-shifted ss os es (n % product es) m.1 (omega arith)) refl
 
-in_zeros : (ss es ps : List ℕ) → is_in_box ss es ps ≡ true → is_in_box (map (λ _. 0) es) es (each2 (λ p s. p - s) ps ss) ≡ true
+pub in_zeros : (ss es ps : List ℕ) → is_in_box ss es ps ≡ true → is_in_box (map (λ _. 0) es) es (each2 (λ p s. p - s) ps ss) ≡ true
 in_zeros [] [] [] h = refl
 in_zeros [] [] (p ∷ ps) h = absurd (cc)
 in_zeros [] (e ∷ es) ps h = absurd (cc)

@@ -3,3 +3,4 @@ pub mod Outcomes
 pub mod Parts
 pub mod Sizes
 pub mod ChunkValues
+pub mod PartWrites

@@ -1,6 +1,8 @@
 //! The elements of one chunk before and after a write, and the value that stands for them.
 ghost use Rattle.std.specs.Prelude.{◌≡◌};
 ghost use Rattle.zarr_array_core.specs.ChunkValues.{IsRefusal, refusal_of};
+ghost use Rattle.zarr_grids_boxes.specs.Subsets.{region_of};
+ghost use Rattle.zarr_grids_overlay.specs.Overlays.{extent_of};
 
 use crate::array_core::ArrayCore;
 use crate::error::ChunkError;
@@ -10,6 +12,7 @@ use zarr_codecs_arrays::{ArrayBytes, CodecError};
 use zarr_codecs_options::CodecOptions;
 use zarr_codecs_traits::ArrayToBytesCodecTraits;
 use zarr_codecs_types::Cell;
+use zarr_grids_boxes::ArraySubset;
 use zarr_grids_boxes::walk::count_places;
 use zarr_grids_overlay::{Extent, overlay};
 
@@ -18,9 +21,11 @@ use zarr_grids_overlay::{Extent, overlay};
 #[derive(Clone, Copy)]
 pub(crate) struct BoxWrite<'r, 'b, 'o> {
     pub alloc: Global,
+    pub subset: &'r ArraySubset,
     pub region: Extent<'r>,
     pub bytes: &'b [u8],
     pub options: &'o CodecOptions,
+    ghost same_box: { region_of subset.now ≡ extent_of region },
 }
 
 /// Why a chunk is not written where its codecs refuse to encode it.
@@ -55,7 +60,7 @@ impl<C: ArrayToBytesCodecTraits> ArrayCore<C> {
     ghost use Rattle.zarr_grids_overlay.specs.Overlays.{extent_of};
 
     /// How many bytes the elements of an array of this shape take.
-    fn count_bytes(&self, shape: &[u64]) -> usize
+    pub(crate) fn count_bytes(&self, shape: &[u64]) -> usize
         requires small { ¬ IsTooLarge (document_of C.meaning self.now).elements.type
             (product shape.now) }
         ensures { result ≡ product shape.now * self.now.width }
@@ -174,7 +179,7 @@ impl<C: ArrayToBytesCodecTraits> ArrayCore<C> {
     }
 
     /// Whether elements of the array are all the fill value.
-    fn is_all_fill(&self, bytes: &[u8]) -> bool
+    pub(crate) fn is_all_fill(&self, bytes: &[u8]) -> bool
         requires { (count : ℕ) × (length bytes.now ≡ count * self.now.width) }
         ensures { result ≡ is_fill (document_of C.meaning self.now).elements.fill
             (fixed_cells self.now.width bytes.now) }

@@ -15,7 +15,7 @@ use zarr_grids_keys::StoreKey;
 use zarr_grids_overlay::Extent;
 
 /// Puts a chunk's value at its key, or takes the key away where there is none.
-fn put_value<S: WritableStorageTraits>(
+pub(crate) fn put_value<S: WritableStorageTraits>(
     store: &mut S,
     key: &StoreKey,
     value: Option<Vec<u8>>,

@@ -8,6 +8,7 @@ mod chunk_writing;
 pub mod erasing;
 pub mod error;
 mod holding;
+mod part_writing;
 pub mod reading;
 pub mod store_calls;
 mod texts;

@@ -1,12 +1,15 @@
 //! Calls of a store, whose refusals are those of calls over chunks.
-ghost use Rattle.std.specs.Prelude.{◌≡◌, ℕ, IsTrue, IfOk, OnOk, OnErr, IfErr, if◌then◌else◌};
+ghost use Rattle.std.specs.Prelude.{◌≡◌, ℕ, IsTrue, IfOk, OnOk, OnErr, IfErr, false, if◌then◌else◌, length, option_map};
 ghost use Rattle.std.specs.FinMap.{get, insert, remove};
+ghost use Rattle.zarr_array_meaning.specs.StoreMaps.{counted};
+ghost use Rattle.zarr_array_storage.specs.Ranges.{patched_at};
 ghost use Rattle.zarr_array_storage.specs.Refusals.{IfByteRange, is_counted};
-ghost use Rattle.zarr_array_storage.specs.Stores.{counted, value_bytes};
+ghost use Rattle.zarr_array_storage.specs.Stores.{HasBytesAt, value_bytes};
+ghost use Rattle.zarr_codecs_traits.specs.Patches.{any_too_far};
 ghost use Rattle.zarr_array_core.specs.Outcomes.{IsErasureStop, CountsUpTo, refused_after, refused_with};
 
 use crate::error::ChunkError;
-use zarr_array_storage::{ReadableStorageTraits, StorageError, WritableStorageTraits};
+use zarr_array_storage::{ReadableStorageTraits, StorageError, ValuePatch, WritableStorageTraits};
 use zarr_grids_keys::StoreKey;
 
 /// Why a call over chunks stops where the store refuses for this reason.
@@ -43,6 +46,28 @@ pub(crate) fn get<S: ReadableStorageTraits>(
     }
 }
 
+/// How many bytes the value at a key has, or `None` where it has no value.
+pub(crate) fn size_key<S: ReadableStorageTraits>(
+    store: &mut S,
+    key: &StoreKey,
+) -> Result<Option<u64>, ChunkError>
+    ensures size { IsTrue (S.is_honest store.old) →
+        IfOk result (λ size. size ≡ option_map length (get (S.held store.old) key.now)) }
+    ensures bytes { IsTrue (S.is_honest store.old) →
+        OnOk result (HasBytesAt (S.held store.old) key.now) }
+    ensures stops { IfErr result IsErasureStop }
+    ensures held { S.held store.new ≡ S.held store.old }
+    ensures honest { S.is_honest store.new ≡ S.is_honest store.old }
+    ensures refused { S.refused_calls store.new ≡
+        refused_after (S.refused_calls store.old) result }
+    ensures accepted { S.accepted_writes store.new ≡ S.accepted_writes store.old }
+{
+    match store.size_key(key) {
+        Ok(size) => Ok(size),
+        Err(error) => Err(of_storage(error)),
+    }
+}
+
 /// Puts a value at a key.
 pub(crate) fn set<S: WritableStorageTraits>(
     store: &mut S,
@@ -61,6 +86,31 @@ pub(crate) fn set<S: WritableStorageTraits>(
 {
     match store.set(key, value) {
         Ok(()) => Ok(()),
+        Err(error) => Err(of_storage(error)),
+    }
+}
+
+/// Writes ranges into the value at a key. A store that refuses them as too far on isn't honest, and
+/// what it holds is taken as damaged.
+pub(crate) fn set_partial<S: WritableStorageTraits>(
+    store: &mut S,
+    key: &StoreKey,
+    patches: &[ValuePatch],
+) -> Result<(), ChunkError>
+    requires { any_too_far patches.now ≡ false }
+    ensures ok { IsTrue (S.is_honest store.old) → OnOk result (S.held store.new ≡ insert
+        (S.held store.old) key.now (patched_at (S.held store.old) key.now patches.now)) }
+    ensures err { IsTrue (S.is_honest store.old) →
+        OnErr result (S.held store.new ≡ S.held store.old) }
+    ensures stops { IsTrue (S.is_honest store.old) → IfErr result IsErasureStop }
+    ensures honest { S.is_honest store.new ≡ S.is_honest store.old }
+    ensures refused { S.refused_calls store.new ≡
+        refused_after (S.refused_calls store.old) result }
+    ensures counts { CountsUpTo 1 (S.accepted_writes store.old) (S.accepted_writes store.new) }
+{
+    match store.set_partial(key, patches) {
+        Ok(()) => Ok(()),
+        Err(StorageError::InvalidByteRange) => Err(ChunkError::Damage),
         Err(error) => Err(of_storage(error)),
     }
 }

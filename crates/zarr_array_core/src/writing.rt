@@ -75,6 +75,7 @@ impl<C: ArrayToBytesCodecTraits> ArrayCore<C> {
         let (start, shape) = (region.start(), region.shape());
         let write = BoxWrite {
             alloc,
+            subset: region,
             region: Extent { start, shape },
             bytes: given.as_slice(),
             options,
@@ -172,6 +173,9 @@ impl<C: ArrayToBytesCodecTraits> ArrayCore<C> {
     {
         let key = self.key_of(write.alloc, chunk)?;
         let own = self.box_of(write.alloc, chunk)?;
+        if self.patch_chunk(store, &key, write, &own)? {
+            return Ok(());
+        }
         let (start, shape) = (own.start(), own.shape());
         self.write_chunk(store, &key, write, Extent { start, shape })
     }

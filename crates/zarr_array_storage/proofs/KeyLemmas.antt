@@ -11,7 +11,7 @@ use Rattle.std.specs.FinMap.{get-empty, get-insert, get-remove, contains_key-key
 use Rattle.std.proofs.lemmas.Cmp.{nat_list_cmp_total}
 use Rattle.std.proofs.lemmas.Slice.Eq.{bytes_eq-Decides}
 use Rattle.std.proofs.lemmas.Map.Text.{is_eq-slice_cmp}
-use Rattle.zarr_array_stores.specs.StoreMaps.{StoreMap}
+use Rattle.zarr_array_meaning.specs.StoreMaps.{StoreMap}
 use Rattle.zarr_grids_keys.specs.Paths.{ends_with_slash}
 use Rattle.zarr_array_storage.specs.MemoryStores.{HasStoreKeys}
 

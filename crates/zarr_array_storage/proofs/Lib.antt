@@ -1,2 +1,3 @@
 mod KeyLemmas
-mod PartLemmas
+pub mod PartialDecoderLemmas
+mod ValueMapLemmas

@@ -1,5 +1,7 @@
 pub mod MemoryStores
+pub mod PartialDecoders
 pub mod Ranges
 pub mod RefusedCalls
 pub mod Refusals
 pub mod Stores
+pub mod ValueMaps

@@ -2,7 +2,7 @@
 use Rattle.std.specs.Prelude.{◌≡◌, ℕ, List, true, false, refl}
 use Rattle.std.specs.FinMap as fin
 use Rattle.std.specs.Coded.{Coded, code_by, coded×, coded_ℕ, coded_list}
-use Rattle.zarr_array_stores.specs.StoreMaps.{StoreMap}
+use Rattle.zarr_array_meaning.specs.StoreMaps.{StoreMap}
 use Rattle.zarr_grids_keys.specs.Paths.{ends_with_slash}
 
 -- what a store in memory holds, how many writing calls it accepted, and how many bytes its reading calls gave

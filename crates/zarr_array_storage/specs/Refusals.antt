@@ -1,6 +1,6 @@
 -- Which refused calls count, and which are about a byte range.
 use Rattle.std.specs.Prelude.{ℕ, Bool, true, false, if◌then◌else◌, Result, Ok, Err}
-use Rattle.zarr_array_storage.specs.Stores.{counted}
+use Rattle.zarr_array_meaning.specs.StoreMaps.{counted}
 use Rattle.zarr_array_storage.specs.declared.error.StorageError.{StorageError}
 use Rattle.zarr_array_storage.specs.declared.error.StorageError.TheVariants.{Io, InvalidMetadata, InvalidKey, InvalidByteRange, Other, Memory}
 

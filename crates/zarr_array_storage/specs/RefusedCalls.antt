@@ -1,6 +1,6 @@
 -- The store that refuses one call.
 use Rattle.std.specs.Prelude.{◌≡◌, ℕ, ◌-◌, Bool, true, false, ◌&&◌, ◌==◌, if◌then◌else◌, Result, IsErrOf, IsTrue}
-use Rattle.zarr_array_storage.specs.Stores.{counted}
+use Rattle.zarr_array_meaning.specs.StoreMaps.{counted}
 use Rattle.zarr_array_storage.specs.declared.error.StorageError.{StorageError}
 use Rattle.zarr_array_storage.specs.declared.error.StorageError.TheVariants.{Io}
 use Rattle.zarr_array_storage.specs.declared.refusing_store.CallKind.{CallKind}

@@ -2,16 +2,16 @@
 //! one call.
 #![tactic(auto)]
 
-pub mod byte_range;
 pub mod error;
 pub mod memory_store;
 pub mod refusing_store;
+pub mod storage_partial_decoder;
 pub mod traits;
-pub mod value_patch;
+mod value_map;
+mod value_patch;
 
-pub use byte_range::ByteRange;
 pub use error::StorageError;
 pub use memory_store::MemoryStore;
 pub use refusing_store::{CallKind, RefusingStore};
 pub use traits::{ReadableStorageTraits, ReadableWritableStorageTraits, WritableStorageTraits};
-pub use value_patch::ValuePatch;
+pub use zarr_codecs_traits::{ByteRange, ValuePatch};

@@ -1,16 +1,17 @@
 //! A store that refuses one call.
 ghost use Rattle.std.specs.Prelude.{◌≡◌, false, IsTrue, IfOk, OnOk, OnErr, length, option_map};
 ghost use Rattle.std.specs.FinMap as map;
-ghost use Rattle.zarr_array_storage.specs.Ranges.{any_past_end, any_too_far, parts_at, patched_at};
+ghost use Rattle.zarr_array_meaning.specs.StoreMaps.{counted};
+ghost use Rattle.zarr_array_storage.specs.Ranges.{any_past_end, parts_at, patched_at};
+ghost use Rattle.zarr_codecs_traits.specs.Patches.{any_too_far};
 ghost use Rattle.zarr_array_storage.specs.RefusedCalls.{CountsCall, after_call, countdown_of, inner_of, own_refused, own_refused_after, refuses_next};
 ghost use Rattle.zarr_array_storage.specs.Refusals.{OnByteRange, refused_after};
 ghost use Rattle.zarr_array_storage.specs.declared.refusing_store.CallKind.TheVariants.{Read, Write};
-ghost use Rattle.zarr_array_storage.specs.Stores.{counted, parts_bytes, parts_size, value_bytes, value_size};
+ghost use Rattle.zarr_array_storage.specs.Stores.{HasBytesAt, parts_bytes, parts_size, value_bytes, value_size};
 
-use crate::byte_range::ByteRange;
 use crate::error::StorageError;
 use crate::traits::{ReadableStorageTraits, WritableStorageTraits};
-use crate::value_patch::ValuePatch;
+use zarr_codecs_traits::{ByteRange, ValuePatch};
 use zarr_grids_keys::StoreKey;
 
 /// A kind of calls of a store.
@@ -159,6 +160,8 @@ impl<S: ReadableStorageTraits> ReadableStorageTraits for RefusingStore<S> {
     fn size_key(&mut self, key: &StoreKey) -> Result<Option<u64>, StorageError>
         ensures size { IsTrue (S.is_honest (inner_of self.old)) → IfOk result
             (λ size. size ≡ option_map length (map.get (S.held (inner_of self.old)) key.now)) }
+        ensures bytes { IsTrue (S.is_honest (inner_of self.old)) →
+            OnOk result (HasBytesAt (S.held (inner_of self.old)) key.now) }
         ensures held { S.held (inner_of self.new) ≡ S.held (inner_of self.old) }
         ensures honest { S.is_honest (inner_of self.new) ≡ S.is_honest (inner_of self.old) }
         ensures refused { counted (own_refused self.new) (S.refused_calls (inner_of self.new)) ≡

@@ -1,14 +1,14 @@
 //! What a store promises.
 ghost use Rattle.std.specs.Prelude.{◌≡◌, ℕ, Bool, false, IsTrue, IfOk, OnOk, OnErr, option_map, length};
 ghost use Rattle.std.specs.FinMap as map;
-ghost use Rattle.zarr_array_storage.specs.Ranges.{any_past_end, any_too_far, parts_at, patched_at};
+ghost use Rattle.zarr_array_meaning.specs.StoreMaps.{StoreMap, counted};
+ghost use Rattle.zarr_array_storage.specs.Ranges.{any_past_end, parts_at, patched_at};
+ghost use Rattle.zarr_codecs_traits.specs.Patches.{any_too_far};
 ghost use Rattle.zarr_array_storage.specs.Refusals.{OnByteRange, refused_after};
-ghost use Rattle.zarr_array_storage.specs.Stores.{counted, parts_bytes, parts_size, value_bytes, value_size};
-ghost use Rattle.zarr_array_stores.specs.StoreMaps.{StoreMap};
+ghost use Rattle.zarr_array_storage.specs.Stores.{HasBytesAt, parts_bytes, parts_size, value_bytes, value_size};
 
-use crate::byte_range::ByteRange;
 use crate::error::StorageError;
-use crate::value_patch::ValuePatch;
+use zarr_codecs_traits::{ByteRange, ValuePatch};
 use zarr_grids_keys::StoreKey;
 
 /// A store that can be read (Zarr storage specification, "Abstract store interface"). An honest
@@ -72,6 +72,8 @@ pub trait ReadableStorageTraits {
     fn size_key(&mut self, key: &StoreKey) -> Result<Option<u64>, StorageError>
         ensures size { IsTrue (is_honest self.old) →
             IfOk result (λ size. size ≡ option_map length (map.get (held self.old) key.now)) }
+        ensures bytes { IsTrue (is_honest self.old) →
+            OnOk result (HasBytesAt (held self.old) key.now) }
         ensures held { held self.new ≡ held self.old }
         ensures honest { is_honest self.new ≡ is_honest self.old }
         ensures refused { refused_calls self.new ≡ refused_after (refused_calls self.old) result }

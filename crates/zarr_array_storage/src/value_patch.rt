@@ -1,16 +1,11 @@
 //! Ranges of a value that are written.
 ghost use Rattle.std.specs.Prelude.{◌≡◌, ◌<◌, ◌+◌, ◌^◌, ◌≤◌, [], length, OnOk, IfOk, false, unwrap_or};
-ghost use Rattle.zarr_array_storage.specs.Ranges.{any_too_far, extended, overwritten, patched, written_at};
-ghost use Rattle.zarr_array_stores.specs.StoreMaps.{value_found};
+ghost use Rattle.zarr_array_storage.specs.Ranges.{any_ends_past};
+ghost use Rattle.zarr_array_storage.specs.ValueMaps.{value_found};
+ghost use Rattle.zarr_codecs_traits.specs.Patches.{any_too_far, extended, overwritten, patched, written_at};
 
 use std::alloc::{AllocError, Global};
-
-/// Bytes to be written into a value from `offset` on.
-#[derive(Debug, Drop)]
-pub struct ValuePatch {
-    pub offset: u64,
-    pub bytes: Vec<u8>,
-}
+use zarr_codecs_traits::ValuePatch;
 
 /// Whether one of the ranges to write ends past 2^63 - 1 bytes.
 pub(crate) fn any_too_far(patches: &[ValuePatch]) -> bool
@@ -21,6 +16,21 @@ pub(crate) fn any_too_far(patches: &[ValuePatch]) -> bool
             return true;
         };
         if end > 0x7fff_ffff_ffff_ffff {
+            return true;
+        }
+    }
+    false
+}
+
+/// Whether one of the ranges to write ends past the end of a value of so many bytes.
+pub(crate) fn any_ends_past(patches: &[ValuePatch], len: usize) -> bool
+    ensures { result ≡ any_ends_past len patches.now }
+{
+    for patch in patches {
+        let Some(end) = patch.offset.checked_add(patch.bytes.len() as u64) else {
+            return true;
+        };
+        if end > len as u64 {
             return true;
         }
     }
@@ -53,6 +63,16 @@ fn write_at(value: &mut Vec<u8>, offset: usize, bytes: &[u8]) -> Result<(), Allo
     extend(value, offset + bytes.len())?;
     overwrite(value.as_mut_slice(), offset, bytes);
     Ok(())
+}
+
+/// Writes ranges that lie in a value into it, one after another.
+pub(crate) fn overwrite_each(value: &mut [u8], patches: &[ValuePatch])
+    requires { any_ends_past (length value.old) patches.now ≡ false }
+    ensures { value.new ≡ patched value.old patches.now }
+{
+    for patch in patches {
+        overwrite(value, patch.offset as usize, patch.bytes.as_slice());
+    }
 }
 
 /// A copy of a value with the ranges written into it, one after another; no value counts as empty.

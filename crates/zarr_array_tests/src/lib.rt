@@ -2,14 +2,8 @@
 #![tactic(auto)]
 
 #[cfg(test)]
-mod documents;
-#[cfg(test)]
 mod metadata;
-#[cfg(test)]
-mod reversing;
 #[cfg(test)]
 mod samples;
 #[cfg(test)]
 mod storage;
-#[cfg(test)]
-mod stores;

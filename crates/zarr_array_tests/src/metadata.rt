@@ -1,11 +1,11 @@
 //! What array documents say and why they are refused, with values typed in by hand.
 
-use crate::reversing::Reversing;
-use crate::samples::{PLAIN, nested, object_of, plain_with, put_members};
+use crate::samples::{PLAIN, nested, object_of, plain_with, put_members, with_member};
 use serde_json::Value;
 use std::alloc::{AllocError, Global};
 use std::test::Fail;
 use zarr_array_metadata::{ArrayDocument, DocumentError, read_document, written_document};
+use zarr_codecs_reverse::ReverseCodec;
 use zarr_codecs_types::FillValue;
 use zarr_grids_chunk_grids::ChunkGridTraits;
 
@@ -67,6 +67,7 @@ Float {"attributes": {"a": 1.0}}
 Float {"attributes": {"a": [{"b": -0}]}}
 Float {"attributes": {"a": 1e30}}
 Float {"shape": [4, 4.0]}
+Float {"shape": [4, 4.5]}
 Float {"fill_value": 1.0}
 Float {"more": {"must_understand": false, "a": 0.5}}
 ChunkGrid {"chunk_grid": "regular"}
@@ -76,15 +77,21 @@ ChunkGrid {"chunk_grid": {"name": "regular", "configuration": {"chunk_shape": 2}
 Dimensionality {"chunk_grid": {"name": "regular", "configuration": {"chunk_shape": [2]}}}
 Dimensionality {"chunk_grid": {"name": "regular", "configuration": {"chunk_shape": [2, 2, 2]}}}
 ChunkGrid {"chunk_grid": {"name": "rectangular", "configuration": {"chunk_shape": [[1, 2], 2]}}}
+ChunkGrid {"chunk_grid": {"name": "regular_bounded", "configuration": {"chunk_shape": [2, 0]}}}
+ChunkGrid {"chunk_grid": {"name": "rectangular", "configuration": {"chunk_shape": [[1, 4], 2]}}}
 ChunkGrid {"chunk_grid": {"name": "rectangular", "configuration": {"chunk_shape": [[], 2]}}}
 Dimensionality {"chunk_grid": {"name": "rectangular", "configuration": {"chunk_shape": [[1, 2]]}}}
 ChunkGrid {"chunk_grid": {"name": "rectilinear", "configuration": {"chunk_shapes": [2, 2]}}}
+ChunkGrid {"chunk_grid": {"name": "rectilinear", "configuration": {"kind": "outline", "chunk_shapes": [2, 2]}}}
 ChunkGrid {"chunk_grid": {"name": "rectilinear", "configuration": {"kind": "inline", "chunk_shapes": [[[1, 3]], 2]}}}
+Dimensionality {"chunk_grid": {"name": "rectilinear", "configuration": {"kind": "inline", "chunk_shapes": [2, 2, 2]}}}
 ChunkGrid {"chunk_grid": {"name": "other", "configuration": {"chunk_shape": [2, 2]}}}
 ChunkKeyEncoding {"chunk_key_encoding": "v3"}
 ChunkKeyEncoding {"chunk_key_encoding": {"name": "default", "configuration": {"separator": "-"}}}
 ChunkKeyEncoding {"chunk_key_encoding": {"name": "v2", "configuration": {"separator": null}}}
+ChunkKeyEncoding {"chunk_key_encoding": {"name": "v2", "configuration": {"separator": "//"}}}
 ChunkKeyEncoding {"chunk_key_encoding": {"name": "default_suffix", "configuration": {"suffix": "a/"}}}
+ChunkKeyEncoding {"chunk_key_encoding": {"name": "default_suffix", "configuration": {"suffix": 5}}}
 ChunkKeyEncoding {"chunk_key_encoding": 5}"#;
 
 /// A document of which the checks fail one after another. It is first too deep; each field that is
@@ -114,7 +121,7 @@ fn case(alloc: Global, line: &str) -> Result<(&str, Value), Fail> {
 }
 
 /// Reads a document with the codec `x-reverse`.
-fn read(alloc: Global, document: &Value) -> Result<ArrayDocument<Reversing>, DocumentError> {
+fn read(alloc: Global, document: &Value) -> Result<ArrayDocument<ReverseCodec>, DocumentError> {
     read_document(alloc, document)
 }
 
@@ -127,7 +134,7 @@ fn is_refused(alloc: Global, document: &Value, error: &str) -> Result<bool, Allo
 }
 
 /// The text of the metadata of a document's codecs, which a comma follows each.
-fn codecs_of(alloc: Global, document: &ArrayDocument<Reversing>) -> Result<String, Fail> {
+fn codecs_of(alloc: Global, document: &ArrayDocument<ReverseCodec>) -> Result<String, Fail> {
     let mut text = String::new(alloc);
     for codec in document.codecs.create_metadatas(alloc)?.iter() {
         text.push_str(codec.to_value(alloc)?.to_string(alloc)?.as_str())?;
@@ -182,15 +189,14 @@ fn eight_fields_are_required(rt: HostRuntime) -> Result<(), Fail> {
 #[test]
 fn a_document_is_at_most_127_levels_deep(rt: HostRuntime) -> Result<(), Fail> {
     let alloc = rt.alloc();
-    for (levels, wanted) in [(125, None), (126, Some(DocumentError::Depth))] {
-        let attributes = object_of(alloc, "deep", nested(alloc, levels)?)?;
-        let mut document = Value::from_str(alloc, PLAIN)?;
-        put_members(
-            alloc,
-            &mut document,
-            object_of(alloc, "attributes", attributes)?,
-        )?;
-        assert_eq!(rt; read(alloc, &document).err(), wanted, "{levels}");
+    for name in ["attributes", "more"] {
+        for (levels, wanted) in [(125, None), (126, Some(DocumentError::Depth))] {
+            let mut field = Value::from_str(alloc, r#"{"must_understand": false}"#)?;
+            let deep = nested(alloc, levels)?;
+            put_members(alloc, &mut field, object_of(alloc, "deep", deep)?)?;
+            let document = with_member(alloc, name, field)?;
+            assert_eq!(rt; read(alloc, &document).err(), wanted, "{name}: {levels}");
+        }
     }
     Ok(())
 }

@@ -23,6 +23,13 @@ pub(crate) fn plain_with(alloc: Global, members: &str) -> Result<Value, Fail> {
     Ok(document)
 }
 
+/// The plain document with this member put in.
+pub(crate) fn with_member(alloc: Global, name: &str, value: Value) -> Result<Value, Fail> {
+    let mut document = Value::from_str(alloc, PLAIN)?;
+    put_members(alloc, &mut document, object_of(alloc, name, value)?)?;
+    Ok(document)
+}
+
 /// Puts the members of an object into a document.
 pub(crate) fn put_members(alloc: Global, document: &mut Value, members: Value) -> Result<(), Fail> {
     let (Some(fields), Value::Object(members)) = (document.as_object_mut(), members) else {

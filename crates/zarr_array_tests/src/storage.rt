@@ -58,6 +58,8 @@ fn a_size_is_that_of_the_value(rt: HostRuntime) -> Result<(), Fail> {
     let mut store = four_bytes(alloc)?;
     assert_eq!(rt; store.size_key(&key(alloc, "a")?)?, Some(4));
     assert_eq!(rt; store.size_key(&key(alloc, "b")?)?, None);
+    store.set(&key(alloc, "b")?, &[])?;
+    assert_eq!(rt; store.size_key(&key(alloc, "b")?)?, Some(0));
     Ok(())
 }
 
@@ -143,6 +145,26 @@ fn ranges_are_written_in_their_order(rt: HostRuntime) -> Result<(), Fail> {
     assert!(rt; store.supports_set_partial());
     store.set_partial(&a, &patches)?;
     assert!(rt; has(&mut store, &a, &[1, 7, 8, 8, 8])?);
+    Ok(())
+}
+
+#[test]
+fn ranges_within_a_value_leave_its_other_bytes(rt: HostRuntime) -> Result<(), Fail> {
+    let alloc = rt.alloc();
+    let mut store = four_bytes(alloc)?;
+    let a = key(alloc, "a")?;
+    let patches = [
+        ValuePatch {
+            offset: 1,
+            bytes: vec![in alloc; 7]?,
+        },
+        ValuePatch {
+            offset: 3,
+            bytes: vec![in alloc; 8]?,
+        },
+    ];
+    store.set_partial(&a, &patches)?;
+    assert!(rt; has(&mut store, &a, &[1, 7, 3, 8])?);
     Ok(())
 }
 

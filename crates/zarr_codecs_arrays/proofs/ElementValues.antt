@@ -86,7 +86,7 @@ whole_number sign bits element whole bytes long =
     ap (λ (b : Bool). b && ((length element == k + 0) && ((number 256 (take k element) == extended sign bits k (number 256 (take k element) % 2 ^ bits)) && true))) one
     ∙ (ap (λ (b : Bool). b && ((number 256 (take k element) == extended sign bits k (number 256 (take k element) % 2 ^ bits)) && true)) two ∙ ap (λ (b : Bool). b && true) three)
 
-taken_one : (type : DataType) (width : ℕ) (element : List ℕ) → takes_all_bytes type ≡ true → byte_width type ≡ Some width → Each (λ b. b < 256) element → length element ≡ width → is_value_in_bytes type element ≡ true
+pub taken_one : (type : DataType) (width : ℕ) (element : List ℕ) → takes_all_bytes type ≡ true → byte_width type ≡ Some width → Each (λ b. b < 256) element → length element ≡ width → is_value_in_bytes type element ≡ true
 taken_one bool width element takes wide bytes long = cc
 taken_one (integer sign bits) width element takes wide bytes long =
     let is : (bits + 7) / 8 + 0 ≡ width = some_same wide in

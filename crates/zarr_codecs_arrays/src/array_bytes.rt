@@ -24,7 +24,7 @@ pub enum ArrayBytes {
 }
 
 impl ArrayBytes {
-    ghost use Rattle.std.specs.Prelude.{◌≡◌, ◌≢◌, IfOk, IfErr, Some, replicate, option_map, unwrap_or, false};
+    ghost use Rattle.std.specs.Prelude.{◌≡◌, ◌≢◌, IfOk, IfErr, Some, length, replicate, option_map, unwrap_or, false};
     ghost use Rattle.zarr_codecs_meaning.specs.Payloads.{cells_in};
     ghost use Rattle.zarr_codecs_meaning.specs.Types as types;
     ghost use Rattle.zarr_codecs_types.specs.Views.{type_of};
@@ -50,6 +50,14 @@ impl ArrayBytes {
         }
         let fill = elements.fill_value().as_cell();
         Ok(filled(alloc, data_type, fill, count as usize)?)
+    }
+
+    /// How many elements of a data type these are, or `None` where their form is another type's.
+    pub fn num_elements(&self, data_type: &DataType) -> Option<usize>
+        ensures { result ≡ option_map length
+            (cells_in (type_of data_type.now) (payload_of self.now)) }
+    {
+        counted(self, data_type)
     }
 
     /// Whether these are so many values of a data type: `InvalidNumberOfElements` where there are

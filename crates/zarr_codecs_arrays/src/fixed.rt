@@ -132,7 +132,7 @@ pub(crate) fn are_fixed_values(data_type: &DataType, bytes: &[u8]) -> bool
 }
 
 /// Whether any bytes of the right number are a value of a data type.
-fn takes_all_bytes(data_type: &DataType) -> bool
+pub fn takes_all_bytes(data_type: &DataType) -> bool
     ensures { result ≡ takes_all_bytes (type_of data_type.now) }
 {
     match data_type {

@@ -14,4 +14,5 @@ mod values;
 pub use array_bytes::ArrayBytes;
 pub use elements::Elements;
 pub use error::CodecError;
+pub use fixed::takes_all_bytes;
 pub use offsets::ArrayBytesOffsets;

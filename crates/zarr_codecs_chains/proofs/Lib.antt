@@ -4,3 +4,8 @@ pub mod Decoding
 pub mod Chains
 pub mod ReadsBack
 pub mod PartDecoding
+pub mod BoxLines
+pub mod PartReading
+pub mod PartWriting
+pub mod Scattered
+pub mod BoxScattered

@@ -1,12 +1,12 @@
 -- What a part of a value is decoded to: the elements at its places in the other order, where each is a value.
-use Rattle.std.proofs.Common.{◌≡◌, ℕ, zero, suc, ◌+◌, ◌*◌, ◌/◌, ◌%◌, ◌^◌, ◌<◌, ◌≤◌, List, [], ◌∷◌, length, get_or, map, take, drop, replicate, ap, ◌∙◌, sym, refl, arith, Option, Some, None, option_and_then, option_map, Bool, true, false, ◌&&◌, ◌⊎◌, inl, inr, if◌then◌else◌, Result, Ok, Err, Vec, Global, subst, zero-mul}
+use Rattle.std.proofs.Common.{◌≡◌, ℕ, zero, suc, ◌+◌, ◌*◌, ◌/◌, ◌^◌, ◌<◌, ◌≤◌, List, [], ◌∷◌, length, get_or, map, take, drop, replicate, ap, ◌∙◌, sym, refl, arith, Option, Some, None, option_and_then, Bool, true, false, inl, inr, if◌then◌else◌, Result, Ok, Err, Vec, Global, subst, zero-mul}
 use Rattle.std.specs.Prelude.{MatchOption, IfOk, IfErr, ◌≢◌}
-use Rattle.std.specs.List.{list_all, range_with_len}
+use Rattle.std.specs.List.{list_all}
 use Rattle.std.proofs.lemmas.Bool.{eq-eqb, ne_eqb, cases_lt, lt-ltb}
 use Rattle.std.proofs.lemmas.Simd.{map-map}
 use Rattle.std.proofs.lemmas.List.{length-map, get_or_past, drop_all}
 use Rattle.std.proofs.Math.Seq.{take-nil}
-use Rattle.std.proofs.Math.Nat.{mul-div_left, mul-mod_left, mul-le-mul_right}
+use Rattle.std.proofs.Math.Nat.{mul-div_left, mul-le-mul_right}
 use Rattle.zarr_grids_boxes.specs.Boxes.{Region, product, places, ravel}
 use Rattle.zarr_grids_boxes.proofs.InBox.{length-places}
 use Rattle.zarr_codecs_meaning.specs.Types.{DataType, components, bytes_in, is_fixed, byte_width, Cell, of_bytes, cell_bytes, is_value, Elements}
@@ -18,7 +18,7 @@ use Rattle.zarr_codecs_meaning.specs.Decoding.{all_there, tested, element_at, is
 use Rattle.zarr_codecs_meaning.specs.Fits.{fits}
 use Rattle.zarr_codecs_meaning.specs.Payloads.{Payload, fixed, fixed_cells, cells_in}
 use Rattle.zarr_codecs_meaning.proofs.Lists.{some_same}
-use Rattle.zarr_codecs_arrays.specs.Outcomes.{IsTooLarge, IsCounted, IsValid, Validates}
+use Rattle.zarr_codecs_arrays.specs.Outcomes.{IsTooLarge, IsValid, Validates}
 use Rattle.zarr_codecs_arrays.specs.declared.array_bytes.ArrayBytes.{ArrayBytes}
 use Rattle.zarr_codecs_arrays.specs.declared.error.CodecError.{CodecError}
 use Rattle.zarr_codecs_arrays.specs.declared.error.CodecError.TheVariants as error
@@ -254,3 +254,23 @@ fills_part chain elements shape region count (Err error.ExpectedVariableLengthBy
 fills_part chain elements shape region count (Err error.ExpectedOptionalBytes) l inside fit many lists large = absurd (let h = (large (λ q. cc)).0 in cc)
 fills_part chain elements shape region count (Err error.Unsupported) l inside fit many lists large = absurd (let h = (large (λ q. cc)).0 in cc)
 fills_part chain elements shape region count (Err (error.Other text)) l inside fit many lists large = absurd (let h = (large (λ q. cc)).0 in cc)
+
+-- ---- a part that is too large
+
+-- elements of a part that cannot be counted
+pub uncounted_part : (chain : Chain) (elements : Elements) (shape : List ℕ) (stored : Option (List ℕ)) (region : Region) (type : DataType) (count : ℕ) (e : CodecError) → length region.shape ≡ length region.start → lies_in shape region ≡ true → type ≡ elements.type → count ≡ product region.shape
+    → (e ≢ error.Memory → (e ≡ error.Size) × IsTooLarge type count) → DecodesPart chain elements shape stored region (Err e)
+uncounted_part chain elements shape stored region type count error.Memory l inside same many large = tt
+uncounted_part chain elements shape stored region type count error.Size l inside same many large = larger_too elements.type shape region l inside (subst (λ t. IsTooLarge t (product region.shape)) same (subst (IsTooLarge type) many (large (λ q. cc)).1))
+uncounted_part chain elements shape stored region type count error.Source l inside same many large = tt
+uncounted_part chain elements shape stored region type count error.Fit l inside same many large = absurd (let h = (large (λ q. cc)).0 in cc)
+uncounted_part chain elements shape stored region type count error.IncompatibleIndexer l inside same many large = absurd (let h = (large (λ q. cc)).0 in cc)
+uncounted_part chain elements shape stored region type count error.Damage l inside same many large = absurd (let h = (large (λ q. cc)).0 in cc)
+uncounted_part chain elements shape stored region type count error.Codec l inside same many large = absurd (let h = (large (λ q. cc)).0 in cc)
+uncounted_part chain elements shape stored region type count error.CellOutOfRange l inside same many large = absurd (let h = (large (λ q. cc)).0 in cc)
+uncounted_part chain elements shape stored region type count error.InvalidNumberOfElements l inside same many large = absurd (let h = (large (λ q. cc)).0 in cc)
+uncounted_part chain elements shape stored region type count error.ExpectedFixedLengthBytes l inside same many large = absurd (let h = (large (λ q. cc)).0 in cc)
+uncounted_part chain elements shape stored region type count error.ExpectedVariableLengthBytes l inside same many large = absurd (let h = (large (λ q. cc)).0 in cc)
+uncounted_part chain elements shape stored region type count error.ExpectedOptionalBytes l inside same many large = absurd (let h = (large (λ q. cc)).0 in cc)
+uncounted_part chain elements shape stored region type count error.Unsupported l inside same many large = absurd (let h = (large (λ q. cc)).0 in cc)
+uncounted_part chain elements shape stored region type count (error.Other text) l inside same many large = absurd (let h = (large (λ q. cc)).0 in cc)

@@ -2,3 +2,4 @@ pub mod Views
 pub mod Orders
 pub mod Codecs
 pub mod Parts
+pub mod Lines

@@ -1,9 +1,11 @@
 -- Parts of an array that are asked for.
-use Rattle.std.specs.Prelude.{◌≡◌, ℕ, ◌*◌, List, Option, Bool, Result, length}
+use Rattle.std.specs.Prelude.{◌≡◌, ℕ, ◌*◌, List, Option, Some, Bool, false, Result, length}
 use Rattle.zarr_grids_boxes.specs.Boxes.{Region, product}
 use Rattle.zarr_grids_boxes.specs.Subsets.{region_of}
 use Rattle.zarr_codecs_meaning.specs.Types.{Cell, components, bytes_in}
 use Rattle.zarr_codecs_meaning.specs.Chains.{Chain}
+use Rattle.zarr_codecs_meaning.specs.Decoding.{decoded}
+use Rattle.zarr_codecs_meaning.specs.Encoding.{encoded}
 use Rattle.zarr_codecs_meaning.specs.Fits.{fits}
 use Rattle.zarr_codecs_meaning.specs.Payloads.{fixed_cells}
 use Rattle.zarr_codecs_meaning.specs.Places.{gather}
@@ -11,6 +13,9 @@ use Rattle.zarr_codecs_arrays.specs.Views.{elements_of}
 use Rattle.zarr_codecs_arrays.specs.declared.array_bytes.ArrayBytes.{ArrayBytes}
 use Rattle.zarr_codecs_arrays.specs.declared.error.CodecError.{CodecError}
 use Rattle.zarr_codecs_traits.specs.Outcomes.{DecodesPart, numbers_of}
+use Rattle.zarr_codecs_traits.specs.PartEncoding.{cells_with_box}
+use Rattle.zarr_codecs_traits.specs.Patches.{any_too_far, patched}
+use Rattle.zarr_codecs_traits.specs.declared.value_patch.ValuePatch.{ValuePatch}
 use Rattle.zarr_codecs_chains.specs.declared.part.ArrayPart.{ArrayPart}
 
 -- whether a chain suits the array of a part
@@ -29,3 +34,14 @@ GivesPart chain stored part result = DecodesPart chain (elements_of part.element
 pub record IsExtracted (width : ℕ) (value shape : List ℕ) (region : Region) (other : Cell) (extracted : List ℕ) : Type 0 where
   pub long : length extracted ≡ product region.shape * width
   pub elements : fixed_cells width extracted ≡ gather other (fixed_cells width value) (numbers_of shape region)
+
+-- the bytes of a part's elements, of a value of as many bytes as the array's elements have
+pub record HasPart (part : ArrayPart) (value extracted : List ℕ) : Type 0 where
+  pub whole : length value ≡ product part.shape.now * part_width part
+  pub are : (other : Cell) → IsExtracted (part_width part) value part.shape.now (region_of part.region.now) other extracted
+
+-- patches that replace the elements of a part by others, which have these bytes: of a value that is decoded they make what the elements are then encoded to
+pub record PatchesPart (chain : Chain) (part : ArrayPart) (given : List ℕ) (patches : List ValuePatch) : Type 0 where
+  pub near : any_too_far patches ≡ false
+  pub encodes : (value : List ℕ) (before : List Cell) → decoded chain (elements_of part.elements.now) part.shape.now value ≡ Some before
+      → encoded chain (elements_of part.elements.now) part.shape.now (cells_with_box part.shape.now (elements_of part.elements.now).fill (region_of part.region.now) (fixed_cells (part_width part) given) before) ≡ Some (patched value patches)

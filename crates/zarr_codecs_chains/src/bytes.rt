@@ -1,14 +1,15 @@
 //! The codec `bytes`.
 
 use crate::part::ArrayPart;
-use crate::partial::{decode_part, fill_part};
+use crate::patches::replace_part;
+use crate::reading::read_part;
 use crate::sizes::{byte_count, have_one_byte};
 use crate::swapping::swapped;
 use std::alloc::{AllocError, Global};
-use zarr_codecs_arrays::{ArrayBytes, CodecError, Elements};
+use zarr_codecs_arrays::{ArrayBytes, CodecError, Elements, takes_all_bytes};
 use zarr_codecs_options::CodecOptions;
 use zarr_codecs_regions::is_inside;
-use zarr_codecs_traits::{ArrayToBytesCodecTraits, BytesPartialDecoderTraits, read_value};
+use zarr_codecs_traits::{ArrayToBytesCodecTraits, BytesPartialDecoderTraits, ValuePatch};
 use zarr_codecs_types::DataType;
 use zarr_grids_boxes::ArraySubset;
 use zarr_grids_boxes::walk::count_places;
@@ -171,10 +172,34 @@ impl ArrayToBytesCodecTraits for BytesCodec {
             shape,
             region,
         };
-        match read_value(alloc, source) {
-            Ok(Some(value)) => decode_part(alloc, *self, value.as_slice(), part),
-            Ok(None) => fill_part(alloc, part),
-            Err(error) => Err(error),
+        read_part(alloc, source, *self, part)
+    }
+
+    fn supports_partial_encode(&self, data_type: &DataType) -> bool {
+        self.suits(data_type) && takes_all_bytes(data_type)
+    }
+
+    fn partial_encode(
+        &self,
+        alloc: Global,
+        bytes: ArrayBytes,
+        elements: &Elements,
+        shape: &[u64],
+        region: &ArraySubset,
+        _: &CodecOptions,
+    ) -> Result<Option<Vec<ValuePatch>>, CodecError> {
+        if !self.suits(elements.data_type()) {
+            return Err(CodecError::Fit);
+        }
+        if is_inside(shape, region) {
+            let part = ArrayPart {
+                elements,
+                shape,
+                region,
+            };
+            replace_part(alloc, *self, bytes, part)
+        } else {
+            Err(CodecError::IncompatibleIndexer)
         }
     }
 

@@ -4,12 +4,14 @@ use crate::bytes::BytesCodec;
 use crate::metadata::{push_metadatas, read_codecs};
 use crate::part::ArrayPart;
 use crate::partial::{decode_part_with, fill_part};
+use crate::reading::read_part;
 use std::alloc::{AllocError, Global};
 use zarr_codecs_arrays::{ArrayBytes, CodecError, Elements};
 use zarr_codecs_options::CodecOptions;
 use zarr_codecs_regions::is_inside;
 use zarr_codecs_traits::{
-    ArrayToBytesCodecTraits, BytesPartialDecoderTraits, BytesToBytesCodecTraits, read_value,
+    ArrayToBytesCodecTraits, BytesPartialDecoderTraits, BytesToBytesCodecTraits, ValuePatch,
+    read_value,
 };
 use zarr_codecs_types::DataType;
 use zarr_grids_boxes::ArraySubset;
@@ -140,6 +142,9 @@ impl<B: BytesToBytesCodecTraits> ArrayToBytesCodecTraits for CodecChain<B> {
             shape,
             region,
         };
+        if self.bytes_to_bytes.is_empty() {
+            return read_part(alloc, source, self.array_to_bytes, part);
+        }
         match read_value(alloc, source) {
             Ok(Some(value)) => {
                 let codecs = self.bytes_to_bytes.as_slice();
@@ -148,6 +153,26 @@ impl<B: BytesToBytesCodecTraits> ArrayToBytesCodecTraits for CodecChain<B> {
             Ok(None) => fill_part(alloc, part),
             Err(error) => Err(error),
         }
+    }
+
+    fn supports_partial_encode(&self, data_type: &DataType) -> bool {
+        self.bytes_to_bytes.is_empty() && self.array_to_bytes.supports_partial_encode(data_type)
+    }
+
+    fn partial_encode(
+        &self,
+        alloc: Global,
+        bytes: ArrayBytes,
+        elements: &Elements,
+        shape: &[u64],
+        region: &ArraySubset,
+        options: &CodecOptions,
+    ) -> Result<Option<Vec<ValuePatch>>, CodecError> {
+        if !self.bytes_to_bytes.is_empty() {
+            return Ok(None);
+        }
+        self.array_to_bytes
+            .partial_encode(alloc, bytes, elements, shape, region, options)
     }
 
     fn try_clone(&self, alloc: Global) -> Result<Self, AllocError> {

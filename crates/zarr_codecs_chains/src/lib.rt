@@ -4,9 +4,12 @@
 mod byte_codecs;
 pub mod bytes;
 pub mod chain;
+mod lines;
 mod metadata;
 mod part;
 mod partial;
+mod patches;
+mod reading;
 mod sizes;
 mod swapping;
 

@@ -1,5 +1,5 @@
 //! How many bytes elements of one size have.
-ghost use Rattle.std.specs.Prelude.{◌≡◌, ◌≢◌, ◌*◌, ◌<◌, true, IfOk, IfErr};
+ghost use Rattle.std.specs.Prelude.{◌≡◌, ◌≢◌, ◌*◌, ◌^◌, ◌<◌, true, IfOk, IfErr};
 ghost use Rattle.zarr_codecs_meaning.specs.Types.{components, bytes_in, is_fixed};
 ghost use Rattle.zarr_codecs_types.specs.Views.{type_of, components_of};
 ghost use Rattle.zarr_codecs_arrays.specs.Outcomes.{IsTooLarge};
@@ -14,6 +14,7 @@ pub(crate) fn byte_count(data_type: &DataType, count: u64) -> Result<u64, CodecE
     requires { is_fixed (type_of data_type.now) ≡ true }
     ensures ok { IfOk result (λ n. n ≡ count * bytes_in (components (type_of data_type.now))) }
     ensures some { IfOk result (λ n. 0 < bytes_in (components (type_of data_type.now))) }
+    ensures small { IfOk result (λ n. n < 2 ^ 63) }
     ensures err { IfErr result (λ e. e ≢ CodecError.Memory
         → (e ≡ CodecError.Size) × IsTooLarge (type_of data_type.now) count) }
 {

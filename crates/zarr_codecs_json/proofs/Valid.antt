@@ -14,7 +14,7 @@ use Rattle.zarr_codecs_arrays.specs.declared.error.CodecError.{CodecError}
 use Rattle.zarr_codecs_arrays.specs.declared.error.CodecError.TheVariants as error
 use Rattle.zarr_codecs_arrays.proofs.FixedCells.{IsWhole, fixed_in-whole, fixed_in-some, length-fixed_cells}
 use Rattle.zarr_codecs_json.specs.Texts.{single_width, element_data, fixed_data}
-use Rattle.zarr_codecs_json.specs.Outcomes.{elements_data, payload_data, AreValues}
+use Rattle.zarr_codecs_json.specs.Outcomes.{elements_data, payload_data, printed_items, AreValues}
 
 -- a type of one number has elements of one width
 pub known_width : (type : DataType) (width : ℕ) → single_width type ≡ Some width → byte_width type ≡ Some width
@@ -121,12 +121,23 @@ list_data type width (cell ∷ cells) wide h =
     ap (option_and_then (λ d. option_map (λ ds. item d ds) (elements_data type cells))) (value_data type width cell wide both.0)
     ∙ ap (option_map (λ ds. item (element_data type (cell_bytes cell)) ds)) (list_data type width cells wide both.1)
 
-pub whole_data : (type : DataType) (width : ℕ) (payload : Payload) (bytes : List ℕ) → 0 < width → single_width type ≡ Some width → AreValues type width payload bytes → payload_data type payload ≡ Some (fixed_data type width bytes)
+whole_data : (type : DataType) (width : ℕ) (payload : Payload) (bytes : List ℕ) → 0 < width → single_width type ≡ Some width → AreValues type width payload bytes → payload_data type payload ≡ Some (fixed_data type width bytes)
 whole_data type width payload bytes h wide are =
     ap (payload_data type) are.is
     ∙ (ap (λ (o : Option ℕ). option_and_then (elements_data type) (option_and_then (λ n. fixed_in n bytes) o)) (known_width type width wide)
     ∙ (ap (option_and_then (elements_data type)) (fixed_in-some width bytes h are.whole)
     ∙ list_data type width (fixed_cells width bytes) wide are.values))
+
+number_items : (type : DataType) (width : ℕ) (payload : Payload) → single_width type ≡ Some width → printed_items type payload ≡ payload_data type payload
+number_items bool width payload h = refl
+number_items (integer sign bits) width payload h = refl
+number_items (custom parts) width payload h = cc
+number_items string width payload h = cc
+number_items variable_bytes width payload h = cc
+number_items (optional_of inner) width payload h = cc
+
+pub whole_items : (type : DataType) (width : ℕ) (payload : Payload) (bytes : List ℕ) → 0 < width → single_width type ≡ Some width → AreValues type width payload bytes → printed_items type payload ≡ Some (fixed_data type width bytes)
+whole_items type width payload bytes h wide are = number_items type width payload wide ∙ whole_data type width payload bytes h wide are
 
 pub refused_at : {A : Type 0} (type : DataType) (width count : ℕ) (payload : Payload) (bytes : List ℕ) (r : Result A CodecError) → single_width type ≡ Some width → payload ≡ fixed bytes → count ≡ length bytes / width → Validates type payload count r → is_ok r ≡ false → payload_data type payload ≡ None
 refused_at type width count payload bytes r wide p n h e = ap (payload_data type) p ∙ refused type width bytes r wide (subst (λ k. Validates type (fixed bytes) k r) n (subst (λ q. Validates type q count r) p h)) e

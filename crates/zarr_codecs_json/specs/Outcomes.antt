@@ -39,10 +39,14 @@ elements_data type (cell ∷ cells) = option_and_then (λ d. option_map (λ ds. 
 abbrev pub payload_data : DataType → Payload → Option Items
 payload_data type payload = option_and_then (elements_data type) (cells_in type payload)
 
+-- what is printed of the elements that a payload is: all of them as a JSON list, where each is a boolean or an integer of the type; else None
+abbrev pub printed_items : DataType → Payload → Option Items
+printed_items type payload = option_and_then (λ number. payload_data type payload) (single_component type)
+
 -- the text of a JSON list of the elements was appended
 pub record IsPrinted (type : DataType) (payload : Payload) (before text : List ℕ) : Type 0 where
   pub items : Items
-  pub are : payload_data type payload ≡ Some items
+  pub are : printed_items type payload ≡ Some items
   pub text_is : text ≡ before ++ compact_text (array items)
 
 -- what was printed of elements of a type: all of them, or nothing where one has no text; types of other than one number are not printed

@@ -39,7 +39,7 @@ place_width width bytes shape place =
     let front = drop (ravel place shape * width) bytes in
     length-take-le width (front ++ zero_list width) (omega (arith, length-append front (zero_list width), length-replicate {A = ℕ} width 0))
 
-element_within : (width : ℕ) (bytes : List ℕ) (n count : ℕ) → length bytes ≡ count * width → n < count → element_bytes width bytes n ≡ take width (drop (n * width) bytes)
+pub element_within : (width : ℕ) (bytes : List ℕ) (n count : ℕ) → length bytes ≡ count * width → n < count → element_bytes width bytes n ≡ take width (drop (n * width) bytes)
 element_within width bytes n count whole below =
     let all : suc n * width ≤ count * width = mul_le n count width below in
     let sum : suc n * width ≡ width + n * width = grind arith in
@@ -52,7 +52,7 @@ element_within width bytes n count whole below =
 
 -- ---- the bytes of an array
 
-elements_are : (width count : ℕ) (bytes : List ℕ) → 0 < width → length bytes ≡ count * width → flat_map (element_bytes width bytes) (range_with_len 0 count) ≡ bytes
+pub elements_are : (width count : ℕ) (bytes : List ℕ) → 0 < width → length bytes ≡ count * width → flat_map (element_bytes width bytes) (range_with_len 0 count) ≡ bytes
 elements_are width count bytes some whole =
     let many : length bytes / width ≡ count = ap (λ n. n / width) whole ∙ mul-div_left count some in
     let even : length bytes % width ≡ 0 = ap (λ n. n % width) whole ∙ mul-mod_left count width in

@@ -13,6 +13,8 @@ mod fill_values;
 #[cfg(test)]
 mod json;
 #[cfg(test)]
+mod part_writing;
+#[cfg(test)]
 mod parts;
 #[cfg(test)]
 mod samples;

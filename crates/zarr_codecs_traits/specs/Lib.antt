@@ -1,2 +1,4 @@
 pub mod Outcomes
 pub mod Sources
+pub mod Patches
+pub mod PartEncoding

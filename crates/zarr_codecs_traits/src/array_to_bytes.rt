@@ -7,9 +7,11 @@ ghost use Rattle.zarr_codecs_meaning.specs.Laws.{IsLawfulChain};
 ghost use Rattle.zarr_codecs_types.specs.Views.{type_of};
 ghost use Rattle.zarr_codecs_arrays.specs.Views.{payload_of, elements_of};
 ghost use Rattle.zarr_codecs_traits.specs.Outcomes.{Encodes, Decodes, DecodesPart};
+ghost use Rattle.zarr_codecs_traits.specs.PartEncoding.{EncodesPart, takes_patches};
 ghost use Rattle.zarr_codecs_traits.specs.Sources.{refused_after};
 
 use crate::byte_source::BytesPartialDecoderTraits;
+use crate::value_patch::ValuePatch;
 use std::alloc::{AllocError, Global};
 use zarr_codecs_arrays::{ArrayBytes, CodecError, Elements};
 use zarr_codecs_options::CodecOptions;
@@ -81,6 +83,29 @@ pub trait ArrayToBytesCodecTraits: Sized + Drop {
         ensures refused { D.refused_calls source.new ≡
             refused_after (D.refused_calls source.old) result }
         ensures follows { D.follows source.old source.new };
+
+    /// Whether elements can be replaced by `partial_encode` in values that nobody reads. Each value
+    /// with as many bytes as the array's elements is then decoded, and no other.
+    fn supports_partial_encode(&self, data_type: &DataType) -> bool
+        ensures { result ≡ takes_patches (meaning self.now) (type_of data_type.now) };
+
+    /// The ranges to be written into a value of an array, so that the elements at the places of a
+    /// box are replaced by others, row-major. `None` where the value is better written whole, as it
+    /// is where the codec can write no part of it. `Fit` where the codec doesn't suit the array;
+    /// `IncompatibleIndexer` where the box doesn't lie in the shape; `InvalidNumberOfElements`,
+    /// `Expected..` or `CellOutOfRange` where these are not elements of the box; `Size` where the
+    /// array has 2^63 elements or bytes or more.
+    fn partial_encode(
+        &self,
+        alloc: Global,
+        bytes: ArrayBytes,
+        elements: &Elements,
+        shape: &[u64],
+        region: &ArraySubset,
+        options: &CodecOptions,
+    ) -> Result<Option<Vec<ValuePatch>>, CodecError>
+        ensures { EncodesPart (meaning self.now) (is_function self.now) (elements_of elements.now)
+            shape.now (region_of region.now) (payload_of bytes) result };
 
     /// An equal codec. `Err` only where an allocation failed.
     fn try_clone(&self, alloc: Global) -> Result<Self, AllocError>

@@ -13,7 +13,7 @@ pub struct ByteRange {
 }
 
 /// Whether one of the ranges ends past the end of a value.
-pub(crate) fn any_ends_past(value: &[u8], ranges: &[ByteRange]) -> bool
+pub fn any_ends_past(value: &[u8], ranges: &[ByteRange]) -> bool
     ensures { result ≡ list_any (ends_past value.now) ranges.now }
 {
     for range in ranges {
@@ -36,9 +36,9 @@ fn bytes_at(value: &[u8], range: ByteRange) -> &[u8]
     &value[start..start + range.length as usize]
 }
 
-/// A copy of the bytes in each range.
+/// A copy of the bytes in each range. None of the ranges may end past the end of the value.
 #[tactic(auto, using(crate::proofs::PartLemmas::part_bytes_push))]
-pub(crate) fn read_ranges(
+pub fn read_ranges(
     alloc: Global,
     value: &[u8],
     ranges: &[ByteRange],

@@ -1,30 +1,29 @@
 -- Boxes that commands mean: the chunks that they intersect, and whether they are too large.
-use Rattle.std.proofs.Common.{◌≡◌, ◌∙◌, ℕ, suc, ◌+◌, bytes_eq, ◌*◌, ◌/◌, ◌%◌, ◌<◌, ◌≤◌, ◌^◌, min, Bool, true, false, List, [], ◌∷◌, length, Option, Some, None, refl, sym, ap, subst, arith, inl, inr, ◌⊎◌, ⊎_elim}
+use Rattle.std.proofs.Common.{◌≡◌, ◌∙◌, ℕ, suc, ◌+◌, bytes_eq, ◌*◌, ◌/◌, ◌%◌, ◌<◌, ◌≤◌, ◌^◌, min, true, false, List, [], length, Option, Some, None, sym, ap, subst, arith, inl, inr, ⊎_elim}
 use Rattle.std.specs.Prelude.{MatchOption, Result, Ok, Err, IfOk}
 use Rattle.std.specs.Option.{option_map_or}
 use Rattle.std.specs.List.{list_any}
 use Rattle.std.proofs.Math.Nat.{mul-le-mul_left, mul_comm, mul-suc}
 use Rattle.std.proofs.lemmas.Bool.{cases_lt}
 use Rattle.std.proofs.lemmas.Grind.{div_ceil_times}
-use Rattle.zarr_grids_boxes.specs.Boxes.{Region, product, places, place_at, is_in_box, share_place}
+use Rattle.zarr_grids_boxes.specs.Boxes.{Region, product, place_at, is_in_box, share_place}
 use Rattle.zarr_grids_boxes.proofs.InBox.{in_box-place_at}
 use Rattle.zarr_grids_boxes.proofs.Places.{places_by_number}
 use Rattle.zarr_grids_boxes.proofs.Sharing.{share_place-has}
-use Rattle.zarr_grids_chunks.specs.Grids.{Grid, IsInGrid, IsCovered, intersects, intersecting, chunk_indices}
+use Rattle.zarr_grids_chunks.specs.Grids.{Grid, IsInGrid, IsCovered, intersects, chunk_indices}
 use Rattle.zarr_grids_chunks.proofs.Filters.{filter-any}
 use Rattle.zarr_grids_chunks.proofs.Partition.{any_places}
 use Rattle.zarr_grids_dimensions.proofs.Intersecting.{lies_in_interval_some}
 use Rattle.zarr_grids_cover.specs.Intersecting.{AreIntersecting}
 use Rattle.zarr_grids_cover.specs.Sizes.{HasChunkOf}
 use Rattle.zarr_grids_cover.proofs.ChunkLaws.{IsInGrid-covered}
-use Rattle.zarr_codecs_meaning.specs.Types.{DataType, byte_width, Cell}
+use Rattle.zarr_codecs_meaning.specs.Types.{DataType, byte_width}
 use Rattle.zarr_codecs_meaning.specs.Payloads.{Payload, cells_in}
 use Rattle.zarr_codecs_arrays.specs.Outcomes.{IsTooLarge}
 use Rattle.zarr_codecs_arrays.specs.Views.{payload_of}
 use Rattle.zarr_codecs_arrays.specs.declared.array_bytes.ArrayBytes.{ArrayBytes}
 use Rattle.zarr_array_core.proofs.Listed.{intersecting_listed, listed_number}
 use Rattle.zarr_array_core.specs.Outcomes.{IsSmall}
-use Rattle.zarr_array_meaning.specs.Boxes.{IsRead, IsPlaceOf}
 use Rattle.zarr_array_meaning.specs.Chunks.{is_listed}
 use Rattle.zarr_array_meaning.specs.Documents.{Document}
 use Rattle.zarr_array_meaning.specs.StoreMaps.{StoreMap}
@@ -38,7 +37,7 @@ use Rattle.zarr_run_boxes.specs.Outcomes.{GivesCovered}
 empty_box : (ss es p : List ℕ) → product es ≡ 0 → is_in_box ss es p ≡ true → ⊥
 empty_box ss es p z h = let some = lies_in_interval_some ss es p h in absurd (omega arith)
 
-shares_none : (region box : Region) → product region.shape ≡ 0 → share_place box.start box.shape region.start region.shape ≡ true → ⊥
+pub shares_none : (region box : Region) → product region.shape ≡ 0 → share_place box.start box.shape region.start region.shape ≡ true → ⊥
 shares_none region box z s = let p = share_place-has box.start box.shape region.start region.shape s in empty_box region.start region.shape p.0 z p.2
 
 pub intersects_none : (document : Document) (region : Region) (chunk : List ℕ) (box : Region) → product region.shape ≡ 0 → IsInGrid document.grid chunk box → intersects document.grid region chunk ≡ true → ⊥

@@ -1,18 +1,21 @@
 -- What commands over the cells of one array answer and leave.
-use Rattle.std.specs.Prelude.{◌≡◌, ◌⊎◌, ℕ, ◌<◌, List, take, Some, Result, Ok, Err}
+use Rattle.std.specs.Prelude.{◌≡◌, ◌⊎◌, ℕ, ◌<◌, List, length, take, Some, None, Result, Ok, Err}
+use Rattle.serde_json.specs.Data.{Data}
 use Rattle.zarr_grids_boxes.specs.Boxes.{Region, product, places}
-use Rattle.zarr_grids_chunks.specs.Grids.{IsInGrid}
-use Rattle.zarr_codecs_meaning.specs.Payloads.{Payload, cells_in}
-use Rattle.zarr_codecs_meaning.specs.Types.{Cell}
+use Rattle.zarr_grids_chunks.specs.Grids.{IsInGrid, intersecting}
+use Rattle.zarr_codecs_meaning.specs.Payloads.{Payload, cells_in, values_in}
+use Rattle.zarr_codecs_meaning.specs.Types.{DataType, Cell}
+use Rattle.zarr_codecs_options.specs.declared.codec_options.CodecOptions.{CodecOptions}
+use Rattle.zarr_codecs_types.specs.Given.{GivenCells, given_in, given_json}
 use Rattle.zarr_array_core.specs.declared.error.ChunkError.{ChunkError}
 use Rattle.zarr_array_core.specs.declared.error.ChunkError.TheVariants as error
 use Rattle.zarr_array_meaning.specs.Boxes.{IsRead, IsDamagedIn, IsUnfitIn}
 use Rattle.zarr_array_meaning.specs.Documents.{Document}
 use Rattle.zarr_array_meaning.specs.StoreMaps.{StoreMap}
-use Rattle.zarr_array_meaning.specs.Writing.{ErasedChunks}
+use Rattle.zarr_array_meaning.specs.Writing.{WroteChunks, ErasedChunks}
 use Rattle.zarr_run_meaning.specs.declared.cause.Cause.{Cause}
 use Rattle.zarr_run_meaning.specs.declared.cause.Cause.TheVariants as cause
-use Rattle.zarr_run_meaning.specs.Causes.{IsTarget, AreTargets, HasTooLarge, HasTooLargeChunk, ReadRefuses, EraseRefuses, EraseStops}
+use Rattle.zarr_run_meaning.specs.Causes.{IsTarget, AreTargets, Gives, IsGiven, HasTooLarge, HasTooLargeChunk, WriteRefuses, StopsAt, ReadRefuses, EraseRefuses, EraseStops}
 use Rattle.zarr_run_meaning.specs.Requests.{Target}
 use Rattle.zarr_run_meaning.specs.Steps.{refused_after}
 use Rattle.zarr_run_boxes.specs.declared.refusal.Refusal.{Refusal}
@@ -44,6 +47,74 @@ pub record ReadsTarget (path : List ℕ) (document : Document) (store : StoreMap
 -- a read was refused
 abbrev pub ReadRefused : List ℕ → Document → StoreMap → Target → Cause → Type 0
 ReadRefused path document store target c = ReadRefuses path document store target c ⊎ (c ≡ cause.Memory)
+
+-- ---- writes
+
+-- the cells that a write gives were written to each chunk that its box intersects
+pub record WritesTarget (path : List ℕ) (document : Document) (target : Target) (given : GivenCells) (options : CodecOptions) (old new : StoreMap) : Type 0 where
+  pub box : Region
+  pub values : List Cell
+  pub is : IsGiven document target given box values
+  pub small : ¬ HasTooLarge document box
+  pub wrote : WroteChunks path document box values options (intersecting document.grid box) old new
+
+-- a write stopped at a chunk: of the chunks that its box intersects exactly those before it are written
+pub record WroteFirst (path : List ℕ) (document : Document) (target : Target) (given : GivenCells) (options : CodecOptions) (old new : StoreMap) (refusal : Refusal) : Type 0 where
+  pub box : Region
+  pub values : List Cell
+  pub is : IsGiven document target given box values
+  pub small : ¬ HasTooLarge document box
+  pub stops : StopsAt path document old box values options refusal.applied refusal.cause
+  pub wrote : WroteChunks path document box values options (take refusal.applied (intersecting document.grid box)) old new
+
+-- a write was refused: as a whole, for want of memory before a chunk was touched, or at a chunk
+abbrev pub WriteRefused : List ℕ → Document → Target → GivenCells → CodecOptions → StoreMap → StoreMap → Refusal → Type 0
+WriteRefused path document target given options old new refusal =
+    (IsUntouched refusal old new × (WriteRefuses document target given refusal.cause ⊎ (refusal.cause ≡ cause.Memory))) ⊎ WroteFirst path document target given options old new refusal
+
+-- the cells that are given for a covered box were written
+pub record WritesCovered (path : List ℕ) (document : Document) (region : Region) (given : GivenCells) (options : CodecOptions) (old new : StoreMap) : Type 0 where
+  pub values : List Cell
+  pub gives : Gives document region given values
+  pub small : ¬ HasTooLarge document region
+  pub wrote : WroteChunks path document region values options (intersecting document.grid region) old new
+
+-- the cells that are given for a covered box were written to the first of the chunks that it intersects, and why the next one was not written
+pub record WroteFirstCovered (path : List ℕ) (document : Document) (region : Region) (given : GivenCells) (options : CodecOptions) (old new : StoreMap) (refusal : Refusal) : Type 0 where
+  pub values : List Cell
+  pub gives : Gives document region given values
+  pub small : ¬ HasTooLarge document region
+  pub stops : StopsAt path document old region values options refusal.applied refusal.cause
+  pub wrote : WroteChunks path document region values options (take refusal.applied (intersecting document.grid region)) old new
+
+-- why the cells that are given for a covered box are not written, before a chunk is touched
+abbrev pub CoveredWriteRefuses : Document → Region → GivenCells → Cause → Type 0
+CoveredWriteRefuses document region given cause.Data = (values : List Cell) → ¬ Gives document region given values
+CoveredWriteRefuses document region given cause.Size = (values : List Cell) × Gives document region given values × HasTooLarge document region
+CoveredWriteRefuses document region given cause.Memory = Unit {0}
+CoveredWriteRefuses document region given c = ⊥
+
+-- a write of a covered box was refused: before a chunk was touched, or at a chunk
+abbrev pub CoveredWriteRefused : List ℕ → Document → Region → GivenCells → CodecOptions → StoreMap → StoreMap → Refusal → Type 0
+CoveredWriteRefused path document region given options old new refusal =
+    (IsUntouched refusal old new × CoveredWriteRefuses document region given refusal.cause) ⊎ WroteFirstCovered path document region given options old new refusal
+
+-- a payload is as many values of the type as a box has places
+pub record AreValuesOf (document : Document) (region : Region) (payload : Payload) (values : List Cell) : Type 0 where
+  pub lists : values_in document.elements.type payload ≡ Some values
+  pub many : length values ≡ product region.shape
+
+-- why elements are not written to a box: they are not as many values of the type as it has places
+abbrev pub ElementsRefused : Document → Region → Payload → Cause → Type 0
+ElementsRefused document region payload c = (c ≡ cause.Data) × ((values : List Cell) → ¬ AreValuesOf document region payload values)
+
+-- why a JSON value gives no elements of a type: it says none, or memory is short
+abbrev pub JsonRefused : DataType → Data → Cause → Type 0
+JsonRefused type d cause.Data = given_in type (given_json d) ≡ None
+JsonRefused type d cause.Memory = Unit {0}
+JsonRefused type d c = ⊥
+
+-- ---- erasures
 
 -- the chunks that an erasure names were erased
 pub record ErasesTarget (path : List ℕ) (document : Document) (chunks : Region) (old new : StoreMap) : Type 0 where
@@ -93,6 +164,6 @@ abbrev pub CoveredReadRefused : List ℕ → Document → StoreMap → Region �
 CoveredReadRefused path document store region cause.Size = HasTooLarge document region
 CoveredReadRefused path document store region cause.Fit = (¬ HasTooLarge document region) × IsUnfitIn path document store region
 CoveredReadRefused path document store region cause.Damage = (¬ HasTooLarge document region) × IsDamagedIn path document store region
-CoveredReadRefused path document store region cause.Store = ¬ HasTooLarge document region
+CoveredReadRefused path document store region cause.Store = (¬ HasTooLarge document region) × (0 < product region.shape)
 CoveredReadRefused path document store region cause.Memory = Unit {0}
 CoveredReadRefused path document store region c = ⊥

@@ -1,34 +1,57 @@
 -- The texts of answers are the compact texts of their JSON.
-use Rattle.std.proofs.Common.{◌≡◌, ℕ, true, false, List, [], ◌∷◌, ◌++◌, map, codes, decimal, refl, sym, ap, ◌∙◌, append_assoc}
-use Rattle.serde_json.specs.View.{items_of}
-use Rattle.serde_json.specs.Written.{compact_text, items_text}
+use Rattle.std.proofs.Common.{◌≡◌, ◌⊎◌, inl, inr, ℕ, List, ◌++◌, codes, Option, Some, None, option_and_then, refl, ap}
+use Rattle.serde_json.specs.Data.{Items, array}
+use Rattle.serde_json.specs.Written.{compact_text}
 use Rattle.serde_json.proofs.OnLiterals.{serde_json_on_literals}
-use Rattle.zarr_codecs_cells.specs.Cells.{DataType, uint8, Payload, fixed, cells_in}
-use Rattle.zarr_codecs_cells.specs.Json.{cell_json}
-use Rattle.zarr_run_model.specs.Requests.{done, cells, refused}
-use Rattle.zarr_run_model.specs.declared.cause.Cause.{Cause}
-use Rattle.zarr_run_model.specs.declared.cause.Cause.TheVariants as cause
-use Rattle.zarr_run_commands.specs.Answers.{answer_json}
-use Rattle.zarr_run_commands.specs.Texts.{further, listed, cells_text, refusal_text}
+use Rattle.zarr_codecs_meaning.specs.Payloads.{Payload}
+use Rattle.zarr_codecs_meaning.specs.Types.{DataType}
+use Rattle.zarr_codecs_types.specs.Parts.{single_component}
+use Rattle.zarr_codecs_json.specs.Outcomes.{payload_data, printed_items, Prints, IsPrinted}
+use Rattle.zarr_codecs_json.specs.declared.printing.Printed.{Printed}
+use Rattle.zarr_codecs_json.specs.declared.printing.Printed.TheVariants as printed
+use Rattle.zarr_run_meaning.specs.Requests.{done, cells, refused}
+use Rattle.zarr_run_meaning.specs.declared.cause.Cause.{Cause}
+use Rattle.zarr_run_meaning.specs.declared.cause.Cause.TheVariants as cause
+use Rattle.zarr_run_commands.specs.Answers.{answer_json, fault_json}
+use Rattle.zarr_run_commands.specs.Texts.{refusal_text}
 
-pub done_answer : (type : DataType) → compact_text (answer_json type done) ≡ codes "{\"done\":true}"
+pub done_answer : (type : Option DataType) → compact_text (answer_json type done) ≡ codes "{\"done\":true}"
 unfolding serde_json_on_literals
 done_answer type = refl
 
--- the items after the first, and the closing bracket
-further_items : (ns : List ℕ) → items_text true (items_of (map (cell_json uint8) (cells_in uint8 (fixed ns)))) ≡ further ns ++ 93 ∷ []
-further_items [] = refl
-further_items (n ∷ ns) = ap (λ rest. 44 ∷ (decimal n ++ rest)) (further_items ns) ∙ ap (λ rest. 44 ∷ rest) (sym (append_assoc (decimal n) (further ns) (93 ∷ [])))
-
-listed_items : (ns : List ℕ) → items_text false (items_of (map (cell_json uint8) (cells_in uint8 (fixed ns)))) ≡ listed ns ++ 93 ∷ []
-listed_items [] = refl
-listed_items (n ∷ ns) = ap (λ rest. decimal n ++ rest) (further_items ns) ∙ sym (append_assoc (decimal n) (further ns) (93 ∷ []))
-
-pub cells_answer : (type : DataType) (payload : Payload) → compact_text (answer_json type (cells payload)) ≡ cells_text payload
+pub fault_answer : compact_text (fault_json (codes "text")) ≡ codes "{\"fault\":\"text\"}"
 unfolding serde_json_on_literals
-cells_answer uint8 (fixed ns) = ap (λ items. codes "{\"cells\":[" ++ (items ++ 125 ∷ [])) (listed_items ns) ∙ ap (λ rest. codes "{\"cells\":[" ++ rest) (append_assoc (listed ns) (93 ∷ []) (125 ∷ []))
+fault_answer = refl
 
-pub refused_answer : (type : DataType) (c : Cause) (applied : ℕ) → compact_text (answer_json type (refused c applied)) ≡ refusal_text c applied
+-- cells with this text are answered as they are
+pub cells_answer : (type : DataType) (payload : Payload) (items : Items) → printed_items type payload ≡ Some items
+    → compact_text (answer_json (Some type) (cells payload)) ≡ codes "{\"cells\":" ++ (compact_text (array items) ++ codes "}")
+unfolding serde_json_on_literals
+cells_answer type payload items are = rw are refl
+
+-- cells without a text are answered with a fault
+pub no_text_answer : (type : DataType) (payload : Payload) → printed_items type payload ≡ None → compact_text (answer_json (Some type) (cells payload)) ≡ compact_text (fault_json (codes "text"))
+no_text_answer type payload none = rw none refl
+
+-- what was printed where all was
+pub whole_printed : (type : DataType) (payload : Payload) (before text : List ℕ) (p : Printed) → Prints type payload before text p → p ≡ printed.Whole → IsPrinted type payload before text
+whole_printed type payload before text p prints is = rw is at prints
+
+-- where nothing was printed the text is what it was
+pub none_appended : (type : DataType) (payload : Payload) (before text : List ℕ) (p : Printed) → Prints type payload before text p → (p ≡ printed.NoText) ⊎ (p ≡ printed.Unsupported) → text ≡ before
+none_appended type payload before text p prints (inl is) = (rw is at prints).1
+none_appended type payload before text p prints (inr is) = (rw is at prints).1
+
+never_some : {A : Type 0} (given : Option Items) (o : Option A) → given ≡ None → option_and_then (λ a. given) o ≡ None
+never_some given None none = refl
+never_some given (Some a) none = none
+
+-- where nothing was printed, there was nothing to be printed
+pub none_printed : (type : DataType) (payload : Payload) (before text : List ℕ) (p : Printed) → Prints type payload before text p → (p ≡ printed.NoText) ⊎ (p ≡ printed.Unsupported) → printed_items type payload ≡ None
+none_printed type payload before text p prints (inl is) = never_some (payload_data type payload) (single_component type) (rw is at prints).0
+none_printed type payload before text p prints (inr is) = ap (option_and_then (λ number. payload_data type payload)) (rw is at prints).0
+
+pub refused_answer : (type : Option DataType) (c : Cause) (applied : ℕ) → compact_text (answer_json type (refused c applied)) ≡ refusal_text c applied
 unfolding serde_json_on_literals
 refused_answer type cause.Path applied = refl
 refused_answer type cause.PathTaken applied = refl

@@ -1,11 +1,12 @@
--- Answers as JSON.
-use Rattle.std.specs.Prelude.{ℕ, List, codes, true}
-use Rattle.serde_json.specs.Data.{Data, boolean, number, unsigned, string, object, no_members, member}
-use Rattle.zarr_codecs_cells.specs.Cells.{DataType, cells_in}
-use Rattle.zarr_codecs_cells.specs.Json.{cells_json}
-use Rattle.zarr_run_model.specs.Requests.{Answer, done, cells, refused}
-use Rattle.zarr_run_model.specs.declared.cause.Cause.{Cause}
-use Rattle.zarr_run_model.specs.declared.cause.Cause.TheVariants as cause
+-- Answers as JSON (this project's profile).
+use Rattle.std.specs.Prelude.{ℕ, List, codes, true, Option, option_map, option_and_then, unwrap_or}
+use Rattle.serde_json.specs.Data.{Data, boolean, number, unsigned, string, array, object, no_members, member}
+use Rattle.zarr_codecs_json.specs.Outcomes.{printed_items}
+use Rattle.zarr_codecs_meaning.specs.Payloads.{Payload}
+use Rattle.zarr_codecs_meaning.specs.Types.{DataType}
+use Rattle.zarr_run_meaning.specs.Requests.{Answer, done, cells, refused}
+use Rattle.zarr_run_meaning.specs.declared.cause.Cause.{Cause}
+use Rattle.zarr_run_meaning.specs.declared.cause.Cause.TheVariants as cause
 
 -- the name of a cause
 abbrev pub cause_name : Cause → List ℕ
@@ -23,8 +24,16 @@ cause_name cause.Damage = codes "Damage"
 cause_name cause.Memory = codes "Memory"
 cause_name cause.DocumentChanged = codes "DocumentChanged"
 
+-- a fault as JSON
+abbrev pub fault_json : List ℕ → Data
+fault_json name = object (member (codes "fault") (string name) no_members)
+
+-- the cells of an array of this type as JSON; None where they are not printed, or where no type is known
+abbrev pub cells_json : Option DataType → Payload → Option Data
+cells_json type payload = option_map (λ items. object (member (codes "cells") (array items) no_members)) (option_and_then (λ known. printed_items known payload) type)
+
 -- an answer as JSON, where cells have this type
-abbrev pub answer_json : DataType → Answer → Data
+abbrev pub answer_json : Option DataType → Answer → Data
 answer_json type done = object (member (codes "done") (boolean true) no_members)
-answer_json type (cells payload) = object (member (codes "cells") (cells_json type (cells_in type payload)) no_members)
+answer_json type (cells payload) = unwrap_or (cells_json type payload) (fault_json (codes "text"))
 answer_json type (refused c applied) = object (member (codes "applied") (number (unsigned applied)) (member (codes "refused") (string (cause_name c)) no_members))

@@ -2,21 +2,15 @@
 use Rattle.std.specs.Prelude.{string_bytes}
 use Rattle.serde_json.specs.View.{view}
 use Rattle.zarr_grids_boxes.specs.Subsets.{region_of}
-use Rattle.zarr_codecs_cells.specs.Cells.{Payload, fixed}
-use Rattle.zarr_codecs_cells.specs.Json.{GivenCells, given_bytes, given_json}
-use Rattle.zarr_codecs_cells.specs.declared.array_bytes.ArrayBytes.{ArrayBytes}
-use Rattle.zarr_codecs_cells.specs.declared.array_bytes.ArrayBytes.TheVariants.{Fixed}
-use Rattle.zarr_run_model.specs.Requests.{in_box, in_chunk, Request, create, reopen, write, read, erase, Answer, done, cells, refused}
+use Rattle.zarr_codecs_arrays.specs.Views.{payload_of}
+use Rattle.zarr_codecs_types.specs.Given.{GivenCells, given_bytes, given_json}
+use Rattle.zarr_run_meaning.specs.Requests.{in_box, in_chunk, Request, create, reopen, write, read, erase, Answer, done, cells, refused}
 use Rattle.zarr_run_commands.specs.declared.command.CommandCells.{CommandCells}
 use Rattle.zarr_run_commands.specs.declared.command.CommandCells.TheVariants.{Bytes, Json}
 use Rattle.zarr_run_commands.specs.declared.command.Command.{Command}
 use Rattle.zarr_run_commands.specs.declared.command.Command.TheVariants.{Create, Reopen, WriteBox, WriteChunk, ReadBox, ReadChunk, EraseChunks}
 use Rattle.zarr_run_commands.specs.declared.command.Reply.{Reply}
 use Rattle.zarr_run_commands.specs.declared.command.Reply.TheVariants.{Done, Cells, Refused}
-
--- the payload that array bytes are
-abbrev pub payload_of : ArrayBytes → Payload
-payload_of (Fixed bytes) = fixed bytes.items
 
 -- the cells that a command gives
 abbrev pub given : CommandCells → GivenCells

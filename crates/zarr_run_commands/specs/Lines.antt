@@ -4,13 +4,13 @@ use Rattle.serde_json.specs.Data.{Data, Items, no_items, item, Members}
 use Rattle.serde_json.specs.Find.{get_member, as_bool, as_number, as_u64, as_str, as_array, as_object}
 use Rattle.serde_json.specs.Read.{read as json_of}
 use Rattle.zarr_grids_boxes.specs.Boxes.{Region}
-use Rattle.zarr_codecs_cells.specs.Json.{given_json}
-use Rattle.zarr_codecs_cells.specs.declared.options.CodecOptions.{CodecOptions}
-use Rattle.zarr_codecs_chain.specs.declared.order.SubchunkWriteOrder.{SubchunkWriteOrder}
-use Rattle.zarr_codecs_chain.specs.declared.order.SubchunkWriteOrder.TheVariants.{Random, C, Unordered}
+use Rattle.zarr_codecs_types.specs.Given.{given_json}
+use Rattle.zarr_codecs_options.specs.declared.codec_options.CodecOptions.{CodecOptions}
+use Rattle.zarr_codecs_options.specs.declared.subchunk_write_order.SubchunkWriteOrder.{SubchunkWriteOrder}
+use Rattle.zarr_codecs_options.specs.declared.subchunk_write_order.SubchunkWriteOrder.TheVariants.{Random, C, Unordered}
 use Rattle.zarr_grids_metadata.specs.Members.{has_only}
 use Rattle.zarr_grids_configurations.specs.Numbers.{sizes_in}
-use Rattle.zarr_run_model.specs.Requests.{Target, in_box, in_chunk, Request, create, reopen, write, read, erase}
+use Rattle.zarr_run_meaning.specs.Requests.{Target, in_box, in_chunk, Request, create, reopen, write, read, erase}
 use Rattle.zarr_run_commands.specs.declared.operation.Operation.{Operation}
 use Rattle.zarr_run_commands.specs.declared.operation.Operation.TheVariants.{Create, Reopen, WriteBox, WriteChunk, ReadBox, ReadChunk, EraseChunks}
 

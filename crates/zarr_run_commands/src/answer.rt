@@ -1,71 +1,73 @@
 //! The lines of answers.
-ghost use Rattle.std.specs.Prelude.{◌≡◌, ◌++◌, decimal, OnOk, OnErr};
+ghost use Rattle.std.specs.Prelude.{◌≡◌, ◌++◌, codes, OnOk, OnErr, option_copied, option_map};
 ghost use Rattle.serde_json.specs.Written.{compact_text};
-ghost use Rattle.zarr_codecs_cells.specs.Cells.{DataType};
-ghost use Rattle.zarr_run_commands.specs.Answers.{answer_json, cause_name};
-ghost use Rattle.zarr_run_commands.specs.Commands.{answered, payload_of};
-ghost use Rattle.zarr_run_commands.specs.Texts.{Begins, further, listed, cells_text, cause_text, refusal_text};
+ghost use Rattle.zarr_codecs_json.specs.Texts.{Begins};
+ghost use Rattle.zarr_codecs_types.specs.Views.{type_of};
+ghost use Rattle.zarr_codecs_arrays.specs.Views.{payload_of};
+ghost use Rattle.zarr_run_meaning.specs.Requests as ask;
+ghost use Rattle.zarr_run_commands.specs.Answers.{answer_json, cause_name, fault_json};
+ghost use Rattle.zarr_run_commands.specs.Commands.{answered};
+ghost use Rattle.zarr_run_commands.specs.Texts.{cause_text, refusal_text};
 
 use crate::command::Reply;
 use itoa::Buffer;
 use std::alloc::AllocError;
-use zarr_codecs_cells::ArrayBytes;
-use zarr_run_model::Cause;
+use zarr_codecs_arrays::ArrayBytes;
+use zarr_codecs_json::{Printed, push_elements};
+use zarr_codecs_types::DataType;
+use zarr_run_meaning::Cause;
 
-/// Appends the compact JSON text of a reply. After an error a part of it may stand there.
-pub fn push_answer(text: &mut Vec<u8>, reply: &Reply) -> Result<(), AllocError>
-    ensures ok { (type : DataType) → OnOk result (text.new.items
-        ≡ text.old.items ++ compact_text (answer_json type (answered reply.now))) }
+/// Appends the compact JSON text of a reply. `data_type` is that of the array at the command's
+/// path, if one is held there. Cells that are all booleans or integers of that type become their
+/// list, and any others `{"fault":"text"}`. After an error a part of the text may stand there.
+pub fn push_answer(
+    text: &mut Vec<u8>,
+    data_type: Option<&DataType>,
+    reply: &Reply,
+) -> Result<(), AllocError>
+    ensures ok { OnOk result (text.new.items ≡ text.old.items ++ compact_text
+        (answer_json (option_map type_of (option_copied data_type.entry)) (answered reply.now))) }
     ensures err { OnErr result (Begins text.old.items text.new.items) }
 {
     match reply {
         Reply::Done => text.extend_from_slice(b"{\"done\":true}"),
-        Reply::Cells(cells) => push_cells(text, cells),
+        Reply::Cells(cells) => push_cells(text, data_type, cells),
         Reply::Refused { cause, applied } => push_refusal(text, *cause, *applied),
     }
 }
 
-fn push_cells(text: &mut Vec<u8>, cells: &ArrayBytes) -> Result<(), AllocError>
-    ensures ok { OnOk result (text.new.items
-        ≡ text.old.items ++ cells_text (payload_of cells.now)) }
+/// Appends the answer of a read.
+fn push_cells(
+    text: &mut Vec<u8>,
+    data_type: Option<&DataType>,
+    cells: &ArrayBytes,
+) -> Result<(), AllocError>
+    ensures ok { OnOk result (text.new.items ≡ text.old.items ++ compact_text
+        (answer_json (option_map type_of (option_copied data_type.entry))
+        (ask.cells (payload_of cells.now)))) }
     ensures err { OnErr result (Begins text.old.items text.new.items) }
 {
-    let ArrayBytes::Fixed(bytes) = cells;
-    text.extend_from_slice(b"{\"cells\":[")?;
-    push_numbers(text, bytes.as_slice())?;
-    text.extend_from_slice(b"]}")
-}
-
-/// Appends numbers with commas between them.
-fn push_numbers(text: &mut Vec<u8>, numbers: &[u8]) -> Result<(), AllocError>
-    ensures ok { OnOk result (text.new.items ≡ text.old.items ++ listed numbers.now) }
-    ensures err { OnErr result (Begins text.old.items text.new.items) }
-{
-    let Some((first, others)) = numbers.split_first() else {
-        return Ok(());
+    let Some(data_type) = data_type else {
+        return push_fault(text);
     };
-    push_number(text, *first)?;
-    push_further(text, others)
-}
-
-/// Appends numbers, each after a comma.
-fn push_further(text: &mut Vec<u8>, numbers: &[u8]) -> Result<(), AllocError>
-    ensures ok { OnOk result (text.new.items ≡ text.old.items ++ further numbers.now) }
-    ensures err { OnErr result (Begins text.old.items text.new.items) }
-{
-    for number in numbers {
-        text.push(b',')?;
-        push_number(text, *number)?;
+    let before = text.len();
+    text.extend_from_slice(b"{\"cells\":")?;
+    match push_elements(text, data_type, cells)? {
+        Printed::Whole => text.extend_from_slice(b"}"),
+        Printed::NoText | Printed::Unsupported => {
+            text.truncate(before);
+            push_fault(text)
+        }
     }
-    Ok(())
 }
 
-fn push_number(text: &mut Vec<u8>, number: u8) -> Result<(), AllocError>
-    ensures ok { OnOk result (text.new.items ≡ text.old.items ++ decimal number) }
+/// Appends the answer of a read of cells that have no text.
+fn push_fault(text: &mut Vec<u8>) -> Result<(), AllocError>
+    ensures ok { OnOk result (text.new.items
+        ≡ text.old.items ++ compact_text (fault_json (codes "text"))) }
     ensures err { OnErr result (text.new.items ≡ text.old.items) }
 {
-    let mut buffer = Buffer::new();
-    text.extend_from_slice(buffer.format(number).as_bytes())
+    text.extend_from_slice(b"{\"fault\":\"text\"}")
 }
 
 fn push_refusal(text: &mut Vec<u8>, cause: Cause, applied: u64) -> Result<(), AllocError>

@@ -1,10 +1,10 @@
 //! Commands and replies.
 
 use serde_json::Value;
-use zarr_codecs_cells::{ArrayBytes, CodecOptions};
-use zarr_codecs_chain::SubchunkWriteOrder;
+use zarr_codecs_arrays::ArrayBytes;
+use zarr_codecs_options::{CodecOptions, SubchunkWriteOrder};
 use zarr_grids_boxes::ArraySubset;
-use zarr_run_model::Cause;
+use zarr_run_meaning::Cause;
 
 /// The cells that a command gives.
 #[derive(Debug, Drop)]
@@ -23,8 +23,8 @@ pub enum Command {
         document: Value,
         order: SubchunkWriteOrder,
     },
-    /// Reopens an array with another write order: one that is held, where what is stored for it is the document that was
-    /// written, or else one that is stored.
+    /// Reopens an array with another write order: one that is held, where what is stored for it is
+    /// the document that was written or opened, or else one that is stored.
     Reopen {
         path: String,
         order: SubchunkWriteOrder,
@@ -60,6 +60,27 @@ pub enum Command {
         path: String,
         chunks: ArraySubset,
     },
+}
+
+impl Command {
+    ghost use Rattle.std.specs.Prelude.{◌≡◌};
+    ghost use Rattle.zarr_run_meaning.specs.Requests.{path_of};
+    ghost use Rattle.zarr_run_commands.specs.Commands.{asked};
+
+    /// The path that it names.
+    pub fn path(&self) -> &str
+        ensures { result.now ≡ path_of (asked self.now) }
+    {
+        match self {
+            Command::Create { path, .. } => path.as_str(),
+            Command::Reopen { path, .. } => path.as_str(),
+            Command::WriteBox { path, .. } => path.as_str(),
+            Command::WriteChunk { path, .. } => path.as_str(),
+            Command::ReadBox { path, .. } => path.as_str(),
+            Command::ReadChunk { path, .. } => path.as_str(),
+            Command::EraseChunks { path, .. } => path.as_str(),
+        }
+    }
 }
 
 /// What a session answers to a command.

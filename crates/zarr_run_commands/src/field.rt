@@ -7,8 +7,7 @@ ghost use Rattle.zarr_run_commands.specs.Lines.{order_named, order_of, flag, opt
 
 use serde_json::{Map, Value};
 use std::alloc::{AllocError, Global};
-use zarr_codecs_cells::CodecOptions;
-use zarr_codecs_chain::SubchunkWriteOrder;
+use zarr_codecs_options::{CodecOptions, SubchunkWriteOrder};
 use zarr_grids_boxes::ArraySubset;
 use zarr_grids_metadata::{has_only, member};
 

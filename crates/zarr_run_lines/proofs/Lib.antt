@@ -1,3 +1,4 @@
+pub mod CommandLemmas
 pub mod LinesLemmas
-pub mod ReadingLemmas
 pub mod ProgressLemmas
+pub mod ReadingLemmas

@@ -1,45 +1,31 @@
 -- How far a run has come, line by line.
-use Rattle.std.proofs.Common.{◌≡◌, ℕ, ◌+◌, ◌≤◌, ◌^◌, List, [], ◌∷◌, ◌++◌, length, Option, Some, None, IfSome, refl, sym, ap, ◌∙◌, subst, inl, inr, arith, append_assoc, append-nil, length-append, Result, Ok, Err, OnOk, OnErr, IfErr, codes, is_ok, if◌then◌else◌}
+use Rattle.std.proofs.Common.{◌≡◌, ℕ, ◌+◌, ◌≤◌, ◌^◌, List, [], ◌∷◌, ◌++◌, length, Option, Some, None, IfSome, Result, Ok, Err, OnOk, refl, sym, ap, ◌∙◌, subst, inl, inr, arith, append_assoc, append-nil, length-append}
 use Rattle.std.specs.Io.BufRead.{drop_through}
 use Rattle.std.specs.Io.KnownBytes.{Appends, Keeps, append_known}
-use Rattle.zarr_run_model.specs.Worlds.{World}
-use Rattle.zarr_run_commands.specs.Lines.{Says}
-use Rattle.zarr_run_session.specs.declared.session.Session.{Session}
-use Rattle.zarr_run_session.specs.Sessions.{IsIn}
-use Rattle.zarr_run_lines.specs.declared.lines.LinesFault.{LinesFault}
-use Rattle.zarr_run_lines.specs.declared.lines.LinesFault.TheVariants.{Read}
-use Rattle.zarr_run_lines.specs.Lines.{lines_of, LineStep, Answers, Leaves, StandsAfterSome, RunsSome, RunsAll, IsWithinLimits}
-use Rattle.zarr_run_lines.specs.Reading.{IsLeft, TakesLine, Progress}
+use Rattle.zarr_codecs_metadata.specs.Chains.{ReadsCodecs}
+use Rattle.zarr_run_meaning.specs.Worlds.{World}
+use Rattle.zarr_run_lines.specs.Lines.{lines_of, Answers, Leaves, StandsAfterSome, RunsSome, RunsAll, IsWithinLimits}
+use Rattle.zarr_run_lines.specs.Reading.{IsLeft, TakesLine, HasRead, HasRun}
 use Rattle.zarr_run_lines.proofs.LinesLemmas.{lines_of-first, runs-more}
+
+-- ---- the reading
 
 -- a reader gives this line, whatever is left
 abbrev pub Takes : Option (List ℕ) → ℕ → Option (List ℕ) → ℕ → List ℕ → Type 0
 Takes left bytes left' bytes' line = (rest : List ℕ) → IsLeft left bytes rest → TakesLine left bytes left' bytes' line rest
 
-none-yet : (before : Option (List ℕ)) (pending : List ℕ) → pending ≡ [] → Appends before (append_known before pending) []
-none-yet None pending e = tt
-none-yet (Some held) pending e = ap (λ p. held ++ p) e
+-- nothing is left
+abbrev pub Ends : Option (List ℕ) → ℕ → Type 0
+Ends left bytes = (rest : List ℕ) → IsLeft left bytes rest → rest ≡ []
 
-pub progress-start : (input left before : Option (List ℕ)) (bytes lines : ℕ) (pending : List ℕ) (old : World) → bytes ≡ 4294967296 → lines ≡ 1048576 → pending ≡ []
-    → ((text : List ℕ) → input ≡ Some text → IsLeft left 4294967296 text) → Progress input left bytes lines before before pending old old
-progress-start input left before bytes lines pending old b l none start = record {
-  done = [];
-  out = [];
-  ran = (refl, refl);
-  answers = none-yet before pending none;
+pub read-start : (input left : Option (List ℕ)) (bytes lines : ℕ) → bytes ≡ 4294967296 → lines ≡ 1048576
+    → ((text : List ℕ) → input ≡ Some text → IsLeft left 4294967296 text) → HasRead input left bytes lines []
+read-start input left bytes lines b l start = record {
   number = omega (arith, l);
-  reads = λ text e. (text, rw b (start text e), refl, omega (arith, b));
+  first = λ text e. (text, rw b (start text e), refl, omega (arith, b));
 }
 
-more-answers : (before after after' : Option (List ℕ)) (pending pending' pending'' out more : List ℕ) → Appends before (append_known after pending) out → pending' ≡ pending ++ more
-    → Keeps (append_known after pending') (append_known after' pending'') → Appends before (append_known after' pending'') (out ++ more)
-more-answers None after after' pending pending' pending'' out more grew is kept = tt
-more-answers (Some xs) None after' pending pending' pending'' out more grew is kept = absurd grew
-more-answers (Some xs) (Some ys) None pending pending' pending'' out more grew is kept = absurd kept
-more-answers (Some xs) (Some ys) (Some zs) pending pending' pending'' out more grew is kept =
-    kept ∙ ap (λ p. ys ++ p) is ∙ sym (append_assoc ys pending more) ∙ ap (λ l. l ++ more) grew ∙ append_assoc xs out more
-
--- the next line goes from what is left to what was run
+-- the next line goes from what is left to what was taken
 moved : (text rest line : List ℕ) (done : List (List ℕ)) → lines_of text ≡ done ++ lines_of rest → lines_of rest ≡ line ∷ lines_of (drop_through 10 rest)
     → lines_of text ≡ (done ++ line ∷ []) ++ lines_of (drop_through 10 rest)
 moved text rest line done split first = split ∙ ap (λ ls. done ++ ls) first ∙ sym (append_assoc done (line ∷ []) (lines_of (drop_through 10 rest)))
@@ -53,58 +39,30 @@ one-more n lines lines' done line e one h = omega (arith, e ∙ length-append do
 fewer : (text rest after bytes bytes' : ℕ) → text + bytes ≤ 4294967296 + rest → rest + bytes' ≡ after + bytes → text + bytes' ≤ 4294967296 + after
 fewer text rest after bytes bytes' h e = omega (arith, h, e)
 
-pub progress-line : (input left left' before after after' : Option (List ℕ)) (bytes bytes' lines lines' : ℕ) (pending pending' pending'' line text : List ℕ) (old mid new : World)
-    → Progress input left bytes lines before after pending old mid → Takes left bytes left' bytes' line → lines' + 1 ≡ lines → LineStep mid line text new → pending' ≡ pending ++ (text ++ 10 ∷ [])
-    → Keeps (append_known after pending') (append_known after' pending'') → Progress input left' bytes' lines' before after' pending'' old new
-progress-line input left left' before after after' bytes bytes' lines lines' pending pending' pending'' line text old mid new p takes one step is kept = record {
-  done = p.done ++ line ∷ [];
-  out = p.out ++ (text ++ 10 ∷ []);
-  ran = runs-more p.done old mid new p.out line text p.ran step;
-  answers = more-answers before after after' pending pending' pending'' p.out (text ++ 10 ∷ []) p.answers is kept;
-  number = one-more _ lines lines' p.done line refl one p.number;
-  reads = λ whole e.
-      let now = p.reads whole e in
+pub read-line : (input left left' : Option (List ℕ)) (bytes bytes' lines lines' : ℕ) (done : List (List ℕ)) (line : List ℕ)
+    → HasRead input left bytes lines done → Takes left bytes left' bytes' line → lines' + 1 ≡ lines → HasRead input left' bytes' lines' (done ++ line ∷ [])
+read-line input left left' bytes bytes' lines lines' done line p takes one = record {
+  number = one-more _ lines lines' done line refl one p.number;
+  first = λ whole e.
+      let now = p.first whole e in
       let took = takes now.0 now.1 in
-      (drop_through 10 now.0, took.left, moved whole now.0 line p.done now.2 (next left left' bytes bytes' line now.0 took), fewer (length whole) (length now.0) (length (drop_through 10 now.0)) bytes bytes' now.3 took.count);
+      (drop_through 10 now.0, took.left, moved whole now.0 line done now.2 (next left left' bytes bytes' line now.0 took), fewer (length whole) (length now.0) (length (drop_through 10 now.0)) bytes bytes' now.3 took.count);
 }
 
--- after a fault before a line
-pub progress-stands : (input left before after : Option (List ℕ)) (bytes lines : ℕ) (pending : List ℕ) (old new : World) → Progress input left bytes lines before after pending old new → StandsAfterSome input old new
-progress-stands None left before after bytes lines pending old new p = (p.done, p.out, p.ran, tt)
-progress-stands (Some text) left before after bytes lines pending old new p = let now = p.reads text refl in (p.done, p.out, p.ran, (lines_of now.0, now.2))
+-- the lines are the first of the input
+abbrev AreFirst : Option (List ℕ) → List (List ℕ) → Type 0
+AreFirst input done = IfSome input (λ text. (rest : List (List ℕ)) × (lines_of text ≡ done ++ rest))
 
--- with all answers
-pub progress-some : (input left before after : Option (List ℕ)) (bytes lines : ℕ) (pending : List ℕ) (old new : World) → Progress input left bytes lines before after pending old new → RunsSome input before (append_known after pending) old new
-progress-some None left before after bytes lines pending old new p = (p.done, p.out, p.ran, p.answers, tt)
-progress-some (Some text) left before after bytes lines pending old new p = let now = p.reads text refl in (p.done, p.out, p.ran, p.answers, (lines_of now.0, now.2))
+taken-first : (input left : Option (List ℕ)) (bytes lines : ℕ) (done : List (List ℕ)) → HasRead input left bytes lines done → AreFirst input done
+taken-first None left bytes lines done p = tt
+taken-first (Some text) left bytes lines done p = let now = p.first text refl in (lines_of now.0, now.2)
 
-stands-after : (input left left' before after : Option (List ℕ)) (bytes bytes' lines : ℕ) (pending line text : List ℕ) (old mid new : World)
-    → Progress input left bytes lines before after pending old mid → Takes left bytes left' bytes' line → LineStep mid line text new → StandsAfterSome input old new
-stands-after None left left' before after bytes bytes' lines pending line text old mid new p takes step = (p.done ++ line ∷ [], p.out ++ (text ++ 10 ∷ []), runs-more p.done old mid new p.out line text p.ran step, tt)
-stands-after (Some whole) left left' before after bytes bytes' lines pending line text old mid new p takes step =
-    let now = p.reads whole refl in (
-      p.done ++ line ∷ [],
-      p.out ++ (text ++ 10 ∷ []),
-      runs-more p.done old mid new p.out line text p.ran step,
-      (lines_of (drop_through 10 now.0), moved whole now.0 line p.done now.2 (next left left' bytes bytes' line now.0 (takes now.0 now.1))),
-    )
+all-taken : (text rest : List ℕ) (done : List (List ℕ)) → lines_of text ≡ done ++ lines_of rest → rest ≡ [] → lines_of text ≡ done
+all-taken text rest done split none = split ∙ ap (λ r. done ++ lines_of r) none ∙ append-nil done
 
--- after a fault in a line
-pub progress-leaves : (input left left' before after : Option (List ℕ)) (bytes bytes' lines : ℕ) (pending line : List ℕ) (old mid new : World)
-    → Progress input left bytes lines before after pending old mid → Takes left bytes left' bytes' line → Leaves mid line new → StandsAfterSome input old new
-progress-leaves input left left' before after bytes bytes' lines pending line old mid new p takes (inl same) =
-    subst (λ w. StandsAfterSome input old w) (sym same) (progress-stands input left before after bytes lines pending old mid p)
-progress-leaves input left left' before after bytes bytes' lines pending line old mid new p takes (inr (text, step)) = stands-after input left left' before after bytes bytes' lines pending line text old mid new p takes step
-
-all-run : (text rest : List ℕ) (done : List (List ℕ)) → lines_of text ≡ done ++ lines_of rest → rest ≡ [] → lines_of text ≡ done
-all-run text rest done split none = split ∙ ap (λ r. done ++ lines_of r) none ∙ append-nil done
-
--- at the end of the input
-pub progress-end : (input left before after : Option (List ℕ)) (bytes lines : ℕ) (pending : List ℕ) (old new : World) → Progress input left bytes lines before after pending old new
-    → ((rest : List ℕ) → IsLeft left bytes rest → rest ≡ []) → RunsAll input before (append_known after pending) old new
-progress-end None left before after bytes lines pending old new p ends = (p.done, p.out, p.ran, p.answers, tt)
-progress-end (Some text) left before after bytes lines pending old new p ends =
-    let now = p.reads text refl in (p.done, p.out, p.ran, p.answers, all-run text now.0 p.done now.2 (ends now.0 now.1))
+taken-all : (input left : Option (List ℕ)) (bytes lines : ℕ) (done : List (List ℕ)) → HasRead input left bytes lines done → Ends left bytes → IfSome input (λ text. lines_of text ≡ done)
+taken-all None left bytes lines done p ends = tt
+taken-all (Some text) left bytes lines done p ends = let now = p.first text refl in all-taken text now.0 done now.2 (ends now.0 now.1)
 
 few-bytes : (text rest : List ℕ) (bytes : ℕ) → length text + bytes ≤ 4294967296 + length rest → rest ≡ [] → length text ≤ 2 ^ 32
 few-bytes text rest bytes h e = omega (arith, h, ap length e)
@@ -112,44 +70,95 @@ few-bytes text rest bytes h e = omega (arith, h, ap length e)
 few-lines : (text : List ℕ) (done : List (List ℕ)) (lines : ℕ) → lines_of text ≡ done → length done + lines ≤ 1048576 → length (lines_of text) ≤ 2 ^ 20
 few-lines text done lines e h = omega (arith, ap length e, h)
 
-pub progress-limits : (input left before after : Option (List ℕ)) (bytes lines : ℕ) (pending : List ℕ) (old new : World) → Progress input left bytes lines before after pending old new
-    → ((rest : List ℕ) → IsLeft left bytes rest → rest ≡ []) → IfSome input IsWithinLimits
-progress-limits None left before after bytes lines pending old new p ends = tt
-progress-limits (Some text) left before after bytes lines pending old new p ends =
-    let now = p.reads text refl in
+pub read-limits : (input left : Option (List ℕ)) (bytes lines : ℕ) (done : List (List ℕ)) → HasRead input left bytes lines done → Ends left bytes → IfSome input IsWithinLimits
+read-limits None left bytes lines done p ends = tt
+read-limits (Some text) left bytes lines done p ends =
+    let now = p.first text refl in
     let none = ends now.0 now.1 in
-    (few-bytes text now.0 bytes now.3 none, few-lines text p.done lines (all-run text now.0 p.done now.2 none) p.number)
+    (few-bytes text now.0 bytes now.3 none, few-lines text done lines (all-taken text now.0 done now.2 none) p.number)
 
--- a session after a fault
-pub on-fault : {T E : Type 0} (r : Result T E) (session : Session) (input : Option (List ℕ)) (old new : World) → IsIn session new → StandsAfterSome input old new
-    → OnErr r ((w : World) × IsIn session w × StandsAfterSome input old w)
-on-fault (Ok x) session input old new is stands = tt
-on-fault (Err e) session input old new is stands = (new, is, stands)
+-- ---- the runs in a world
 
--- a fault line
-pub on-no-command : {T E : Type 0} (r : Result T E) (session : Session) (line pending pending' : List ℕ) (old : World) → IsIn session old → Says line None
-    → pending' ≡ (if is_ok r then pending ++ (codes "{\"fault\":\"line\"}" ++ 10 ∷ []) else pending) → OnOk r ((new : World) × IsIn session new × Answers old line new pending pending')
-on-no-command (Ok x) session line pending pending' old is says grew = (old, is, (codes "{\"fault\":\"line\"}", (None, says, (refl, refl)), grew))
-on-no-command (Err e) session line pending pending' old is says grew = tt
+none-yet : (before : Option (List ℕ)) (pending : List ℕ) → pending ≡ [] → Appends before (append_known before pending) []
+none-yet None pending e = tt
+none-yet (Some held) pending e = ap (λ p. held ++ p) e
 
--- a session after a fault in reading
-pub on-read : {T : Type 0} (r : Result T LinesFault) (session : Session) (input before after : Option (List ℕ)) (old new : World) → IsIn session new → RunsSome input before after old new
-    → IfErr r (λ fault. fault ≡ Read → (w : World) × IsIn session w × RunsSome input before after old w)
-on-read (Ok x) session input before after old new is some = tt
-on-read (Err e) session input before after old new is some = λ read. (new, is, some)
+pub run-start : (reads : ReadsCodecs) (before : Option (List ℕ)) (pending : List ℕ) (old : World) → pending ≡ [] → HasRun reads [] before before pending old old
+run-start reads before pending old none = record { out = []; ran = (refl, refl); answers = none-yet before pending none }
+
+more-answers : (before after after' : Option (List ℕ)) (pending pending' pending'' out more : List ℕ) → Appends before (append_known after pending) out → pending' ≡ pending ++ more
+    → Keeps (append_known after pending') (append_known after' pending'') → Appends before (append_known after' pending'') (out ++ more)
+more-answers None after after' pending pending' pending'' out more grew is kept = tt
+more-answers (Some xs) None after' pending pending' pending'' out more grew is kept = absurd grew
+more-answers (Some xs) (Some ys) None pending pending' pending'' out more grew is kept = absurd kept
+more-answers (Some xs) (Some ys) (Some zs) pending pending' pending'' out more grew is kept =
+    kept ∙ ap (λ p. ys ++ p) is ∙ sym (append_assoc ys pending more) ∙ ap (λ l. l ++ more) grew ∙ append_assoc xs out more
+
+pub run-line : (reads : ReadsCodecs) (done : List (List ℕ)) (before after after' : Option (List ℕ)) (pending pending' pending'' line : List ℕ) (old mid new : World)
+    → HasRun reads done before after pending old mid → Answers reads mid line new pending pending' → Keeps (append_known after pending') (append_known after' pending'')
+    → HasRun reads (done ++ line ∷ []) before after' pending'' old new
+run-line reads done before after after' pending pending' pending'' line old mid new p (text, step, is) kept = record {
+  out = p.out ++ (text ++ 10 ∷ []);
+  ran = runs-more reads done old mid new p.out line text p.ran step;
+  answers = more-answers before after after' pending pending' pending'' p.out (text ++ 10 ∷ []) p.answers is kept;
+}
+
+-- ---- both
+
+-- a line that was answered has run
+pub answers-leave : (reads : ReadsCodecs) (line before after : List ℕ) (old new : World) → Answers reads old line new before after → Leaves reads old line new
+answers-leave reads line before after old new (text, step, is) = inr (text, step)
+
+-- after a fault before a line
+pub stands-before : (reads : ReadsCodecs) (input left before after : Option (List ℕ)) (bytes lines : ℕ) (done : List (List ℕ)) (pending : List ℕ) (old new : World)
+    → HasRead input left bytes lines done → HasRun reads done before after pending old new → StandsAfterSome reads input old new
+stands-before reads input left before after bytes lines done pending old new read run = (done, run.out, run.ran, taken-first input left bytes lines done read)
+
+-- after a fault in a line
+pub stands-in : (reads : ReadsCodecs) (input left left' before after : Option (List ℕ)) (bytes bytes' lines lines' : ℕ) (done : List (List ℕ)) (pending line : List ℕ) (old mid new : World)
+    → HasRead input left bytes lines done → Takes left bytes left' bytes' line → lines' + 1 ≡ lines → HasRun reads done before after pending old mid → Leaves reads mid line new → StandsAfterSome reads input old new
+stands-in reads input left left' before after bytes bytes' lines lines' done pending line old mid new read takes one run (inl same) =
+    subst (λ w. StandsAfterSome reads input old w) (sym same) (stands-before reads input left before after bytes lines done pending old mid read run)
+stands-in reads input left left' before after bytes bytes' lines lines' done pending line old mid new read takes one run (inr (text, step)) = (
+  done ++ line ∷ [],
+  run.out ++ (text ++ 10 ∷ []),
+  runs-more reads done old mid new run.out line text run.ran step,
+  taken-first input left' bytes' lines' (done ++ line ∷ []) (read-line input left left' bytes bytes' lines lines' done line read takes one),
+)
+
+-- with all answers
+pub runs-some : (reads : ReadsCodecs) (input left before after : Option (List ℕ)) (bytes lines : ℕ) (done : List (List ℕ)) (pending : List ℕ) (old new : World)
+    → HasRead input left bytes lines done → HasRun reads done before after pending old new → RunsSome reads input before (append_known after pending) old new
+runs-some reads input left before after bytes lines done pending old new read run = (done, run.out, run.ran, run.answers, taken-first input left bytes lines done read)
+
+-- at the end of the input
+pub runs-all : (reads : ReadsCodecs) (input left before after : Option (List ℕ)) (bytes lines : ℕ) (done : List (List ℕ)) (pending : List ℕ) (old new : World)
+    → HasRead input left bytes lines done → Ends left bytes → HasRun reads done before after pending old new → RunsAll reads input before (append_known after pending) old new
+runs-all reads input left before after bytes lines done pending old new read ends run = (done, run.out, run.ran, run.answers, taken-all input left bytes lines done read ends)
 
 -- ---- after the answers that were pending were written
+
 flushed : (before after after' : Option (List ℕ)) (pending pending' out : List ℕ) → Appends before (append_known after pending) out → Keeps (append_known after pending) (append_known after' pending') → pending' ≡ [] → Appends before after' out
 flushed None after after' pending pending' out grew kept none = tt
 flushed (Some xs) None after' pending pending' out grew kept none = absurd grew
 flushed (Some xs) (Some ys) None pending pending' out grew kept none = absurd kept
 flushed (Some xs) (Some ys) (Some zs) pending pending' out grew kept none = sym (append-nil zs) ∙ sym (ap (λ p. zs ++ p) none) ∙ kept ∙ grew
 
-pub on-all : {T E : Type 0} (r : Result T E) (session : Session) (input before after after' : Option (List ℕ)) (pending pending' : List ℕ) (old new : World) → IsIn session new → RunsAll input before (append_known after pending) old new
-    → OnOk r (Keeps (append_known after pending) (append_known after' pending')) → OnOk r (pending' ≡ []) → OnOk r ((w : World) × IsIn session w × RunsAll input before after' old w)
-on-all (Ok x) session input before after after' pending pending' old new is ran kept none = (new, is, (ran.0, ran.1, ran.2, flushed before after after' pending pending' ran.1 ran.3 kept none, ran.4))
-on-all (Err e) session input before after after' pending pending' old new is ran kept none = tt
+pub all-written : (reads : ReadsCodecs) (input before after after' : Option (List ℕ)) (pending pending' : List ℕ) (old new : World) → RunsAll reads input before (append_known after pending) old new
+    → Keeps (append_known after pending) (append_known after' pending') → pending' ≡ [] → RunsAll reads input before after' old new
+all-written reads input before after after' pending pending' old new ran kept none = (ran.0, ran.1, ran.2, flushed before after after' pending pending' ran.1 ran.3 kept none, ran.4)
 
-pub stands-all : (input before after : Option (List ℕ)) (old new : World) → RunsAll input before after old new → StandsAfterSome input old new
-stands-all None before after old new ran = (ran.0, ran.1, ran.2, tt)
-stands-all (Some text) before after old new ran = (ran.0, ran.1, ran.2, ([], ran.4 ∙ sym (append-nil ran.0)))
+pub some-written : (reads : ReadsCodecs) (input before after after' : Option (List ℕ)) (pending pending' : List ℕ) (old new : World) → RunsSome reads input before (append_known after pending) old new
+    → Keeps (append_known after pending) (append_known after' pending') → pending' ≡ [] → RunsSome reads input before after' old new
+some-written reads input before after after' pending pending' old new ran kept none = (ran.0, ran.1, ran.2, flushed before after after' pending pending' ran.1 ran.3 kept none, ran.4)
+
+pub stands-all : (reads : ReadsCodecs) (input before after : Option (List ℕ)) (old new : World) → RunsAll reads input before after old new → StandsAfterSome reads input old new
+stands-all reads None before after old new ran = (ran.0, ran.1, ran.2, tt)
+stands-all reads (Some text) before after old new ran = (ran.0, ran.1, ran.2, ([], ran.4 ∙ sym (append-nil ran.0)))
+
+-- ---- outcomes
+
+-- what follows from two things that hold where there is a value
+pub both-ok : {T E P Q R : Type 0} (r : Result T E) → OnOk r P → OnOk r Q → (P → Q → R) → OnOk r R
+both-ok (Ok x) p q both = both p q
+both-ok (Err e) p q both = tt

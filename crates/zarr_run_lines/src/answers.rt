@@ -1,17 +1,20 @@
 //! Answers that wait to be written.
-ghost use Rattle.std.specs.Prelude.{◌≡◌, [], ◌∷◌, ◌++◌, IfErr, OnOk, OnErr};
+ghost use Rattle.std.specs.Prelude.{◌≡◌, [], ◌∷◌, ◌++◌, IsTrue, IfErr, OnOk, OnErr, option_copied, option_map};
 ghost use Rattle.std.specs.Io.KnownBytes.{Keeps, append_known};
 ghost use Rattle.serde_json.specs.Written.{compact_text};
-ghost use Rattle.zarr_codecs_cells.specs.Cells.{DataType};
-ghost use Rattle.zarr_run_model.specs.Worlds.{World};
+ghost use Rattle.zarr_codecs_types.specs.Views.{type_of};
 ghost use Rattle.zarr_run_commands.specs.Answers.{answer_json};
 ghost use Rattle.zarr_run_commands.specs.Commands.{answered};
-ghost use Rattle.zarr_run_session.specs.Sessions.{IsIn};
+ghost use Rattle.zarr_run_session.specs.Sessions.{state_of, store_of};
 ghost use Rattle.zarr_run_lines.specs.Lines.{Answers, Leaves};
+ghost use Rattle.zarr_run_lines.specs.Sessions.{LeadsTo};
 
 use crate::lines::LinesFault;
 use std::alloc::{AllocError, Global};
 use std::io::{BufReader, Read, Write};
+use zarr_array_storage::WritableStorageTraits;
+use zarr_codecs_traits::BytesToBytesCodecTraits;
+use zarr_codecs_types::DataType;
 use zarr_run_commands::{Reply, push_answer, read_command};
 use zarr_run_session::Session;
 
@@ -19,48 +22,65 @@ use zarr_run_session::Session;
 const PENDING_BYTES: usize = 65_536;
 
 /// Appends the line of a reply. After an error a part of it may stand there.
-fn append_reply(pending: &mut Vec<u8>, reply: &Reply) -> Result<(), AllocError>
-    ensures { (type : DataType) → OnOk result (pending.new.items
-        ≡ pending.old.items ++ (compact_text (answer_json type (answered reply.now)) ++ 10 ∷ [])) }
+fn append_reply(
+    pending: &mut Vec<u8>,
+    data_type: Option<&DataType>,
+    reply: &Reply,
+) -> Result<(), AllocError>
+    ensures { OnOk result (pending.new.items ≡ pending.old.items ++ (compact_text
+        (answer_json (option_map type_of (option_copied data_type.entry)) (answered reply.now))
+        ++ 10 ∷ [])) }
 {
-    push_answer(pending, reply)?;
+    push_answer(pending, data_type, reply)?;
     pending.push(b'\n')?;
     Ok(())
 }
 
-/// Runs the command of a line, and appends the line of its answer. After an error a part of it may stand there.
-fn run_command(
+/// Runs the command of a line, and appends the line of its answer. After an error a part of it may
+/// stand there.
+fn run_command<S: WritableStorageTraits, B: BytesToBytesCodecTraits>(
     alloc: Global,
-    session: &mut Session,
+    session: &mut Session<S, B>,
     line: &[u8],
     pending: &mut Vec<u8>,
 ) -> Result<(), AllocError>
-    ensures ok { (old : World) → IsIn session.old old → OnOk result ((new : World)
-        × IsIn session.new new × Answers old line.now new pending.old.items pending.new.items) }
-    ensures err { (old : World) → IsIn session.old old
-        → OnErr result ((new : World) × IsIn session.new new × Leaves old line.now new) }
+    ensures ok { IsTrue (S.is_honest (store_of session.old)) → OnOk result
+        (LeadsTo B.meaning B.reads (state_of S.held S.refused_calls session.old)
+        (state_of S.held S.refused_calls session.new)
+        (λ old new. Answers B.reads old line.now new pending.old.items pending.new.items)) }
+    ensures err { IsTrue (S.is_honest (store_of session.old)) → OnErr result
+        (LeadsTo B.meaning B.reads (state_of S.held S.refused_calls session.old)
+        (state_of S.held S.refused_calls session.new)
+        (λ old new. Leaves B.reads old line.now new)) }
+    ensures honest { S.is_honest (store_of session.new) ≡ S.is_honest (store_of session.old) }
 {
     let Some(command) = read_command(alloc, line)? else {
         return pending.extend_from_slice(b"{\"fault\":\"line\"}\n");
     };
     let reply = session.step(&command);
-    match append_reply(pending, &reply) {
+    let data_type = session.data_type_at(command.path());
+    match append_reply(pending, data_type, &reply) {
         Ok(()) => Ok(()),
         Err(e) => Err(e),
     }
 }
 
 /// Runs a line, and appends the line of its answer.
-pub(crate) fn answer_line(
+pub(crate) fn answer_line<S: WritableStorageTraits, B: BytesToBytesCodecTraits>(
     alloc: Global,
-    session: &mut Session,
+    session: &mut Session<S, B>,
     line: &[u8],
     pending: &mut Vec<u8>,
 ) -> Result<(), LinesFault>
-    ensures ok { (old : World) → IsIn session.old old → OnOk result ((new : World)
-        × IsIn session.new new × Answers old line.now new pending.old.items pending.new.items) }
-    ensures err { (old : World) → IsIn session.old old
-        → OnErr result ((new : World) × IsIn session.new new × Leaves old line.now new) }
+    ensures ok { IsTrue (S.is_honest (store_of session.old)) → OnOk result
+        (LeadsTo B.meaning B.reads (state_of S.held S.refused_calls session.old)
+        (state_of S.held S.refused_calls session.new)
+        (λ old new. Answers B.reads old line.now new pending.old.items pending.new.items)) }
+    ensures err { IsTrue (S.is_honest (store_of session.old)) → OnErr result
+        (LeadsTo B.meaning B.reads (state_of S.held S.refused_calls session.old)
+        (state_of S.held S.refused_calls session.new)
+        (λ old new. Leaves B.reads old line.now new)) }
+    ensures honest { S.is_honest (store_of session.new) ≡ S.is_honest (store_of session.old) }
     ensures fault { IfErr result (λ fault. fault ≡ LinesFault.Memory) }
 {
     let before = pending.len();

@@ -1,14 +1,16 @@
 //! Running the lines of an input.
-ghost use Rattle.std.specs.Prelude.{◌≡◌, [], OnOk, OnErr, IfErr, IfSome};
+ghost use Rattle.std.specs.Prelude.{◌≡◌, [], IsTrue, OnOk, OnErr, IfErr, IfSome};
 ghost use Rattle.std.specs.Io.KnownBytes.{append_known};
-ghost use Rattle.zarr_run_model.specs.Worlds.{World};
-ghost use Rattle.zarr_run_session.specs.Sessions.{IsIn};
+ghost use Rattle.zarr_run_session.specs.Sessions.{state_of, store_of};
 ghost use Rattle.zarr_run_lines.specs.Lines.{RunsAll, RunsSome, StandsAfterSome, IsWithinLimits};
+ghost use Rattle.zarr_run_lines.specs.Sessions.{LeadsTo};
 
 use crate::answers::{answer_line, write_before_wait, write_pending};
 use crate::input::{Limits, limited, next_line};
 use std::alloc::Global;
 use std::io::{Read, Write};
+use zarr_array_storage::WritableStorageTraits;
+use zarr_codecs_traits::BytesToBytesCodecTraits;
 use zarr_run_session::Session;
 
 /// Why lines were not run to their end.
@@ -24,24 +26,29 @@ pub enum LinesFault {
 
 /// Runs the lines of a reader, and writes a line of answer to each.
 ///
-/// All answers are written and flushed before a read that may wait. The line that passes a limit is not run,
-/// and the answers before it are written.
-pub fn run_lines<R: Read + Drop, W: Write>(
+/// All answers are written and flushed before a read that may wait. The line that passes a limit is
+/// not run, and the answers before it are written.
+pub fn run_lines<R: Read + Drop, W: Write, S: WritableStorageTraits, B: BytesToBytesCodecTraits>(
     alloc: Global,
-    session: &mut Session,
+    session: &mut Session<S, B>,
     reader: R,
     writer: &mut W,
 ) -> Result<(), LinesFault>
-    ensures ok { (old : World) → IsIn session.old old → OnOk result ((new : World)
-        × IsIn session.new new
-        × RunsAll (R.remaining reader) (W.contents writer.old) (W.contents writer.new) old new) }
-    ensures limits { (old : World) → IsIn session.old old
-        → OnOk result (IfSome (R.remaining reader) IsWithinLimits) }
-    ensures err { (old : World) → IsIn session.old old → OnErr result ((new : World)
-        × IsIn session.new new × StandsAfterSome (R.remaining reader) old new) }
-    ensures read { (old : World) → IsIn session.old old
-        → IfErr result (λ fault. fault ≡ LinesFault.Read → (new : World) × IsIn session.new new
-        × RunsSome (R.remaining reader) (W.contents writer.old) (W.contents writer.new) old new) }
+    ensures ok { IsTrue (S.is_honest (store_of session.old)) → OnOk result
+        (LeadsTo B.meaning B.reads (state_of S.held S.refused_calls session.old)
+        (state_of S.held S.refused_calls session.new)
+        (RunsAll B.reads (R.remaining reader) (W.contents writer.old) (W.contents writer.new))) }
+    ensures limits { OnOk result (IfSome (R.remaining reader) IsWithinLimits) }
+    ensures err { IsTrue (S.is_honest (store_of session.old)) → OnErr result
+        (LeadsTo B.meaning B.reads (state_of S.held S.refused_calls session.old)
+        (state_of S.held S.refused_calls session.new)
+        (StandsAfterSome B.reads (R.remaining reader))) }
+    ensures read { IsTrue (S.is_honest (store_of session.old)) → IfErr result
+        (λ fault. fault ≡ LinesFault.Read →
+        LeadsTo B.meaning B.reads (state_of S.held S.refused_calls session.old)
+        (state_of S.held S.refused_calls session.new)
+        (RunsSome B.reads (R.remaining reader) (W.contents writer.old) (W.contents writer.new))) }
+    ensures honest { S.is_honest (store_of session.new) ≡ S.is_honest (store_of session.old) }
 {
     let mut pending = Vec::new(alloc);
     match answer_lines(alloc, session, reader, writer, &mut pending) {
@@ -55,25 +62,31 @@ pub fn run_lines<R: Read + Drop, W: Write>(
 }
 
 /// Runs the lines of a reader. The last answers may be left in `pending`.
-fn answer_lines<R: Read + Drop, W: Write>(
+fn answer_lines<R: Read + Drop, W: Write, S: WritableStorageTraits, B: BytesToBytesCodecTraits>(
     alloc: Global,
-    session: &mut Session,
+    session: &mut Session<S, B>,
     reader: R,
     writer: &mut W,
     pending: &mut Vec<u8>,
 ) -> Result<(), LinesFault>
     requires { pending.old.items ≡ [] }
-    ensures ok { (old : World) → IsIn session.old old → OnOk result ((new : World)
-        × IsIn session.new new × RunsAll (R.remaining reader) (W.contents writer.old)
-        (append_known (W.contents writer.new) pending.new.items) old new) }
-    ensures limits { (old : World) → IsIn session.old old
-        → OnOk result (IfSome (R.remaining reader) IsWithinLimits) }
-    ensures err { (old : World) → IsIn session.old old → OnErr result ((new : World)
-        × IsIn session.new new × StandsAfterSome (R.remaining reader) old new) }
-    ensures read { (old : World) → IsIn session.old old
-        → IfErr result (λ fault. fault ≡ LinesFault.Read → (new : World) × IsIn session.new new
-        × RunsSome (R.remaining reader) (W.contents writer.old)
-        (append_known (W.contents writer.new) pending.new.items) old new) }
+    ensures ok { IsTrue (S.is_honest (store_of session.old)) → OnOk result
+        (LeadsTo B.meaning B.reads (state_of S.held S.refused_calls session.old)
+        (state_of S.held S.refused_calls session.new)
+        (RunsAll B.reads (R.remaining reader) (W.contents writer.old)
+        (append_known (W.contents writer.new) pending.new.items))) }
+    ensures limits { OnOk result (IfSome (R.remaining reader) IsWithinLimits) }
+    ensures err { IsTrue (S.is_honest (store_of session.old)) → OnErr result
+        (LeadsTo B.meaning B.reads (state_of S.held S.refused_calls session.old)
+        (state_of S.held S.refused_calls session.new)
+        (StandsAfterSome B.reads (R.remaining reader))) }
+    ensures read { IsTrue (S.is_honest (store_of session.old)) → IfErr result
+        (λ fault. fault ≡ LinesFault.Read →
+        LeadsTo B.meaning B.reads (state_of S.held S.refused_calls session.old)
+        (state_of S.held S.refused_calls session.new)
+        (RunsSome B.reads (R.remaining reader) (W.contents writer.old)
+        (append_known (W.contents writer.new) pending.new.items))) }
+    ensures honest { S.is_honest (store_of session.new) ≡ S.is_honest (store_of session.old) }
 {
     let mut reader = limited(alloc, reader)?;
     let mut limits = Limits::new();

@@ -1,7 +1,7 @@
 -- The arrays of a world: what is held at a path, and which paths are taken.
 use Rattle.std.proofs.Common.{◌≡◌, ◌≢◌, ◌∙◌, ◌⊎◌, inl, inr, ⊎_elim, ℕ, List, [], ◌∷◌, ◌++◌, refl, sym, ap, subst, Bool, true, false, ◌||◌, IsTrue, Option, Some, None, if◌then◌else◌, bytes_eq}
 use Rattle.std.proofs.lemmas.Bool.{false≢true, or_left, or_right, or_from, or_parts, false_from_ne_true, MatchBool-at_true, MatchBool-at_false}
-use Rattle.std.proofs.lemmas.Option.{same_Some}
+use Rattle.std.proofs.lemmas.Option.{none-some, same_Some}
 use Rattle.std.proofs.lemmas.Slice.Eq.{bytes_eq-Decides}
 use Rattle.zarr_grids_keys.specs.Related.{is_related}
 use Rattle.zarr_grids_keys.proofs.RelatedLemmas.{is_related-comm, is_related-refl}
@@ -76,6 +76,13 @@ unrelated_paths (x ∷ w) p q g h a e f ne = go (bytes_eq p x.path) (bytes_eq q 
   go true false more s t i j = let same : x ≡ g = cc in sym (ap (λ (y : Held). is_related y.path h.path) same) ∙ free_of x.path q w h a.0 j
   go false true more s t i j = let same : x ≡ h = cc in is_related-comm g.path h.path ∙ sym (ap (λ (y : Held). is_related y.path g.path) same) ∙ free_of x.path p w g a.0 i
   go false false more s t i j = more i j
+
+-- a path that is unrelated to that of each array is not taken
+pub free_from : (p : List ℕ) (w : List Held) → AreApart w → ((q : List ℕ) (g : Held) → held_at q w ≡ Some g → is_related p g.path ≡ false) → is_taken p w ≡ false
+free_from p [] a away = refl
+free_from p (x ∷ w) a away = or_from (is_related p x.path) (is_taken p w) (away x.path x (held_at-first x.path x w refl)) (free_from p w a.1 (λ q g at. away q g (later q g at))) where
+  later : (q : List ℕ) (g : Held) → held_at q w ≡ Some g → held_at q (x ∷ w) ≡ Some g
+  later q g at = held_at-later q x w (λ same. none-some g (sym (ap (λ r. held_at r w) same ∙ free_none x.path w a.0) ∙ at)) ∙ at
 
 -- ---- a new array
 

@@ -24,19 +24,19 @@ use Rattle.zarr_array_meaning.specs.Parts.{type_in, dimension_names_in}
 
 -- ---- checks that passed
 
-bind_ok : {A B E : Type 0} (r : Result A E) (f : A → Result B E) (y : B) → (r >>= f) ≡ Ok y → (x : A) × (r ≡ Ok x) × (f x ≡ Ok y)
+pub bind_ok : {A B E : Type 0} (r : Result A E) (f : A → Result B E) (y : B) → (r >>= f) ≡ Ok y → (x : A) × (r ≡ Ok x) × (f x ≡ Ok y)
 bind_ok (Ok x) f y h = (x, refl, h)
 bind_ok (Err e) f y h = absurd (cc)
 
-then_ok : {A E : Type 0} (c : Result ⊤ E) (r : Result A E) (y : A) → (c >> r) ≡ Ok y → r ≡ Ok y
+pub then_ok : {A E : Type 0} (c : Result ⊤ E) (r : Result A E) (y : A) → (c >> r) ≡ Ok y → r ≡ Ok y
 then_ok (Ok x) r y h = h
 then_ok (Err e) r y h = absurd (cc)
 
-ok_some : {A E : Type 0} (o : Option A) (e : E) (x : A) → ok_or o e ≡ Ok x → o ≡ Some x
+pub ok_some : {A E : Type 0} (o : Option A) (e : E) (x : A) → ok_or o e ≡ Ok x → o ≡ Some x
 ok_some None e x h = absurd (cc)
 ok_some (Some y) e x h = let same : y ≡ x = cc in ap Some same
 
-ok_same : {A E : Type 0} (x y : A) → ◌≡◌ {A = Result A E} (Ok x) (Ok y) → x ≡ y
+pub ok_same : {A E : Type 0} (x y : A) → ◌≡◌ {A = Result A E} (Ok x) (Ok y) → x ≡ y
 ok_same x y h = cc
 
 result_some : {A E : Type 0} (r : Result A E) (x : A) → result_ok r ≡ Some x → r ≡ Ok x

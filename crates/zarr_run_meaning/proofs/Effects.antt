@@ -18,7 +18,7 @@ use Rattle.zarr_run_meaning.specs.declared.cause.Cause.TheVariants as cause
 use Rattle.zarr_run_meaning.specs.Causes.{AreTargets}
 use Rattle.zarr_run_meaning.specs.Changes.{Creates, Reopens, Opens, WritesChunks, ErasesChunks}
 use Rattle.zarr_run_meaning.specs.Requests.{Request, create, reopen, write, read, erase, Answer, done, cells, refused}
-use Rattle.zarr_run_meaning.specs.Sound.{AsksLossless}
+use Rattle.zarr_run_meaning.specs.Sound.{OpensApart, BeginsSound}
 use Rattle.zarr_run_meaning.specs.Steps.{Stays, WritesFirst, ErasesFirst, RefusesHeld, RefusesWrite, RefusesRead, RefusesErase, Refuses, RefusesAt, Step}
 use Rattle.zarr_run_meaning.specs.Worlds.{Held, World, held_at}
 use Rattle.zarr_run_meaning.proofs.Keys.{AreBelow, listed_take, listed_inside}
@@ -57,18 +57,18 @@ pub record Erased (old new : World) : Type 0 where
   pub erases : ErasesChunks held chunks old new
 
 -- what a step does
-pub data Effect (reads : ReadsCodecs) (request : Request) (old new : World) : Type 0 where
-  kept : new.arrays ≡ old.arrays → new.store ≡ old.store → Effect reads request old new
-  created : (path : List ℕ) (document : Data) (order : SubchunkWriteOrder) → (AsksLossless reads request → AsksLossless reads (create path document order)) → Creates reads path document order old new → Effect reads request old new
-  reordered : (path : List ℕ) (order : SubchunkWriteOrder) → Reopens path order old new → Effect reads request old new
-  opened : (path : List ℕ) (order : SubchunkWriteOrder) → Opens reads path order old new → Effect reads request old new
-  wrote : Wrote old new → Effect reads request old new
-  erased : Erased old new → Effect reads request old new
+pub data Effect (reads : ReadsCodecs) (request : Request) (answer : Answer) (old new : World) : Type 0 where
+  kept : new.arrays ≡ old.arrays → new.store ≡ old.store → Effect reads request answer old new
+  created : (path : List ℕ) (document : Data) (order : SubchunkWriteOrder) → (BeginsSound reads old request answer → BeginsSound reads old (create path document order) done) → Creates reads path document order old new → Effect reads request answer old new
+  reordered : (path : List ℕ) (order : SubchunkWriteOrder) → Reopens path order old new → Effect reads request answer old new
+  opened : (path : List ℕ) (order : SubchunkWriteOrder) → (BeginsSound reads old request answer → BeginsSound reads old (reopen path order) done) → ((other : List ℕ) → OpensApart other old request answer → OpensApart other old (reopen path order) done) → Opens reads path order old new → Effect reads request answer old new
+  wrote : Wrote old new → Effect reads request answer old new
+  erased : Erased old new → Effect reads request answer old new
 
 -- ---- refusals
 
 -- how a command with a path is refused, by what came first
-at_cases : (reads : ReadsCodecs) (path : List ℕ) (request : Request) (c : Cause) (n : ℕ) (old new : World) (P : Type 0) → RefusesAt reads path request c n old new → (Stays c n old new → P) → (Refuses reads request c n old new → P) → P
+pub at_cases : (reads : ReadsCodecs) (path : List ℕ) (request : Request) (c : Cause) (n : ℕ) (old new : World) (P : Type 0) → RefusesAt reads path request c n old new → (Stays c n old new → P) → (Refuses reads request c n old new → P) → P
 at_cases reads path request cause.Path n old new P h stays refuses = stays h.1
 at_cases reads path request cause.Memory n old new P h stays refuses = ⊎_elim stays (λ r. refuses r.1) h
 at_cases reads path request c n old new P h stays refuses = refuses h.1
@@ -80,7 +80,7 @@ held_cases None refuses c n old new P r stays held = absurd r
 held_cases (Some h) refuses c n old new P r stays held = held h refl r
 
 module _ (reads : ReadsCodecs) (request : Request) (c : Cause) (n : ℕ) (old new : World) where
-  stayed : Stays c n old new → Effect reads request old new
+  stayed : Stays c n old new → Effect reads request (refused c n) old new
   stayed s = kept (ap (λ (w : World). w.arrays) s.is) (ap (λ (w : World). w.store) s.is)
 
 -- ---- effects of writes and erasures
@@ -99,41 +99,41 @@ first_below grid n chunks are = record { below = λ c l. are.below c (listed_tak
 
 -- ---- each step has an effect
 
-pub step_effect : (reads : ReadsCodecs) (old new : World) (request : Request) (answer : Answer) → Step reads old request answer new → Effect reads request old new
-step_effect reads old new (create path document order) done s = created path document order (λ asks. asks) s.0
+pub step_effect : (reads : ReadsCodecs) (old new : World) (request : Request) (answer : Answer) → Step reads old request answer new → Effect reads request answer old new
+step_effect reads old new (create path document order) done s = created path document order (λ begins. begins) s.0
 step_effect reads old new (create path document order) (cells payload) s = absurd s
 step_effect reads old new (create path document order) (refused c n) s =
     let r : Request = create path document order in
-    at_cases reads path r c n old new (Effect reads r old new) s (stayed reads r c n old new) (λ h. stayed reads r c n old new h.1)
-step_effect reads old new (reopen path order) done s = ⊎_elim (λ h. reordered path order h) (λ h. opened path order h) s.0
+    at_cases reads path r c n old new (Effect reads r (refused c n) old new) s (stayed reads r c n old new) (λ h. stayed reads r c n old new h.1)
+step_effect reads old new (reopen path order) done s = ⊎_elim (λ h. reordered path order h) (λ h. opened path order (λ begins. begins) (λ other away. away) h) s.0
 step_effect reads old new (reopen path order) (cells payload) s = absurd s
 step_effect reads old new (reopen path order) (refused c n) s =
     let r : Request = reopen path order in
-    at_cases reads path r c n old new (Effect reads r old new) s (stayed reads r c n old new) (λ h. stayed reads r c n old new h.1)
+    at_cases reads path r c n old new (Effect reads r (refused c n) old new) s (stayed reads r c n old new) (λ h. stayed reads r c n old new h.1)
 step_effect reads old new (write path target given options) done s =
     let w = s.0 in
     wrote (wrote_some path w.held options w.box w.values (intersecting w.held.document.grid w.box) old new w.found (λ c l. l) (given_values w.held.document.elements.type given w.values w.is.gives.0) w.is.gives.1 w.writes)
 step_effect reads old new (write path target given options) (cells payload) s = absurd s
 step_effect reads old new (write path target given options) (refused c n) s =
     let r : Request = write path target given options in
-    at_cases reads path r c n old new (Effect reads r old new) s (stayed reads r c n old new) (λ h.
-    held_cases (held_at path old.arrays) (RefusesWrite target given options) c n old new (Effect reads r old new) h (stayed reads r c n old new) (λ g found.
+    at_cases reads path r c n old new (Effect reads r (refused c n) old new) s (stayed reads r c n old new) (λ h.
+    held_cases (held_at path old.arrays) (RefusesWrite target given options) c n old new (Effect reads r (refused c n) old new) h (stayed reads r c n old new) (λ g found.
     ⊎_elim (λ whole. stayed reads r c n old new whole.1) (λ (first : WritesFirst g target given options c n old new).
     wrote (wrote_some path g options first.box first.values (take n (intersecting g.document.grid first.box)) old new found (λ d l. listed_take n (intersecting g.document.grid first.box) d l) (given_values g.document.elements.type given first.values first.is.gives.0) first.is.gives.1 first.writes))))
 step_effect reads old new (read path target options) done s = absurd s
 step_effect reads old new (read path target options) (cells payload) s = kept (ap (λ (w : World). w.arrays) s.1) (ap (λ (w : World). w.store) s.1)
 step_effect reads old new (read path target options) (refused c n) s =
     let r : Request = read path target options in
-    at_cases reads path r c n old new (Effect reads r old new) s (stayed reads r c n old new) (λ h.
-    held_cases (held_at path old.arrays) (RefusesRead target) c n old new (Effect reads r old new) h (stayed reads r c n old new) (λ g found q. stayed reads r c n old new q.1))
+    at_cases reads path r c n old new (Effect reads r (refused c n) old new) s (stayed reads r c n old new) (λ h.
+    held_cases (held_at path old.arrays) (RefusesRead target) c n old new (Effect reads r (refused c n) old new) h (stayed reads r c n old new) (λ g found q. stayed reads r c n old new q.1))
 step_effect reads old new (erase path chunks) done s =
     let e = s.0 in
     erased (record { path = path; held = e.held; found = e.found; chunks = places chunks.start chunks.shape; below = targets_below e.held.document.grid chunks e.below; erases = e.erases })
 step_effect reads old new (erase path chunks) (cells payload) s = absurd s
 step_effect reads old new (erase path chunks) (refused c n) s =
     let r : Request = erase path chunks in
-    at_cases reads path r c n old new (Effect reads r old new) s (stayed reads r c n old new) (λ h.
-    held_cases (held_at path old.arrays) (RefusesErase chunks) c n old new (Effect reads r old new) h (stayed reads r c n old new) (λ g found.
+    at_cases reads path r c n old new (Effect reads r (refused c n) old new) s (stayed reads r c n old new) (λ h.
+    held_cases (held_at path old.arrays) (RefusesErase chunks) c n old new (Effect reads r (refused c n) old new) h (stayed reads r c n old new) (λ g found.
     ⊎_elim (λ whole. stayed reads r c n old new whole.1) (λ (first : ErasesFirst g chunks c n old new).
     erased (record {
       path = path;

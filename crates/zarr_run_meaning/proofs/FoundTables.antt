@@ -1,5 +1,5 @@
 -- The table of the cells that a store shows.
-use Rattle.std.proofs.Common.{◌≡◌, ◌∙◌, ℕ, List, [], ◌∷◌, unwrap_or, Bool, true, false, if◌then◌else◌, bytes_eq, ⊎_elim, sym, ap}
+use Rattle.std.proofs.Common.{◌≡◌, ◌∙◌, ℕ, List, [], ◌∷◌, unwrap_or, Bool, true, if◌then◌else◌, bytes_eq, ⊎_elim, sym, ap}
 use Rattle.std.specs.List.{list_any, flat_map}
 use Rattle.std.specs.Option.{option_map_or}
 use Rattle.std.specs.Ordering.{nat_cmp}

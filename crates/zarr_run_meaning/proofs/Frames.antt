@@ -26,7 +26,7 @@ use Rattle.zarr_array_meaning.specs.Written.{written_document}
 use Rattle.zarr_array_meaning.proofs.ReadsBack.{read_document-written_document}
 use Rattle.zarr_run_meaning.specs.Changes.{Creates, Reopens, Opens}
 use Rattle.zarr_run_meaning.specs.Laws.{HasTables, StepsShow}
-use Rattle.zarr_run_meaning.specs.Requests.{Request}
+use Rattle.zarr_run_meaning.specs.Requests.{Request, Answer}
 use Rattle.zarr_run_meaning.specs.Tables.{Table, cell, updated, changes, changes_in, fills}
 use Rattle.zarr_run_meaning.specs.Worlds.{Held, World, held_at, IsTableAt, WithTable}
 use Rattle.zarr_run_meaning.proofs.Arrays.{Stayed, at_path, near, apart, held_at-path, held_once, held_at-more, held_at-ordered, held_before, free_of, free_none}
@@ -215,13 +215,13 @@ module _ (reads : ReadsCodecs) (old new : World) (tables : HasTables reads old) 
       changed_tables w.path w.held w.chunks w.erases.table w.found w.erases.updates w.erases.stores.others
       (erased_table w.held old.store new.store w.chunks w.erases.table (formed reads w.held.tree w.held.document s.1) w.erases.is w.below w.erases.stores s.2)
 
-  effect_shows : (request : Request) → Effect reads request old new → HasTables reads new
-  effect_shows request (kept arrays store) = kept_tables arrays store
-  effect_shows request (created path document order asks c) = created_tables path document order c
-  effect_shows request (reordered path order r) = reordered_tables path order r
-  effect_shows request (opened path order o) = opened_tables path order o
-  effect_shows request (wrote w) = wrote_tables w
-  effect_shows request (erased w) = erased_tables w
+  effect_shows : (request : Request) (answer : Answer) → Effect reads request answer old new → HasTables reads new
+  effect_shows request answer (kept arrays store) = kept_tables arrays store
+  effect_shows request answer (created path document order begins c) = created_tables path document order c
+  effect_shows request answer (reordered path order r) = reordered_tables path order r
+  effect_shows request answer (opened path order begins away o) = opened_tables path order o
+  effect_shows request answer (wrote w) = wrote_tables w
+  effect_shows request answer (erased w) = erased_tables w
 
 pub steps_show : StepsShow
-steps_show reads old new request answer tables s = effect_shows reads old new tables request (step_effect reads old new request answer s)
+steps_show reads old new request answer tables s = effect_shows reads old new tables request answer (step_effect reads old new request answer s)

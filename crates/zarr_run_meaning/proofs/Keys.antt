@@ -29,6 +29,7 @@ use Rattle.zarr_grids_keys.proofs.RelatedLemmas.{key_under-unrelated}
 use Rattle.zarr_array_meaning.specs.Chunks.{stored_at, is_listed, KeepsOtherKeys}
 use Rattle.zarr_array_meaning.specs.Documents.{Document}
 use Rattle.zarr_array_meaning.specs.StoreMaps.{StoreMap}
+use Rattle.zarr_run_meaning.specs.Causes.{IsChunkKey}
 use Rattle.zarr_run_meaning.proofs.Documents.{IsFormed}
 
 -- ---- chunks that are listed
@@ -124,18 +125,26 @@ others_kept path document chunks old new other others node there apart = record 
 }
 
 -- whether a key is that of one of some chunks
-pub key_listed : (path : List ℕ) (document : Document) (cs : List (List ℕ)) (key : List ℕ) → ((chunk : List ℕ) × (key ≡ chunk_key path document.keys chunk)) ⊎ ((chunk : List ℕ) → is_listed cs chunk ≡ true → key ≢ chunk_key path document.keys chunk)
+pub key_listed : (path : List ℕ) (document : Document) (cs : List (List ℕ)) (key : List ℕ) → ((chunk : List ℕ) × (is_listed cs chunk ≡ true) × (key ≡ chunk_key path document.keys chunk)) ⊎ ((chunk : List ℕ) → is_listed cs chunk ≡ true → key ≢ chunk_key path document.keys chunk)
 key_listed path document [] key = inr (λ chunk l. absurd (false≢true l))
 key_listed path document (c ∷ cs) key = ⊎_elim
-    (λ t. inl (c, (bytes_eq-Decides key (chunk_key path document.keys c)).0 t))
+    (λ t. inl (c, or_left (bytes_eq c c) (is_listed cs c) ((bytes_eq-Decides c c).1 refl), (bytes_eq-Decides key (chunk_key path document.keys c)).0 t))
     (λ f. ⊎_elim
-    (λ s. inl s)
+    (λ s. inl (s.0, or_right (bytes_eq s.0 c) (is_listed cs s.0) s.1, s.2))
     (λ h. inr (λ chunk l e. ⊎_elim
     (λ t. both_ways (bytes_eq key (chunk_key path document.keys c)) f ((bytes_eq-Decides key (chunk_key path document.keys c)).1 (e ∙ ap (chunk_key path document.keys) ((bytes_eq-Decides chunk c).0 t))))
     (λ t. h chunk t e)
     (or_cases (bytes_eq chunk c) (is_listed cs chunk) l)))
     (key_listed path document cs key))
     (told (bytes_eq key (chunk_key path document.keys c)))
+
+-- a key that isn't that of one of some chunks in the grid keeps its value
+pub kept_or_listed : (path : List ℕ) (document : Document) (chunks : List (List ℕ)) (old new : StoreMap) (key : List ℕ) → AreBelow document.grid chunks → KeepsOtherKeys path document chunks old new
+    → IsChunkKey path document key ⊎ (get new key ≡ get old key)
+kept_or_listed path document chunks old new key are others = ⊎_elim
+    (λ c. let b = are.below c.0 c.1 in inl (record { chunk = c.0; box = b.0; within = b.1; is = c.2 }))
+    (λ ne. inr (others key ne))
+    (key_listed path document chunks key)
 
 -- ---- one key put
 

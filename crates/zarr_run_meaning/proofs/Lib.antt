@@ -3,6 +3,7 @@ pub mod FoundTables
 pub mod TableLemmas
 pub mod Arrays
 pub mod Documents
+pub mod GoodDocuments
 pub mod Tables
 pub mod Keys
 pub mod Effects
@@ -10,5 +11,9 @@ pub mod Reading
 pub mod Beginning
 pub mod Frames
 pub mod Standing
+pub mod Owning
+pub mod Begun
 pub mod Sound
 pub mod Reopening
+pub mod Again
+pub mod Alone

@@ -2,7 +2,7 @@
 use Rattle.std.proofs.Common.{◌≡◌, ◌∙◌, ℕ, List, [], ◌∷◌, map, length, refl, sym, ap, subst, ⊎_elim, true, Option, Some, None, is_some}
 use Rattle.std.specs.Prelude.{nat_lt, ◌&&◌}
 use Rattle.std.proofs.lemmas.Bool.{lt-ltb, false≢true, MatchBool-at_false}
-use Rattle.std.proofs.lemmas.Option.{none-some}
+use Rattle.std.proofs.lemmas.Option.{none-some, same_Some}
 use Rattle.zarr_grids_boxes.specs.Boxes.{Region, product, places, is_in_box}
 use Rattle.zarr_grids_boxes.proofs.Steps.{number_in_grid}
 use Rattle.zarr_grids_chunks.specs.Grids.{IsInGrid}
@@ -20,9 +20,9 @@ use Rattle.zarr_array_meaning.specs.Writing.{IsPartDamaged}
 use Rattle.zarr_array_meaning.proofs.Showing.{are_cells, listed_at}
 use Rattle.zarr_run_meaning.specs.declared.cause.Cause.TheVariants as cause
 use Rattle.zarr_run_meaning.specs.Causes.{ReopenRefuses}
-use Rattle.zarr_run_meaning.specs.Laws.{NeverDamaged, ReadsFit}
-use Rattle.zarr_run_meaning.specs.Requests.{Request, create, reopen, write, read, erase, refused}
-use Rattle.zarr_run_meaning.specs.Sound.{IsSound, IsSoundAt, ReadsGood}
+use Rattle.zarr_run_meaning.specs.Laws.{NeverDamaged, AloneUndamaged, ReadsFit}
+use Rattle.zarr_run_meaning.specs.Requests.{Request, create, reopen, write, read, erase, path_of, refused}
+use Rattle.zarr_run_meaning.specs.Sound.{IsSoundAt, ReadsGood}
 use Rattle.zarr_run_meaning.specs.Steps.{RefusesHeld, RefusesWrite, RefusesRead, RefusesErase, WritesFirst, ErasesFirst, Step}
 use Rattle.zarr_run_meaning.specs.Tables.{cell}
 use Rattle.zarr_run_meaning.specs.Worlds.{Held, World, held_at}
@@ -77,48 +77,57 @@ unfit_none reads store h region sound unfit =
 
 -- ---- the laws
 
-module _ (reads : ReadsCodecs) (old new : World) (n : ℕ) (good : ReadsGood reads) (sound : IsSound reads old) where
-  undamaged : (request : Request) → Step reads old request (refused cause.Damage n) new → ⊥
-  undamaged (create path document order) s = s.1.0
-  undamaged (reopen path order) s = go (held_at path old.arrays) s.1.0 where
+-- what is held at a path is sound
+abbrev IsSoundThere : ReadsCodecs → World → List ℕ → Type 0
+IsSoundThere reads world path = (h : Held) → held_at path world.arrays ≡ Some h → IsSoundAt reads world.store h
+
+module _ (reads : ReadsCodecs) (old new : World) (n : ℕ) (good : ReadsGood reads) where
+  undamaged : (request : Request) → IsSoundThere reads old (path_of request) → Step reads old request (refused cause.Damage n) new → ⊥
+  undamaged (create path document order) sound s = s.1.0
+  undamaged (reopen path order) sound s = go (held_at path old.arrays) s.1.0 where
     go : (o : Option Held) → ReopenRefuses reads old path o cause.Damage → ⊥
     go None r = r
     go (Some h) r = r
-  undamaged (write path target given options) s = go (held_at path old.arrays) refl s.1 where
+  undamaged (write path target given options) sound s = go (held_at path old.arrays) refl s.1 where
     go : (o : Option Held) → held_at path old.arrays ≡ o → RefusesHeld o (RefusesWrite target given options) cause.Damage n old new → ⊥
     go None e r = r
     go (Some h) e r = ⊎_elim (λ whole. whole.0) (λ (first : WritesFirst h target given options cause.Damage n old new).
-        no_part_damaged reads old.store h good (sound.each path h e) first.box n first.stops.chunk first.stops.box first.stops.met first.stops.refuses) r
-  undamaged (read path target options) s = go (held_at path old.arrays) refl s.1 where
+        no_part_damaged reads old.store h good (sound h e) first.box n first.stops.chunk first.stops.box first.stops.met first.stops.refuses) r
+  undamaged (read path target options) sound s = go (held_at path old.arrays) refl s.1 where
     go : (o : Option Held) → held_at path old.arrays ≡ o → RefusesHeld o (RefusesRead target) cause.Damage n old new → ⊥
     go None e r = r
-    go (Some h) e r = none_damaged reads old.store h good (sound.each path h e) r.0.0 r.0.3
-  undamaged (erase path chunks) s = go (held_at path old.arrays) refl s.1 where
+    go (Some h) e r = none_damaged reads old.store h good (sound h e) r.0.0 r.0.3
+  undamaged (erase path chunks) sound s = go (held_at path old.arrays) refl s.1 where
     go : (o : Option Held) → held_at path old.arrays ≡ o → RefusesHeld o (RefusesErase chunks) cause.Damage n old new → ⊥
     go None e r = r
     go (Some h) e r = ⊎_elim (λ whole. whole.0) (λ (first : ErasesFirst h chunks cause.Damage n old new). first.stops) r
 
-  unchanged : (request : Request) → Step reads old request (refused cause.DocumentChanged n) new → ⊥
-  unchanged (create path document order) s = s.1.0
-  unchanged (reopen path order) s = go (held_at path old.arrays) refl s.1.0 where
+  unchanged : (request : Request) → IsSoundThere reads old (path_of request) → Step reads old request (refused cause.DocumentChanged n) new → ⊥
+  unchanged (create path document order) sound s = s.1.0
+  unchanged (reopen path order) sound s = go (held_at path old.arrays) refl s.1.0 where
     go : (o : Option Held) → held_at path old.arrays ≡ o → ReopenRefuses reads old path o cause.DocumentChanged → ⊥
     go None e r = r
-    go (Some h) e r = none_changed reads old.store h good (sound.each path h e) path (held_at-path path old.arrays h e) old refl r
-  unchanged (write path target given options) s = go (held_at path old.arrays) s.1 where
+    go (Some h) e r = none_changed reads old.store h good (sound h e) path (held_at-path path old.arrays h e) old refl r
+  unchanged (write path target given options) sound s = go (held_at path old.arrays) s.1 where
     go : (o : Option Held) → RefusesHeld o (RefusesWrite target given options) cause.DocumentChanged n old new → ⊥
     go None r = r
     go (Some h) r = ⊎_elim (λ whole. whole.0) (λ (first : WritesFirst h target given options cause.DocumentChanged n old new). first.stops.refuses) r
-  unchanged (read path target options) s = go (held_at path old.arrays) s.1 where
+  unchanged (read path target options) sound s = go (held_at path old.arrays) s.1 where
     go : (o : Option Held) → RefusesHeld o (RefusesRead target) cause.DocumentChanged n old new → ⊥
     go None r = r
     go (Some h) r = r.0
-  unchanged (erase path chunks) s = go (held_at path old.arrays) s.1 where
+  unchanged (erase path chunks) sound s = go (held_at path old.arrays) s.1 where
     go : (o : Option Held) → RefusesHeld o (RefusesErase chunks) cause.DocumentChanged n old new → ⊥
     go None r = r
     go (Some h) r = ⊎_elim (λ whole. whole.0) (λ (first : ErasesFirst h chunks cause.DocumentChanged n old new). first.stops) r
 
 pub never_damaged : NeverDamaged
-never_damaged reads old new request n good sound = (undamaged reads old new n good sound request, unchanged reads old new n good sound request)
+never_damaged reads old new request n good sound = (undamaged reads old new n good request (sound.each (path_of request)), unchanged reads old new n good request (sound.each (path_of request)))
+
+pub alone_undamaged : AloneUndamaged
+alone_undamaged reads old new request n good alone = (undamaged reads old new n good request there, unchanged reads old new n good request there) where
+  there : IsSoundThere reads old (path_of request)
+  there h e = let P : Held → Type 0 = λ x. IsSoundAt reads old.store x in subst P (same_Some alone.array h (sym alone.found ∙ e)) alone.there
 
 pub reads_fit : ReadsFit
 reads_fit reads old new path target options n sound s = go (held_at path old.arrays) refl s.1 where

@@ -7,7 +7,9 @@ use Rattle.serde_json.specs.Data.{Data}
 use Rattle.serde_json.specs.Read.{read}
 use Rattle.zarr_grids_boxes.specs.Boxes.{Region, is_in_box}
 use Rattle.zarr_grids_chunks.specs.Grids.{IsInGrid}
+use Rattle.zarr_grids_keys.specs.Documents.{document_key}
 use Rattle.zarr_grids_keys.specs.Paths.{is_node_path}
+use Rattle.zarr_grids_keys.specs.declared.document_name.DocumentName.TheVariants.{ZarrJson}
 use Rattle.zarr_codecs_meaning.specs.Types.{is_value}
 use Rattle.zarr_codecs_metadata.specs.Chains.{ReadsCodecs}
 use Rattle.zarr_codecs_options.specs.declared.subchunk_write_order.SubchunkWriteOrder.{SubchunkWriteOrder}
@@ -16,15 +18,15 @@ use Rattle.zarr_array_meaning.specs.StoreMaps.{StoreMap}
 use Rattle.zarr_array_meaning.specs.Texts.{HasDocument}
 use Rattle.zarr_run_meaning.specs.declared.cause.Cause.{Cause}
 use Rattle.zarr_run_meaning.specs.declared.cause.Cause.TheVariants as cause
-use Rattle.zarr_run_meaning.specs.Causes.{ReopenRefuses, IsNoDocument}
+use Rattle.zarr_run_meaning.specs.Causes.{ReopenRefuses, IsChunkKeyIn, HasNoneAt, IsNoDocumentIn}
 use Rattle.zarr_run_meaning.specs.Changes.{Opens}
-use Rattle.zarr_run_meaning.specs.Laws.{IsReopenedAs, ReopensAlike, ReopenedSound}
+use Rattle.zarr_run_meaning.specs.Laws.{SameCells, HasCells, IsReopenedAs, ReopensAlike, ReopenedSound, ReopenedOwned}
 use Rattle.zarr_run_meaning.specs.Requests.{reopen, Answer, done, cells, refused}
-use Rattle.zarr_run_meaning.specs.Sound.{IsSoundAt, IsSound, ReadsGood}
+use Rattle.zarr_run_meaning.specs.Sound.{OwnsKey, IsSoundAt, IsSound, ReadsGood}
 use Rattle.zarr_run_meaning.specs.Steps.{RefusesAt, Step}
-use Rattle.zarr_run_meaning.specs.Tables.{cell}
+use Rattle.zarr_run_meaning.specs.Tables.{Table, cell}
 use Rattle.zarr_run_meaning.specs.Worlds.{Held, World, held_at, IsTableAt}
-use Rattle.zarr_run_meaning.proofs.Arrays.{held_at-path, held_once, held_at-new}
+use Rattle.zarr_run_meaning.proofs.Arrays.{held_at-path, held_own, held_at-new}
 use Rattle.zarr_run_meaning.proofs.Reading.{standing_reads}
 use Rattle.zarr_run_meaning.proofs.Standing.{stands_alike}
 
@@ -44,7 +46,7 @@ ok_no_error {A} {E} r x e h = let P : Result A E → Type 0 = λ s. IsErr s in f
 
 -- ---- a path that is opened again
 
-module _ (reads : ReadsCodecs) (closed old new : World) (path : List ℕ) (h : Held) (order : SubchunkWriteOrder) (good : ReadsGood reads) (sound : IsSound reads closed) (found : held_at path closed.arrays ≡ Some h) (same : old.store ≡ closed.store) (none : held_at path old.arrays ≡ None) where
+module _ (reads : ReadsCodecs) (closed old new : World) (path : List ℕ) (h : Held) (order : SubchunkWriteOrder) (good : ReadsGood reads) (sound : IsSound reads closed) (found : held_at path closed.arrays ≡ Some h) (same : old.store ≡ closed.store) (none : held_at path old.arrays ≡ None) (other : ¬ IsChunkKeyIn old.arrays (document_key path ZarrJson)) where
   at : path ≡ h.path
   at = held_at-path path closed.arrays h found
 
@@ -89,15 +91,20 @@ module _ (reads : ReadsCodecs) (closed old new : World) (path : List ℕ) (h : H
   abbrev Alike : Answer → Type 0
   Alike answer = IsReopenedAs h order answer new ⊎ (answer ≡ refused cause.Memory 0) ⊎ (answer ≡ refused cause.Store 0)
 
+  -- the document stands there, and is no chunk
+  stored_there : HasNoneAt old.arrays old.store (document_key path ZarrJson) → ⊥
+  stored_there none_at = ⊎_elim (λ e. none-some stored.text (sym e ∙ stored.found)) other none_at
+
   -- no cause but a refused call is left
   refused_open : (c : Cause) (n : ℕ) → ReopenRefuses reads old path None c → n ≡ 0 → Alike (refused c n)
-  refused_open cause.NoArray n r zero = absurd (none-some stored.text (sym r.zarr_json ∙ stored.found))
+  refused_open cause.NoArray n r zero = absurd (stored_there r.0)
   refused_open cause.Document n r zero = absurd (⊎_elim
-      (λ (no : IsNoDocument reads path old.store).
+      (λ (none_in : IsNoDocumentIn reads old.arrays path old.store).
+      let no = none_in.0 in
       let text = same_Some no.0 stored.text (sym no.1 ∙ stored.found) in
       let P : List ℕ → Type 0 = λ t. IsUtf8 t in
       ok_no_error (read_document reads h.tree) h.document there.says (no.2 h.tree (subst P (sym text) stored.utf8) (ap read text ∙ stored.reads)))
-      (λ older. none-some stored.text (sym older.0 ∙ stored.found))
+      (λ older. stored_there older.0)
       r)
   refused_open cause.Store n r zero = inr (inr (ap (refused cause.Store) zero))
   refused_open c n r zero = absurd r
@@ -113,35 +120,45 @@ module _ (reads : ReadsCodecs) (closed old new : World) (path : List ℕ) (h : H
   alike (refused c n) s = refused_alike c n s
 
 pub reopens_alike : ReopensAlike
-reopens_alike reads closed old new path h order answer good sound found same none s = alike reads closed old new path h order good sound found same none answer s
+reopens_alike reads closed old new path h order answer good sound found same none other s = alike reads closed old new path h order good sound found same none other answer s
 
 -- ---- a world whose arrays were opened again
 
 -- an array with its cells again
-again_sound : (reads : ReadsCodecs) (closed new : World) (h : Held) (order : SubchunkWriteOrder) → IsSoundAt reads closed.store h → new.store ≡ closed.store → (r : IsReopenedAs h order done new) → IsSoundAt reads new.store (record h { order = order; table = r.table })
-again_sound reads closed new h order s same r =
-    let P : StoreMap → Type 0 = λ store. IsSoundAt reads store (record h { order = order; table = r.table }) in
+again_sound : (reads : ReadsCodecs) (closed new : StoreMap) (h : Held) (order : SubchunkWriteOrder) (table : Table) → IsSoundAt reads closed h → new ≡ closed → SameCells h.document (cell h.document.elements.fill table) (cell h.document.elements.fill h.table)
+    → IsSoundAt reads new (record h { order = order; table = table })
+again_sound reads closed new h order table s same cells_again =
+    let P : StoreMap → Type 0 = λ store. IsSoundAt reads store (record h { order = order; table = table }) in
     subst P (sym same) (record {
       node = s.node;
       says = s.says;
       stored = s.stored;
       lossless = s.lossless;
-      flat = s.flat;
-      values = λ chunk box place below inside. ap (is_value h.document.elements.type) (r.cells chunk box place below inside) ∙ s.values chunk box place below inside;
-      stands = λ chunk box below. stands_alike h.path h.document closed.store chunk box (cell h.document.elements.fill h.table) (cell h.document.elements.fill r.table) below
-          (λ place inside. sym (r.cells chunk box place below inside)) (s.stands chunk box below);
+      values = λ chunk box place below inside. ap (is_value h.document.elements.type) (cells_again chunk box place below inside) ∙ s.values chunk box place below inside;
+      stands = λ chunk box below. stands_alike h.path h.document closed chunk box (cell h.document.elements.fill h.table) (cell h.document.elements.fill table) below
+          (λ place inside. sym (cells_again chunk box place below inside)) (s.stands chunk box below);
     })
 
 pub reopened_sound : ReopenedSound
-reopened_sound reads closed new good sound same are again only = record {
-  apart = are;
+reopened_sound reads closed new sound again = record {
+  apart = again.apart;
   each = λ path h e.
-      let g = only path h e in
-      let r = again path g.0 g.1 in
+      let r = again.each path h e in
       let P : Held → Type 0 = λ x. IsSoundAt reads new.store x in
-      subst P (sym (held_once path g.0.path new.arrays h (record g.0 { order = r.0; table = r.1.table }) e r.1.held (held_at-path path closed.arrays g.0 g.1))) (again_sound reads closed new g.0 r.0 (sound.each path g.0 g.1) same r.1);
-  owned = λ key value e.
-      let own = sound.owned key value (ap (λ m. get m key) (sym same) ∙ e) in
-      let r = again own.0.path own.0 own.1 in
-      (record own.0 { order = r.0; table = r.1.table }, r.1.held, own.2);
+      let Q : Held → Type 0 = λ x. HasCells x (cell r.0.document.elements.fill r.0.table) in
+      subst P (sym r.2) (again_sound reads closed.store new.store r.0 h.order h.table (sound.each path r.0 r.1) again.store (subst Q r.2 r.3));
 }
+
+-- an array with another order and another table has the same keys of its own
+own_again : (g before h : Held) (key : List ℕ) → g ≡ before → h ≡ record before { order = h.order; table = h.table } → OwnsKey g key → OwnsKey h key
+own_again g before h key same is own =
+    let P : Held → Type 0 = λ x. OwnsKey x key in
+    let same_keys : OwnsKey before key → OwnsKey (record before { order = h.order; table = h.table }) key = λ k. k in
+    subst P (sym is) (same_keys (subst P same own))
+
+pub reopened_owned : ReopenedOwned
+reopened_owned closed new key again all owned value e =
+    let own = owned value (ap (λ m. get m key) (sym again.store) ∙ e) in
+    let h = all own.0.path own.0 own.1 in
+    let r = again.each own.0.path h.0 h.1 in
+    (h.0, held_own own.0.path new.arrays h.0 h.1, own_again own.0 r.0 h.0 key (same_Some own.0 r.0 (sym own.1 ∙ r.1)) r.2 own.2)

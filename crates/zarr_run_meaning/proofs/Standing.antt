@@ -75,7 +75,6 @@ sound_under reads old new h same s = record {
   says = s.says;
   stored = record { text = s.stored.text; found = same.under (document_name ZarrJson) ∙ s.stored.found; utf8 = s.stored.utf8; reads = s.stored.reads };
   lossless = s.lossless;
-  flat = s.flat;
   values = s.values;
   stands = λ chunk box below. stands_same h.path h.document old new chunk box (cell h.document.elements.fill h.table) (same.under (encoded_key h.document.keys chunk)) (s.stands chunk box below);
 }
@@ -88,7 +87,6 @@ with_table reads old new h chunks table others s values stands = record {
   says = s.says;
   stored = record { text = s.stored.text; found = document_kept h.path h.document chunks old new others ∙ s.stored.found; utf8 = s.stored.utf8; reads = s.stored.reads };
   lossless = s.lossless;
-  flat = s.flat;
   values = values;
   stands = stands;
 }

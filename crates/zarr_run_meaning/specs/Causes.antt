@@ -1,11 +1,12 @@
 -- When a cause may be answered: the conditions of each, where none before it in the command's order holds.
-use Rattle.std.specs.Prelude.{◌≡◌, ◌⊎◌, ℕ, ◌*◌, ◌^◌, ◌≤◌, List, length, true, false, Option, Some, None, IsErr, IsOk, IsSome, IsUtf8, MatchOption}
+use Rattle.std.specs.Prelude.{◌≡◌, ◌⊎◌, ℕ, ◌*◌, ◌^◌, ◌<◌, ◌≤◌, List, length, true, false, Option, Some, None, IsErr, IsOk, IsSome, IsUtf8, MatchOption}
 use Rattle.std.specs.FinMap.{get}
 use Rattle.serde_json.specs.Data.{Data}
 use Rattle.serde_json.specs.Read.{read}
 use Rattle.zarr_grids_boxes.specs.Boxes.{Region, product, is_in_box}
 use Rattle.zarr_grids_chunks.specs.Grids.{Grid, IsInGrid, AreInGrid, IsCovered, intersects}
 use Rattle.zarr_grids_keys.specs.Documents.{document_key}
+use Rattle.zarr_grids_keys.specs.Keys.{chunk_key}
 use Rattle.zarr_grids_keys.specs.declared.document_name.DocumentName.TheVariants.{ZarrJson, ZArray}
 use Rattle.zarr_grids_metadata.specs.Trees.{SameTree}
 use Rattle.zarr_codecs_meaning.specs.Types.{DataType, byte_width, Cell}
@@ -16,12 +17,12 @@ use Rattle.zarr_array_meaning.specs.Boxes.{IsDamagedIn, IsUnfitIn}
 use Rattle.zarr_array_meaning.specs.Chunks.{IsMet, fits_box}
 use Rattle.zarr_array_meaning.specs.Documents.{Document, read_document}
 use Rattle.zarr_array_meaning.specs.StoreMaps.{StoreMap}
-use Rattle.zarr_array_meaning.specs.Texts.{HasDocument, HasNoDocument}
+use Rattle.zarr_array_meaning.specs.Texts.{HasDocument}
 use Rattle.zarr_array_meaning.specs.Writing.{IsPartDamaged, IsCodecRefused, IsOversized}
 use Rattle.zarr_run_meaning.specs.declared.cause.Cause.{Cause}
 use Rattle.zarr_run_meaning.specs.declared.cause.Cause.TheVariants as cause
 use Rattle.zarr_run_meaning.specs.Requests.{Target, in_box, in_chunk}
-use Rattle.zarr_run_meaning.specs.Worlds.{Held, World, is_taken}
+use Rattle.zarr_run_meaning.specs.Worlds.{Held, World, held_at, is_taken}
 
 -- ---- what a command means
 
@@ -60,13 +61,42 @@ HasTooLargeChunk document chunks = (2 ^ 63 ≤ product chunks.shape)
 abbrev pub HasSomeDocument : List ℕ → StoreMap → Type 0
 HasSomeDocument path store = IsSome (get store (document_key path ZarrJson)) ⊎ IsSome (get store (document_key path ZArray))
 
+-- a key is that of a chunk in the grid of the array at a path
+pub record IsChunkKey (path : List ℕ) (document : Document) (key : List ℕ) : Type 0 where
+  pub chunk : List ℕ
+  pub box : Region
+  pub within : IsInGrid document.grid chunk box
+  pub is : key ≡ chunk_key path document.keys chunk
+
+-- a key is that of a chunk in the grid of an array that is held
+pub record IsChunkKeyIn (arrays : List Held) (key : List ℕ) : Type 0 where
+  pub held : Held
+  pub found : held_at held.path arrays ≡ Some held
+  pub names : IsChunkKey held.path held.document key
+
+-- no document is stored under a key: it has no value, or it is the key of a chunk of an array that is held, whatever is stored there
+abbrev pub HasNoneAt : List Held → StoreMap → List ℕ → Type 0
+HasNoneAt arrays store key = (get store key ≡ None) ⊎ IsChunkKeyIn arrays key
+
+-- a value is stored under a key that is not that of a chunk of an array that is held
+abbrev pub HasSomeAt : List Held → StoreMap → List ℕ → Type 0
+HasSomeAt arrays store key = IsSome (get store key) × (¬ IsChunkKeyIn arrays key)
+
+-- no document of an array, of Zarr version 3 or 2, is stored at a path: no chunk of an array that is held is one
+abbrev pub HasNoDocumentIn : List Held → List ℕ → StoreMap → Type 0
+HasNoDocumentIn arrays path store = HasNoneAt arrays store (document_key path ZarrJson) × HasNoneAt arrays store (document_key path ZArray)
+
 -- what is stored under the key of a path's document is no text of a document that opens
 abbrev pub IsNoDocument : ReadsCodecs → List ℕ → StoreMap → Type 0
 IsNoDocument reads path store = (text : List ℕ) × (get store (document_key path ZarrJson) ≡ Some text) × ((tree : Data) → IsUtf8 text → read text ≡ Some tree → IsErr (read_document reads tree))
 
+-- what is stored at a path is no document that opens, and no chunk of an array that is held
+abbrev pub IsNoDocumentIn : ReadsCodecs → List Held → List ℕ → StoreMap → Type 0
+IsNoDocumentIn reads arrays path store = IsNoDocument reads path store × (¬ IsChunkKeyIn arrays (document_key path ZarrJson))
+
 -- a document of Zarr version 2 is stored at a path, and none of version 3: it is not opened so far
-abbrev pub HasOlderAlone : List ℕ → StoreMap → Type 0
-HasOlderAlone path store = (get store (document_key path ZarrJson) ≡ None) × IsSome (get store (document_key path ZArray))
+abbrev pub HasOlderAlone : List Held → List ℕ → StoreMap → Type 0
+HasOlderAlone arrays path store = HasNoneAt arrays store (document_key path ZarrJson) × HasSomeAt arrays store (document_key path ZArray)
 
 -- ---- the causes of each command, once its path is a node path
 
@@ -80,8 +110,8 @@ CreateRefuses reads world path document c = ⊥
 -- a reopening: where an array is held at the path, another tree is stored or none; else no document is stored, or none that opens
 abbrev pub ReopenRefuses : ReadsCodecs → World → List ℕ → Option Held → Cause → Type 0
 ReopenRefuses reads world path (Some h) cause.DocumentChanged = (tree : Data) → HasDocument path tree world.store → ¬ SameTree tree h.tree
-ReopenRefuses reads world path None cause.NoArray = HasNoDocument path world.store
-ReopenRefuses reads world path None cause.Document = IsNoDocument reads path world.store ⊎ HasOlderAlone path world.store
+ReopenRefuses reads world path None cause.NoArray = HasNoDocumentIn world.arrays path world.store
+ReopenRefuses reads world path None cause.Document = IsNoDocumentIn reads world.arrays path world.store ⊎ HasOlderAlone world.arrays path world.store
 ReopenRefuses reads world path found cause.Store = Unit {0}
 ReopenRefuses reads world path found c = ⊥
 
@@ -114,13 +144,13 @@ pub record StopsAt (path : List ℕ) (document : Document) (store : StoreMap) (r
   pub met : IsMet document.grid region n chunk box
   pub refuses : ChunkRefuses path document store region values options chunk box c
 
--- a read
+-- a read; one of an empty box calls no store
 abbrev pub ReadRefuses : List ℕ → Document → StoreMap → Target → Cause → Type 0
 ReadRefuses path document store target cause.Region = (box : Region) → ¬ IsTarget document.grid target box
 ReadRefuses path document store target cause.Size = (box : Region) × IsTarget document.grid target box × HasTooLarge document box
 ReadRefuses path document store target cause.Fit = (box : Region) × IsTarget document.grid target box × (¬ HasTooLarge document box) × IsUnfitIn path document store box
 ReadRefuses path document store target cause.Damage = (box : Region) × IsTarget document.grid target box × (¬ HasTooLarge document box) × IsDamagedIn path document store box
-ReadRefuses path document store target cause.Store = (box : Region) × IsTarget document.grid target box × (¬ HasTooLarge document box)
+ReadRefuses path document store target cause.Store = (box : Region) × IsTarget document.grid target box × (¬ HasTooLarge document box) × (0 < product box.shape)
 ReadRefuses path document store target c = ⊥
 
 -- an erasure, before a chunk is touched

@@ -20,7 +20,7 @@ use Rattle.zarr_array_meaning.specs.Standing.{IsLossless}
 use Rattle.zarr_array_meaning.specs.Texts.{IsTextOf, HasDocument, HasNoDocument}
 use Rattle.zarr_array_meaning.specs.Writing.{WroteChunks, ErasedChunks}
 use Rattle.zarr_array_meaning.specs.Written.{written_document}
-use Rattle.zarr_run_meaning.specs.Causes.{IsTarget, AreTargets, IsGiven, HasTooLarge, HasTooLargeChunk}
+use Rattle.zarr_run_meaning.specs.Causes.{IsTarget, AreTargets, IsGiven, HasTooLarge, HasTooLargeChunk, IsChunkKeyIn}
 use Rattle.zarr_run_meaning.specs.Requests.{Target}
 use Rattle.zarr_run_meaning.specs.Tables.{Table, cell, updated, changes, changes_in, fills}
 use Rattle.zarr_run_meaning.specs.Worlds.{Held, World, held_at, is_taken, with_order, IsTableAt, WithTable}
@@ -55,11 +55,12 @@ pub record Reopens (path : List ℕ) (order : SubchunkWriteOrder) (old new : Wor
   pub updates : new.arrays ≡ with_order path order old.arrays
   pub stores : new.store ≡ old.store
 
--- an array that was not held is opened from the document that is stored
+-- an array that was not held is opened from the document that is stored, which is no chunk of an array that is held
 pub record Opens (reads : ReadsCodecs) (path : List ℕ) (order : SubchunkWriteOrder) (old new : World) : Type 0 where
   pub node : is_node_path path ≡ true
   pub tree : Data
   pub stored : HasDocument path tree old.store
+  pub other : ¬ IsChunkKeyIn old.arrays (document_key path ZarrJson)
   pub meaning : Document
   pub opens : read_document reads tree ≡ Ok meaning
   pub begins : Begins path tree meaning order old new

@@ -1,17 +1,27 @@
--- Worlds in which nothing is damaged and no document has changed.
-use Rattle.std.specs.Prelude.{◌≡◌, ◌⊎◌, ℕ, List, [], ◌∷◌, true, false, Some, Ok}
+-- Worlds in which nothing is damaged and no document has changed, and which keys of their stores are foreign.
+use Rattle.std.specs.Prelude.{◌≡◌, ◌≢◌, ◌⊎◌, ℕ, List, [], ◌∷◌, true, false, Some, None, Ok}
 use Rattle.std.specs.FinMap.{get}
 use Rattle.serde_json.specs.Data.{Data}
+use Rattle.zarr_grids_boxes.specs.Boxes.{Region}
+use Rattle.zarr_grids_chunks.specs.Grids.{IsInGrid}
 use Rattle.zarr_grids_keys.specs.Documents.{document_key}
-use Rattle.zarr_grids_keys.specs.Keys.{chunk_key, has_flat_suffix}
+use Rattle.zarr_grids_keys.specs.Keys.{key_under}
 use Rattle.zarr_grids_keys.specs.Paths.{is_node_path}
+use Rattle.zarr_grids_keys.specs.Related.{is_related}
 use Rattle.zarr_grids_keys.specs.declared.document_name.DocumentName.TheVariants.{ZarrJson}
+use Rattle.zarr_grids_metadata.specs.ExtensionPoints.{ExtensionPoint}
+use Rattle.zarr_codecs_meaning.specs.Chains.{ByteCodec}
+use Rattle.zarr_codecs_meaning.specs.Laws.{IsLawful}
+use Rattle.zarr_codecs_meaning.specs.Types.{Cell}
 use Rattle.zarr_codecs_metadata.specs.Chains.{ReadsCodecs}
+use Rattle.zarr_array_meaning.specs.Chunks.{stored_at}
 use Rattle.zarr_array_meaning.specs.Documents.{Document, read_document}
 use Rattle.zarr_array_meaning.specs.Standing.{StoreStands, IsLossless, IsGood, AreValues}
 use Rattle.zarr_array_meaning.specs.StoreMaps.{StoreMap}
 use Rattle.zarr_array_meaning.specs.Texts.{HasDocument}
-use Rattle.zarr_run_meaning.specs.Requests.{Request, create}
+use Rattle.zarr_run_meaning.specs.Causes.{IsChunkKey}
+use Rattle.zarr_run_meaning.specs.Requests.{Request, create, reopen, Answer, done}
+use Rattle.zarr_run_meaning.specs.Steps.{Step}
 use Rattle.zarr_run_meaning.specs.Tables.{cell}
 use Rattle.zarr_run_meaning.specs.Worlds.{Held, World, held_at, is_taken}
 
@@ -26,24 +36,90 @@ pub record IsSoundAt (reads : ReadsCodecs) (store : StoreMap) (h : Held) : Type 
   pub says : read_document reads h.tree ≡ Ok h.document
   pub stored : HasDocument h.path h.tree store
   pub lossless : IsLossless h.document
-  pub flat : has_flat_suffix h.document.keys ≡ true
   pub values : AreValues h.document (cell h.document.elements.fill h.table)
   pub stands : StoreStands h.path h.document store (cell h.document.elements.fill h.table)
 
--- a key of an array: that of its document, or of one of its chunks
-abbrev pub IsKeyOf : List ℕ → Held → Type 0
-IsKeyOf key h = (key ≡ document_key h.path ZarrJson) ⊎ ((chunk : List ℕ) × (key ≡ chunk_key h.path h.document.keys chunk))
-
--- each array is sound, at a path of its own, and the store has no key but theirs
+-- each array is sound, at a path of its own, whatever else is stored
 pub record IsSound (reads : ReadsCodecs) (world : World) : Type 0 where
   pub apart : AreApart world.arrays
   pub each : (path : List ℕ) (h : Held) → held_at path world.arrays ≡ Some h → IsSoundAt reads world.store h
-  pub owned : (key value : List ℕ) → get world.store key ≡ Some value → (h : Held) × (held_at h.path world.arrays ≡ Some h) × IsKeyOf key h
 
--- a create names a lossless document, whose keys have no suffix with a slash, if it opens
-abbrev pub AsksLossless : ReadsCodecs → Request → Type 0
-AsksLossless reads (create path document order) = (meaning : Document) → read_document reads document ≡ Ok meaning → IsLossless meaning × (has_flat_suffix meaning.keys ≡ true)
-AsksLossless reads request = Unit {0}
+-- the array that is held at a path is sound, and no other one is at a related path, whatever is stored for the others
+pub record IsSoundAlone (reads : ReadsCodecs) (world : World) (path : List ℕ) : Type 0 where
+  pub array : Held
+  pub found : held_at path world.arrays ≡ Some array
+  pub there : IsSoundAt reads world.store array
+  pub alone : (other : List ℕ) (h : Held) → held_at other world.arrays ≡ Some h → other ≢ path → is_related path other ≡ false
+
+-- if the command is done and opens an array, its path is unrelated to this one
+abbrev pub OpensApart : List ℕ → World → Request → Answer → Type 0
+OpensApart path old (reopen other order) done = held_at other old.arrays ≡ None → is_related path other ≡ false
+OpensApart path old request answer = Unit {0}
+
+-- ---- which keys are the arrays' own
+
+-- a key is an array's own: it is that of its document, or of a chunk in its grid
+abbrev pub OwnsKey : Held → List ℕ → Type 0
+OwnsKey h key = (key ≡ document_key h.path ZarrJson) ⊎ IsChunkKey h.path h.document key
+
+-- a key isn't foreign: where it has a value, it is the own key of an array that is held
+abbrev pub IsOwned : World → List ℕ → Type 0
+IsOwned world key = (value : List ℕ) → get world.store key ≡ Some value → (h : Held) × (held_at h.path world.arrays ≡ Some h) × OwnsKey h key
+
+-- the store has no foreign key
+abbrev pub OwnsAllKeys : World → Type 0
+OwnsAllKeys world = (key : List ℕ) → IsOwned world key
+
+-- the store has no foreign key under a path
+abbrev pub OwnsKeysUnder : List ℕ → World → Type 0
+OwnsKeysUnder path world = (name : List ℕ) → IsOwned world (key_under path name)
+
+-- ---- how arrays begin
+
+-- no chunk in the grid has a value
+abbrev pub HasNoChunks : List ℕ → Document → StoreMap → Type 0
+HasNoChunks path document store = (chunk : List ℕ) (box : Region) → IsInGrid document.grid chunk box → stored_at path document store chunk ≡ None
+
+-- what is stored for an array stands for these cells, values of its type, and its chain keeps every bit of them
+pub record IsStoredAs (path : List ℕ) (document : Document) (store : StoreMap) (cells : List ℕ → Cell) : Type 0 where
+  pub lossless : IsLossless document
+  pub values : AreValues document cells
+  pub stands : StoreStands path document store cells
+
+-- if the command is done and begins an array, what is stored for that array stands for some cells; and if it is opened, its path is unrelated to those of the arrays that are held
+abbrev pub BeginsSound : ReadsCodecs → World → Request → Answer → Type 0
+BeginsSound reads old (create path document order) done = (meaning : Document) → read_document reads document ≡ Ok meaning → (cells : List ℕ → Cell) × IsStoredAs path meaning old.store cells
+BeginsSound reads old (reopen path order) done = (tree : Data) (meaning : Document) → held_at path old.arrays ≡ None → HasDocument path tree old.store → read_document reads tree ≡ Ok meaning
+    → (is_taken path old.arrays ≡ false) × ((cells : List ℕ → Cell) × IsStoredAs path meaning old.store cells)
+BeginsSound reads old request answer = Unit {0}
+
+-- a run in which each array begins so
+abbrev pub SoundRun : ReadsCodecs → World → List Request → List Answer → World → Type 0
+SoundRun reads old [] [] new = new ≡ old
+SoundRun reads old (request ∷ requests) (answer ∷ answers) new = (mid : World) × BeginsSound reads old request answer × Step reads old request answer mid × SoundRun reads mid requests answers new
+SoundRun reads old [] (answer ∷ answers) new = ⊥
+SoundRun reads old (request ∷ requests) [] new = ⊥
+
+-- a create that is done names a lossless document
+abbrev pub AsksLossless : ReadsCodecs → Request → Answer → Type 0
+AsksLossless reads (create path document order) done = (meaning : Document) → read_document reads document ≡ Ok meaning → IsLossless meaning
+AsksLossless reads request answer = Unit {0}
+
+-- each create that is done names a lossless document
+abbrev pub AllAskLossless : ReadsCodecs → List Request → List Answer → Type 0
+AllAskLossless reads [] answers = Unit {0}
+AllAskLossless reads (request ∷ requests) [] = Unit {0}
+AllAskLossless reads (request ∷ requests) (answer ∷ answers) = AsksLossless reads request answer × AllAskLossless reads requests answers
+
+-- where a create may begin an array no key is foreign, and where a reopening may open one its document is not
+abbrev pub AsksOwned : World → Request → Type 0
+AsksOwned world (create path document order) = OwnsKeysUnder path world
+AsksOwned world (reopen path order) = IsOwned world (document_key path ZarrJson)
+AsksOwned world request = Unit {0}
+
+-- each of the caller's codecs that metadata says is lawful
+abbrev pub ReadsLawful : ReadsCodecs → Type 0
+ReadsLawful reads = (point : ExtensionPoint) (codec : ByteCodec) → reads point ≡ Some codec → IsLawful codec
 
 -- the documents that open are good: the caller's codecs that are read are lawful
 abbrev pub ReadsGood : ReadsCodecs → Type 0

@@ -1,18 +1,46 @@
 //! Laws of steps and runs. Each function does nothing: its contract is the law.
-ghost use Rattle.zarr_run_meaning.specs.Laws.{TableFound, EmptySound, OpensNone, ReadsFit, BeginsAsFill, NeverDamaged, StepsShow, StepsSound};
-ghost use Rattle.zarr_run_meaning.specs.Laws.{CreatesFill, RunsSound, ReopensAlike, ReopenedSound};
+ghost use Rattle.zarr_run_meaning.specs.Laws.{LawfulGood, TableFound, NoArraysSound, OpensNone, ReadsFit, BeginsAsFill, NeverDamaged, StepsShow, StepsSound};
+ghost use Rattle.zarr_run_meaning.specs.Laws.{EmptyOwned, StepsOwn, RunsOwn, OwnedHasNoChunks, NoChunksAreFill, CreatesCells, CreatesFill, OpensCells};
+ghost use Rattle.zarr_run_meaning.specs.Laws.{RunsSound, OwnedBegins, OwnedRunsSound, ReopensAlike, ReopenedSound, ReopenedOwned, RunsReopen, RunsGoOn};
+ghost use Rattle.zarr_run_meaning.specs.Laws.{SoundAlone, BeginsAlone, StepsKeepSound, AloneUndamaged};
 
 /// Whatever is stored, there is a table of the cells that it shows.
 pub fn table_found()
     ensures { TableFound }
 {}
 
-/// Over an empty store all is sound.
-pub fn empty_sound()
-    ensures { EmptySound }
+/// Where the caller's codecs are lawful, the documents that open are good.
+pub fn lawful_good()
+    ensures { LawfulGood }
 {}
 
-/// In a sound world no array is opened where none is held.
+/// Where no array is held all is sound, whatever is stored.
+pub fn no_arrays_sound()
+    ensures { NoArraysSound }
+{}
+
+/// Over an empty store no key is foreign.
+pub fn empty_owned()
+    ensures { EmptyOwned }
+{}
+
+/// A step makes no key foreign.
+pub fn steps_own()
+    ensures { StepsOwn }
+{}
+
+/// A run makes no key foreign.
+pub fn runs_own()
+    ensures { RunsOwn }
+{}
+
+/// Where no key under a path is foreign, and no array is held at a related one, no chunk of it has a
+/// value.
+pub fn owned_has_no_chunks()
+    ensures { OwnedHasNoChunks }
+{}
+
+/// In a sound world no array is opened where none is held and the key of the document isn't foreign.
 pub fn opens_none()
     ensures { OpensNone }
 {}
@@ -27,6 +55,28 @@ pub fn begins_as_fill()
     ensures { BeginsAsFill }
 {}
 
+/// Where no chunk has a value, what is stored stands for the fill value at each place.
+pub fn no_chunks_are_fill()
+    ensures { NoChunksAreFill }
+{}
+
+/// An array that is created begins with the cells that its chunks stand for that were left from
+/// before.
+pub fn creates_cells()
+    ensures { CreatesCells }
+{}
+
+/// Where no chunk has a value, an array that is created begins as fill.
+pub fn creates_fill()
+    ensures { CreatesFill }
+{}
+
+/// A reopening at a path where no array is held begins an array with the document that is stored, and
+/// with the cells that its stored chunks stand for.
+pub fn opens_cells()
+    ensures { OpensCells }
+{}
+
 /// In a sound world nothing is refused for damage, or for a document that has changed.
 pub fn never_damaged()
     ensures { NeverDamaged }
@@ -38,20 +88,26 @@ pub fn steps_show()
     ensures { StepsShow }
 {}
 
-/// A step leads from a sound world to a sound one, where a create names a lossless document, whose
-/// keys have no suffix with a slash.
+/// A step leads from a sound world to a sound one, where it begins an array only over chunks that
+/// stand for cells.
 pub fn steps_sound()
     ensures { StepsSound }
 {}
 
-/// An array that is created in a sound world begins as fill.
-pub fn creates_fill()
-    ensures { CreatesFill }
+/// A run of such steps leads from a sound world to a sound one.
+pub fn runs_sound()
+    ensures { RunsSound }
+{}
+
+/// A step is such a one, where none of the keys that its command may begin an array over is foreign,
+/// and a create that is done names a lossless document.
+pub fn owned_begins()
+    ensures { OwnedBegins }
 {}
 
 /// A run of such commands leads from a sound world to a sound one.
-pub fn runs_sound()
-    ensures { RunsSound }
+pub fn owned_runs_sound()
+    ensures { OwnedRunsSound }
 {}
 
 /// What a session leaves in a sound world another one opens with the documents and the cells that
@@ -60,7 +116,47 @@ pub fn reopens_alike()
     ensures { ReopensAlike }
 {}
 
-/// A world whose arrays were all opened again so, and no others, is sound.
+/// A world whose arrays are those of a sound one, or some of them, opened again so, is sound.
 pub fn reopened_sound()
     ensures { ReopenedSound }
+{}
+
+/// Once all of them are held again, no key is foreign that wasn't.
+pub fn reopened_owned()
+    ensures { ReopenedOwned }
+{}
+
+/// A session over the store of another one, whatever else that store holds: where it reopens paths
+/// that were held, each answer is that it is done, running out of memory and refused store calls
+/// aside, the arrays have the documents and the cells that they had, and all is sound.
+pub fn runs_reopen()
+    ensures { RunsReopen }
+{}
+
+/// A run is one of its first commands, and then one of the others.
+pub fn runs_go_on()
+    ensures { RunsGoOn }
+{}
+
+/// In a sound world each array is sound alone.
+pub fn sound_alone()
+    ensures { SoundAlone }
+{}
+
+/// An array that begins over chunks that stand for cells is sound alone, whatever is stored for the
+/// others.
+pub fn begins_alone()
+    ensures { BeginsAlone }
+{}
+
+/// A step that opens no array at a related path keeps an array sound alone, whatever is stored for the
+/// others.
+pub fn steps_keep_sound()
+    ensures { StepsKeepSound }
+{}
+
+/// No command on an array that is sound alone is refused for damage, or for a document that has
+/// changed.
+pub fn alone_undamaged()
+    ensures { AloneUndamaged }
 {}

@@ -1,7 +1,10 @@
 pub mod ArrayLemmas
 pub mod BeginLemmas
+pub mod ChunkKeyLemmas
 pub mod CreationLemmas
 pub mod HoldsLemmas
+pub mod NumberLemmas
+pub mod OpenLemmas
 pub mod OpeningLemmas
 pub mod ReopeningLemmas
 pub mod TakenLemmas

@@ -1,10 +1,13 @@
 -- A reopening in a world.
-use Rattle.std.proofs.Common.{◌≡◌, ◌≢◌, ◌∙◌, ℕ, List, [], ◌∷◌, ◌++◌, refl, sym, subst, Bool, true, false, IsTrue, inl, inr, Option, Some, None, Result, Ok, Err, bytes_eq}
+use Rattle.std.proofs.Common.{◌≡◌, ◌≢◌, ◌∙◌, ℕ, List, [], ◌∷◌, ◌++◌, refl, sym, ap, subst, Bool, true, false, IsTrue, IsSome, inl, inr, ⊎_elim, Option, Some, None, Result, Ok, Err, bytes_eq}
+use Rattle.std.specs.FinMap.{get}
 use Rattle.std.specs.Result.{OnOk, OnErr}
 use Rattle.std.proofs.lemmas.Bool.{false≢true}
 use Rattle.std.proofs.lemmas.Slice.Eq.{bytes_eq-Decides}
 use Rattle.serde_json.specs.Data.{Data}
+use Rattle.zarr_grids_keys.specs.Documents.{document_key}
 use Rattle.zarr_grids_keys.specs.Paths.{is_node_path}
+use Rattle.zarr_grids_keys.specs.declared.document_name.DocumentName.TheVariants.{ZarrJson, ZArray}
 use Rattle.zarr_codecs_meaning.specs.Chains.{ByteCodec}
 use Rattle.zarr_codecs_metadata.specs.Chains.{ReadsCodecs}
 use Rattle.zarr_codecs_options.specs.declared.subchunk_write_order.SubchunkWriteOrder.{SubchunkWriteOrder}
@@ -17,17 +20,18 @@ use Rattle.zarr_run_meaning.specs.declared.cause.Cause.{Cause}
 use Rattle.zarr_run_meaning.specs.declared.cause.Cause.TheVariants as cause
 use Rattle.zarr_run_meaning.proofs.FoundTables.{table_found}
 use Rattle.zarr_grids_metadata.specs.Trees.{SameTree}
-use Rattle.zarr_array_meaning.specs.Texts.{HasDocument, HasNoDocument}
-use Rattle.zarr_run_meaning.specs.Causes.{ReopenRefuses}
+use Rattle.zarr_array_meaning.specs.Texts.{HasDocument}
+use Rattle.zarr_run_meaning.specs.Causes.{ReopenRefuses, HasNoneAt, HasSomeAt, IsNoDocument, IsChunkKey, IsChunkKeyIn}
 use Rattle.zarr_run_meaning.specs.Requests.{reopen, Answer, done, refused}
 use Rattle.zarr_run_opening.specs.Arrays.{KeepsArrays, KeepsOtherArrays}
 use Rattle.zarr_run_opening.specs.Calls.{refused_by}
+use Rattle.zarr_run_opening.specs.ChunkKeys.{IsChunkKeyOf, HasNoneBeside, HasSomeBeside}
 use Rattle.zarr_run_opening.specs.Reopenings.{HasSameDocument, ComparisonRefused, IsOpenedFrom, OpeningRefused, Reopened}
 use Rattle.zarr_run_opening.specs.Sessions.{Arrays, array_at, document_of, IsHeld, Agrees, IsIn, answer_of}
 use Rattle.zarr_run_opening.specs.declared.held.HeldArray.{HeldArray}
 use Rattle.zarr_run_opening.proofs.BeginLemmas.{in_begun}
-use Rattle.zarr_run_opening.proofs.HoldsLemmas.{agreed_held, agreed_none, agrees_some, agrees_kept, in_refused, stays}
-use Rattle.zarr_run_opening.proofs.WorldLemmas.{ordered, held_at-ordered, held_at-unordered, distinct-ordered}
+use Rattle.zarr_run_opening.proofs.HoldsLemmas.{agreed_held, agreed_some, agreed_none, agrees_some, agrees_kept, in_refused, stays}
+use Rattle.zarr_run_opening.proofs.WorldLemmas.{ordered, held_at-path, held_at-ordered, held_at-unordered, distinct-ordered}
 
 -- what a reopening of a node path found and left
 pub record Reopens {B : Type 0} (meaning : B → ByteCodec) (reads : ReadsCodecs) (path : List ℕ) (order : SubchunkWriteOrder) (old new : Arrays B) (store store' : StoreMap) (n n' : ℕ) (r : Result (Unit {0}) Cause) : Type 0 where
@@ -126,9 +130,37 @@ module _ (B : Type 0) (meaning : B → ByteCodec) (reads : ReadsCodecs) (path : 
     free : held_at path w.arrays ≡ None
     free = agreed_none B meaning reads store (array_at old path) (held_at path w.arrays) (k.agree path) none
 
-    opening_refused : (c : Cause) → OpeningRefused reads path store c → Step reads w (reopen path order) (refused c 0) (record w { refused = refused_after c w.refused })
-    opening_refused cause.NoArray why = refused_by_cause None cause.NoArray free (let P : StoreMap → Type 0 = λ (s : StoreMap). HasNoDocument path s in subst P (sym k.store) why)
-    opening_refused cause.Document why = refused_by_cause None cause.Document free (let P : StoreMap → Type 0 = λ (s : StoreMap). OpeningRefused reads path s cause.Document in subst P (sym k.store) why)
+    -- the keys of chunks of held arrays are those of the world's
+    in_world : (key : List ℕ) → IsChunkKeyOf meaning old key → IsChunkKeyIn w.arrays key
+    in_world key c =
+        let a = agreed_held B meaning reads store (array_at old c.path) (held_at c.path w.arrays) c.at.array (k.agree c.path) c.at.found in
+        let at : c.path ≡ a.0.path = held_at-path c.path w.arrays a.0 a.1 in
+        let P : List ℕ → Type 0 = λ p. held_at p w.arrays ≡ Some a.0 in
+        let Q : List ℕ → Type 0 = λ p. IsChunkKey p (document_of meaning c.at.array) key in
+        let R : Document → Type 0 = λ d. IsChunkKey a.0.path d key in
+        record { held = a.0; found = subst P at a.1; names = subst R (sym a.2.document) (subst Q at c.at.names) }
+
+    of_world : (key : List ℕ) → IsChunkKeyIn w.arrays key → IsChunkKeyOf meaning old key
+    of_world key c =
+        let a = agreed_some B meaning reads store (array_at old c.held.path) (held_at c.held.path w.arrays) c.held (k.agree c.held.path) c.found in
+        let R : Document → Type 0 = λ d. IsChunkKey c.held.path d key in
+        record { path = c.held.path; node = a.2.node; at = record { array = a.0; found = a.1; names = subst R a.2.document c.names } }
+
+    none_in_world : (key : List ℕ) → HasNoneBeside meaning old store key → HasNoneAt w.arrays w.store key
+    none_in_world key n = ⊎_elim (λ e. inl (ap (λ (s : StoreMap). get s key) k.store ∙ e)) (λ c. inr (in_world key c)) n
+
+    some_in_world : (key : List ℕ) → HasSomeBeside meaning old store key → HasSomeAt w.arrays w.store key
+    some_in_world key s = let P : StoreMap → Type 0 = λ (s : StoreMap). IsSome (get s key) in (subst P (sym k.store) s.0, λ c. s.1 (of_world key c))
+
+    document_in_world : OpeningRefused meaning reads old path store cause.Document → ReopenRefuses reads w path None cause.Document
+    document_in_world why = ⊎_elim
+        (λ (no : IsNoDocument reads path store × (¬ IsChunkKeyOf meaning old (document_key path ZarrJson))). let P : StoreMap → Type 0 = λ (s : StoreMap). IsNoDocument reads path s in inl (subst P (sym k.store) no.0, λ c. no.1 (of_world (document_key path ZarrJson) c)))
+        (λ older. inr (none_in_world (document_key path ZarrJson) older.0, some_in_world (document_key path ZArray) older.1))
+        why
+
+    opening_refused : (c : Cause) → OpeningRefused meaning reads old path store c → Step reads w (reopen path order) (refused c 0) (record w { refused = refused_after c w.refused })
+    opening_refused cause.NoArray why = refused_by_cause None cause.NoArray free (none_in_world (document_key path ZarrJson) why.0, none_in_world (document_key path ZArray) why.1)
+    opening_refused cause.Document why = refused_by_cause None cause.Document free (document_in_world why)
     opening_refused cause.Store why = refused_by_cause None cause.Store free tt
     opening_refused cause.Memory why = inl (stays cause.Memory w)
     opening_refused cause.Path why = absurd why
@@ -141,7 +173,7 @@ module _ (B : Type 0) (meaning : B → ByteCodec) (reads : ReadsCodecs) (path : 
     opening_refused cause.Damage why = absurd why
     opening_refused cause.DocumentChanged why = absurd why
 
-    module _ (array : HeldArray B) (is : array_at new path ≡ Some array) (from : IsOpenedFrom meaning reads path store order array) (others : KeepsOtherArrays path old new) where
+    module _ (array : HeldArray B) (is : array_at new path ≡ Some array) (from : IsOpenedFrom meaning reads old path store order array) (others : KeepsOtherArrays path old new) where
       abbrev document : Document
       document = document_of meaning array
 
@@ -149,30 +181,31 @@ module _ (B : Type 0) (meaning : B → ByteCodec) (reads : ReadsCodecs) (path : 
       found = let t = table_found path document store in (t.0, t.1)
 
       abbrev begun : Held
-      begun = record { path = path; tree = from.0; document = document; order = order; table = found.0 }
+      begun = record { path = path; tree = from.tree; document = document; order = order; table = found.0 }
 
       pub opened : StepsTo meaning reads w path order done new store n
       opened =
-          let P : StoreMap → Type 0 = λ (s : StoreMap). HasDocument path from.0 s in
+          let P : StoreMap → Type 0 = λ (s : StoreMap). HasDocument path from.tree s in
           let Q : StoreMap → Type 0 = λ (s : StoreMap). IsTableAt path document s found.0 in (
             record { arrays = w.arrays ++ begun ∷ []; store = store; refused = n },
             (
               inr (record {
                 node = node;
-                tree = from.0;
-                stored = subst P (sym k.store) from.1;
+                tree = from.tree;
+                stored = subst P (sym k.store) from.stored;
+                other = λ c. from.other (of_world (document_key path ZarrJson) c);
                 meaning = document;
-                opens = from.2.says;
+                opens = from.opened.says;
                 begins = record { free = free; table = found.0; shows = subst Q (sym k.store) found.1; holds = refl };
                 stores = sym k.store;
               }),
               sym k.refused,
             ),
-            in_begun B meaning reads path from.0 order old new store store n w k array from.2 found.0 found.1 node free is others (λ a q h e held. held),
+            in_begun B meaning reads path from.tree order old new store store n w k array from.opened found.0 found.1 node free is others (λ a q h e held. held),
           )
 
 steps_held : (B : Type 0) (meaning : B → ByteCodec) (reads : ReadsCodecs) (path : List ℕ) (order : SubchunkWriteOrder) (old new : Arrays B) (store : StoreMap) (n n' : ℕ) (r : Result (Unit {0}) Cause) → Reopens meaning reads path order old new store store n n' r
-    → (o : Option (HeldArray B)) → array_at old path ≡ o → Reopened meaning reads o path order store r new → (w : World) → IsIn meaning reads (old, (store, n)) w → StepsTo meaning reads w path order (answer_of r) new store n'
+    → (o : Option (HeldArray B)) → array_at old path ≡ o → Reopened meaning reads old o path order store r new → (w : World) → IsIn meaning reads (old, (store, n)) w → StepsTo meaning reads w path order (answer_of r) new store n'
 steps_held B meaning reads path order old new store n n' (Ok x) c (Some array) e is w k =
     let P : ℕ → Type 0 = λ m. StepsTo meaning reads w path order done new store m in
     subst P (sym c.calls) (reordered B meaning reads path order old new store n w k c.node array e is.1 c.others is.0)
@@ -192,7 +225,7 @@ steps_held B meaning reads path order old new store n n' (Err f) c None e is w k
 
 -- what a reopening found and left is a step in each world
 pub reopen_steps : {B : Type 0} (meaning : B → ByteCodec) (reads : ReadsCodecs) (path : List ℕ) (order : SubchunkWriteOrder) (old new : Arrays B) (store store' : StoreMap) (n n' : ℕ) (r : Result (Unit {0}) Cause) → Reopens meaning reads path order old new store store' n n' r
-    → Reopened meaning reads (array_at old path) path order store r new → (w : World) → IsIn meaning reads (old, (store, n)) w → StepsTo meaning reads w path order (answer_of r) new store' n'
+    → Reopened meaning reads old (array_at old path) path order store r new → (w : World) → IsIn meaning reads (old, (store, n)) w → StepsTo meaning reads w path order (answer_of r) new store' n'
 reopen_steps {B} meaning reads path order old new store store' n n' r c is w k =
     let P : StoreMap → Type 0 = λ (s : StoreMap). StepsTo meaning reads w path order (answer_of r) new s n' in
     subst P (sym c.same) (steps_held B meaning reads path order old new store n n' r (record { node = c.node; others = c.others; keeps = c.keeps; same = refl; calls = c.calls }) (array_at old path) refl is w k)

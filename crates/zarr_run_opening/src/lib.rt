@@ -2,6 +2,7 @@
 #![tactic(auto)]
 
 mod arrays;
+mod chunk_keys;
 pub mod creating;
 pub mod held;
 mod opening;

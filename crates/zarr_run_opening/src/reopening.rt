@@ -5,10 +5,11 @@ ghost use Rattle.zarr_run_meaning.specs.Requests as ask;
 ghost use Rattle.zarr_run_meaning.specs.Steps.{refused_after};
 ghost use Rattle.zarr_run_opening.specs.Arrays.{KeepsArrays, KeepsOtherArrays};
 ghost use Rattle.zarr_run_opening.specs.Calls.{IsStoreCause, refused_by};
-ghost use Rattle.zarr_run_opening.specs.Reopenings.{IsStoredAt, HasSameDocument, ComparisonRefused, IsOpenedFrom, OpeningRefused, NothingRefused, Reopened};
+ghost use Rattle.zarr_run_opening.specs.Reopenings.{IsStoredAt, IsStoredBeside, HasSameDocument, ComparisonRefused, IsOpenedFrom, OpeningRefused, NothingRefused, Reopened};
 ghost use Rattle.zarr_run_opening.specs.Sessions.{StepsFrom, answer_of, array_at};
 
 use crate::arrays::{find, hold, set_order};
+use crate::chunk_keys::is_chunk_key;
 use crate::held::HeldArray;
 use crate::opening::open_tree;
 use crate::store_calls::{get, store_key};
@@ -33,8 +34,9 @@ enum StoredDocument {
 
 /// Gives the array that is held at a path another write order, where its document is still stored:
 /// else `DocumentChanged`. Where no array is held there, opens the document that is stored:
-/// `NoArray` where none is, `Document` where it cannot be opened. `Path` where the text is no node
-/// path, `Store` where the store refuses.
+/// `NoArray` where none is, `Document` where it cannot be opened. What is stored for a chunk of an
+/// array that is held is no document, whatever it spells. `Path` where the text is no node path,
+/// `Store` where the store refuses.
 pub fn reopen<B: BytesToBytesCodecTraits, S: ReadableStorageTraits>(
     alloc: Global,
     arrays: &mut BTreeMap<String, HeldArray<B>>,
@@ -63,7 +65,7 @@ fn reopened<B: BytesToBytesCodecTraits, S: ReadableStorageTraits>(
     order: SubchunkWriteOrder,
 ) -> Result<(), Cause>
     requires { IsTrue (is_node_path path.now) }
-    ensures found { IsTrue (S.is_honest store.old) → Reopened B.meaning B.reads
+    ensures found { IsTrue (S.is_honest store.old) → Reopened B.meaning B.reads arrays.old
         (array_at arrays.old path.now) path.now order (S.held store.old) result arrays.new }
     ensures others { OnOk result (KeepsOtherArrays path.now arrays.old arrays.new) }
     ensures arrays { OnErr result (KeepsArrays arrays.old arrays.new) }
@@ -79,7 +81,7 @@ fn reopened<B: BytesToBytesCodecTraits, S: ReadableStorageTraits>(
         set_order(arrays, path, order);
         return Ok(());
     }
-    let array = match open(alloc, store, path, order) {
+    let array = match open(alloc, arrays, store, path, order) {
         Ok(array) => array,
         Err(cause) => return Err(cause),
     };
@@ -124,23 +126,24 @@ fn compare<B: BytesToBytesCodecTraits, S: ReadableStorageTraits>(
 /// Opens the document that is stored.
 fn open<B: BytesToBytesCodecTraits, S: ReadableStorageTraits>(
     alloc: Global,
+    arrays: &BTreeMap<String, HeldArray<B>>,
     store: &mut S,
     path: &str,
     order: SubchunkWriteOrder,
 ) -> Result<HeldArray<B>, Cause>
     requires { IsTrue (is_node_path path.now) }
     ensures ok { IsTrue (S.is_honest store.old) →
-        IfOk result (IsOpenedFrom B.meaning B.reads path.now (S.held store.old) order) }
+        IfOk result (IsOpenedFrom B.meaning B.reads arrays.now path.now (S.held store.old) order) }
     ensures refused { IsTrue (S.is_honest store.old) →
-        IfErr result (OpeningRefused B.reads path.now (S.held store.old)) }
+        IfErr result (OpeningRefused B.meaning B.reads arrays.now path.now (S.held store.old)) }
     ensures held { S.held store.new ≡ S.held store.old }
     ensures honest { S.is_honest store.new ≡ S.is_honest store.old }
     ensures calls { S.refused_calls store.new ≡ refused_by (S.refused_calls store.old) result }
 {
-    let tree = match stored_document(alloc, store, path) {
+    let tree = match document_beside(alloc, arrays, store, path) {
         Ok(StoredDocument::Tree(tree)) => tree,
         Ok(StoredDocument::NoTree) => return Err(Cause::Document),
-        Ok(StoredDocument::Nothing) => return Err(cause_of_none(alloc, store, path)),
+        Ok(StoredDocument::Nothing) => return Err(cause_of_none(alloc, arrays, store, path)),
         Err(cause) => return Err(cause),
     };
     match open_tree(alloc, path, &tree) {
@@ -151,14 +154,24 @@ fn open<B: BytesToBytesCodecTraits, S: ReadableStorageTraits>(
 
 /// Why no array is opened where no document of Zarr version 3 is stored: one of version 2 is none
 /// that can be opened so far.
-fn cause_of_none<S: ReadableStorageTraits>(alloc: Global, store: &mut S, path: &str) -> Cause
+fn cause_of_none<B: BytesToBytesCodecTraits, S: ReadableStorageTraits>(
+    alloc: Global,
+    arrays: &BTreeMap<String, HeldArray<B>>,
+    store: &mut S,
+    path: &str,
+) -> Cause
     requires { IsTrue (is_node_path path.now) }
     ensures cause { IsTrue (S.is_honest store.old) →
-        NothingRefused path.now (S.held store.old) result }
+        NothingRefused B.meaning arrays.now path.now (S.held store.old) result }
     ensures held { S.held store.new ≡ S.held store.old }
     ensures honest { S.is_honest store.new ≡ S.is_honest store.old }
     ensures calls { S.refused_calls store.new ≡ refused_after result (S.refused_calls store.old) }
 {
+    match is_chunk_key(alloc, arrays, path, DocumentName::ZArray) {
+        Ok(true) => return Cause::NoArray,
+        Ok(false) => {}
+        Err(_) => return Cause::Memory,
+    }
     let Ok(key) = store_key(alloc, path, DocumentName::ZArray) else {
         return Cause::Memory;
     };
@@ -166,6 +179,29 @@ fn cause_of_none<S: ReadableStorageTraits>(alloc: Global, store: &mut S, path: &
         Ok(Some(_)) => Cause::Document,
         Ok(None) => Cause::NoArray,
         Err(cause) => cause,
+    }
+}
+
+/// What is stored under the key of a path's document, and nothing where that is the key of a chunk
+/// of an array that is held.
+fn document_beside<B: BytesToBytesCodecTraits, S: ReadableStorageTraits>(
+    alloc: Global,
+    arrays: &BTreeMap<String, HeldArray<B>>,
+    store: &mut S,
+    path: &str,
+) -> Result<StoredDocument, Cause>
+    requires { IsTrue (is_node_path path.now) }
+    ensures is { IsTrue (S.is_honest store.old) →
+        IfOk result (IsStoredBeside B.meaning arrays.now path.now (S.held store.old)) }
+    ensures cause { IfErr result IsStoreCause }
+    ensures held { S.held store.new ≡ S.held store.old }
+    ensures honest { S.is_honest store.new ≡ S.is_honest store.old }
+    ensures calls { S.refused_calls store.new ≡ refused_by (S.refused_calls store.old) result }
+{
+    match is_chunk_key(alloc, arrays, path, DocumentName::ZarrJson) {
+        Ok(true) => Ok(StoredDocument::Nothing),
+        Ok(false) => stored_document(alloc, store, path),
+        Err(_) => Err(Cause::Memory),
     }
 }
 

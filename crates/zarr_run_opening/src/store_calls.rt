@@ -3,8 +3,9 @@ ghost use Rattle.std.specs.Prelude.{◌≡◌, ℕ, IsTrue, IfOk, IfErr, OnOk, O
 ghost use Rattle.std.specs.FinMap.{get, insert};
 ghost use Rattle.zarr_grids_keys.specs.Documents.{document_key};
 ghost use Rattle.zarr_grids_keys.specs.Paths.{is_node_path};
+ghost use Rattle.zarr_array_meaning.specs.StoreMaps.{counted};
 ghost use Rattle.zarr_array_storage.specs.Refusals.{IfByteRange, is_counted};
-ghost use Rattle.zarr_array_storage.specs.Stores.{counted, value_bytes};
+ghost use Rattle.zarr_array_storage.specs.Stores.{value_bytes};
 ghost use Rattle.zarr_run_meaning.specs.Steps.{refused_after};
 ghost use Rattle.zarr_run_opening.specs.Calls.{IsStoreCause, refused_by};
 

@@ -1,11 +1,3 @@
-pub mod Boxes
-pub mod Causes
-pub mod Creations
-pub mod Given
-pub mod Keys
-pub mod Openings
-pub mod Placed
-pub mod Related
-pub mod Reopenings
+pub mod Finding
 pub mod Replies
 pub mod Sessions

@@ -1,9 +1,17 @@
--- Replies to commands that are done or refused as a whole.
+-- What is answered to commands by their outcomes.
 use Rattle.std.specs.Prelude.{Result, Ok, Err}
-use Rattle.zarr_run_model.specs.Requests.{Answer, done, refused}
-use Rattle.zarr_run_model.specs.declared.cause.Cause.{Cause}
+use Rattle.zarr_codecs_arrays.specs.Views.{payload_of}
+use Rattle.zarr_codecs_arrays.specs.declared.array_bytes.ArrayBytes.{ArrayBytes}
+use Rattle.zarr_run_boxes.specs.declared.refusal.Refusal.{Refusal}
+use Rattle.zarr_run_meaning.specs.Requests.{Answer, done, cells, refused}
+use Rattle.zarr_run_meaning.specs.declared.cause.Cause.{Cause}
 
--- what is answered to a command that is done, or refused before it changed anything
-abbrev pub answer_of : Result (Unit {0}) Cause → Answer
-answer_of (Ok x) = done
-answer_of (Err cause) = refused cause 0
+-- what is answered to a command that changes chunks
+abbrev pub answer_after : Result (Unit {0}) Refusal → Answer
+answer_after (Ok x) = done
+answer_after (Err refusal) = refused refusal.cause refusal.applied
+
+-- what is answered to a command that reads
+abbrev pub answer_with : Result ArrayBytes Cause → Answer
+answer_with (Ok bytes) = cells (payload_of bytes)
+answer_with (Err cause) = refused cause 0

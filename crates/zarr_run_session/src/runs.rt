@@ -1,14 +1,12 @@
-//! Lists of commands over a store.
-ghost use Rattle.std.specs.Prelude.{◌≡◌, ◌<◌, ◌≤◌, ◌+◌, ◌++◌, ◌∷◌, [], map, vec_len, vec_capacity, IfOk, IfErr};
-ghost use Rattle.std.specs.FinMap.{empty};
-ghost use Rattle.zarr_run_model.specs.Worlds.{World};
-ghost use Rattle.zarr_run_model.specs.Runs.{Run};
+//! Lists of commands.
+ghost use Rattle.std.specs.Prelude.{◌≡◌, ◌<◌, ◌≤◌, ◌+◌, ◌++◌, ◌∷◌, [], IsTrue, map, vec_len, vec_capacity, IfOk, IfErr, OnErr};
 ghost use Rattle.zarr_run_commands.specs.Commands.{asked, answered};
-ghost use Rattle.zarr_run_session.specs.Sessions.{AllStand};
+ghost use Rattle.zarr_run_session.specs.Sessions.{RunsFrom, RunsOver, state_of, store_of};
 
 use crate::session::Session;
 use std::alloc::{AllocError, Global};
-use zarr_array_stores::MemoryStore;
+use zarr_array_storage::WritableStorageTraits;
+use zarr_codecs_traits::BytesToBytesCodecTraits;
 use zarr_run_commands::{Command, Reply};
 
 /// A refusal that gives back the store that it was given.
@@ -18,31 +16,26 @@ pub struct GiveBack<S, E> {
     pub error: E,
 }
 
-/// Runs commands in order over a store. Room for all replies is made first; where it is refused, the store comes back
-/// untouched.
-pub fn run(
+/// Runs commands in order, and answers each. Room for all replies is made first; where it is
+/// refused, nothing has been run.
+pub fn run_on<S: WritableStorageTraits, B: BytesToBytesCodecTraits>(
     alloc: Global,
-    store: MemoryStore,
+    session: &mut Session<S, B>,
     commands: &[Command],
-) -> Result<(Vec<Reply>, MemoryStore), GiveBack<MemoryStore, AllocError>>
-    ensures runs { store ≡ empty → IfOk result (λ end. (world : World) × Run [] (map asked commands.now) (map answered end.0.items) world × AllStand world end.1) }
-    ensures back { IfErr result (λ refusal. refusal.storage ≡ store) }
+) -> Result<Vec<Reply>, AllocError>
+    ensures runs { IsTrue (S.is_honest (store_of session.old)) → IfOk result (λ replies.
+        RunsFrom B.meaning B.reads (state_of S.held S.refused_calls session.old)
+        (map asked commands.now) (map answered replies.items)
+        (state_of S.held S.refused_calls session.new)) }
+    ensures honest { S.is_honest (store_of session.new) ≡ S.is_honest (store_of session.old) }
+    ensures err { OnErr result (session.new ≡ session.old) }
 {
-    let mut replies = match Vec::with_capacity(alloc, commands.len()) {
-        Ok(replies) => replies,
-        Err(error) => {
-            return Err(GiveBack {
-                storage: store,
-                error,
-            });
-        }
-    };
-    let mut session = Session::new(alloc, store);
+    let mut replies = Vec::with_capacity(alloc, commands.len())?;
     for command in commands {
         let reply = session.step(command);
         enter(&mut replies, reply);
     }
-    Ok((replies, session.close()))
+    Ok(replies)
 }
 
 /// Enters a reply where there is room.
@@ -53,4 +46,28 @@ fn enter(replies: &mut Vec<Reply>, reply: Reply)
     ensures len { vec_len replies.new ≡ vec_len replies.old + 1 }
 {
     replies.push(reply).unwrap();
+}
+
+/// Runs commands in order over a store, in a session that begins with no array. Room for all
+/// replies is made first; where it is refused, the store comes back untouched.
+pub fn run<S: WritableStorageTraits + Drop, B: BytesToBytesCodecTraits>(
+    alloc: Global,
+    store: S,
+    commands: &[Command],
+) -> Result<(Vec<Reply>, S), GiveBack<S, AllocError>>
+    ensures runs { IsTrue (S.is_honest store) → IfOk result (λ end.
+        RunsOver B.reads (S.held store, S.refused_calls store)
+        (map asked commands.now) (map answered end.0.items)
+        (S.held end.1, S.refused_calls end.1)) }
+    ensures honest { IfOk result (λ end. S.is_honest end.1 ≡ S.is_honest store) }
+    ensures back { IfErr result (λ refusal. refusal.storage ≡ store) }
+{
+    let mut session = Session::<S, B>::new(alloc, store);
+    match run_on(alloc, &mut session, commands) {
+        Ok(replies) => Ok((replies, session.close())),
+        Err(error) => Err(GiveBack {
+            storage: session.close(),
+            error,
+        }),
+    }
 }

@@ -1,39 +1,35 @@
 //! A session: the arrays that are held, over a store.
-ghost use Rattle.zarr_run_session.specs.Placed.{ArePlaced};
-
-use crate::at_path::{erase_chunks, read_box, read_chunk, write_box, write_chunk};
-use crate::creating::create;
-use crate::held::HeldArray;
-use crate::reopening::reopen;
 use std::alloc::Global;
 use std::collections::BTreeMap;
-use zarr_array_stores::MemoryStore;
+use zarr_array_storage::WritableStorageTraits;
+use zarr_codecs_traits::BytesToBytesCodecTraits;
+use zarr_codecs_types::DataType;
 use zarr_run_commands::{Command, Reply};
+use zarr_run_opening::HeldArray;
 
-/// Arrays in a store, by their paths.
+/// Arrays in a store, by their paths. `S` is the store, and `B` the bytes to bytes codecs that its
+/// documents may name. What is promised of commands holds for every store that is honest: that
+/// answers by what it holds.
 #[derive(Drop)]
-pub struct Session {
-    alloc: Global,
-    store: MemoryStore,
-    arrays: BTreeMap<String, HeldArray>,
-    ghost placed: { ArePlaced arrays },
+pub struct Session<S, B: BytesToBytesCodecTraits> {
+    pub(crate) alloc: Global,
+    pub(crate) store: S,
+    pub(crate) arrays: BTreeMap<String, HeldArray<B>>,
 }
 
-impl Session {
-    ghost use Rattle.std.specs.Prelude.{◌≡◌, []};
-    ghost use Rattle.std.specs.FinMap.{empty};
-    ghost use Rattle.zarr_run_model.specs.Requests.{path_of};
-    ghost use Rattle.zarr_run_model.specs.Steps.{Step};
-    ghost use Rattle.zarr_run_model.specs.Worlds.{World};
+impl<S: WritableStorageTraits, B: BytesToBytesCodecTraits> Session<S, B> {
+    ghost use Rattle.std.specs.Prelude.{◌≡◌, IsTrue, option_copied, option_map};
+    ghost use Rattle.zarr_codecs_types.specs.Views.{type_of};
     ghost use Rattle.zarr_run_commands.specs.Commands.{asked, answered};
-    ghost use Rattle.zarr_run_session.specs.Keys.{LeavesKeys, LeavesUnrelated};
-    ghost use Rattle.zarr_run_session.specs.Openings.{LeavesArrays, Opens};
-    ghost use Rattle.zarr_run_session.specs.Sessions.{IsIn, array_at, arrays_of, stored};
+    ghost use Rattle.zarr_run_meaning.specs.Runs.{world_over};
+    ghost use Rattle.zarr_run_opening.specs.Sessions.{IsIn, StepsFrom};
+    ghost use Rattle.zarr_run_session.specs.Sessions.{state_of, store_of, type_at};
 
-    /// A session over a store. It holds no array yet.
-    pub fn new(alloc: Global, store: MemoryStore) -> Self
-        ensures begins { store ≡ empty → IsIn result [] }
-        ensures store { stored result ≡ store }
+    /// A session over a store, whatever it holds. It holds no array yet.
+    pub fn new(alloc: Global, store: S) -> Self
+        ensures begins { IsIn B.meaning B.reads (state_of S.held S.refused_calls result)
+            (world_over (S.held store) (S.refused_calls store)) }
+        ensures store { store_of result ≡ store }
     {
         Session {
             alloc,
@@ -43,73 +39,61 @@ impl Session {
     }
 
     /// The store, as the commands left it.
-    pub fn close(self) -> MemoryStore
-        ensures { result ≡ stored self }
+    pub fn close(self) -> S
+        ensures { result ≡ store_of self }
     {
         self.store
     }
 
-    /// Runs one command. A refused command changes at most what it says it applied.
-    #[tactic(auto, using(crate::proofs::SessionLemmas::steps_in))]
-    pub fn step(&mut self, command: &Command) -> Reply
-        ensures steps { (old : World) → IsIn self.old old → (new : World) × Step old (asked command.now) (answered result) new × IsIn self.new new }
-        ensures keys { LeavesKeys (array_at (arrays_of self.old) (path_of (asked command.now))) (asked command.now) (answered result) (stored self.old) (stored self.new) }
-        ensures unrelated { LeavesUnrelated (path_of (asked command.now)) (stored self.old) (stored self.new) }
-        ensures arrays { LeavesArrays (asked command.now) (answered result) (arrays_of self.old) (arrays_of self.new) }
-        ensures opens { Opens (arrays_of self.old) (asked command.now) (stored self.old) (answered result) (arrays_of self.new) }
+    /// The data type of the array that is held at a path, if there is one.
+    pub fn data_type_at(&self, path: &str) -> Option<&DataType>
+        ensures { option_map type_of (option_copied result)
+            ≡ type_at B.meaning self.now path.now }
     {
-        let alloc = self.alloc;
-        let arrays = &mut self.arrays;
-        let store = &mut self.store;
+        match self.arrays.get(path) {
+            Some(array) => Some(array.core.elements().data_type()),
+            None => None,
+        }
+    }
+
+    /// Runs one command. A refused command changes at most what it says it applied.
+    pub fn step(&mut self, command: &Command) -> Reply
+        ensures steps { IsTrue (S.is_honest (store_of self.old)) → StepsFrom B.meaning B.reads
+            (state_of S.held S.refused_calls self.old)
+            (asked command.now) (answered result)
+            (state_of S.held S.refused_calls self.new) }
+        ensures honest { S.is_honest (store_of self.new) ≡ S.is_honest (store_of self.old) }
+    {
         match command {
             Command::Create {
                 path,
                 document,
                 order,
-            } => create(alloc, arrays, store, path.as_str(), document, *order),
-            Command::Reopen { path, order } => {
-                reopen(alloc, arrays, store, path.as_str(), *order)
-            }
+            } => self.create(path.as_str(), document, *order),
+            Command::Reopen { path, order } => self.reopen(path.as_str(), *order),
             Command::WriteBox {
                 path,
                 region,
                 cells,
                 options,
-            } => write_box(alloc, arrays, store, path.as_str(), region, cells, *options),
+            } => self.write_box(path.as_str(), region, cells, options),
             Command::WriteChunk {
                 path,
                 chunk,
                 cells,
                 options,
-            } => write_chunk(
-                alloc,
-                arrays,
-                store,
-                path.as_str(),
-                chunk.as_slice(),
-                cells,
-                *options,
-            ),
+            } => self.write_chunk(path.as_str(), chunk.as_slice(), cells, options),
             Command::ReadBox {
                 path,
                 region,
                 options,
-            } => read_box(alloc, arrays, store, path.as_str(), region, *options),
+            } => self.read_box(path.as_str(), region, options),
             Command::ReadChunk {
                 path,
                 chunk,
                 options,
-            } => read_chunk(
-                alloc,
-                arrays,
-                store,
-                path.as_str(),
-                chunk.as_slice(),
-                *options,
-            ),
-            Command::EraseChunks { path, chunks } => {
-                erase_chunks(alloc, arrays, store, path.as_str(), chunks)
-            }
+            } => self.read_chunk(path.as_str(), chunk.as_slice(), options),
+            Command::EraseChunks { path, chunks } => self.erase_chunks(path.as_str(), chunks),
         }
     }
 }

@@ -4,7 +4,7 @@ ghost use Rattle.zarr_run_stories.specs.Entries.{entry_line};
 
 use anyhow::{Context, Result};
 use std::alloc::{AllocError, Global};
-use zarr_run::MemoryStore;
+use zarr_run::{MemoryStore, StoreKey, WritableStorageTraits};
 
 /// Puts the value of a line into a store, at the line's key.
 pub(crate) fn put_entry(alloc: Global, store: &mut MemoryStore, line: &str) -> Result<()>
@@ -14,7 +14,10 @@ pub(crate) fn put_entry(alloc: Global, store: &mut MemoryStore, line: &str) -> R
         .split_once(' ')
         .context("a line of the store has no space")?;
     let value = hex::decode(alloc, digits)?;
-    store.set(key, value)?;
+    let key = StoreKey::new(String::from_str(alloc, key)?)
+        .ok()
+        .context("a key of the store ends with a slash")?;
+    store.set(&key, value.as_slice())?;
     Ok(())
 }
 

@@ -1,31 +1,42 @@
 //! A story: a store, the commands that are run over it, and the store that they leave.
 
 use crate::entries::{append_entry, put_entry};
+use crate::refusals::{NO_CALL, refused_call};
 use anyhow::{Result, bail};
-use std::alloc::{AllocError, Global};
+use std::alloc::Global;
 use std::io::{BufRead, BufReader, Read, Write};
-use zarr_run::{MemoryStore, Session, run_lines};
+use zarr_run::{
+    MemoryStore, ReadableStorageTraits, RefusingStore, ReverseCodec, Session, StorageError,
+    run_lines,
+};
 
-/// Reads the lines of a store's keys, through the empty line that ends them.
-fn read_store<R: BufRead + Drop>(alloc: Global, reader: &mut R) -> Result<MemoryStore> {
+/// Reads the lines of a store, through the empty line that ends them.
+fn read_store<R: BufRead + Drop>(
+    alloc: Global,
+    reader: &mut R,
+) -> Result<RefusingStore<MemoryStore>> {
     let mut store = MemoryStore::new(alloc);
+    let mut refused = NO_CALL;
     for line in reader.lines(alloc) {
         let line = line?;
         if line.is_empty() {
             break;
         }
-        put_entry(alloc, &mut store, line.as_str())?;
+        match refused_call(line.as_str())? {
+            Some(call) => refused = call,
+            None => put_entry(alloc, &mut store, line.as_str())?,
+        }
     }
-    Ok(store)
+    Ok(RefusingStore::new(store, refused.kind, refused.number))
 }
 
 /// The lines of a store's keys.
-fn store_lines(alloc: Global, store: &MemoryStore) -> Result<String, AllocError> {
+fn store_lines(alloc: Global, store: &mut MemoryStore) -> Result<String, StorageError> {
     let keys = store.list()?;
     let mut text = String::new(alloc);
     for key in &keys {
-        if let Some(value) = store.get(key.as_str()) {
-            append_entry(alloc, &mut text, key.as_str(), value)?;
+        if let Some(value) = store.get(key)? {
+            append_entry(alloc, &mut text, key.as_str(), value.as_slice())?;
         }
     }
     Ok(text)
@@ -39,11 +50,12 @@ pub(crate) fn run_story<R: Read + Drop, W: Write>(
 ) -> Result<()> {
     let mut reader = BufReader::new(alloc, reader)?;
     let store = read_store(alloc, &mut reader)?;
-    let mut session = Session::new(alloc, store);
+    let mut session = Session::<RefusingStore<MemoryStore>, ReverseCodec>::new(alloc, store);
     if let Err(fault) = run_lines(alloc, &mut session, reader, writer) {
         bail!("the commands have not been run to their end: {fault:?}");
     }
-    let lines = store_lines(alloc, &session.close())?;
+    let mut store = session.close().into_inner();
+    let lines = store_lines(alloc, &mut store)?;
     writer.write_all(b"\n")?;
     writer.write_all(lines.as_bytes())?;
     writer.flush()?;

@@ -3,7 +3,13 @@
 #![tactic(auto)]
 
 #[cfg(test)]
+mod answers;
+#[cfg(test)]
+mod changing_store;
+#[cfg(test)]
 mod lines;
+#[cfg(test)]
+mod refusing_codec;
 #[cfg(test)]
 mod samples;
 #[cfg(test)]

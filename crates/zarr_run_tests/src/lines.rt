@@ -1,8 +1,8 @@
-//! What a line says and no answer shows, and the texts of replies.
+//! What a line says and no answer shows.
 
-use crate::samples::{DONE, command, is_answered};
+use crate::samples::command;
 use std::test::Fail;
-use zarr_run::{ArrayBytes, Cause, Command, Reply};
+use zarr_run::Command;
 
 /// Lines, after the orders that they say.
 const ORDERS: &str = r#"Unordered {"op":"create","path":"","document":1}
@@ -78,43 +78,5 @@ fn a_line_says_its_chunk(rt: HostRuntime) -> Result<(), Fail> {
         return Err(Fail::from("another command"));
     };
     assert_eq!(rt; chunk.as_slice(), [1, 0, 18446744073709551615].as_slice());
-    Ok(())
-}
-
-#[test]
-fn an_answer_is_compact_json(rt: HostRuntime) -> Result<(), Fail> {
-    let alloc = rt.alloc();
-    let bytes = Vec::from_slice(alloc, &[0, 0, 1, 2, 3, 4, 0, 255])?;
-    let replies = [
-        (Reply::Done, DONE),
-        (
-            Reply::Cells(ArrayBytes::Fixed(bytes)),
-            r#"{"cells":[0,0,1,2,3,4,0,255]}"#,
-        ),
-        (
-            Reply::Cells(ArrayBytes::Fixed(Vec::new(alloc))),
-            r#"{"cells":[]}"#,
-        ),
-    ];
-    for (reply, want) in &replies {
-        assert!(rt; is_answered(alloc, reply, want)?, "{want}");
-    }
-    Ok(())
-}
-
-#[test]
-fn a_refusal_names_its_cause(rt: HostRuntime) -> Result<(), Fail> {
-    let refusals = [
-        (Cause::Region, 0, r#"{"applied":0,"refused":"Region"}"#),
-        (
-            Cause::DocumentChanged,
-            12,
-            r#"{"applied":12,"refused":"DocumentChanged"}"#,
-        ),
-    ];
-    for (cause, applied, want) in refusals {
-        let reply = Reply::Refused { cause, applied };
-        assert!(rt; is_answered(rt.alloc(), &reply, want)?, "{want}");
-    }
     Ok(())
 }

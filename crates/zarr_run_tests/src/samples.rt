@@ -2,7 +2,10 @@
 
 use std::alloc::{AllocError, Global};
 use std::test::Fail;
-use zarr_run::{Command, Reply, push_answer, read_command};
+use zarr_run::{
+    BytesToBytesCodecTraits, Command, MemoryStore, ReadableStorageTraits, Reply, ReverseCodec,
+    Session, StoreKey, WritableStorageTraits, push_answer, read_command,
+};
 
 /// Creates an array of 4 by 4 zeros in chunks of 2 by 2.
 pub(crate) const CREATE: &str =
@@ -13,16 +16,67 @@ pub(crate) const READ: &str = r#"{"op":"read_box","path":"/a","box":[[0,4],[1,3]
 
 pub(crate) const READ_ANSWER: &str = r#"{"cells":[0,0,1,2,3,4,0,0]}"#;
 
+pub(crate) const REOPEN: &str = r#"{"op":"reopen","path":"/a"}"#;
+
 pub(crate) const DONE: &str = r#"{"done":true}"#;
+
+/// A session over a store in memory.
+pub(crate) type MemorySession = Session<MemoryStore, ReverseCodec>;
+
+/// A session over a store in memory that has no key.
+pub(crate) fn new_session(alloc: Global) -> MemorySession {
+    Session::new(alloc, MemoryStore::new(alloc))
+}
 
 /// The command of a line.
 pub(crate) fn command(alloc: Global, line: &str) -> Result<Command, Fail> {
     Ok(read_command(alloc, line.as_bytes())?.ok_or("no command")?)
 }
 
-/// Whether a reply is answered by this text.
-pub(crate) fn is_answered(alloc: Global, reply: &Reply, want: &str) -> Result<bool, AllocError> {
+/// Creates at `/a` an array of four cells in chunks of two, of a data type with a fill value and codecs.
+pub(crate) fn create_row(
+    alloc: Global,
+    (data_type, fill, codecs): (&str, &str, &str),
+) -> Result<Command, Fail> {
+    let line = format!(in alloc;
+        r#"{{"op":"create","path":"/a","document":{{"zarr_format":3,"node_type":"array","shape":[4],"data_type":"{data_type}","chunk_grid":{{"name":"regular","configuration":{{"chunk_shape":[2]}}}},"chunk_key_encoding":"default","fill_value":{fill},"codecs":{codecs}}}}}"#
+    )?;
+    command(alloc, line.as_str())
+}
+
+/// Whether a reply of a session about `/a` is answered by this text.
+pub(crate) fn is_answered<S: WritableStorageTraits, B: BytesToBytesCodecTraits>(
+    alloc: Global,
+    session: &Session<S, B>,
+    reply: &Reply,
+    want: &str,
+) -> Result<bool, AllocError> {
     let mut text = Vec::new(alloc);
-    push_answer(&mut text, reply)?;
+    push_answer(&mut text, session.data_type_at("/a"), reply)?;
     Ok(text.as_slice() == want.as_bytes())
+}
+
+/// Whether a session answers a line by this text.
+pub(crate) fn answers<S: WritableStorageTraits, B: BytesToBytesCodecTraits>(
+    alloc: Global,
+    session: &mut Session<S, B>,
+    line: &str,
+    want: &str,
+) -> Result<bool, Fail> {
+    let reply = session.step(&command(alloc, line)?);
+    Ok(is_answered(alloc, session, &reply, want)?)
+}
+
+/// Whether a store has this value at a key.
+pub(crate) fn has(
+    alloc: Global,
+    store: &mut MemoryStore,
+    key: &str,
+    want: &[u8],
+) -> Result<bool, Fail> {
+    let key = StoreKey::new(String::from_str(alloc, key)?)?;
+    match store.get(&key)? {
+        Some(value) => Ok(value.as_slice() == want),
+        None => Ok(false),
+    }
 }

@@ -1,10 +1,16 @@
 //! Sessions by typed commands.
 
-use crate::samples::{CREATE, DONE, READ, READ_ANSWER, command, is_answered};
+use crate::changing_store::ChangingStore;
+use crate::refusing_codec::RefusingCodec;
+use crate::samples::{
+    CREATE, DONE, MemorySession, READ, READ_ANSWER, REOPEN, answers, command, create_row, has,
+    is_answered, new_session,
+};
 use std::alloc::Global;
 use std::test::Fail;
 use zarr_run::{
-    ArrayBytes, ArraySubset, CodecOptions, Command, CommandCells, MemoryStore, Session, run,
+    ArrayBytes, ArraySubset, CodecOptions, Command, CommandCells, MemoryStore,
+    ReadableStorageTraits, ReverseCodec, Session, StoreKey, WritableStorageTraits, run, run_on,
 };
 
 /// Writes these bytes into the middle of the array at `/a`, which has four places.
@@ -18,15 +24,27 @@ fn write(alloc: Global, cells: &[u8]) -> Result<Command, Fail> {
     })
 }
 
+/// Writes these bytes into the first chunk of the array at `/a`.
+fn write_first(alloc: Global, cells: &[u8]) -> Result<Command, Fail> {
+    Ok(Command::WriteChunk {
+        path: String::from_str(alloc, "/a")?,
+        chunk: vec![in alloc; 0]?,
+        cells: CommandCells::Bytes(ArrayBytes::Fixed(Vec::from_slice(alloc, cells)?)),
+        options: CodecOptions::default(),
+    })
+}
+
 #[test]
 fn no_command_leaves_the_store(rt: HostRuntime) -> Result<(), Fail> {
     let alloc = rt.alloc();
     let mut store = MemoryStore::new(alloc);
-    store.set("a/c/0/0", vec![in alloc; 1, 2, 3]?)?;
-    let (replies, store) = run(alloc, store, &[]).ok().ok_or("no memory")?;
+    let key = StoreKey::new(String::from_str(alloc, "a/c/0/0")?)?;
+    store.set(&key, &[1, 2, 3])?;
+    let ran = run::<MemoryStore, ReverseCodec>(alloc, store, &[]);
+    let (replies, mut store) = ran.ok().ok_or("no memory")?;
     assert!(rt; replies.is_empty());
-    assert_eq!(rt; store.len(), 1);
-    assert_eq!(rt; store.get("a/c/0/0"), Some([1, 2, 3].as_slice()));
+    assert_eq!(rt; store.list()?.len(), 1);
+    assert!(rt; has(alloc, &mut store, "a/c/0/0", &[1, 2, 3])?);
     Ok(())
 }
 
@@ -37,32 +55,164 @@ fn commands_are_run_in_order(rt: HostRuntime) -> Result<(), Fail> {
         command(alloc, CREATE)?,
         write(alloc, &[1, 2, 3, 4])?,
         command(alloc, READ)?,
-        write(alloc, &[1, 2, 3])?,
     ];
-    let refused = r#"{"applied":0,"refused":"Data"}"#;
-    let ran = run(alloc, MemoryStore::new(alloc), &commands);
-    let (replies, store) = ran.ok().ok_or("no memory")?;
-    assert_eq!(rt; replies.len(), 4);
-    for (reply, want) in replies.iter().zip([DONE, DONE, READ_ANSWER, refused]) {
-        assert!(rt; is_answered(alloc, reply, want)?, "{want}");
+    let ran = run::<MemoryStore, ReverseCodec>(alloc, MemoryStore::new(alloc), &commands);
+    let (replies, mut store) = ran.ok().ok_or("no memory")?;
+    let mut session = new_session(alloc);
+    assert!(rt; answers(alloc, &mut session, CREATE, DONE)?);
+    assert_eq!(rt; replies.len(), 3);
+    for (reply, want) in replies.iter().zip([DONE, DONE, READ_ANSWER]) {
+        assert!(rt; is_answered(alloc, &session, reply, want)?);
     }
-    assert_eq!(rt; store.len(), 5);
-    assert_eq!(rt; store.get("a/c/0/1"), Some([0, 0, 2, 0].as_slice()));
+    assert_eq!(rt; store.list()?.len(), 5);
+    assert!(rt; has(alloc, &mut store, "a/c/0/1", &[0, 0, 2, 0])?);
+    Ok(())
+}
+
+#[test]
+fn more_commands_are_run_on_a_session(rt: HostRuntime) -> Result<(), Fail> {
+    let alloc = rt.alloc();
+    let mut session = new_session(alloc);
+    let first = run_on(alloc, &mut session, &[command(alloc, CREATE)?])?;
+    let second = run_on(
+        alloc,
+        &mut session,
+        &[write(alloc, &[1, 2, 3, 4])?, command(alloc, READ)?],
+    )?;
+    assert_eq!(rt; first.len(), 1);
+    assert_eq!(rt; second.len(), 2);
+    assert!(rt; is_answered(alloc, &session, &first[0], DONE)?);
+    assert!(rt; is_answered(alloc, &session, &second[0], DONE)?);
+    assert!(rt; is_answered(alloc, &session, &second[1], READ_ANSWER)?);
+    assert!(rt; run_on(alloc, &mut session, &[])?.is_empty());
     Ok(())
 }
 
 #[test]
 fn a_closed_session_leaves_its_store_to_the_next(rt: HostRuntime) -> Result<(), Fail> {
     let alloc = rt.alloc();
-    let mut first = Session::new(alloc, MemoryStore::new(alloc));
-    let created = first.step(&command(alloc, CREATE)?);
+    let mut first = new_session(alloc);
+    assert!(rt; answers(alloc, &mut first, CREATE, DONE)?);
     let wrote = first.step(&write(alloc, &[1, 2, 3, 4])?);
-    let mut second = Session::new(alloc, first.close());
-    let reopened = second.step(&command(alloc, r#"{"op":"reopen","path":"/a"}"#)?);
-    for reply in [&created, &wrote, &reopened] {
-        assert!(rt; is_answered(alloc, reply, DONE)?);
+    assert!(rt; is_answered(alloc, &first, &wrote, DONE)?);
+    assert!(rt; answers(alloc, &mut first, READ, READ_ANSWER)?);
+    let mut second: MemorySession = Session::new(alloc, first.close());
+    assert!(rt; answers(alloc, &mut second, REOPEN, DONE)?);
+    assert!(rt; answers(alloc, &mut second, READ, READ_ANSWER)?);
+    Ok(())
+}
+
+/// Data types of cells with one byte or two, bytes that are no two cells of them, and whether such a codec takes an order.
+const NO_CELLS: [(&str, &[u8]); 7] = [
+    ("uint8", &[]),
+    ("uint8", &[1]),
+    ("uint8", &[1, 2, 3]),
+    ("bool", &[1, 2]),
+    ("int4", &[0, 8]),
+    ("int16", &[1, 0, 2]),
+    ("int16", &[1, 0, 2, 0, 3, 0]),
+];
+
+#[test]
+fn bytes_that_are_no_cells_are_refused(rt: HostRuntime) -> Result<(), Fail> {
+    let alloc = rt.alloc();
+    for (data_type, bytes) in NO_CELLS {
+        let fill = if data_type == "bool" { "false" } else { "0" };
+        let codecs = r#"[{"name":"bytes","configuration":{"endian":"big"}}]"#;
+        let mut session = new_session(alloc);
+        let created = session.step(&create_row(alloc, (data_type, fill, codecs))?);
+        assert!(rt; is_answered(alloc, &session, &created, DONE)?);
+        let wrote = session.step(&write_first(alloc, bytes)?);
+        let want = r#"{"applied":0,"refused":"Data"}"#;
+        assert!(rt; is_answered(alloc, &session, &wrote, want)?);
     }
-    let read = second.step(&command(alloc, READ)?);
-    assert!(rt; is_answered(alloc, &read, READ_ANSWER)?);
+    Ok(())
+}
+
+#[test]
+fn typed_cells_are_little_endian(rt: HostRuntime) -> Result<(), Fail> {
+    let alloc = rt.alloc();
+    let codecs = r#"[{"name":"bytes","configuration":{"endian":"big"}}]"#;
+    let mut session = new_session(alloc);
+    let created = session.step(&create_row(alloc, ("int16", "0", codecs))?);
+    assert!(rt; is_answered(alloc, &session, &created, DONE)?);
+    let wrote = session.step(&write_first(alloc, &[1, 0, 251, 255])?);
+    assert!(rt; is_answered(alloc, &session, &wrote, DONE)?);
+    let line = r#"{"op":"read_box","path":"/a","box":[[0,3]]}"#;
+    assert!(rt; answers(alloc, &mut session, line, r#"{"cells":[1,-5,0]}"#)?);
+    assert!(rt; has(alloc, &mut session.close(), "a/c/0", &[0, 1, 255, 251])?);
+    Ok(())
+}
+
+#[test]
+fn a_codec_that_refuses_a_chunk_keeps_those_before_it(rt: HostRuntime) -> Result<(), Fail> {
+    let alloc = rt.alloc();
+    let mut session: Session<MemoryStore, RefusingCodec> = Session::new(
+        alloc,
+        MemoryStore::new(alloc),
+    );
+    let codecs = r#"["bytes","x-refuse"]"#;
+    let created = session.step(&create_row(alloc, ("uint8", "0", codecs))?);
+    assert!(rt; is_answered(alloc, &session, &created, DONE)?);
+    let line = r#"{"op":"write_box","path":"/a","box":[[0,4]],"cells":[5,6,7,8]}"#;
+    let want = r#"{"applied":1,"refused":"Codec"}"#;
+    assert!(rt; answers(alloc, &mut session, line, want)?);
+    let line = r#"{"op":"read_box","path":"/a","box":[[0,4]]}"#;
+    assert!(rt; answers(alloc, &mut session, line, r#"{"cells":[5,6,0,0]}"#)?);
+    let mut store = session.close();
+    assert_eq!(rt; store.list()?.len(), 2);
+    assert!(rt; has(alloc, &mut store, "a/c/0", &[5, 6])?);
+    Ok(())
+}
+
+#[test]
+fn fill_is_encoded_only_where_it_is_stored(rt: HostRuntime) -> Result<(), Fail> {
+    let alloc = rt.alloc();
+    let mut session: Session<MemoryStore, RefusingCodec> = Session::new(
+        alloc,
+        MemoryStore::new(alloc),
+    );
+    let codecs = r#"["bytes","x-refuse"]"#;
+    let created = session.step(&create_row(alloc, ("uint8", "7", codecs))?);
+    assert!(rt; is_answered(alloc, &session, &created, DONE)?);
+    let line = r#"{"op":"write_chunk","path":"/a","chunk":[0],"cells":[7,7]}"#;
+    assert!(rt; answers(alloc, &mut session, line, DONE)?);
+    let line = r#"{"op":"write_chunk","path":"/a","chunk":[0],"cells":[7,8]}"#;
+    assert!(rt;
+        answers(
+            alloc,
+            &mut session,
+            line,
+            r#"{"applied":0,"refused":"Codec"}"#
+        )?
+    );
+    Ok(())
+}
+
+/// A create gets a document of either version, and a reopening the one that is stored.
+#[test]
+fn a_document_that_changes_is_noticed(rt: HostRuntime) -> Result<(), Fail> {
+    let alloc = rt.alloc();
+    let store = ChangingStore {
+        inner: MemoryStore::new(alloc),
+        calls_before: 3,
+    };
+    let mut session: Session<ChangingStore, ReverseCodec> = Session::new(alloc, store);
+    assert!(rt; answers(alloc, &mut session, CREATE, DONE)?);
+    assert!(rt; answers(alloc, &mut session, REOPEN, DONE)?);
+    let changed = r#"{"applied":0,"refused":"DocumentChanged"}"#;
+    assert!(rt; answers(alloc, &mut session, REOPEN, changed)?);
+    assert!(rt; answers(alloc, &mut session, REOPEN, DONE)?);
+    Ok(())
+}
+
+#[test]
+fn a_session_tells_the_types_of_its_arrays(rt: HostRuntime) -> Result<(), Fail> {
+    let alloc = rt.alloc();
+    let mut session = new_session(alloc);
+    assert!(rt; session.data_type_at("/a").is_none());
+    assert!(rt; answers(alloc, &mut session, CREATE, DONE)?);
+    assert!(rt; session.data_type_at("/a").is_some());
+    assert!(rt; session.data_type_at("/").is_none());
     Ok(())
 }

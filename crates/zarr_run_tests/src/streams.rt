@@ -1,15 +1,16 @@
 //! Lines of readers that fail or wait, and answers to writers that fail.
 
+use crate::samples::new_session;
 use std::alloc::Global;
 use std::cell::Cell;
 use std::io::{Error, ErrorKind, Read, Result, Write};
 use std::test::Fail;
-use zarr_run::{LinesFault, MemoryStore, Session, run_lines};
+use zarr_run::{LinesFault, run_lines};
 
 #[test]
 fn the_last_line_needs_no_line_feed(rt: HostRuntime) -> std::result::Result<(), Fail> {
     let alloc = rt.alloc();
-    let mut session = Session::new(alloc, MemoryStore::new(alloc));
+    let mut session = new_session(alloc);
     let mut output = Vec::new(alloc);
     let input: &[u8] = b"\xff\nnull";
     let ran = run_lines(alloc, &mut session, input, &mut output);
@@ -102,7 +103,7 @@ fn run(
         written: 0,
         answered,
     };
-    let mut session = Session::new(alloc, MemoryStore::new(alloc));
+    let mut session = new_session(alloc);
     let ran = run_lines(alloc, &mut session, reader, &mut writer);
     (ran, answered.get())
 }

@@ -1,11 +1,13 @@
-//! The script as lines, and as one list of commands.
+//! The script as lines, and its first lines as a list of commands.
 
 use crate::script::{LINES, command};
 use crate::stop::{Stop, expect};
 use crate::tables::Tables;
 use std::alloc::{AllocError, Global};
-use zarr_array_stores::MemoryStore;
-use zarr_run::{Command, LinesFault, Reply, Session, run_lines};
+use zarr_run::{
+    Command, LinesFault, MemoryStore, ReadableStorageTraits, Reply, ReverseCodec, Session,
+    run_lines,
+};
 
 /// The answers with ample memory.
 const ANSWERS: &str = r#"{"done":true}
@@ -55,16 +57,19 @@ fn are_as_stated(answers: &[u8]) -> bool {
 /// The lines. The writer takes memory too, so it can fail.
 fn run_text(alloc: Global) -> Result<(), Stop> {
     let text = text(alloc)?;
-    let mut session = Session::new(alloc, MemoryStore::new(alloc));
+    let mut session = Session::<MemoryStore, ReverseCodec>::new(alloc, MemoryStore::new(alloc));
     let mut answers = Vec::new(alloc);
     let end = run_lines(alloc, &mut session, text.as_slice(), &mut answers);
     expect(!matches!(end, Err(LinesFault::Read)) && are_as_stated(answers.as_slice()))
 }
 
-/// The commands of the lines.
+/// How many lines are run as a list: two arrays are created and written.
+const LISTED: usize = 4;
+
+/// The commands of the first lines.
 fn commands(alloc: Global) -> Result<Vec<Command>, Stop> {
     let mut commands = Vec::new(alloc);
-    for line in LINES {
+    for line in LINES.iter().take(LISTED) {
         if commands.push(command(alloc, line.text)?).is_err() {
             return Err(Stop::Short);
         }
@@ -72,25 +77,30 @@ fn commands(alloc: Global) -> Result<Vec<Command>, Stop> {
     Ok(commands)
 }
 
-/// Whether the lines are answered as the tables say, which are then as the lines have changed them.
+/// Whether the first lines are answered as the tables say, which are then as the lines have changed them.
 fn answer(tables: &mut Tables, replies: &[Reply]) -> bool {
     for (line, reply) in LINES.iter().zip(replies) {
         if !tables.answer(*line, reply) {
             return false;
         }
     }
-    replies.len() == LINES.len()
+    replies.len() == LISTED
 }
 
 /// The list. Where memory for the replies runs out, the store comes back empty.
 fn run_list(alloc: Global) -> Result<(), Stop> {
     let commands = commands(alloc)?;
     let mut tables = Tables::new();
-    match zarr_run::run(alloc, MemoryStore::new(alloc), commands.as_slice()) {
-        Ok((replies, store)) => {
-            expect(answer(&mut tables, replies.as_slice()) && tables.agree_with(&store))
+    let store = MemoryStore::new(alloc);
+    match zarr_run::run::<MemoryStore, ReverseCodec>(alloc, store, commands.as_slice()) {
+        Ok((replies, mut store)) => {
+            expect(answer(&mut tables, replies.as_slice()))?;
+            expect(tables.agree_with(alloc, &mut store)?)
         }
-        Err(refusal) => expect(refusal.storage.is_empty()),
+        Err(refusal) => {
+            let mut store = refusal.storage;
+            expect(store.list()?.is_empty())
+        }
     }
 }
 

@@ -1,11 +1,11 @@
 //! Scripts of calls in which any allocation may be refused.
 //!
 //! The first byte of standard input names the script: `g` for grids, `k` for keys and metadata, `d` for data types and fill
-//! values, `s` for a session's commands, `l` for a session's lines. It prints `as stated` if each answer is the one with
-//! ample memory, which is typed in here, or says that memory ran out and has made just the change that it says.
+//! values, `s` for a session's commands, `r` for these over stores that refuse each of their calls in turn, `l` for a session's
+//! lines. It prints `as stated` if each answer is the one with ample memory and an honest store, which is typed in here, or says
+//! that memory ran out or the store refused, and has made just the change that it says.
 //!
-//! Before the script it makes one allocation for each further byte of input. So if every run refuses the allocation with the
-//! same number, inputs of all lengths up to that number refuse each allocation of the script in turn.
+//! The program itself refuses nothing: `tools/refused_allocations` runs it over a C library's allocator that does.
 #![tactic(auto)]
 
 mod cases;
@@ -24,40 +24,12 @@ use std::alloc::Global;
 use std::io::{Read, Write};
 use std::process::ExitCode;
 
-/// What standard input says: the script's letter, and how many bytes follow it.
-#[derive(Clone, Copy)]
-struct Input {
-    script: u8,
-    allocations: usize,
-}
-
-/// Reads to the end of a reader. It takes no memory.
-fn read_input<R: Read>(reader: &mut R) -> Input {
-    let mut buffer = [0u8; 256];
-    let mut script = 0;
-    let mut total: usize = 0;
-    for _ in 0..u16::MAX {
-        match reader.read(&mut buffer) {
-            Ok(0) => break,
-            Ok(count) => {
-                if total == 0 {
-                    script = buffer[0];
-                }
-                total = total.saturating_add(count);
-            }
-            Err(_) => break,
-        }
-    }
-    Input {
-        script,
-        allocations: total.saturating_sub(1),
-    }
-}
-
-/// Makes this many allocations, and frees each one.
-fn allocate(alloc: Global, count: usize) {
-    for _ in 0..count {
-        let _ = Vec::<u8>::with_capacity(alloc, 1);
+/// Reads the script's letter, or 0 where there is none. It takes no memory.
+fn read_letter<R: Read>(reader: &mut R) -> u8 {
+    let mut buffer = [0u8; 1];
+    match reader.read(&mut buffer) {
+        Ok(_) => buffer[0],
+        Err(_) => 0,
     }
 }
 
@@ -68,6 +40,7 @@ fn run(alloc: Global, script: u8) -> Result<(), Stop> {
         b'k' => keys::run(alloc),
         b'd' => types::run(alloc),
         b's' => steps::run(alloc),
+        b'r' => steps::run_over_refusals(alloc),
         b'l' => lines::run(alloc),
         _ => Err(Stop::Other),
     }
@@ -82,9 +55,8 @@ fn run_twice(alloc: Global, script: u8) -> Result<(), Stop> {
 }
 
 fn main(rt: HostRuntime) -> ExitCode {
-    let input = read_input(&mut rt.stdin());
-    allocate(rt.alloc(), input.allocations);
-    let said = match run_twice(rt.alloc(), input.script) {
+    let script = read_letter(&mut rt.stdin());
+    let said = match run_twice(rt.alloc(), script) {
         Ok(()) => "as stated",
         Err(Stop::Short) => "memory ran out twice",
         Err(Stop::Other) => "another answer",

@@ -3,9 +3,7 @@
 use crate::stop::Stop;
 use crate::tables::{Array, Cells};
 use std::alloc::Global;
-use zarr_codecs_cells::ArrayBytes;
-use zarr_run::{Cause, Command, Reply};
-use zarr_run_commands::read_command;
+use zarr_run::{ArrayBytes, Cause, Command, Reply, read_command};
 
 /// What a line asks of its array.
 #[derive(Clone, Copy)]
@@ -55,7 +53,7 @@ pub(crate) const LINES: [Line; 16] = [
         asks: Asks::Put(&[(0, 5, 1), (1, 6, 2), (2, 9, 3), (3, 10, 4)]),
     },
     Line {
-        text: r#"{"op":"create","path":"/b/c","document":{"zarr_format":3,"node_type":"array","shape":[3],"data_type":"uint8","chunk_grid":{"name":"regular","configuration":{"chunk_shape":[2]}},"chunk_key_encoding":{"name":"default","configuration":{"separator":"."}},"fill_value":0,"codecs":["bytes"],"attributes":{"x":[1]},"dimension_names":["y"]}}"#,
+        text: r#"{"op":"create","path":"/b/c","document":{"zarr_format":3,"node_type":"array","shape":[3],"data_type":"int16","chunk_grid":{"name":"regular","configuration":{"chunk_shape":[2]}},"chunk_key_encoding":{"name":"default","configuration":{"separator":"."}},"fill_value":0,"codecs":[{"name":"bytes","configuration":{"endian":"big"}},"x-reverse"],"attributes":{"x":[1]},"dimension_names":["y"]}}"#,
         array: Array::Row,
         asks: Asks::Create,
     },
@@ -151,14 +149,16 @@ pub(crate) fn command(alloc: Global, text: &str) -> Result<Command, Stop> {
     }
 }
 
-/// How many chunks a reply says were written or erased. `None` stands for a reply that running out of memory does not explain.
+/// Why a call may be refused at any time: memory ran out, or the store refused.
+fn is_chance(cause: Cause) -> bool {
+    cause == Cause::Memory || cause == Cause::Store
+}
+
+/// How many chunks a reply says were written or erased. `None` stands for a reply that no refusal at any time explains.
 pub(crate) fn applied_in(reply: &Reply) -> Option<u64> {
     match reply {
         Reply::Done => Some(u64::MAX),
-        Reply::Refused {
-            cause: Cause::Memory,
-            applied,
-        } => Some(*applied),
+        Reply::Refused { cause, applied } if is_chance(*cause) => Some(*applied),
         _ => None,
     }
 }
@@ -167,22 +167,34 @@ pub(crate) fn is_done(reply: &Reply) -> bool {
     matches!(reply, Reply::Done)
 }
 
-/// Whether a reply gives the cells that stand at these places of a table.
-pub(crate) fn gives_cells(reply: &Reply, table: &[u8], places: &[usize]) -> bool {
-    let Reply::Cells(ArrayBytes::Fixed(cells)) = reply else {
+/// Whether a reply gives the cells that stand at these places of a table, each in so many bytes, of which the first is its value.
+pub(crate) fn gives_cells(reply: &Reply, table: &[u8], places: &[usize], width: usize) -> bool {
+    let Reply::Cells(ArrayBytes::Fixed(bytes)) = reply else {
         return false;
     };
-    let mut are_same = cells.len() == places.len();
-    for (cell, place) in cells.iter().zip(places) {
-        are_same = are_same && table.get(*place) == Some(cell);
+    if width == 0 {
+        return false;
+    }
+    let mut are_same = bytes.len() == places.len().saturating_mul(width);
+    for (cell, place) in bytes.chunks(width).zip(places) {
+        are_same = are_same && cell.first() == table.get(*place);
+        are_same = are_same && cell.iter().skip(1).all(|byte| *byte == 0);
     }
     are_same
 }
 
-/// Whether a reply says that memory ran out, after whatever change.
+/// Whether a reply says that it was refused by chance, after whatever change.
 pub(crate) fn is_short(reply: &Reply) -> bool {
     match reply {
-        Reply::Refused { cause, .. } => *cause == Cause::Memory,
+        Reply::Refused { cause, .. } => is_chance(*cause),
+        _ => false,
+    }
+}
+
+/// Whether a reply says that the store refused.
+pub(crate) fn is_by_store(reply: &Reply) -> bool {
+    match reply {
+        Reply::Refused { cause, .. } => *cause == Cause::Store,
         _ => false,
     }
 }

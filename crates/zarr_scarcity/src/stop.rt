@@ -8,6 +8,7 @@ use zarr_grids::{
     RectilinearChunkGridCreateError, RegularBoundedChunkGridCreateError,
     RegularChunkGridCreateError,
 };
+use zarr_run::StorageError;
 
 /// Why a script did not come to its end.
 #[derive(Clone, Copy)]
@@ -89,6 +90,12 @@ impl From<DataTypeError> for Stop {
 impl From<FillValueError> for Stop {
     fn from(error: FillValueError) -> Stop {
         refused(matches!(error, FillValueError::Memory))
+    }
+}
+
+impl From<StorageError> for Stop {
+    fn from(error: StorageError) -> Stop {
+        refused(matches!(error, StorageError::Memory))
     }
 }
 

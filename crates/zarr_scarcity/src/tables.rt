@@ -1,14 +1,25 @@
 //! The arrays of the script and their cells, as they are expected.
 
 use crate::script::{Asks, Line, applied_in, gives_cells, is_done, is_refused};
-use zarr_array_stores::MemoryStore;
-use zarr_run::{Cause, Reply};
+use crate::stop::Stop;
+use std::alloc::Global;
+use zarr_run::{Cause, MemoryStore, ReadableStorageTraits, Reply, StoreKey};
 
-/// An array of the script: `/a`, of 4 by 4 in chunks of 2 by 2, or `/b/c`, of 3 in chunks of 2.
+/// An array of the script: `/a`, of 4 by 4 in chunks of 2 by 2, with cells of one byte; or `/b/c`, of 3 in chunks of 2, with cells
+/// of two.
 #[derive(Clone, Copy)]
 pub(crate) enum Array {
     Square,
     Row,
+}
+
+impl Array {
+    fn width(self) -> usize {
+        match self {
+            Array::Square => 1,
+            Array::Row => 2,
+        }
+    }
 }
 
 /// Cells that a write puts: the number of the chunk among those that it intersects, the place, row-major, and the cell.
@@ -50,8 +61,8 @@ fn answers_unheld(held: &mut Option<Table>, asks: Asks, reply: &Reply) -> bool {
 }
 
 /// Whether this is how a line is answered where its array has this table. The cells that were put then stand in it.
-fn answers_held(table: &mut Table, asks: Asks, reply: &Reply) -> bool {
-    match asks {
+fn answers_held(table: &mut Table, line: Line, reply: &Reply) -> bool {
+    match line.asks {
         Asks::Create => is_refused(reply, Cause::PathTaken),
         Asks::Reopen => is_done(reply),
         Asks::Put(cells) => match applied_in(reply) {
@@ -61,7 +72,7 @@ fn answers_held(table: &mut Table, asks: Asks, reply: &Reply) -> bool {
             }
             None => false,
         },
-        Asks::Read(places) => gives_cells(reply, table, places),
+        Asks::Read(places) => gives_cells(reply, table, places, line.array.width()),
     }
 }
 
@@ -74,10 +85,10 @@ impl Tables {
         }
     }
 
-    /// Whether a line is answered as the tables say, or as out of memory with just the change that it says. They are then as
-    /// the line has changed them.
+    /// Whether a line is answered as the tables say, or refused for memory or by the store with just the change that it says.
+    /// They are then as the line has changed them.
     pub(crate) fn answer(&mut self, line: Line, reply: &Reply) -> bool {
-        if is_refused(reply, Cause::Memory) {
+        if is_refused(reply, Cause::Memory) || is_refused(reply, Cause::Store) {
             return true;
         }
         let held = match line.array {
@@ -85,14 +96,23 @@ impl Tables {
             Array::Row => &mut self.row,
         };
         match held {
-            Some(table) => answers_held(table, line.asks, reply),
+            Some(table) => answers_held(table, line, reply),
             None => answers_unheld(held, line.asks, reply),
         }
     }
 
     /// Whether a store has the documents of the arrays that are held, and no others.
-    pub(crate) fn agree_with(&self, store: &MemoryStore) -> bool {
-        store.contains_key("a/zarr.json") == self.square.is_some()
-            && store.contains_key("b/c/zarr.json") == self.row.is_some()
+    pub(crate) fn agree_with(&self, alloc: Global, store: &mut MemoryStore) -> Result<bool, Stop> {
+        let square = has_key(alloc, store, "a/zarr.json")?;
+        let row = has_key(alloc, store, "b/c/zarr.json")?;
+        Ok(square == self.square.is_some() && row == self.row.is_some())
+    }
+}
+
+/// Whether a store has a value at a key.
+fn has_key(alloc: Global, store: &mut MemoryStore, key: &str) -> Result<bool, Stop> {
+    match StoreKey::new(String::from_str(alloc, key)?) {
+        Ok(key) => Ok(store.get(&key)?.is_some()),
+        Err(_) => Err(Stop::Other),
     }
 }

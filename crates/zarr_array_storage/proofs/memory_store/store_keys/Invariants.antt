@@ -1,6 +1,6 @@
 use Rattle.std.proofs.Common.{◌≡◌, ◌++◌, false}
 use Rattle.std.specs.List.{list_any}
-use Rattle.zarr_array_stores.specs.StoreMaps.{key_bytes}
+use Rattle.zarr_array_storage.specs.ValueMaps.{key_bytes}
 use Rattle.zarr_grids_keys.specs.Paths.{ends_with_slash}
 use Rattle.zarr_array_storage.proofs.memory_store.store_keys.Given as goal
 

@@ -1,5 +1,5 @@
 use Rattle.std.proofs.Common.{◌≡◌, drop, false}
-use Rattle.zarr_array_storage.specs.Ranges.{any_too_far, patched}
+use Rattle.zarr_codecs_traits.specs.Patches.{any_too_far, patched}
 use Rattle.zarr_array_storage.proofs.value_patch.patched.Given as goal
 
 abbrev pub invariant-loop-patch : goal.invariant-loop-patch

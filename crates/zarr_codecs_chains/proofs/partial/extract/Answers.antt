@@ -1,7 +1,6 @@
-use Rattle.std.proofs.Common.{◌≡◌, ◌∙◌, ◌^◌, ◌<◌, ap, sym, length, rules}
+use Rattle.std.proofs.Common.{◌∙◌, ◌^◌, ◌<◌, ap, length, rules}
 use Rattle.zarr_grids_boxes.specs.Subsets.{region_of}
 use Rattle.zarr_codecs_types.specs.Parts.{word_sized}
-use Rattle.zarr_codecs_types.specs.Views.{type_of}
 use Rattle.zarr_codecs_meaning.specs.Types.{byte_width}
 use Rattle.std.proofs.Common.{option_and_then}
 use Rattle.zarr_codecs_arrays.specs.Views.{elements_of}

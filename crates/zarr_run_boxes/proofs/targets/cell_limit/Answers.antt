@@ -1,4 +1,3 @@
-use Rattle.zarr_array_core.specs.Views.{document_of}
 use Rattle.zarr_run_boxes.proofs.Boxes.{limit_tells}
 use Rattle.zarr_run_boxes.proofs.targets.cell_limit.Goals as goal
 

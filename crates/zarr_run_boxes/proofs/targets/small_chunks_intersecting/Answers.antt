@@ -1,4 +1,4 @@
-use Rattle.std.proofs.Common.{◌∙◌, ◌<◌, sym, subst, inl, inr, refl, arith}
+use Rattle.std.proofs.Common.{◌∙◌, ◌<◌, sym, subst, inr, refl}
 use Rattle.std.proofs.lemmas.Bool.{false≢true}
 use Rattle.zarr_grids_boxes.specs.Subsets.{region_of}
 use Rattle.zarr_grids_cover.specs.Intersecting.{AreIntersecting}

@@ -1,27 +1,23 @@
-use Rattle.std.proofs.Common.{◌++◌, codes, sym, ap, ◌∙◌}
+use Rattle.std.proofs.Common.{◌++◌, codes, sym, ap, ◌∙◌, option_copied, option_map}
 use Rattle.serde_json.specs.Written.{compact_text}
+use Rattle.zarr_codecs_types.specs.Views.{type_of}
 use Rattle.zarr_run_commands.specs.Answers.{answer_json}
-use Rattle.zarr_run_commands.specs.Commands.{answered, payload_of}
-use Rattle.zarr_run_commands.specs.Texts.{cells_text, refusal_text}
+use Rattle.zarr_run_commands.specs.Commands.{answered}
+use Rattle.zarr_run_commands.specs.Texts.{refusal_text}
 use Rattle.zarr_run_commands.proofs.Appended.{appended, then_appended}
-use Rattle.zarr_run_commands.proofs.Printed.{done_answer, cells_answer, refused_answer}
+use Rattle.zarr_run_commands.proofs.Printed.{done_answer, refused_answer}
 use Rattle.zarr_run_commands.proofs.answer.push_answer.Goals as goal
 
 pub returns-in-Done-clause-ok : goal.returns-in-Done-clause-ok
-returns-in-Done-clause-ok c = λ type.
+returns-in-Done-clause-ok c =
+    let type = option_map type_of (option_copied c.args.data_type) in
     let old = c.args.text.now.items in
     let text = ap (λ reply. compact_text (answer_json type (answered reply))) c.in-Done.is ∙ done_answer type in
     appended c.extend_from_slice.result c.extend_from_slice.new.self.items old (codes "{\"done\":true}") _ c.extend_from_slice.ensures.items (ap (λ more. old ++ more) (sym text))
 
-pub returns-in-Cells-clause-ok : goal.returns-in-Cells-clause-ok
-returns-in-Cells-clause-ok c = λ type.
-    let old = c.args.text.now.items in
-    let payload = payload_of c.in-Cells.cells in
-    let text = ap (λ reply. compact_text (answer_json type (answered reply))) c.in-Cells.is ∙ cells_answer type payload in
-    then_appended c.push_cells.result c.push_cells.new.text.items old (cells_text payload) _ c.push_cells.ensures.ok (ap (λ more. old ++ more) (sym text))
-
 pub returns-in-Refused-clause-ok : goal.returns-in-Refused-clause-ok
-returns-in-Refused-clause-ok c = λ type.
+returns-in-Refused-clause-ok c =
+    let type = option_map type_of (option_copied c.args.data_type) in
     let old = c.args.text.now.items in
     let text = ap (λ reply. compact_text (answer_json type (answered reply))) c.in-Refused.is ∙ refused_answer type c.in-Refused.cause c.in-Refused.applied in
     then_appended c.push_refusal.result c.push_refusal.new.text.items old (refusal_text c.in-Refused.cause c.in-Refused.applied) _ c.push_refusal.ensures.ok (ap (λ more. old ++ more) (sym text))

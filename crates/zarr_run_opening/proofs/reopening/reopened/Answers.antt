@@ -6,5 +6,5 @@ use Rattle.zarr_run_opening.proofs.reopening.reopened.Goals as goal
 
 pub returns-in-Ok-hold-clause-found : goal.returns-in-Ok-hold-clause-found
 returns-in-Ok-hold-clause-found g c = λ honest.
-    let P : Option (HeldArray g.row.B.Denot) → Type 0 = λ o. Reopened g.B.BytesToBytesCodecTraits.meaning g.B.BytesToBytesCodecTraits.reads o c.args.path.now c.args.order (g.S.ReadableStorageTraits.held c.args.store.now) (Ok tt) c.hold.new.arrays in
+    let P : Option (HeldArray g.row.B.Denot) → Type 0 = λ o. Reopened g.B.BytesToBytesCodecTraits.meaning g.B.BytesToBytesCodecTraits.reads c.args.arrays.now o c.args.path.now c.args.order (g.S.ReadableStorageTraits.held c.args.store.now) (Ok tt) c.hold.new.arrays in
     subst P c.in_default.ensures (c.in-Ok-open.array, ap (array_at c.hold.new.arrays) (sym c.in-Ok-from_str.ensures.ok) ∙ c.in-Ok-hold.ensures.held, c.in-Ok-open.ensures.ok honest)

@@ -15,3 +15,11 @@ pub write_chunk-requires-clause-rank : goal.write_chunk-requires-clause-rank
 write_chunk-requires-clause-rank g c =
     let document = document_of g.C.ArrayToBytesCodecTraits.meaning c.args.self.now in
     c.requires.rank ∙ (sym (chunk_box-rank document.grid c.args.chunk.now (region_of c.in_ok-own.own) c.in_ok-own.ensures.has_box).0 ∙ ap length (sym c.start-start.ensures))
+
+pub patch_chunk-requires-clause-small : goal.patch_chunk-requires-clause-small
+patch_chunk-requires-clause-small g c = c.requires.small.chunks c.args.chunk.now (region_of c.in_ok-own.own) c.in_ok-own.ensures c.requires.shares
+
+pub patch_chunk-requires-clause-rank : goal.patch_chunk-requires-clause-rank
+patch_chunk-requires-clause-rank g c =
+    let document = document_of g.C.ArrayToBytesCodecTraits.meaning c.args.self.now in
+    c.requires.rank ∙ sym (chunk_box-rank document.grid c.args.chunk.now (region_of c.in_ok-own.own) c.in_ok-own.ensures.has_box).0

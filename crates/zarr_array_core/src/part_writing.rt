@@ -1,0 +1,215 @@
+//! A part of a chunk written into its value, of which nothing is fetched.
+use crate::array_core::ArrayCore;
+use crate::chunk_value::BoxWrite;
+use crate::chunk_writing::put_value;
+use crate::error::ChunkError;
+use crate::holding::holds_box;
+use crate::store_calls::{set_partial, size_key};
+use zarr_array_storage::{ValuePatch, WritableStorageTraits};
+use zarr_codecs_arrays::ArrayBytes;
+use zarr_codecs_traits::ArrayToBytesCodecTraits;
+use zarr_grids_boxes::ArraySubset;
+use zarr_grids_keys::StoreKey;
+use zarr_grids_overlay::Extent;
+
+impl<C: ArrayToBytesCodecTraits> ArrayCore<C> {
+    ghost use Rattle.std.specs.Prelude.{◌≡◌, ◌*◌, ℕ, List, Option, None, true, false, length, IsTrue, IfOk, OnOk, OnErr, IfErr, IfSome};
+    ghost use Rattle.std.specs.FinMap as map;
+    ghost use Rattle.std.specs.List.{list_all};
+    ghost use Rattle.zarr_array_core.specs.ChunkValues.{MakesValue, NewValueStops, with_value};
+    ghost use Rattle.zarr_array_core.specs.Outcomes.{CountsUpTo, refused_after};
+    ghost use Rattle.zarr_array_core.specs.PartWrites.{PatchesChunk};
+    ghost use Rattle.zarr_array_core.specs.Views.{document_of};
+    ghost use Rattle.zarr_array_core.specs.declared.error.ChunkError.TheVariants.{Memory};
+    ghost use Rattle.zarr_array_meaning.specs.Chunks.{holds_box};
+    ghost use Rattle.zarr_codecs_arrays.specs.Outcomes.{IsTooLarge};
+    ghost use Rattle.zarr_codecs_meaning.specs.Fits.{fits};
+    ghost use Rattle.zarr_codecs_meaning.specs.Payloads.{fixed_cells};
+    ghost use Rattle.zarr_codecs_meaning.specs.Types.{is_value};
+    ghost use Rattle.zarr_codecs_traits.specs.PartEncoding.{takes_patches};
+    ghost use Rattle.zarr_grids_boxes.specs.Boxes.{product, share_place};
+    ghost use Rattle.zarr_grids_boxes.specs.Subsets.{region_of};
+    ghost use Rattle.zarr_grids_overlay.specs.Overlays.{extent_of};
+
+    /// Whether elements may be written into a chunk's value that nobody reads: a part of the chunk
+    /// is to stay, and both the codecs and the store take such writes.
+    fn takes_part<S: WritableStorageTraits>(
+        &self,
+        store: &S,
+        write: &BoxWrite,
+        chunk: Extent,
+    ) -> bool
+        requires rank { length write.now.region.start.now ≡ length chunk.start.now }
+        ensures part { result ≡ true →
+            holds_box (extent_of write.now.region) (extent_of chunk.entry) ≡ false }
+        ensures takes { result ≡ true → takes_patches (document_of C.meaning self.now).chain
+            (document_of C.meaning self.now).elements.type ≡ true }
+    {
+        store.supports_set_partial()
+            && self
+                .codecs
+                .supports_partial_encode(self.elements.data_type())
+            && !holds_box(write.region, chunk)
+    }
+
+    /// The ranges to be written into a chunk's value so that the elements of a box are put over its
+    /// own. `None` where the value is to be written whole, as it is where those elements are all
+    /// fill and empty chunks aren't stored.
+    fn chunk_patches(
+        &self,
+        write: &BoxWrite,
+        own: &ArraySubset,
+    ) -> Result<Option<Vec<ValuePatch>>, ChunkError>
+        requires small { ¬ IsTooLarge (document_of C.meaning self.now).elements.type
+            (product own.now.shape.items) }
+        requires fit { fits (document_of C.meaning self.now).chain
+            (document_of C.meaning self.now).elements.type own.now.shape.items ≡ true }
+        requires shares { share_place own.now.start.items own.now.shape.items
+            write.now.region.start.now write.now.region.shape.now ≡ true }
+        requires rank { length write.now.region.start.now ≡ length own.now.start.items }
+        requires many { length write.now.bytes.now
+            ≡ product write.now.region.shape.now * self.now.width }
+        requires values { list_all (is_value (document_of C.meaning self.now).elements.type)
+            (fixed_cells self.now.width write.now.bytes.now) ≡ true }
+        ensures ok { IfOk result (λ found. IfSome found (λ patches.
+            PatchesChunk (document_of C.meaning self.now) (extent_of write.now.region)
+            (fixed_cells self.now.width write.now.bytes.now)
+            write.now.options.now.store_empty_chunks (region_of own.now) patches.items)) }
+        ensures err { IfErr result (λ e. e ≡ Memory) }
+    {
+        let Ok(shared) = write.subset.overlap(write.alloc, own) else {
+            return Err(ChunkError::Memory);
+        };
+        let Ok(part) = shared.relative_to(write.alloc, own.start()) else {
+            return Err(ChunkError::Memory);
+        };
+        let (start, shape) = (shared.start(), shared.shape());
+        let bytes = self.whole_cells(write, Extent { start, shape })?;
+        if !write.options.store_empty_chunks && self.is_all_fill(&bytes) {
+            return Ok(None);
+        }
+        let (given, own_shape) = (ArrayBytes::Fixed(bytes), own.shape());
+        let elements = &self.elements;
+        match self.codecs.partial_encode(
+            write.alloc,
+            given,
+            elements,
+            own_shape,
+            &part,
+            write.options,
+        ) {
+            Ok(patches) => Ok(patches),
+            Err(_) => Err(ChunkError::Memory),
+        }
+    }
+
+    /// Writes the elements of a box that lie in a chunk that has no value.
+    fn write_new<S: WritableStorageTraits>(
+        &self,
+        store: &mut S,
+        key: &StoreKey,
+        write: &BoxWrite,
+        chunk: Extent,
+    ) -> Result<(), ChunkError>
+        requires small { ¬ IsTooLarge (document_of C.meaning self.now).elements.type
+            (product chunk.shape.now) }
+        requires fit { fits (document_of C.meaning self.now).chain
+            (document_of C.meaning self.now).elements.type chunk.shape.now ≡ true }
+        requires rank { length write.now.region.start.now ≡ length chunk.start.now }
+        requires many { length write.now.bytes.now
+            ≡ product write.now.region.shape.now * self.now.width }
+        requires values { list_all (is_value (document_of C.meaning self.now).elements.type)
+            (fixed_cells self.now.width write.now.bytes.now) ≡ true }
+        requires part { holds_box (extent_of write.now.region) (extent_of chunk) ≡ false }
+        requires absent { IsTrue (S.is_honest store.old) →
+            map.get (S.held store.old) key.now ≡ None }
+        ensures ok { IsTrue (S.is_honest store.old) → OnOk result ((made : Option (List ℕ))
+            × MakesValue (document_of C.meaning self.now) (extent_of write.now.region)
+            (fixed_cells self.now.width write.now.bytes.now)
+            write.now.options.now.store_empty_chunks (extent_of chunk.entry)
+            (map.get (S.held store.old) key.now) made
+            × (S.held store.new ≡ with_value (S.held store.old) key.now made)) }
+        ensures err { IsTrue (S.is_honest store.old) → IfErr result
+            (NewValueStops (document_of C.meaning self.now) (extent_of write.now.region)
+            (fixed_cells self.now.width write.now.bytes.now)
+            write.now.options.now.store_empty_chunks (extent_of chunk.entry)
+            (map.get (S.held store.old) key.now)) }
+        ensures kept { IsTrue (S.is_honest store.old) →
+            OnErr result (S.held store.new ≡ S.held store.old) }
+        ensures honest { S.is_honest store.new ≡ S.is_honest store.old }
+        ensures refused { S.refused_calls store.new ≡
+            refused_after (S.refused_calls store.old) result }
+        ensures counts { CountsUpTo 1 (S.accepted_writes store.old)
+            (S.accepted_writes store.new) }
+    {
+        let bytes = self.part_cells(write, chunk, None)?;
+        let value = self.encode_chunk(write, chunk.shape, bytes)?;
+        put_value(store, key, value)
+    }
+
+    /// Writes the elements of a box that lie in a chunk into the chunk's value, of which nothing is
+    /// fetched. `false` where it can't be written so; then nothing has changed.
+    pub(crate) fn patch_chunk<S: WritableStorageTraits>(
+        &self,
+        store: &mut S,
+        key: &StoreKey,
+        write: &BoxWrite,
+        own: &ArraySubset,
+    ) -> Result<bool, ChunkError>
+        requires small { ¬ IsTooLarge (document_of C.meaning self.now).elements.type
+            (product own.now.shape.items) }
+        requires shares { share_place own.now.start.items own.now.shape.items
+            write.now.region.start.now write.now.region.shape.now ≡ true }
+        requires rank { length write.now.region.start.now ≡ length own.now.start.items }
+        requires many { length write.now.bytes.now
+            ≡ product write.now.region.shape.now * self.now.width }
+        requires values { list_all (is_value (document_of C.meaning self.now).elements.type)
+            (fixed_cells self.now.width write.now.bytes.now) ≡ true }
+        ensures ok { IsTrue (S.is_honest store.old) → IfOk result (λ done. done ≡ true →
+            (made : Option (List ℕ))
+            × MakesValue (document_of C.meaning self.now) (extent_of write.now.region)
+            (fixed_cells self.now.width write.now.bytes.now)
+            write.now.options.now.store_empty_chunks (region_of own.now)
+            (map.get (S.held store.old) key.now) made
+            × (S.held store.new ≡ with_value (S.held store.old) key.now made)) }
+        ensures undone { IsTrue (S.is_honest store.old) → IfOk result (λ done. done ≡ false →
+            S.held store.new ≡ S.held store.old) }
+        ensures err { IsTrue (S.is_honest store.old) → IfErr result
+            (NewValueStops (document_of C.meaning self.now) (extent_of write.now.region)
+            (fixed_cells self.now.width write.now.bytes.now)
+            write.now.options.now.store_empty_chunks (region_of own.now)
+            (map.get (S.held store.old) key.now)) }
+        ensures kept { IsTrue (S.is_honest store.old) →
+            OnErr result (S.held store.new ≡ S.held store.old) }
+        ensures honest { S.is_honest store.new ≡ S.is_honest store.old }
+        ensures refused { S.refused_calls store.new ≡
+            refused_after (S.refused_calls store.old) result }
+        ensures counts { CountsUpTo 1 (S.accepted_writes store.old)
+            (S.accepted_writes store.new) }
+        ensures uncounted { IfOk result (λ done. done ≡ false →
+            S.accepted_writes store.new ≡ S.accepted_writes store.old) }
+    {
+        let (start, shape) = (own.start(), own.shape());
+        if !self.takes_part(store, write, Extent { start, shape }) {
+            return Ok(false);
+        }
+        if !self
+            .codecs
+            .fits(write.alloc, self.elements.data_type(), shape)?
+        {
+            return Err(ChunkError::Fit);
+        }
+        let Some(patches) = self.chunk_patches(write, own)? else {
+            return Ok(false);
+        };
+        let Some(size) = size_key(store, key)? else {
+            self.write_new(store, key, write, Extent { start, shape })?;
+            return Ok(true);
+        };
+        if size != self.count_bytes(shape) as u64 {
+            return Err(ChunkError::Damage);
+        }
+        set_partial(store, key, patches.as_slice())?;
+        Ok(true)
+    }
+}

@@ -1,7 +1,0 @@
-use Rattle.std.proofs.Common.{◌≡◌, drop}
-use Rattle.std.specs.List.{list_any}
-use Rattle.zarr_array_storage.specs.Ranges.{ends_past}
-use Rattle.zarr_array_storage.proofs.byte_range.any_ends_past.Given as goal
-
-abbrev pub invariant-loop-range : goal.invariant-loop-range
-invariant-loop-range l = list_any (ends_past l.value) l.ranges ≡ list_any (ends_past l.value) (drop l.range-index l.ranges)

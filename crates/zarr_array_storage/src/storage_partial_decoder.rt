@@ -1,0 +1,107 @@
+//! The value at a key of a store, read in part.
+ghost use Rattle.std.specs.Prelude.{◌≡◌};
+ghost use Rattle.zarr_array_storage.specs.PartialDecoders.{source_error};
+
+use crate::error::StorageError;
+use crate::traits::ReadableStorageTraits;
+use std::alloc::Global;
+use zarr_codecs_arrays::CodecError;
+use zarr_codecs_traits::{ByteRange, BytesPartialDecoderTraits};
+use zarr_grids_keys::StoreKey;
+
+/// The value at a key of a store, of which codecs read the ranges that they need. Where the store
+/// refuses a call, it keeps why.
+#[derive(Drop)]
+pub struct StoragePartialDecoder<'a, S> {
+    store: &'a mut S,
+    key: &'a StoreKey,
+    refusal: Option<StorageError>,
+}
+
+impl<'a, S: ReadableStorageTraits> StoragePartialDecoder<'a, S> {
+    /// The value at a key of a store, or none where it has none.
+    pub fn new(store: &'a mut S, key: &'a StoreKey) -> Self
+        ensures same_reference { result.store.ghost_name ≡ store.entry.ghost_name }
+        ensures store { result.store.now ≡ store.old }
+        ensures key { result.key.now ≡ key.now }
+    {
+        StoragePartialDecoder {
+            store,
+            key,
+            refusal: None,
+        }
+    }
+
+    /// Why the store refused a call, if it refused one since this was last asked.
+    pub fn take_refusal(&mut self) -> Option<StorageError>
+        ensures same_reference { self.new.store.ghost_name ≡ self.old.store.ghost_name }
+        ensures store { self.new.store.now ≡ self.old.store.now }
+        ensures key { self.new.key.now ≡ self.old.key.now }
+    {
+        self.refusal.take()
+    }
+}
+
+/// Why a source isn't read where a store refuses.
+fn of_storage(error: &StorageError) -> CodecError
+    ensures { result ≡ source_error error.now }
+{
+    match error {
+        StorageError::Memory => CodecError::Memory,
+        StorageError::InvalidByteRange => CodecError::Damage,
+        _ => CodecError::Source,
+    }
+}
+
+impl<'a, S: ReadableStorageTraits> BytesPartialDecoderTraits for StoragePartialDecoder<'a, S> {
+    ghost use Rattle.std.specs.Prelude.{◌≡◌, refl};
+    ghost use Rattle.std.proofs.Common.{ap, ◌∙◌};
+    ghost use Rattle.std.specs.FinMap.{get};
+
+    ghost contents = { λ d. get (S.held d.store.now) d.key.now };
+
+    ghost is_honest = { λ d. S.is_honest d.store.now };
+
+    ghost refused_calls = { λ d. S.refused_calls d.store.now };
+
+    ghost follows = { λ a b. (a.store.ghost_name ≡ b.store.ghost_name)
+        × (a.key.now ≡ b.key.now) × (S.held a.store.now ≡ S.held b.store.now)
+        × (S.is_honest a.store.now ≡ S.is_honest b.store.now)
+        × (S.accepted_writes a.store.now ≡ S.accepted_writes b.store.now) };
+
+    #[tactic(auto, using(crate::proofs::PartialDecoderLemmas::source_counts, crate::proofs::PartialDecoderLemmas::source_refused))]
+    fn size(&mut self) -> Result<Option<u64>, CodecError> {
+        match self.store.size_key(self.key) {
+            Ok(size) => Ok(size),
+            Err(error) => {
+                let cause = of_storage(&error);
+                self.refusal = Some(error);
+                Err(cause)
+            }
+        }
+    }
+
+    #[tactic(auto, using(crate::proofs::PartialDecoderLemmas::source_counts, crate::proofs::PartialDecoderLemmas::ranges_refused))]
+    fn partial_decode(
+        &mut self,
+        alloc: Global,
+        ranges: &[ByteRange],
+    ) -> Result<Option<Vec<Vec<u8>>>, CodecError> {
+        match self.store.get_partial(self.key, ranges) {
+            Ok(found) => Ok(found),
+            Err(error) => {
+                let cause = of_storage(&error);
+                self.refusal = Some(error);
+                Err(cause)
+            }
+        }
+    }
+
+    ghost same = { λ a b f. ap (λ held. get held a.key.now) f.2 ∙ ap (get (S.held b.store.now)) f.1 };
+
+    ghost honest = { λ _ _ f. f.3 };
+
+    ghost stays = { λ _. (refl, refl, refl, refl, refl) };
+
+    ghost goes_on = { λ _ _ _ f h. (f.0 ∙ h.0, f.1 ∙ h.1, f.2 ∙ h.2, f.3 ∙ h.3, f.4 ∙ h.4) };
+}

@@ -1,0 +1,21 @@
+-- The codec `x-reverse`, which reverses bytes.
+use Rattle.std.specs.Prelude.{◌≡◌, reverse, Option, Some, None, codes, bytes_eq, if◌then◌else◌}
+use Rattle.zarr_grids_metadata.specs.ExtensionPoints.{ExtensionPoint, named}
+use Rattle.zarr_codecs_meaning.specs.Chains.{ByteCodec}
+use Rattle.zarr_codecs_meaning.specs.Laws.{IsLawful}
+
+-- the codec that reverses bytes, and undoes that by the same
+abbrev pub reversing : ByteCodec
+reversing = record { encode = λ bytes. Some (reverse bytes); decode = λ bytes. Some (reverse bytes); representation = λ known. known }
+
+-- the metadata of the codec: its name alone
+abbrev pub reversing_point : ExtensionPoint
+reversing_point = named (codes "x-reverse")
+
+-- the codec with this metadata, of which the name alone decides
+abbrev pub reads_reversing : ExtensionPoint → Option ByteCodec
+reads_reversing point = if bytes_eq point.name (codes "x-reverse") then Some reversing else None
+
+-- each codec that metadata says so is lawful
+abbrev pub ReadsLawful : Type 0
+ReadsLawful = (point : ExtensionPoint) (codec : ByteCodec) → reads_reversing point ≡ Some codec → IsLawful codec

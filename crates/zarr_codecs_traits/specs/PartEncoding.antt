@@ -1,0 +1,65 @@
+-- What is written into a value where some elements of its array are replaced.
+use Rattle.std.specs.Prelude.{◌≡◌, ℕ, ◌*◌, List, [], map, length, get_or, Option, Some, None, Result, Ok, Err, Vec, Bool, true, false, ◌&&◌, if◌then◌else◌, IsTrue}
+use Rattle.std.specs.declared.alloc.Global.{Global}
+use Rattle.zarr_grids_boxes.specs.Boxes.{Region, product, ravel, is_in_box}
+use Rattle.zarr_grids_boxes.specs.Walks.{number_in}
+use Rattle.zarr_codecs_meaning.specs.Chains.{Chain}
+use Rattle.zarr_codecs_meaning.specs.Chains.Chain.{bytes, packbits, vlen, optional, after_array_codec, then_bytes, sharded}
+use Rattle.zarr_codecs_meaning.specs.Decoding.{decoded}
+use Rattle.zarr_codecs_meaning.specs.Encoding.{encoded}
+use Rattle.zarr_codecs_meaning.specs.Fits.{fits, is_lossless}
+use Rattle.zarr_codecs_meaning.specs.Payloads.{Payload}
+use Rattle.zarr_codecs_meaning.specs.Places.{places_of}
+use Rattle.zarr_codecs_meaning.specs.Standing.{Stands}
+use Rattle.zarr_codecs_meaning.specs.Types.{DataType, Cell, Elements, components, bytes_in, are_bytes}
+use Rattle.zarr_codecs_arrays.specs.Outcomes.{IsTooLarge, IsInvalid, IsValid}
+use Rattle.zarr_codecs_arrays.specs.Values.{takes_all_bytes}
+use Rattle.zarr_codecs_arrays.specs.declared.error.CodecError.{CodecError}
+use Rattle.zarr_codecs_arrays.specs.declared.error.CodecError.TheVariants as error
+use Rattle.zarr_codecs_traits.specs.Outcomes.{lies_in}
+use Rattle.zarr_codecs_traits.specs.Patches.{patched, any_too_far}
+use Rattle.zarr_codecs_traits.specs.declared.value_patch.ValuePatch.{ValuePatch}
+
+-- whether some elements can be replaced in a value that nobody reads: the chain is `bytes` alone, it suits the type, and any bytes of the right number are elements
+abbrev pub takes_patches : Chain → DataType → Bool
+takes_patches (bytes order) type = fits (bytes order) type [] && takes_all_bytes type
+takes_patches (packbits padding first last) type = false
+takes_patches (vlen index «data» width location) type = false
+takes_patches (optional mask values) type = false
+takes_patches (after_array_codec codec chain) type = false
+takes_patches (then_bytes chain codec) type = false
+takes_patches (sharded subchunk inner index location) type = false
+
+-- bytes are then decoded exactly where they are as many as the array's elements have
+pub record DecodesBySize (chain : Chain) (elements : Elements) (shape value : List ℕ) : Type 0 where
+  pub fit : fits chain elements.type shape ≡ true
+  pub sized : length value ≡ product shape * bytes_in (components elements.type) → (cells : List Cell) × (decoded chain elements shape value ≡ Some cells)
+  pub only : (cells : List Cell) → decoded chain elements shape value ≡ Some cells → length value ≡ product shape * bytes_in (components elements.type)
+
+-- where some elements can be replaced in a value that nobody reads, each value of the right size is one of the array's
+abbrev pub PatchedDecode : Type 0
+PatchedDecode = (chain : Chain) (elements : Elements) (shape value : List ℕ) → takes_patches chain elements.type ≡ true → are_bytes value ≡ true → DecodesBySize chain elements shape value
+
+-- the cells of an array after those of a box were replaced by new ones, row-major
+abbrev pub cells_with_box : List ℕ → Cell → Region → List Cell → List Cell → List Cell
+cells_with_box shape other region given before =
+    map (λ place. if is_in_box region.start region.shape place then get_or given (number_in region place) other else get_or before (ravel place shape) other) (places_of shape)
+
+-- ranges to be written into a value: it is then one of the elements of the array after those of a box were replaced
+pub record IsEncodedPart (chain : Chain) (exact : Bool) (elements : Elements) (shape : List ℕ) (region : Region) (payload : Payload) (cells : List Cell) (patches : List ValuePatch) : Type 0 where
+  pub valid : IsValid elements.type payload (product region.shape) cells
+  pub fit : fits chain elements.type shape ≡ true
+  pub inside : lies_in shape region ≡ true
+  pub near : any_too_far patches ≡ false
+  pub encodes : IsTrue exact → (value : List ℕ) (before : List Cell) → decoded chain elements shape value ≡ Some before → encoded chain elements shape (cells_with_box shape elements.fill region cells before) ≡ Some (patched value patches)
+  pub stands : is_lossless chain elements.type ≡ true → (value : List ℕ) (before : List Cell) → decoded chain elements shape value ≡ Some before → Stands chain elements shape (patched value patches) (cells_with_box shape elements.fill region cells before)
+
+-- the ranges to be written where the elements at the places of a box are replaced, or that the value is better written whole, or why there are none
+abbrev pub EncodesPart : Chain → Bool → Elements → List ℕ → Region → Payload → Result (Option (Vec ValuePatch Global)) CodecError → Type 0
+EncodesPart chain exact elements shape region payload (Ok (Some patches)) = (cells : List Cell) × IsEncodedPart chain exact elements shape region payload cells patches.items
+EncodesPart chain exact elements shape region payload (Ok None) = Unit {0}
+EncodesPart chain exact elements shape region payload (Err error.Fit) = fits chain elements.type shape ≡ false
+EncodesPart chain exact elements shape region payload (Err error.IncompatibleIndexer) = lies_in shape region ≡ false
+EncodesPart chain exact elements shape region payload (Err error.Size) = IsTooLarge elements.type (product shape)
+EncodesPart chain exact elements shape region payload (Err error.Memory) = Unit {0}
+EncodesPart chain exact elements shape region payload (Err e) = (fits chain elements.type shape ≡ true) × IsInvalid elements.type payload (product region.shape) e

@@ -1,0 +1,29 @@
+-- Ranges of the bytes of a value, to be written.
+use Rattle.std.specs.Prelude.{ℕ, ◌+◌, ◌-◌, ◌^◌, List, [], ◌∷◌, ◌++◌, length, take, drop, replicate, Bool, nat_lt}
+use Rattle.std.specs.List.{list_any}
+use Rattle.zarr_codecs_traits.specs.declared.value_patch.ValuePatch.{ValuePatch}
+
+-- a value, with zeros put to its end until it has n bytes
+abbrev pub extended : List ℕ → ℕ → List ℕ
+extended value n = value ++ replicate (n - length value) 0
+
+-- a value with other bytes from an offset on
+abbrev pub overwritten : List ℕ → ℕ → List ℕ → List ℕ
+overwritten value offset bytes = take offset value ++ bytes ++ drop (offset + length bytes) value
+
+-- a value with bytes written from an offset on, and zeros in the gap before them
+abbrev pub written_at : List ℕ → ℕ → List ℕ → List ℕ
+written_at value offset bytes = overwritten (extended value (offset + length bytes)) offset bytes
+
+-- a value with several ranges written, one after another
+abbrev pub patched : List ℕ → List ValuePatch → List ℕ
+patched value [] = value
+patched value (patch ∷ rest) = patched (written_at value patch.offset patch.bytes.items) rest
+
+-- whether a range to write ends past 2^63 - 1 bytes, where the longest value ends
+abbrev pub is_too_far : ValuePatch → Bool
+is_too_far patch = nat_lt (2 ^ 63 - 1) (patch.offset + length patch.bytes.items)
+
+-- whether one of the ranges to write ends past 2^63 - 1 bytes
+abbrev pub any_too_far : List ValuePatch → Bool
+any_too_far patches = list_any is_too_far patches

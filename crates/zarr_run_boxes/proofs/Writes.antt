@@ -1,0 +1,202 @@
+-- Boxes that commands write: what they give, and why a write is refused.
+use Rattle.std.proofs.Common.{◌≡◌, ◌∙◌, ℕ, ◌<◌, ◌^◌, ◌==◌, Bool, true, false, cond, List, [], ◌∷◌, length, Option, Some, None, option_and_then, refl, sym, ap, subst, arith, inl, inr, ◌⊎◌}
+use Rattle.std.specs.Prelude.{Result, Ok, Err, IfErr}
+use Rattle.std.specs.Option.{option_map_or}
+use Rattle.std.specs.List.{filter}
+use Rattle.std.proofs.lemmas.Bool.{false≢true, eq-eqb}
+use Rattle.std.proofs.Math.Nat.{div-le_self}
+use Rattle.serde_json.specs.Data.{Data, Items, item}
+use Rattle.serde_json.specs.Find.{as_array}
+use Rattle.serde_json.specs.View.{view, items_view}
+use Rattle.serde_json.specs.declared.value.Value.{Value}
+use Rattle.zarr_grids_boxes.specs.Boxes.{Region, product, share_place}
+use Rattle.zarr_grids_chunks.specs.Grids.{Grid, chunk_box, chunk_indices, intersects, intersecting}
+use Rattle.zarr_codecs_meaning.specs.Types.{DataType, bool, integer, custom, string, variable_bytes, optional_of, byte_width, Cell}
+use Rattle.zarr_codecs_meaning.specs.Payloads.{Payload, fixed, fixed_cells, fixed_in, cells_in, values_in, values_only}
+use Rattle.zarr_codecs_meaning.proofs.Lists.{some_same, bind_some, if_some}
+use Rattle.zarr_codecs_options.specs.declared.codec_options.CodecOptions.{CodecOptions}
+use Rattle.zarr_codecs_types.specs.Given.{GivenCells, given_bytes, given_json, given_in, elements_in}
+use Rattle.zarr_codecs_types.specs.Parts.{single_component}
+use Rattle.zarr_codecs_arrays.specs.Views.{payload_of}
+use Rattle.zarr_codecs_arrays.specs.declared.array_bytes.ArrayBytes.{ArrayBytes, Fixed, Variable, Optional'}
+use Rattle.zarr_codecs_arrays.proofs.FixedCells.{length-fixed_cells}
+use Rattle.zarr_array_core.proofs.ChunksWritten.{wrote_none}
+use Rattle.zarr_array_core.specs.Outcomes.{IsSmall, ChunkStops, WriteStops}
+use Rattle.zarr_array_core.specs.declared.error.ChunkError.{ChunkError}
+use Rattle.zarr_array_core.specs.declared.error.ChunkError.TheVariants as error
+use Rattle.zarr_array_core.specs.declared.error.ManyError.{ManyError}
+use Rattle.zarr_array_meaning.specs.Documents.{Document}
+use Rattle.zarr_array_meaning.specs.StoreMaps.{StoreMap}
+use Rattle.zarr_array_meaning.specs.Writing.{WroteChunks}
+use Rattle.zarr_run_meaning.specs.Causes.{IsTarget, Gives, WriteRefuses, ChunkRefuses}
+use Rattle.zarr_run_meaning.specs.Requests.{Target}
+use Rattle.zarr_run_meaning.specs.declared.cause.Cause.{Cause}
+use Rattle.zarr_run_meaning.specs.declared.cause.Cause.TheVariants as cause
+use Rattle.zarr_run_boxes.specs.Outcomes.{AreValuesOf, CoveredWriteRefuses, CoveredWriteRefused, WriteRefused, WritesCovered, cause_of}
+use Rattle.zarr_run_boxes.specs.declared.refusal.Refusal.{Refusal}
+use Rattle.zarr_run_boxes.proofs.Boxes.{shares_none, small_fits, fits_empty}
+
+-- ---- how many values there are
+
+-- the values that a payload is are its elements
+cells_of_values : (type : DataType) (payload : Payload) (values : List Cell) → values_in type payload ≡ Some values → cells_in type payload ≡ Some values
+cells_of_values type payload values h =
+    let found = bind_some (values_only type) (cells_in type payload) values h in
+    found.1 ∙ (if_some _ (Some found.0) values found.2).1
+
+-- bytes of one width are fewer elements than a vector holds
+few_fixed : (width : ℕ) (bytes : List ℕ) (cells : List Cell) → length bytes < 2 ^ 63 → fixed_in width bytes ≡ Some cells → length cells < 2 ^ 63
+few_fixed width bytes cells few h =
+    let same = some_same (if_some _ (Some (fixed_cells width bytes)) cells h).1 in
+    let count = ap (λ (cs : List Cell). length cs) (sym same) ∙ length-fixed_cells width bytes in
+    let less = div-le_self (length bytes) width in
+    omega arith
+
+few_of_bytes : (type : DataType) (width : ℕ) (bytes : List ℕ) (cells : List Cell) → byte_width type ≡ Some width → length bytes < 2 ^ 63 → cells_in type (fixed bytes) ≡ Some cells → length cells < 2 ^ 63
+few_of_bytes type width bytes cells sized few h = few_fixed width bytes cells few (subst (λ o. option_and_then (λ w. fixed_in w bytes) o ≡ Some cells) sized h)
+
+-- elements of one width are fewer than 2^63
+few_cells : (type : DataType) (width : ℕ) (elements : ArrayBytes) (cells : List Cell) → byte_width type ≡ Some width → cells_in type (payload_of elements) ≡ Some cells → length cells < 2 ^ 63
+few_cells type width (Fixed bytes) cells sized h =
+    let ok = bytes.ok in
+    let small = bytes.small in
+    few_of_bytes type width bytes.items cells sized (omega arith) h
+few_cells bool width (Variable bytes offsets) cells sized h = cc
+few_cells (integer sign bits) width (Variable bytes offsets) cells sized h = cc
+few_cells (custom parts) width (Variable bytes offsets) cells sized h = cc
+few_cells string width (Variable bytes offsets) cells sized h = cc
+few_cells variable_bytes width (Variable bytes offsets) cells sized h = cc
+few_cells (optional_of inner) width (Variable bytes offsets) cells sized h = cc
+few_cells bool width (Optional' p inner mask) cells sized h = cc
+few_cells (integer sign bits) width (Optional' p inner mask) cells sized h = cc
+few_cells (custom parts) width (Optional' p inner mask) cells sized h = cc
+few_cells string width (Optional' p inner mask) cells sized h = cc
+few_cells variable_bytes width (Optional' p inner mask) cells sized h = cc
+few_cells (optional_of of_type) width (Optional' p inner mask) cells sized h = cc
+
+-- so no elements are the values of a box with 2^63 places or more
+pub none_so_many : (document : Document) (region : Region) (width : ℕ) (elements : ArrayBytes) (values : List Cell) → byte_width document.elements.type ≡ Some width → (product region.shape < 2 ^ 63 → ⊥)
+    → AreValuesOf document region (payload_of elements) values → ⊥
+none_so_many document region width elements values sized many are =
+    let few = few_cells document.elements.type width elements values sized (cells_of_values document.elements.type (payload_of elements) values are.lists) in
+    many (subst (λ n. n < 2 ^ 63) are.many few)
+
+-- ---- JSON values
+
+-- a value says no element of a type of fixed size that has other elements than one number
+none_said : (type : DataType) (width : ℕ) (d : Data) (ds : Items) → byte_width type ≡ Some width → single_component type ≡ None → elements_in type (item d ds) ≡ None
+none_said bool width d ds sized other = cc
+none_said (integer sign bits) width d ds sized other = cc
+none_said (custom parts) width d ds sized other = refl
+none_said string width d ds sized other = cc
+none_said variable_bytes width d ds sized other = cc
+none_said (optional_of inner) width d ds sized other = cc
+
+none_said_in : (type : DataType) (width : ℕ) (values : List Value) → byte_width type ≡ Some width → single_component type ≡ None → (length values ≡ 0 → ⊥) → elements_in type (items_view values) ≡ None
+none_said_in type width [] sized other some = absurd (some refl)
+none_said_in type width (value ∷ values) sized other some = none_said type width (view value) (items_view values) sized other
+
+-- so a list of some values gives none
+pub none_given : (type : DataType) (width : ℕ) (d : Data) (values : List Value) (count : ℕ) → byte_width type ≡ Some width → single_component type ≡ None → Some (items_view values) ≡ as_array d → count ≡ length values → false ≡ (count == 0)
+    → given_in type (given_json d) ≡ None
+none_given type width d values count sized other is many some =
+    ap (λ o. option_and_then (values_only type) (option_and_then (elements_in type) o)) (sym is)
+    ∙ ap (option_and_then (values_only type)) (none_said_in type width values sized other (λ z. false≢true (some ∙ eq-eqb count 0 (many ∙ z))))
+
+-- ---- boxes with no place
+
+none_kept : {X : Type 0} (test : X → Bool) (xs : List X) → ((x : X) → test x ≡ false) → filter test xs ≡ []
+none_kept test [] h = refl
+none_kept test (x ∷ xs) h = ap (λ b. cond b (x ∷ filter test xs) (filter test xs)) (h x) ∙ none_kept test xs h
+
+no_true : (b : Bool) → (b ≡ true → ⊥) → b ≡ false
+no_true true h = absurd (h refl)
+no_true false h = refl
+
+-- an empty box intersects no chunk
+none_intersecting : (grid : Grid) (region : Region) → product region.shape ≡ 0 → intersecting grid region ≡ []
+none_intersecting grid region z = none_kept (intersects grid region) (chunk_indices grid) (λ chunk. at_box (chunk_box grid chunk)) where
+  at_box : (o : Option Region) → option_map_or (λ (box : Region). share_place box.start box.shape region.start region.shape) o false ≡ false
+  at_box None = refl
+  at_box (Some box) = no_true (share_place box.start box.shape region.start region.shape) (shares_none region box z)
+
+pub writes_empty : (path : List ℕ) (document : Document) (region : Region) (payload : Payload) (options : CodecOptions) (store : StoreMap) (values : List Cell) → product region.shape ≡ 0 → AreValuesOf document region payload values
+    → WritesCovered path document region (given_bytes payload) options store store
+writes_empty path document region payload options store values z are = record {
+  values = values;
+  gives = (are.lists, are.many);
+  small = fits_empty document region z;
+  wrote = subst (λ (chunks : List (List ℕ)). WroteChunks path document region values options chunks store store) (sym (none_intersecting document.grid region z)) (wrote_none path document region values options store);
+}
+
+-- ---- writes that stop at a chunk
+
+chunk_refuses : (path : List ℕ) (document : Document) (store : StoreMap) (region : Region) (values : List Cell) (options : CodecOptions) (chunk : List ℕ) (box : Region) (e : ChunkError)
+    → ChunkStops path document store region values options chunk box e → ChunkRefuses path document store region values options chunk box (cause_of e)
+chunk_refuses path document store region values options chunk box error.Fit stops = stops
+chunk_refuses path document store region values options chunk box (error.Storage e) stops = stops
+chunk_refuses path document store region values options chunk box error.Damage stops = stops
+chunk_refuses path document store region values options chunk box error.Codec stops = stops
+chunk_refuses path document store region values options chunk box error.Size stops = stops
+chunk_refuses path document store region values options chunk box error.Memory stops = stops
+
+pub stopped_covered : (path : List ℕ) (document : Document) (region : Region) (payload : Payload) (options : CodecOptions) (old new : StoreMap) (stopped : ManyError) (refusal : Refusal) (values : List Cell)
+    → AreValuesOf document region payload values → IsSmall document region → WriteStops path document region payload options old new stopped → refusal ≡ record { cause = cause_of stopped.error; applied = stopped.applied }
+    → CoveredWriteRefused path document region (given_bytes payload) options old new refusal
+stopped_covered path document region payload options old new stopped refusal values are small stops is =
+    let same : values ≡ stops.cells = some_same (sym (cells_of_values document.elements.type payload values are.lists) ∙ stops.lists) in
+    let here = subst (λ (vs : List Cell). AreValuesOf document region payload vs) same are in
+    subst (λ (r : Refusal). CoveredWriteRefused path document region (given_bytes payload) options old new r) (sym is) (inr (record {
+      values = stops.cells;
+      gives = (here.lists, here.many);
+      small = λ large. small_fits document region small large;
+      stops = record {
+        chunk = stops.chunk;
+        box = stops.box;
+        met = stops.met;
+        refuses = chunk_refuses path document old region stops.cells options stops.chunk stops.box stopped.error stops.stops;
+      };
+      wrote = stops.wrote;
+    }))
+
+-- ---- what is given, said in another way
+
+gives_same : (document : Document) (region : Region) (a b : GivenCells) (values : List Cell) → given_in document.elements.type a ≡ given_in document.elements.type b → Gives document region a values → Gives document region b values
+gives_same document region a b values same gives = (sym same ∙ gives.0, gives.1)
+
+refuses_same : (document : Document) (region : Region) (a b : GivenCells) (c : Cause) → given_in document.elements.type a ≡ given_in document.elements.type b → CoveredWriteRefuses document region a c → CoveredWriteRefuses document region b c
+refuses_same document region a b cause.Data same why = λ values gives. why values (gives_same document region b a values (sym same) gives)
+refuses_same document region a b cause.Size same why = (why.0, gives_same document region a b why.0 same why.1, why.2)
+refuses_same document region a b cause.Memory same why = why
+refuses_same document region a b _ same why = why
+
+covered_same : (path : List ℕ) (document : Document) (region : Region) (a b : GivenCells) (options : CodecOptions) (old new : StoreMap) (refusal : Refusal) → given_in document.elements.type a ≡ given_in document.elements.type b
+    → CoveredWriteRefused path document region a options old new refusal → CoveredWriteRefused path document region b options old new refusal
+covered_same path document region a b options old new refusal same (inl (untouched, why)) = inl (untouched, refuses_same document region a b refusal.cause same why)
+covered_same path document region a b options old new refusal same (inr first) =
+    inr (record { values = first.values; gives = gives_same document region a b first.values same first.gives; small = first.small; stops = first.stops; wrote = first.wrote })
+
+pub refused_same : {A : Type 0} (path : List ℕ) (document : Document) (region : Region) (a b : GivenCells) (options : CodecOptions) (old new : StoreMap) (result : Result A Refusal) → given_in document.elements.type a ≡ given_in document.elements.type b
+    → IfErr result (CoveredWriteRefused path document region a options old new) → IfErr result (CoveredWriteRefused path document region b options old new)
+refused_same path document region a b options old new (Ok value) same why = tt
+refused_same path document region a b options old new (Err refusal) same why = covered_same path document region a b options old new refusal same why
+
+-- ---- targets
+
+refuses_target : (document : Document) (target : Target) (box : Region) (given : GivenCells) (c : Cause) → IsTarget document.grid target box → CoveredWriteRefuses document box given c → WriteRefuses document target given c ⊎ (c ≡ cause.Memory)
+refuses_target document target box given cause.Data is why = inl (box, is, why)
+refuses_target document target box given cause.Size is why = inl (box, why.0, record { is = is; gives = why.1 }, why.2)
+refuses_target document target box given cause.Memory is why = inr refl
+refuses_target document target box given _ is why = absurd why
+
+target_refused : (path : List ℕ) (document : Document) (target : Target) (box : Region) (given : GivenCells) (options : CodecOptions) (old new : StoreMap) (refusal : Refusal) → IsTarget document.grid target box
+    → CoveredWriteRefused path document box given options old new refusal → WriteRefused path document target given options old new refusal
+target_refused path document target box given options old new refusal is (inl (untouched, why)) = inl (untouched, refuses_target document target box given refusal.cause is why)
+target_refused path document target box given options old new refusal is (inr first) =
+    inr (record { box = box; values = first.values; is = record { is = is; gives = first.gives }; small = first.small; stops = first.stops; wrote = first.wrote })
+
+-- why a covered box is not written is why the target with that box is not
+pub refused_target : {A : Type 0} (path : List ℕ) (document : Document) (target : Target) (box : Region) (given : GivenCells) (options : CodecOptions) (old new : StoreMap) (result : Result A Refusal) → IsTarget document.grid target box
+    → IfErr result (CoveredWriteRefused path document box given options old new) → IfErr result (WriteRefused path document target given options old new)
+refused_target path document target box given options old new (Ok value) is why = tt
+refused_target path document target box given options old new (Err refusal) is why = target_refused path document target box given options old new refusal is why

@@ -1,0 +1,151 @@
+//! Covered boxes that are written.
+ghost use Rattle.std.specs.Prelude.{◌≡◌, List, IsTrue, IfOk, OnOk, IfErr};
+ghost use Rattle.serde_json.specs.View.{view};
+ghost use Rattle.zarr_grids_boxes.specs.Boxes.{product};
+ghost use Rattle.zarr_grids_boxes.specs.Subsets.{region_of};
+ghost use Rattle.zarr_grids_chunks.specs.Grids.{IsCovered};
+ghost use Rattle.zarr_codecs_arrays.specs.Views.{payload_of};
+ghost use Rattle.zarr_codecs_meaning.specs.Payloads.{values_in};
+ghost use Rattle.zarr_codecs_meaning.specs.Types.{Cell};
+ghost use Rattle.zarr_codecs_types.specs.Given.{given_bytes, given_in, given_json};
+ghost use Rattle.zarr_array_core.specs.Views.{document_of, path_of};
+ghost use Rattle.zarr_run_boxes.specs.Outcomes.{AreValuesOf, CoveredWriteRefused, ElementsRefused, JsonRefused, WritesCovered, refused_by};
+ghost use Rattle.zarr_run_commands.specs.Commands.{given};
+
+use crate::refusal::Refusal;
+use crate::targets::small_chunks_intersecting;
+use serde_json::Value;
+use std::alloc::Global;
+use zarr_array_core::ArrayCore;
+use zarr_array_storage::WritableStorageTraits;
+use zarr_codecs_arrays::ArrayBytes;
+use zarr_codecs_json::{GivenElements, elements_in};
+use zarr_codecs_options::CodecOptions;
+use zarr_codecs_traits::ArrayToBytesCodecTraits;
+use zarr_grids_boxes::ArraySubset;
+use zarr_grids_boxes::walk::count_places;
+use zarr_run_commands::CommandCells;
+use zarr_run_meaning::Cause;
+
+/// Writes the cells of a covered region, row-major.
+pub(crate) fn write_covered<C: ArrayToBytesCodecTraits, S: WritableStorageTraits>(
+    alloc: Global,
+    array: &ArrayCore<C>,
+    store: &mut S,
+    region: &ArraySubset,
+    cells: &CommandCells,
+    options: &CodecOptions,
+) -> Result<(), Refusal>
+    requires { IsCovered (document_of C.meaning array.now).grid (region_of region.now) }
+    ensures ok { IsTrue (S.is_honest store.old) → OnOk result
+        (WritesCovered (path_of array.now) (document_of C.meaning array.now)
+        (region_of region.now) (given cells.now) options.now
+        (S.held store.old) (S.held store.new)) }
+    ensures err { IsTrue (S.is_honest store.old) → IfErr result
+        (CoveredWriteRefused (path_of array.now) (document_of C.meaning array.now)
+        (region_of region.now) (given cells.now) options.now
+        (S.held store.old) (S.held store.new)) }
+    ensures honest { S.is_honest store.new ≡ S.is_honest store.old }
+    ensures refused { S.refused_calls store.new ≡ refused_by (S.refused_calls store.old) result }
+{
+    match cells {
+        CommandCells::Bytes(bytes) => write_elements(alloc, array, store, region, bytes, options),
+        CommandCells::Json(value) => match json_elements(alloc, array, value) {
+            Ok(bytes) => write_elements(alloc, array, store, region, &bytes, options),
+            Err(cause) => Err(Refusal::whole(cause)),
+        },
+    }
+}
+
+/// The elements of the array's data type that a JSON list says: `Data` where it is no list, or one
+/// of its values says no element. A type without a JSON form takes only the empty list.
+fn json_elements<C: ArrayToBytesCodecTraits>(
+    alloc: Global,
+    array: &ArrayCore<C>,
+    value: &Value,
+) -> Result<ArrayBytes, Cause>
+    ensures ok { IfOk result (λ bytes.
+        given_in (document_of C.meaning array.now).elements.type (given_json (view value.now))
+        ≡ values_in (document_of C.meaning array.now).elements.type (payload_of bytes)) }
+    ensures err { IfErr result (JsonRefused
+        (document_of C.meaning array.now).elements.type (view value.now)) }
+{
+    let Some(values) = value.as_array() else {
+        return Err(Cause::Data);
+    };
+    match elements_in(alloc, array.elements().data_type(), values.as_slice()) {
+        Ok(GivenElements::Elements(elements)) => Ok(elements),
+        Ok(GivenElements::NotOfType) => Err(Cause::Data),
+        Ok(GivenElements::Unsupported) => {
+            if values.is_empty() {
+                Ok(ArrayBytes::Fixed(Vec::new(alloc)))
+            } else {
+                Err(Cause::Data)
+            }
+        }
+        Err(_) => Err(Cause::Memory),
+    }
+}
+
+/// How many places a region has, where elements are as many values of the array's data type. `Data`
+/// where they aren't.
+fn count_values<C: ArrayToBytesCodecTraits>(
+    array: &ArrayCore<C>,
+    region: &ArraySubset,
+    elements: &ArrayBytes,
+) -> Result<u64, Cause>
+    ensures count { IfOk result (λ count. count ≡ product region.now.shape.items) }
+    ensures values { OnOk result ((values : List Cell)
+        × AreValuesOf (document_of C.meaning array.now) (region_of region.now)
+        (payload_of elements.now) values) }
+    ensures err { IfErr result (ElementsRefused (document_of C.meaning array.now)
+        (region_of region.now) (payload_of elements.now)) }
+{
+    let data_type = array.elements().data_type();
+    let Some(given) = elements.num_elements(data_type) else {
+        return Err(Cause::Data);
+    };
+    let Some(count) = count_places(&region.shape) else {
+        return Err(Cause::Data);
+    };
+    if given as u64 != count || elements.validate(data_type, count).is_err() {
+        return Err(Cause::Data);
+    }
+    Ok(count)
+}
+
+/// Writes elements to a covered region, row-major.
+fn write_elements<C: ArrayToBytesCodecTraits, S: WritableStorageTraits>(
+    alloc: Global,
+    array: &ArrayCore<C>,
+    store: &mut S,
+    region: &ArraySubset,
+    elements: &ArrayBytes,
+    options: &CodecOptions,
+) -> Result<(), Refusal>
+    requires { IsCovered (document_of C.meaning array.now).grid (region_of region.now) }
+    ensures ok { IsTrue (S.is_honest store.old) → OnOk result
+        (WritesCovered (path_of array.now) (document_of C.meaning array.now)
+        (region_of region.now) (given_bytes (payload_of elements.now)) options.now
+        (S.held store.old) (S.held store.new)) }
+    ensures err { IsTrue (S.is_honest store.old) → IfErr result
+        (CoveredWriteRefused (path_of array.now) (document_of C.meaning array.now)
+        (region_of region.now) (given_bytes (payload_of elements.now)) options.now
+        (S.held store.old) (S.held store.new)) }
+    ensures honest { S.is_honest store.new ≡ S.is_honest store.old }
+    ensures refused { S.refused_calls store.new ≡ refused_by (S.refused_calls store.old) result }
+{
+    let count = match count_values(array, region, elements) {
+        Ok(0) => return Ok(()),
+        Ok(count) => count,
+        Err(cause) => return Err(Refusal::whole(cause)),
+    };
+    let chunks = match small_chunks_intersecting(alloc, array, region, count) {
+        Ok(chunks) => chunks,
+        Err(cause) => return Err(Refusal::whole(cause)),
+    };
+    match array.write_region(alloc, store, region, &chunks, elements, options) {
+        Ok(()) => Ok(()),
+        Err(stopped) => Err(Refusal::at_chunk(&stopped)),
+    }
+}

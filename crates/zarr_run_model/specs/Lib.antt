@@ -1,6 +1,0 @@
-pub mod Changes
-pub mod Tables
-pub mod Requests
-pub mod Worlds
-pub mod Steps
-pub mod Runs

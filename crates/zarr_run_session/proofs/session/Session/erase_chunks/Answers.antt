@@ -1,0 +1,25 @@
+use Rattle.zarr_grids_boxes.specs.Subsets.{region_of}
+use Rattle.zarr_run_commands.specs.Commands.{answered}
+use Rattle.zarr_run_session.proofs.EraseSteps.{erase_steps}
+use Rattle.zarr_run_session.proofs.Refusals.{erase_not_found}
+use Rattle.zarr_run_session.proofs.session.Session.erase_chunks.Goals as goal
+
+-- no array is held at the path
+pub returns-in-Err-clause-steps : goal.returns-in-Err-clause-steps
+returns-in-Err-clause-steps g c = λ honest.
+    let store = c.args.self.now.store in
+    let readable = g.S.ReadableStorageTraits in
+    let codec = g.B.BytesToBytesCodecTraits in
+    erase_not_found g.row.B.Denot codec.meaning codec.reads c.args.self.now.arrays (readable.held store) (readable.refused_calls store)
+    c.args.path.now (region_of c.args.chunks.now) c.in-Err.cause c.in-Err.ensures.err
+
+-- what was answered and left for the array
+pub returns-clause-steps : goal.returns-clause-steps
+returns-clause-steps g c = λ honest.
+    let old = c.args.self.now.store in
+    let new = c.erase_chunks.new.store in
+    let readable = g.S.ReadableStorageTraits in
+    let codec = g.B.BytesToBytesCodecTraits in
+    erase_steps g.row.B.Denot codec.meaning codec.reads c.args.self.now.arrays (readable.held old) (readable.held new) (readable.refused_calls old) (readable.refused_calls new)
+    c.args.path.now (region_of c.args.chunks.now) c.in-Ok.array.now c.erase_chunks.result (answered c.reply_to_change.result)
+    c.in-Ok.ensures.ok c.erase_chunks.ensures.refused c.reply_to_change.ensures (c.erase_chunks.ensures.ok honest) (c.erase_chunks.ensures.err honest)

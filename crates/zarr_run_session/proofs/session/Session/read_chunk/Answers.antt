@@ -1,0 +1,23 @@
+use Rattle.zarr_run_meaning.specs.Requests as ask
+use Rattle.zarr_run_session.proofs.ReadSteps.{read_steps}
+use Rattle.zarr_run_session.proofs.Refusals.{read_not_found}
+use Rattle.zarr_run_session.proofs.session.Session.read_chunk.Goals as goal
+
+pub returns-in-Err-clause-steps : goal.returns-in-Err-clause-steps
+returns-in-Err-clause-steps g c = λ honest.
+    let session = c.args.self.now in
+    read_not_found g.row.B.Denot g.B.BytesToBytesCodecTraits.meaning g.B.BytesToBytesCodecTraits.reads session.arrays
+    (g.S.ReadableStorageTraits.held session.store) (g.S.ReadableStorageTraits.refused_calls session.store) c.args.path.now
+    (ask.in_chunk c.args.chunk.now) c.args.options.now c.in-Err.cause c.in-Err.ensures.err
+
+pub returns-clause-steps : goal.returns-clause-steps
+returns-clause-steps g c = λ honest.
+    let session = c.args.self.now in
+    let held = g.S.ReadableStorageTraits.held in
+    let calls = g.S.ReadableStorageTraits.refused_calls in
+    let outcome = c.read_chunk.ensures in
+    rw c.reply_to_read.ensures
+    (read_steps g.row.B.Denot g.B.BytesToBytesCodecTraits.meaning g.B.BytesToBytesCodecTraits.reads session.arrays
+    (held session.store) (held c.read_chunk.new.store) (calls session.store) (calls c.read_chunk.new.store) c.args.path.now
+    (ask.in_chunk c.args.chunk.now) c.args.options.now c.in-Ok.array.now c.in-Ok.ensures.ok tt
+    outcome.held c.read_chunk.result (outcome.ok honest) (outcome.err honest) outcome.refused)

@@ -1,0 +1,84 @@
+//! A store that isn't honest.
+ghost use Rattle.std.specs.Prelude.{◌≡◌, true, false, length};
+
+use zarr_run::{
+    ByteRange, MemoryStore, ReadableStorageTraits, StorageError, StoreKey, ValuePatch,
+    WritableStorageTraits,
+};
+
+/// A store in memory that, after some calls of `get`, gives one other value: the last of its bytes but two is 9 there, which in
+/// a document is the number of its format.
+#[derive(Drop)]
+pub(crate) struct ChangingStore {
+    pub inner: MemoryStore,
+    pub calls_before: u64,
+}
+
+/// Changes a byte of a value.
+fn change(value: &mut Vec<u8>)
+    ensures { length value.new.items ≡ length value.old.items }
+{
+    if let Some(at) = value.len().checked_sub(3) {
+        value[at] = b'9';
+    }
+}
+
+impl ReadableStorageTraits for ChangingStore {
+    ghost held = { λ s. s.inner.held };
+
+    ghost is_honest = { λ _. false };
+
+    ghost refused_calls = { λ _. 0 };
+
+    ghost given_bytes = { λ s. s.inner.given };
+
+    ghost accepted_writes = { λ s. s.inner.accepted };
+
+    fn get(&mut self, key: &StoreKey) -> Result<Option<Vec<u8>>, StorageError> {
+        let is_changed = self.calls_before == 0;
+        self.calls_before = self.calls_before.wrapping_sub(1);
+        let Some(mut value) = self.inner.get(key)? else {
+            return Ok(None);
+        };
+        if is_changed {
+            change(&mut value);
+        }
+        Ok(Some(value))
+    }
+
+    fn get_partial(
+        &mut self,
+        key: &StoreKey,
+        ranges: &[ByteRange],
+    ) -> Result<Option<Vec<Vec<u8>>>, StorageError> {
+        self.inner.get_partial(key, ranges)
+    }
+
+    fn size_key(&mut self, key: &StoreKey) -> Result<Option<u64>, StorageError> {
+        self.inner.size_key(key)
+    }
+
+    fn list(&mut self) -> Result<Vec<StoreKey>, StorageError> {
+        self.inner.list()
+    }
+}
+
+impl WritableStorageTraits for ChangingStore {
+    ghost supports_set_partial = { λ _. true };
+
+    fn supports_set_partial(&self) -> bool {
+        true
+    }
+
+    fn set(&mut self, key: &StoreKey, value: &[u8]) -> Result<(), StorageError> {
+        self.inner.set(key, value)
+    }
+
+    fn set_partial(&mut self, key: &StoreKey, patches: &[ValuePatch]) -> Result<(), StorageError> {
+        self.inner.set_partial(key, patches)
+    }
+
+    fn erase(&mut self, key: &StoreKey) -> Result<(), StorageError> {
+        self.inner.erase(key)
+    }
+}
