@@ -248,7 +248,14 @@ class ASmallCrate(unittest.TestCase):
         }
         self.assertEqual(found, wanted, ran.stdout)
         self.assertEqual(ran.returncode, 1)
-        self.assertEqual(ran.stdout.rstrip().split("\n")[-1], "3 passed, 3 failed")
+        *_, first, second, third, counts, last = ran.stdout.rstrip().split("\n")
+        failed = [name for name in wanted if wanted[name] not in ("refused", "shape")]
+        self.assertEqual(sorted([first, second, third]), sorted(f"failed: {self.line_of(ran.stdout, name)}" for name in failed))
+        self.assertEqual(counts, "refused: 2, shape: 1, PROVED: 1, does not apply: 1, does not compile: 1, not judged: 0")
+        self.assertEqual(last, "3 passed, 3 failed")
+
+    def line_of(self, said, name):
+        return next(line for line in said.split("\n") if line.startswith(f"{name}: "))
 
 
 if __name__ == "__main__":

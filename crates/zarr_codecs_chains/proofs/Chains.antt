@@ -11,6 +11,7 @@ use Rattle.zarr_codecs_meaning.specs.Payloads.{Payload}
 use Rattle.zarr_codecs_meaning.specs.Refusals.{CodecRefuses, PassesIndex}
 use Rattle.zarr_codecs_meaning.proofs.Meaning.{laws_of}
 use Rattle.zarr_codecs_meaning.proofs.Refusals.{encoding_refused}
+use Rattle.zarr_codecs_meaning.proofs.Representations.{encoded_size}
 use Rattle.zarr_codecs_arrays.specs.declared.array_bytes.ArrayBytes.{ArrayBytes}
 use Rattle.zarr_codecs_arrays.specs.declared.error.CodecError.{CodecError}
 use Rattle.zarr_codecs_arrays.specs.declared.error.CodecError.TheVariants as error
@@ -80,6 +81,7 @@ encodes_with order codecs elements shape made payload (Ok value) cells lawful fi
         fit = fit;
         encodes = λ _. whole;
         stands = λ lossless. (laws_of chain lawful).stands elements shape value.items cells fit (inl lossless) are whole;
+        sized = encoded_size chain elements shape value.items cells lawful fit are whole;
       },
     )
 encodes_with order codecs elements shape made payload (Err error.Codec) cells lawful fill done is =

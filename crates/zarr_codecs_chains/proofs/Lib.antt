@@ -9,3 +9,5 @@ pub mod PartReading
 pub mod PartWriting
 pub mod Scattered
 pub mod BoxScattered
+pub mod Encoding
+pub mod Telling

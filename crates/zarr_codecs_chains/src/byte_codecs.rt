@@ -1,11 +1,12 @@
 //! The caller's codecs, one after another.
 ghost use Rattle.std.specs.Prelude.{◌≡◌, map, IfOk};
 ghost use Rattle.zarr_codecs_traits.specs.Outcomes.{MakesBytes, UndoesBytes};
-ghost use Rattle.zarr_codecs_chains.specs.Codecs.{all_encoded, all_decoded};
+ghost use Rattle.zarr_codecs_traits.specs.Representations.{known_size};
+ghost use Rattle.zarr_codecs_chains.specs.Codecs.{RepresentsAll, all_encoded, all_decoded};
 
 use std::alloc::{AllocError, Global};
 use zarr_codecs_arrays::CodecError;
-use zarr_codecs_traits::BytesToBytesCodecTraits;
+use zarr_codecs_traits::{BytesRepresentation, BytesToBytesCodecTraits};
 
 /// What the codecs make of bytes, each of what the one before it made. `Codec` where one refuses.
 pub(crate) fn encode_all<B: BytesToBytesCodecTraits>(
@@ -35,6 +36,21 @@ pub(crate) fn decode_all<B: BytesToBytesCodecTraits>(
     };
     let inside = decode_all(alloc, others, bytes)?;
     codec.decode(alloc, inside.as_slice())
+}
+
+/// What is known of the size of what the codecs make, by what is known of the size of what the first
+/// is given. `Size` only where one of them tells a size of 2^63 or more.
+pub(crate) fn represent_all<B: BytesToBytesCodecTraits>(
+    codecs: &[B],
+    decoded: BytesRepresentation,
+) -> Result<BytesRepresentation, CodecError>
+    ensures { RepresentsAll (map B.meaning codecs.now) (known_size decoded) result }
+{
+    let Some((codec, others)) = codecs.split_first() else {
+        return Ok(decoded);
+    };
+    let encoded = codec.encoded_representation(decoded)?;
+    represent_all(others, encoded)
 }
 
 /// Equal codecs. `Err` only where an allocation failed.

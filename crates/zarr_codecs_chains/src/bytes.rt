@@ -9,7 +9,9 @@ use std::alloc::{AllocError, Global};
 use zarr_codecs_arrays::{ArrayBytes, CodecError, Elements, takes_all_bytes};
 use zarr_codecs_options::CodecOptions;
 use zarr_codecs_regions::is_inside;
-use zarr_codecs_traits::{ArrayToBytesCodecTraits, BytesPartialDecoderTraits, ValuePatch};
+use zarr_codecs_traits::{
+    ArrayToBytesCodecTraits, BytesPartialDecoderTraits, BytesRepresentation, ValuePatch,
+};
 use zarr_codecs_types::DataType;
 use zarr_grids_boxes::ArraySubset;
 use zarr_grids_boxes::walk::count_places;
@@ -150,6 +152,40 @@ impl ArrayToBytesCodecTraits for BytesCodec {
             Ok(()) => Ok(bytes),
             Err(_) => Err(CodecError::Damage),
         }
+    }
+
+    fn encoded_representation(
+        &self,
+        _: Global,
+        data_type: &DataType,
+        shape: &[u64],
+    ) -> Result<BytesRepresentation, CodecError> {
+        if !self.suits(data_type) {
+            return Err(CodecError::Fit);
+        }
+        let Some(count) = count_places(shape) else {
+            return Err(CodecError::Size);
+        };
+        match byte_count(data_type, count) {
+            Ok(size) => Ok(BytesRepresentation::FixedSize(size)),
+            Err(error) => Err(error),
+        }
+    }
+
+    fn partial_decoder_capability(&self) -> bool {
+        true
+    }
+
+    fn partial_encoder_capability(&self) -> bool {
+        true
+    }
+
+    fn partial_decode_granularity(
+        &self,
+        alloc: Global,
+        shape: &[u64],
+    ) -> Result<Vec<u64>, AllocError> {
+        shape.to_vec(alloc)
     }
 
     fn partial_decode<D: BytesPartialDecoderTraits>(

@@ -1,5 +1,5 @@
 //! Codec chains.
-use crate::byte_codecs::{copies, decode_all, encode_all};
+use crate::byte_codecs::{copies, decode_all, encode_all, represent_all};
 use crate::bytes::BytesCodec;
 use crate::metadata::{push_metadatas, read_codecs};
 use crate::part::ArrayPart;
@@ -10,8 +10,8 @@ use zarr_codecs_arrays::{ArrayBytes, CodecError, Elements};
 use zarr_codecs_options::CodecOptions;
 use zarr_codecs_regions::is_inside;
 use zarr_codecs_traits::{
-    ArrayToBytesCodecTraits, BytesPartialDecoderTraits, BytesToBytesCodecTraits, ValuePatch,
-    read_value,
+    ArrayToBytesCodecTraits, BytesPartialDecoderTraits, BytesRepresentation,
+    BytesToBytesCodecTraits, ValuePatch, read_value,
 };
 use zarr_codecs_types::DataType;
 use zarr_grids_boxes::ArraySubset;
@@ -120,6 +120,37 @@ impl<B: BytesToBytesCodecTraits> ArrayToBytesCodecTraits for CodecChain<B> {
                 .decode(alloc, value, elements, shape, options),
             Err(error) => Err(error),
         }
+    }
+
+    fn encoded_representation(
+        &self,
+        alloc: Global,
+        data_type: &DataType,
+        shape: &[u64],
+    ) -> Result<BytesRepresentation, CodecError> {
+        match self
+            .array_to_bytes
+            .encoded_representation(alloc, data_type, shape)
+        {
+            Ok(size) => represent_all(self.bytes_to_bytes.as_slice(), size),
+            Err(error) => Err(error),
+        }
+    }
+
+    fn partial_decoder_capability(&self) -> bool {
+        self.bytes_to_bytes.is_empty() && self.array_to_bytes.partial_decoder_capability()
+    }
+
+    fn partial_encoder_capability(&self) -> bool {
+        self.bytes_to_bytes.is_empty() && self.array_to_bytes.partial_encoder_capability()
+    }
+
+    fn partial_decode_granularity(
+        &self,
+        alloc: Global,
+        shape: &[u64],
+    ) -> Result<Vec<u64>, AllocError> {
+        self.array_to_bytes.partial_decode_granularity(alloc, shape)
     }
 
     fn partial_decode<D: BytesPartialDecoderTraits>(

@@ -2,7 +2,7 @@
 
 use std::alloc::{AllocError, Global};
 use zarr_codecs_arrays::CodecError;
-use zarr_codecs_traits::BytesToBytesCodecTraits;
+use zarr_codecs_traits::{BytesRepresentation, BytesToBytesCodecTraits};
 use zarr_grids_metadata::{MetadataV3, PluginCreateError};
 
 /// The codec whose metadata is its name alone, `x-reverse`.
@@ -30,6 +30,13 @@ impl BytesToBytesCodecTraits for ReverseCodec {
         let mut given = bytes.to_vec(alloc)?;
         given.reverse();
         Ok(given)
+    }
+
+    fn encoded_representation(
+        &self,
+        decoded: BytesRepresentation,
+    ) -> Result<BytesRepresentation, CodecError> {
+        Ok(decoded)
     }
 
     fn metadata(&self, alloc: Global) -> Result<MetadataV3, AllocError> {

@@ -3,7 +3,7 @@ ghost use Rattle.std.specs.Prelude.{◌≡◌, reverse, IfOk};
 
 use std::alloc::{AllocError, Global};
 use zarr_codecs_arrays::CodecError;
-use zarr_codecs_traits::BytesToBytesCodecTraits;
+use zarr_codecs_traits::{BytesRepresentation, BytesToBytesCodecTraits};
 use zarr_grids_metadata::{MetadataV3, PluginCreateError};
 
 /// `Reverse` puts bytes the other way round. `Refuse` leaves them as they are, and refuses the
@@ -45,6 +45,13 @@ impl BytesToBytesCodecTraits for TestCodec {
                 Ok(bytes.to_vec(alloc)?)
             }
         }
+    }
+
+    fn encoded_representation(
+        &self,
+        decoded: BytesRepresentation,
+    ) -> Result<BytesRepresentation, CodecError> {
+        Ok(decoded)
     }
 
     fn metadata(&self, alloc: Global) -> Result<MetadataV3, AllocError> {

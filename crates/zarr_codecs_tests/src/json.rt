@@ -1,5 +1,5 @@
 //! Elements as JSON, with bytes typed in by hand.
-use crate::samples::type_of;
+use crate::samples::{two_numbers, type_of};
 use serde_json::Value;
 use std::alloc::Global;
 use std::test::Fail;
@@ -93,5 +93,16 @@ fn bytes_that_are_no_value_have_no_text(rt: HostRuntime) -> Result<(), Fail> {
         Printed::NoText
     );
     assert!(rt; text.is_empty());
+    Ok(())
+}
+
+#[test]
+fn elements_of_two_numbers_are_not_printed(rt: HostRuntime) -> Result<(), Fail> {
+    let alloc = rt.alloc();
+    let mut text = b">".to_vec(alloc)?;
+    let elements = ArrayBytes::Fixed([1, 2, 3].to_vec(alloc)?);
+    let printed = push_elements(&mut text, &two_numbers(alloc)?, &elements)?;
+    assert_eq!(rt; printed, Printed::Unsupported);
+    assert_eq!(rt; text.as_slice(), b">".as_slice());
     Ok(())
 }

@@ -19,4 +19,6 @@ mod parts;
 #[cfg(test)]
 mod samples;
 #[cfg(test)]
+mod telling;
+#[cfg(test)]
 mod types;

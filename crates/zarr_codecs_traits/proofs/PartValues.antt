@@ -1,17 +1,17 @@
 -- Values that are decoded by their size.
-use Rattle.std.proofs.Common.{◌≡◌, ◌∙◌, ℕ, zero, suc, ◌+◌, ◌-◌, ◌*◌, ◌<◌, ◌≤◌, Bool, true, false, ◌&&◌, if◌then◌else◌, List, [], ◌∷◌, ◌++◌, length, map, take, drop, refl, sym, ap, arith, Option, Some, None, option_map, option_and_then, length-drop}
+use Rattle.std.proofs.Common.{◌≡◌, ◌∙◌, ℕ, zero, suc, ◌+◌, ◌-◌, ◌*◌, ◌<◌, ◌≤◌, Bool, true, false, if◌then◌else◌, List, [], ◌∷◌, length, map, take, drop, refl, sym, ap, arith, Option, Some, None, option_map, option_and_then, length-drop}
 use mathlib.Core.List.{reverse_aux}
 use Rattle.std.specs.Prelude.{nat_lt}
 use Rattle.std.specs.List.{range_with_len}
 use Rattle.std.proofs.lemmas.Bool.{and_parts, eq-eqb, eqb-true, ltb-true}
 use Rattle.std.proofs.lemmas.List.{length-take-le}
 use Rattle.zarr_grids_boxes.specs.Boxes.{product}
-use Rattle.zarr_codecs_meaning.specs.Types.{DataType, Component, Cell, of_bytes, Elements, components, bytes_in, byte_width, is_fixed, is_value, are_bytes}
-use Rattle.zarr_codecs_meaning.specs.Chains.{Chain, Endianness}
+use Rattle.zarr_codecs_meaning.specs.Types.{DataType, Component, Cell, of_bytes, components, bytes_in, is_fixed, is_value}
+use Rattle.zarr_codecs_meaning.specs.Chains.{Endianness}
 use Rattle.zarr_codecs_meaning.specs.Chains.Chain.{bytes, packbits, vlen, optional, after_array_codec, then_bytes, sharded}
 use Rattle.zarr_codecs_meaning.specs.Chains.Endianness.{little, big}
 use Rattle.zarr_codecs_meaning.specs.Encoding.{in_order, ordered}
-use Rattle.zarr_codecs_meaning.specs.Decoding.{all_there, tested, element_at, is_whole, decoded}
+use Rattle.zarr_codecs_meaning.specs.Decoding.{all_there, element_at, is_whole}
 use Rattle.zarr_codecs_meaning.specs.Fits.{fits, order_fits}
 use Rattle.zarr_codecs_meaning.specs.Places.{place_numbers}
 use Rattle.zarr_codecs_meaning.proofs.Lists.{Each, each_append, each_passes, each_weaker}
@@ -20,7 +20,7 @@ use Rattle.zarr_codecs_meaning.proofs.Elements.{on_true}
 use Rattle.zarr_codecs_meaning.proofs.Values.{length-ordered}
 use Rattle.zarr_codecs_arrays.specs.Values.{takes_all_bytes}
 use Rattle.zarr_codecs_arrays.proofs.ElementValues.{taken_one}
-use Rattle.zarr_codecs_traits.specs.PartEncoding.{DecodesBySize, PatchedDecode, takes_patches}
+use Rattle.zarr_codecs_traits.specs.PartEncoding.{PatchedDecode}
 
 -- ---- bytes in another order are bytes
 

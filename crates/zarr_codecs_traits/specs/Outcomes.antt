@@ -10,7 +10,7 @@ use Rattle.zarr_codecs_meaning.specs.Chains.{ByteCodec, Chain}
 use Rattle.zarr_codecs_meaning.specs.Chunks.{chunk_part}
 use Rattle.zarr_codecs_meaning.specs.Decoding.{decoded}
 use Rattle.zarr_codecs_meaning.specs.Encoding.{encoded}
-use Rattle.zarr_codecs_meaning.specs.Fits.{fits, is_lossless}
+use Rattle.zarr_codecs_meaning.specs.Fits.{fits, is_lossless, is_size_as, representation_of}
 use Rattle.zarr_codecs_meaning.specs.Payloads.{Payload, cells_in}
 use Rattle.zarr_codecs_meaning.specs.Refusals.{CodecRefuses, PassesIndex}
 use Rattle.zarr_codecs_meaning.specs.Standing.{Stands}
@@ -51,6 +51,7 @@ pub record IsEncoded (chain : Chain) (exact : Bool) (elements : Elements) (shape
   pub fit : fits chain elements.type shape ≡ true
   pub encodes : IsTrue exact → encoded chain elements shape cells ≡ Some value
   pub stands : is_lossless chain elements.type ≡ true → Stands chain elements shape value cells
+  pub sized : is_size_as (representation_of chain elements.type shape) (length value) ≡ true
 
 -- the elements of an array are not encoded: a caller's codec refuses, or an offset or a length is too large for where it is written
 pub record IsRefused (chain : Chain) (elements : Elements) (shape : List ℕ) (payload : Payload) (cells : List Cell) (refuses : Chain → Elements → List ℕ → List Cell → Type 0) : Type 0 where

@@ -6,11 +6,14 @@ ghost use Rattle.zarr_codecs_meaning.specs.Fits.{fits};
 ghost use Rattle.zarr_codecs_meaning.specs.Laws.{IsLawfulChain};
 ghost use Rattle.zarr_codecs_types.specs.Views.{type_of};
 ghost use Rattle.zarr_codecs_arrays.specs.Views.{payload_of, elements_of};
+ghost use Rattle.zarr_codecs_traits.specs.Capabilities.{decodes_parts, encodes_parts, granularity};
 ghost use Rattle.zarr_codecs_traits.specs.Outcomes.{Encodes, Decodes, DecodesPart};
 ghost use Rattle.zarr_codecs_traits.specs.PartEncoding.{EncodesPart, takes_patches};
+ghost use Rattle.zarr_codecs_traits.specs.Representations.{RepresentsArray};
 ghost use Rattle.zarr_codecs_traits.specs.Sources.{refused_after};
 
 use crate::byte_source::BytesPartialDecoderTraits;
+use crate::bytes_representation::BytesRepresentation;
 use crate::value_patch::ValuePatch;
 use std::alloc::{AllocError, Global};
 use zarr_codecs_arrays::{ArrayBytes, CodecError, Elements};
@@ -62,6 +65,37 @@ pub trait ArrayToBytesCodecTraits: Sized + Drop {
     ) -> Result<ArrayBytes, CodecError>
         ensures { Decodes (meaning self.now) (elements_of elements.now) shape.now value.items
             result };
+
+    /// What the data type and the shape of an array tell of the size of the value that it is encoded
+    /// to. `Fit` where the codec doesn't suit the array; `Size` only where the array has 2^63
+    /// elements or bytes or more, or one of the codecs tells a size of 2^63 or more.
+    fn encoded_representation(
+        &self,
+        alloc: Global,
+        data_type: &DataType,
+        shape: &[u64],
+    ) -> Result<BytesRepresentation, CodecError>
+        ensures { RepresentsArray (meaning self.now) (type_of data_type.now) shape.now result };
+
+    /// Whether a part of an array can be decoded from a part of its value (this project's profile).
+    /// The values of other codecs are read whole.
+    fn partial_decoder_capability(&self) -> bool
+        ensures { result ≡ decodes_parts (meaning self.now) };
+
+    /// Whether a part of an array can be encoded as a part of its value (this project's profile). The
+    /// values of other codecs are written whole.
+    fn partial_encoder_capability(&self) -> bool
+        ensures { result ≡ encodes_parts (meaning self.now) };
+
+    /// The shape of the parts of an array that `partial_decode` decodes one by one: that of a shard's
+    /// subchunks, where no array codec precedes the shard, else that of the array. `Err` only where
+    /// an allocation failed.
+    fn partial_decode_granularity(
+        &self,
+        alloc: Global,
+        shape: &[u64],
+    ) -> Result<Vec<u64>, AllocError>
+        ensures { IfOk result (λ part. part.items ≡ granularity (meaning self.now) shape.now) };
 
     /// The elements at the places of a box of an array, row-major, of the value that a source holds;
     /// each is the fill value where it holds none. `Fit` where the codec doesn't suit the array;

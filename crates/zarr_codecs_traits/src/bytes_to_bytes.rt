@@ -3,9 +3,11 @@ ghost use Rattle.std.specs.Prelude.{◌≡◌, Option, Some, IfOk};
 ghost use Rattle.zarr_codecs_meaning.specs.Chains.{ByteCodec};
 ghost use Rattle.zarr_codecs_meaning.specs.Laws.{IsLawful};
 ghost use Rattle.zarr_codecs_traits.specs.Outcomes.{Creates, MakesBytes, UndoesBytes};
+ghost use Rattle.zarr_codecs_traits.specs.Representations.{Represents, known_size};
 ghost use Rattle.zarr_grids_metadata.specs.ExtensionPoints.{ExtensionPoint};
 ghost use Rattle.zarr_grids_metadata.specs.Views.{point_of};
 
+use crate::bytes_representation::BytesRepresentation;
 use std::alloc::{AllocError, Global};
 use zarr_codecs_arrays::CodecError;
 use zarr_grids_metadata::{MetadataV3, PluginCreateError};
@@ -29,6 +31,15 @@ pub trait BytesToBytesCodecTraits: Sized + Drop {
     /// The bytes that the codec made these of. `Damage` where it made them of none.
     fn decode(&self, alloc: Global, bytes: &[u8]) -> Result<Vec<u8>, CodecError>
         ensures { UndoesBytes (meaning self.now).decode bytes.now result };
+
+    /// What is known of the size of what the codec makes of bytes, by what is known of the size of
+    /// these. It is true of all that `encode` makes, and no larger for fewer bytes. `Size` only where
+    /// it is 2^63 or more.
+    fn encoded_representation(
+        &self,
+        decoded: BytesRepresentation,
+    ) -> Result<BytesRepresentation, CodecError>
+        ensures { Represents ((meaning self.now).representation (known_size decoded)) result };
 
     /// The codec's metadata, of which `create` makes an equal codec. `Err` only where an allocation
     /// failed.

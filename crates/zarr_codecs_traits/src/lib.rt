@@ -4,6 +4,7 @@
 pub mod array_to_bytes;
 pub mod byte_range;
 pub mod byte_source;
+pub mod bytes_representation;
 pub mod bytes_to_bytes;
 pub mod laws;
 pub mod memory_source;
@@ -13,6 +14,7 @@ pub mod whole;
 pub use array_to_bytes::ArrayToBytesCodecTraits;
 pub use byte_range::ByteRange;
 pub use byte_source::BytesPartialDecoderTraits;
+pub use bytes_representation::BytesRepresentation;
 pub use bytes_to_bytes::BytesToBytesCodecTraits;
 pub use memory_source::MemorySource;
 pub use value_patch::ValuePatch;

@@ -8,7 +8,7 @@ pub use zarr_array_storage::{
 pub use zarr_codecs_arrays::{ArrayBytes, CodecError};
 pub use zarr_codecs_options::{CodecOptions, SubchunkWriteOrder};
 pub use zarr_codecs_reverse::ReverseCodec;
-pub use zarr_codecs_traits::BytesToBytesCodecTraits;
+pub use zarr_codecs_traits::{BytesRepresentation, BytesToBytesCodecTraits};
 pub use zarr_codecs_types::DataType;
 pub use zarr_grids_boxes::ArraySubset;
 pub use zarr_grids_keys::StoreKey;

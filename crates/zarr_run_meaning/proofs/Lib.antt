@@ -10,6 +10,7 @@ pub mod Effects
 pub mod Reading
 pub mod Beginning
 pub mod Frames
+pub mod PrintedTypes
 pub mod Standing
 pub mod Owning
 pub mod Begun

@@ -7,7 +7,8 @@ use Rattle.zarr_grids_chunks.specs.Grids.{IsInGrid}
 use Rattle.zarr_grids_keys.specs.Documents.{document_key}
 use Rattle.zarr_grids_keys.specs.Paths.{is_node_path}
 use Rattle.zarr_grids_keys.specs.declared.document_name.DocumentName.TheVariants.{ZarrJson}
-use Rattle.zarr_codecs_meaning.specs.Types.{Cell}
+use Rattle.zarr_codecs_meaning.specs.Types.{Cell, Component}
+use Rattle.zarr_codecs_types.specs.Parts.{single_component}
 use Rattle.zarr_codecs_metadata.specs.Chains.{ReadsCodecs}
 use Rattle.zarr_codecs_options.specs.declared.codec_options.CodecOptions.{CodecOptions}
 use Rattle.zarr_codecs_options.specs.declared.subchunk_write_order.SubchunkWriteOrder.{SubchunkWriteOrder}
@@ -213,3 +214,17 @@ StepsShow = (reads : ReadsCodecs) (old new : World) (request : Request) (answer 
 abbrev pub TableFound : Type 0
 TableFound = (path : List ℕ) (document : Document) (store : StoreMap)
     → (table : Table) × IsTableAt path document store table × (IsGood document → ValuesFit path document store → AreValues document (cell document.elements.fill table))
+
+-- ---- cells that are printed
+
+-- the cells of a document are booleans or integers, as the cells are that are printed
+abbrev pub HasNumberCells : Document → Type 0
+HasNumberCells document = (number : Component) × (single_component document.elements.type ≡ Some number)
+
+-- the cells of each array are booleans or integers
+abbrev pub AreNumbers : World → Type 0
+AreNumbers world = (path : List ℕ) (h : Held) → held_at path world.arrays ≡ Some h → HasNumberCells h.document
+
+-- after any run from a world without arrays, whatever was stored, no array is held whose cells can't be printed
+abbrev pub RunsOfNumbers : Type 0
+RunsOfNumbers = (reads : ReadsCodecs) (store : StoreMap) (count : ℕ) (requests : List Request) (answers : List Answer) (new : World) → Run reads (world_over store count) requests answers new → AreNumbers new

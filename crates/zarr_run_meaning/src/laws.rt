@@ -2,7 +2,7 @@
 ghost use Rattle.zarr_run_meaning.specs.Laws.{LawfulGood, TableFound, NoArraysSound, OpensNone, ReadsFit, BeginsAsFill, NeverDamaged, StepsShow, StepsSound};
 ghost use Rattle.zarr_run_meaning.specs.Laws.{EmptyOwned, StepsOwn, RunsOwn, OwnedHasNoChunks, NoChunksAreFill, CreatesCells, CreatesFill, OpensCells};
 ghost use Rattle.zarr_run_meaning.specs.Laws.{RunsSound, OwnedBegins, OwnedRunsSound, ReopensAlike, ReopenedSound, ReopenedOwned, RunsReopen, RunsGoOn};
-ghost use Rattle.zarr_run_meaning.specs.Laws.{SoundAlone, BeginsAlone, StepsKeepSound, AloneUndamaged};
+ghost use Rattle.zarr_run_meaning.specs.Laws.{SoundAlone, BeginsAlone, StepsKeepSound, AloneUndamaged, RunsOfNumbers};
 
 /// Whatever is stored, there is a table of the cells that it shows.
 pub fn table_found()
@@ -159,4 +159,9 @@ pub fn steps_keep_sound()
 /// changed.
 pub fn alone_undamaged()
     ensures { AloneUndamaged }
+{}
+
+/// After any run no array is held whose cells can't be printed.
+pub fn runs_of_numbers()
+    ensures { RunsOfNumbers }
 {}

@@ -2,7 +2,9 @@
 ghost use Rattle.std.specs.Prelude.{◌≡◌, ◌∷◌, [], bytes_eq};
 
 use std::alloc::{AllocError, Global};
-use zarr_run::{BytesToBytesCodecTraits, CodecError, MetadataV3, PluginCreateError};
+use zarr_run::{
+    BytesRepresentation, BytesToBytesCodecTraits, CodecError, MetadataV3, PluginCreateError,
+};
 
 /// The codec `x-refuse`: it leaves bytes as they are, and refuses the bytes 7, 8.
 #[derive(Debug, Drop)]
@@ -36,6 +38,13 @@ impl BytesToBytesCodecTraits for RefusingCodec {
             return Err(CodecError::Damage);
         }
         Ok(bytes.to_vec(alloc)?)
+    }
+
+    fn encoded_representation(
+        &self,
+        decoded: BytesRepresentation,
+    ) -> Result<BytesRepresentation, CodecError> {
+        Ok(decoded)
     }
 
     fn metadata(&self, alloc: Global) -> Result<MetadataV3, AllocError> {

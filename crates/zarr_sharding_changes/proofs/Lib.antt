@@ -3,3 +3,4 @@ pub mod Appending
 pub mod Overlays
 pub mod Slices
 pub mod Compacting
+pub mod Compactions

@@ -5,13 +5,14 @@ use Rattle.zarr_codecs_meaning.specs.Types.{Cell, Elements}
 use Rattle.zarr_codecs_meaning.specs.Chains.{Chain, Location}
 use Rattle.zarr_codecs_meaning.specs.Chains.Chain.{sharded}
 use Rattle.zarr_codecs_meaning.specs.Places.{gather, grid_of, box_of, part_of}
-use Rattle.zarr_codecs_meaning.specs.Fits.{fits, can_cut, is_lossless}
+use Rattle.zarr_codecs_meaning.specs.Fits.{fits, can_cut, is_lossless, is_plain}
 use Rattle.zarr_codecs_meaning.specs.Encoding.{Pair, Piece, encoded}
 use Rattle.zarr_codecs_meaning.specs.Standing.{Slices, PiecesStand, StandsBy, Tight}
 use Rattle.zarr_codecs_meaning.specs.Laws.{IsLawfulChain, AreCells}
 use Rattle.zarr_sharding_changes.specs.Changes.{Change, appended, pairs_after, pieces_after, SliceStandsBy, ChangesStand}
 use Rattle.zarr_sharding_changes.specs.Regions.{IsInside, whole, overlaid}
 use Rattle.zarr_sharding_changes.specs.Compaction.{compacted}
+use Rattle.zarr_sharding_changes.specs.Compactions.{compaction, nothing_to_gain}
 
 -- where slices are appended and pairs replaced, the pairs and the longer data part stand for the changed pieces, in whatever order and however often subchunks are changed
 abbrev pub ChangesWritten : Type 0
@@ -48,3 +49,7 @@ CompactedStands = (slices : Slices) (subchunk : List ℕ) (inner index : Chain) 
 abbrev pub CompactedEncoded : Type 0
 CompactedEncoded = (subchunk : List ℕ) (inner index : Chain) (location : Location) (elements : Elements) (shape value : List ℕ) (cells : List Cell) → let chain = sharded subchunk inner index location in
     Tight chain elements shape value cells → compacted subchunk index location shape value ≡ encoded chain elements shape cells
+
+-- compaction leaves each value of a chain without a shard as it is
+abbrev pub PlainKept : Type 0
+PlainKept = (chain : Chain) (shape value : List ℕ) → is_plain chain ≡ true → compaction chain shape value ≡ nothing_to_gain

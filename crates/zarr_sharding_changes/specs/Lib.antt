@@ -4,3 +4,5 @@ pub mod Compaction
 pub mod Laws
 pub mod WorkedChanges
 pub mod WorkedCompaction
+pub mod Compactions
+pub mod WorkedCompactions

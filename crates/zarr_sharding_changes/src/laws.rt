@@ -1,7 +1,8 @@
 //! Worked examples and laws of shards under change. Each function does nothing: its contract is the law.
-ghost use Rattle.zarr_sharding_changes.specs.Laws.{ChangesWritten, RegionWritten, PartOverlaid, PartKept, CompactedStands, CompactedEncoded};
+ghost use Rattle.zarr_sharding_changes.specs.Laws.{ChangesWritten, RegionWritten, PartOverlaid, PartKept, CompactedStands, CompactedEncoded, PlainKept};
 ghost use Rattle.zarr_sharding_changes.specs.WorkedChanges.{ChangeRows};
 ghost use Rattle.zarr_sharding_changes.specs.WorkedCompaction.{CompactionRows};
+ghost use Rattle.zarr_sharding_changes.specs.WorkedCompactions.{ChainCompactionRows};
 
 /// What changes make of pairs, of a data part and of subchunks, and what a region makes of a box.
 pub fn change_rows()
@@ -41,4 +42,14 @@ pub fn compacted_stands()
 /// A tight value, compacted, is the encoding of its cells.
 pub fn compacted_encoded()
     ensures { CompactedEncoded }
+{}
+
+/// What compaction makes of values of chains, with a shard and without one.
+pub fn chain_compaction_rows()
+    ensures { ChainCompactionRows }
+{}
+
+/// Compaction leaves each value of a chain without a shard as it is, damaged or not.
+pub fn plain_kept()
+    ensures { PlainKept }
 {}
