@@ -3,3 +3,4 @@ pub mod MakingWalk
 pub mod Positive
 pub mod ReadsBack
 pub mod Singles
+pub mod ItemWalk

@@ -1,8 +1,9 @@
 -- Running sums.
-use Rattle.std.proofs.Common.{◌≡◌, ℕ, zero, suc, ◌+◌, ◌≤◌, ◌<◌, List, [], ◌∷◌, length, get_or, take, ⊎_elim, refl, ap, arith}
+use Rattle.std.proofs.Common.{◌≡◌, ℕ, zero, suc, ◌+◌, ◌≤◌, ◌<◌, List, [], ◌∷◌, ◌++◌, length, get_or, map, take, drop, append_assoc, ⊎_elim, refl, ap, sym, ◌∙◌, arith}
 use Rattle.std.specs.Prelude.{sum}
 use Rattle.std.specs.List.Sorted.{IsNonDecreasing}
 use Rattle.std.proofs.lemmas.Bool.{cases_lt}
+use Rattle.std.proofs.lemmas.List.{drop_more, drop_all}
 use Rattle.std.proofs.lemmas.List.Sums.{sum_by-cons}
 use Rattle.zarr_grids_dimensions.specs.RepeatedEdges.{running}
 
@@ -49,3 +50,17 @@ IsNonDecreasing-running n xs i j d le lt =
     let b = running-at n xs j d (omega arith) in
     let s = sum-earlier xs i j le (omega arith) in
     omega arith
+
+-- ---- running sums pushed one by one
+
+pub running-step : {A : Type 0} (g : A → ℕ) (all : List A) (i : ℕ) (d : A) (next : ℕ) (before now : List ℕ) → i < length all → now ≡ before ++ next ∷ [] → running 0 (map g all) ≡ before ++ running next (map g (drop i all))
+    → running 0 (map g all) ≡ now ++ running (next + g (get_or all i d)) (map g (drop (i + 1) all))
+running-step g all i d next before now h grew so_far =
+    let rest = running (next + g (get_or all i d)) (map g (drop (i + 1) all)) in
+    so_far ∙ (ap (λ xs. before ++ running next (map g xs)) (drop_more all i d h) ∙ (sym (append_assoc before (next ∷ []) rest) ∙ ap (λ ns. ns ++ rest) (sym grew)))
+
+pub running-end : {A : Type 0} (g : A → ℕ) (all : List A) (i next : ℕ) (before now : List ℕ) → length all ≤ i → now ≡ before ++ next ∷ [] → running 0 (map g all) ≡ before ++ running next (map g (drop i all)) → now ≡ running 0 (map g all)
+running-end g all i next before now h grew so_far = grew ∙ sym (so_far ∙ ap (λ xs. before ++ running next (map g xs)) (drop_all i all h))
+
+pub sum-step : {A : Type 0} (g : A → ℕ) (all : List A) (i : ℕ) (d : A) → i < length all → sum (map g (drop i all)) ≡ g (get_or all i d) + sum (map g (drop (i + 1) all))
+sum-step g all i d h = ap (λ xs. sum (map g xs)) (drop_more all i d h) ∙ sum-cons (g (get_or all i d)) (map g (drop (i + 1) all))

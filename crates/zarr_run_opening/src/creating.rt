@@ -148,8 +148,15 @@ fn put<B: BytesToBytesCodecTraits, S: WritableStorageTraits>(
 {
     match has_either(store, &prepared.key, &prepared.older) {
         Ok(false) => hold_stored(arrays, store, path, prepared),
-        Ok(true) => Err(Cause::PathTaken),
-        Err(cause) => Err(cause),
+        // By a call: the drop of so large a value is then proved once, and not field by field here.
+        Ok(true) => {
+            drop(prepared);
+            Err(Cause::PathTaken)
+        }
+        Err(cause) => {
+            drop(prepared);
+            Err(cause)
+        }
     }
 }
 
