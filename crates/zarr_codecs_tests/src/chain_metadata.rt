@@ -1,10 +1,16 @@
 //! Chains read from metadata, and written as it.
 use crate::samples::chain_of;
+use std::alloc::Global;
 use std::test::Fail;
 use zarr_codecs_chains::{BytesCodec, Endianness};
-use zarr_grids_metadata::PluginCreateError;
+use zarr_grids_metadata::{MetadataV3, PluginCreateError};
 
 const BIG: &str = r#"{"name": "bytes", "configuration": {"endian": "big"}}"#;
+
+/// The text of metadata.
+fn written(alloc: Global, metadata: &MetadataV3) -> Result<String, Fail> {
+    Ok(metadata.to_value(alloc)?.to_string(alloc)?)
+}
 
 #[test]
 fn bytes_is_made_with_an_order_or_without(rt: HostRuntime) {
@@ -32,8 +38,8 @@ fn bytes_is_read_from_what_is_written(rt: HostRuntime) -> Result<(), Fail> {
     ];
     for (codec, text) in rows {
         let metadata = codec.metadata(alloc)?;
-        assert_eq!(rt; metadata.to_value(alloc)?.to_string(alloc)?.as_str(), text);
-        assert_eq!(rt; BytesCodec::from_metadata(&metadata)?, codec);
+        assert!(rt; written(alloc, &metadata)?.as_str() == text, "{text}");
+        assert!(rt; BytesCodec::from_metadata(&metadata)? == codec, "{text}");
     }
     Ok(())
 }
@@ -47,10 +53,10 @@ fn a_chain_is_written_as_the_metadata_of_its_codecs(rt: HostRuntime) -> Result<(
         r#""x-reverse""#,
         r#""x-refuse""#,
     ];
-    let written = chain.create_metadatas(alloc)?;
-    assert_eq!(rt; written.len(), 3);
-    for (metadata, text) in written.iter().zip(wanted.iter()) {
-        assert_eq!(rt; metadata.to_value(alloc)?.to_string(alloc)?.as_str(), *text);
+    let metadatas = chain.create_metadatas(alloc)?;
+    assert!(rt; metadatas.len() == 3);
+    for (metadata, text) in metadatas.iter().zip(wanted.iter()) {
+        assert!(rt; written(alloc, metadata)?.as_str() == *text, "{text}");
     }
     Ok(())
 }

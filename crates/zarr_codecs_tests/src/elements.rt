@@ -1,23 +1,10 @@
 //! Elements with bytes typed in by hand.
-use crate::samples::{OPTIONAL, fill_of, type_of};
-use std::alloc::Global;
-use std::test::Fail;
-use zarr_codecs_arrays::{ArrayBytes, ArrayBytesOffsets, CodecError, Elements};
+use crate::samples::{OPTIONAL, elements_of};
+use zarr_codecs_arrays::{ArrayBytes, ArrayBytesOffsets, CodecError};
 use zarr_codecs_types::data_type;
 
-/// The elements of a type that fill with a value, both as texts.
-fn elements(alloc: Global, type_text: &str, fill: &str) -> Result<Option<Elements>, Fail> {
-    let Ok(data_type) = type_of(alloc, type_text) else {
-        return Ok(None);
-    };
-    let Ok(fill) = fill_of(alloc, &data_type, fill) else {
-        return Ok(None);
-    };
-    Ok(Elements::new(data_type, fill))
-}
-
 #[test]
-fn fill_values_are_bytes_again_and_again(rt: HostRuntime) -> Result<(), Fail> {
+fn fill_values_are_bytes_again_and_again(rt: HostRuntime) -> Result<(), CodecError> {
     let alloc = rt.alloc();
     let rows: [(&str, &str, &[u8]); 3] = [
         (r#""int16""#, "-5", &[251, 255, 251, 255, 251, 255]),
@@ -25,40 +12,32 @@ fn fill_values_are_bytes_again_and_again(rt: HostRuntime) -> Result<(), Fail> {
         (r#""bool""#, "true", &[1, 1, 1]),
     ];
     for (type_text, fill, wanted) in rows {
-        let Some(elements) = elements(alloc, type_text, fill)? else {
-            panic!(rt; "{type_text}");
-        };
-        let Ok(made) = ArrayBytes::new_fill_value(alloc, &elements, 3) else {
-            panic!(rt; "{type_text}");
-        };
+        let elements = elements_of(alloc, type_text, fill)?;
+        let made = ArrayBytes::new_fill_value(alloc, &elements, 3)?;
         assert!(rt; made.is_fill_value(&elements));
         assert!(rt; matches!(made.validate(elements.data_type(), 3), Ok(())));
         let copy = made.try_clone(alloc)?;
         let ArrayBytes::Fixed(bytes) = copy else {
             panic!(rt; "{type_text}");
         };
-        assert_eq!(rt; bytes.as_slice(), wanted);
+        assert!(rt; bytes.as_slice() == wanted, "{type_text}");
     }
     Ok(())
 }
 
 #[test]
-fn a_size_of_2_to_63_is_refused(rt: HostRuntime) -> Result<(), Fail> {
+fn a_size_of_2_to_63_is_refused(rt: HostRuntime) -> Result<(), CodecError> {
     let alloc = rt.alloc();
-    let Some(elements) = elements(alloc, r#""int64""#, "0")? else {
-        panic!(rt; "int64");
-    };
+    let elements = elements_of(alloc, r#""int64""#, "0")?;
     let made = ArrayBytes::new_fill_value(alloc, &elements, 0x1000_0000_0000_0000);
     assert!(rt; matches!(made, Err(CodecError::Size)));
     Ok(())
 }
 
 #[test]
-fn one_other_byte_is_no_fill(rt: HostRuntime) -> Result<(), Fail> {
+fn one_other_byte_is_no_fill(rt: HostRuntime) -> Result<(), CodecError> {
     let alloc = rt.alloc();
-    let Some(elements) = elements(alloc, r#""int16""#, "-5")? else {
-        panic!(rt; "int16");
-    };
+    let elements = elements_of(alloc, r#""int16""#, "-5")?;
     let other = ArrayBytes::Fixed([251, 255, 251, 254].to_vec(alloc)?);
     assert!(rt; !other.is_fill_value(&elements));
     let part = ArrayBytes::Fixed([251, 255, 251].to_vec(alloc)?);
@@ -69,7 +48,7 @@ fn one_other_byte_is_no_fill(rt: HostRuntime) -> Result<(), Fail> {
 }
 
 #[test]
-fn elements_of_another_form_count_or_value_are_refused(rt: HostRuntime) -> Result<(), Fail> {
+fn elements_of_another_form_count_or_value_are_refused(rt: HostRuntime) -> Result<(), CodecError> {
     let alloc = rt.alloc();
     let bytes = ArrayBytes::Fixed([1, 2].to_vec(alloc)?);
     assert!(rt;
@@ -86,7 +65,7 @@ fn elements_of_another_form_count_or_value_are_refused(rt: HostRuntime) -> Resul
 }
 
 #[test]
-fn offsets_cut_bytes_into_strings(rt: HostRuntime) -> Result<(), Fail> {
+fn offsets_cut_bytes_into_strings(rt: HostRuntime) -> Result<(), CodecError> {
     let alloc = rt.alloc();
     assert!(rt; ArrayBytesOffsets::new([2, 1].to_vec(alloc)?).is_none());
     let Some(offsets) = ArrayBytesOffsets::new([0, 1, 3].to_vec(alloc)?) else {
@@ -99,28 +78,27 @@ fn offsets_cut_bytes_into_strings(rt: HostRuntime) -> Result<(), Fail> {
 }
 
 #[test]
-fn an_absent_element_may_have_any_bytes(rt: HostRuntime) -> Result<(), Fail> {
+fn an_absent_element_may_have_any_bytes(rt: HostRuntime) -> Result<(), CodecError> {
     let alloc = rt.alloc();
     let data_type = data_type::optional(alloc, data_type::bool())?;
     let rows: [(&[u8], bool); 2] = [(&[1, 0], true), (&[1, 1], false)];
     for (mask, wanted) in rows {
         let inner = Box::new(alloc, ArrayBytes::Fixed([1, 9].to_vec(alloc)?))?;
         let optional = ArrayBytes::Optional(inner, mask.to_vec(alloc)?);
-        assert_eq!(rt; matches!(optional.validate(&data_type, 2), Ok(())), wanted);
+        assert!(rt;
+            matches!(optional.validate(&data_type, 2), Ok(())) == wanted,
+            "{mask:?}"
+        );
     }
     Ok(())
 }
 
 #[test]
-fn absent_and_present_elements_fill(rt: HostRuntime) -> Result<(), Fail> {
+fn absent_and_present_elements_fill(rt: HostRuntime) -> Result<(), CodecError> {
     let alloc = rt.alloc();
     for fill in ["null", "[5]"] {
-        let Some(elements) = elements(alloc, OPTIONAL, fill)? else {
-            panic!(rt; "{fill}");
-        };
-        let Ok(made) = ArrayBytes::new_fill_value(alloc, &elements, 2) else {
-            panic!(rt; "{fill}");
-        };
+        let elements = elements_of(alloc, OPTIONAL, fill)?;
+        let made = ArrayBytes::new_fill_value(alloc, &elements, 2)?;
         assert!(rt; made.is_fill_value(&elements));
     }
     Ok(())

@@ -37,7 +37,7 @@ fn json_elements_are_little_endian_bytes(rt: HostRuntime) -> Result<(), Fail> {
         let GivenElements::Elements(ArrayBytes::Fixed(bytes)) = read(alloc, type_text, text)? else {
             panic!(rt; "{text}");
         };
-        assert_eq!(rt; bytes.as_slice(), wanted);
+        assert!(rt; bytes.as_slice() == wanted, "{text}");
     }
     Ok(())
 }
@@ -52,8 +52,8 @@ fn bytes_are_printed_as_a_json_list(rt: HostRuntime) -> Result<(), Fail> {
         let elements = ArrayBytes::Fixed(bytes.to_vec(alloc)?);
         let mut text = b">".to_vec(alloc)?;
         let printed = push_elements(&mut text, &data_type, &elements)?;
-        assert_eq!(rt; printed, Printed::Whole);
-        assert_eq!(rt; &text[1..], wanted.as_bytes());
+        assert!(rt; printed == Printed::Whole, "{wanted}");
+        assert!(rt; &text[1..] == wanted.as_bytes(), "{wanted}");
     }
     Ok(())
 }

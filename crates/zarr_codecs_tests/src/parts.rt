@@ -1,6 +1,6 @@
 //! Boxes that are read of values, with values typed in by hand.
 use std::alloc::Global;
-use std::test::Fail;
+use std::ops::Range;
 use zarr_codecs_arrays::{ArrayBytes, CodecError, Elements};
 use zarr_codecs_chains::BytesCodec;
 use zarr_codecs_options::CodecOptions;
@@ -9,112 +9,123 @@ use zarr_codecs_types::{DataType, FillValue};
 use zarr_grids_boxes::ArraySubset;
 
 /// Elements of a type that fill with the bytes of a value.
-fn filled(alloc: Global, data_type: DataType, fill: &[u8]) -> Result<Elements, Fail> {
+fn filled(alloc: Global, data_type: DataType, fill: &[u8]) -> Result<Elements, CodecError> {
     match Elements::new(data_type, FillValue::new(fill.to_vec(alloc)?)) {
         Some(elements) => Ok(elements),
-        None => Err(Fail::new("the fill value is no value of the type")),
+        None => Err(CodecError::Unsupported),
     }
 }
 
-/// The bytes of the elements in a box that `bytes` reads of a source.
-fn part(
-    alloc: Global,
-    value: Option<Vec<u8>>,
-    elements: &Elements,
-    shape: &[u64],
-    region: &ArraySubset,
-) -> Result<Vec<u8>, CodecError> {
-    let mut source = MemorySource::new(value);
-    let options = CodecOptions::default();
-    let codec = BytesCodec::big();
-    match codec.partial_decode(alloc, &mut source, elements, shape, region, &options)? {
+/// A source of a value, or of none.
+fn source(alloc: Global, value: Option<&[u8]>) -> Result<MemorySource, CodecError> {
+    match value {
+        Some(value) => Ok(MemorySource::new(Some(value.to_vec(alloc)?))),
+        None => Ok(MemorySource::new(None)),
+    }
+}
+
+/// The bytes of elements of one size.
+fn fixed_bytes(elements: ArrayBytes) -> Result<Vec<u8>, CodecError> {
+    match elements {
         ArrayBytes::Fixed(bytes) => Ok(bytes),
         ArrayBytes::Variable(_bytes, _offsets) => Err(CodecError::Unsupported),
         ArrayBytes::Optional(_inner, _mask) => Err(CodecError::Unsupported),
     }
 }
 
+/// The bytes of the elements in a box that `bytes` reads of a value, or of none. The elements have a type and the bytes of a fill
+/// value.
+fn part(
+    alloc: Global,
+    (data_type, fill): (DataType, &[u8]),
+    value: Option<&[u8]>,
+    shape: &[u64],
+    ranges: &[Range<u64>],
+) -> Result<Vec<u8>, CodecError> {
+    let elements = filled(alloc, data_type, fill)?;
+    let mut source = source(alloc, value)?;
+    let region = ArraySubset::new_with_ranges(alloc, ranges)?;
+    let options = CodecOptions::default();
+    let codec = BytesCodec::big();
+    fixed_bytes(codec.partial_decode(alloc, &mut source, &elements, shape, &region, &options)?)
+}
+
 #[test]
-fn a_box_has_the_elements_at_its_places(rt: HostRuntime) -> Result<(), Fail> {
-    let alloc = rt.alloc();
-    let elements = filled(alloc, DataType::UInt8, &[0])?;
+fn a_box_has_the_elements_at_its_places(rt: HostRuntime) -> Result<(), CodecError> {
     let value = [0, 1, 2, 3, 4, 5, 6, 7, 8, 9, 10, 11, 12, 13, 14, 15];
-    let region = ArraySubset::new_with_ranges(alloc, &[1..3, 0..1])?;
+    let bytes = (DataType::UInt8, [0].as_slice());
+    let found = part(rt.alloc(), bytes, Some(&value), &[4, 4], &[1..3, 0..1])?;
+    assert!(rt; found.as_slice() == [4, 8].as_slice());
+    Ok(())
+}
+
+#[test]
+fn the_numbers_of_a_box_are_in_their_order(rt: HostRuntime) -> Result<(), CodecError> {
+    let numbers = (DataType::UInt16, [0, 0].as_slice());
     let found = part(
-        alloc,
-        Some(value.to_vec(alloc)?),
-        &elements,
-        &[4, 4],
-        &region,
+        rt.alloc(),
+        numbers,
+        Some(&[0, 1, 0, 2, 0, 3]),
+        &[3],
+        &[1..3],
     )?;
-    assert_eq!(rt; found.as_slice(), [4, 8].as_slice());
+    assert!(rt; found.as_slice() == [2, 0, 3, 0].as_slice());
     Ok(())
 }
 
 #[test]
-fn the_numbers_of_a_box_are_in_their_order(rt: HostRuntime) -> Result<(), Fail> {
-    let alloc = rt.alloc();
-    let elements = filled(alloc, DataType::UInt16, &[0, 0])?;
-    let value = [0, 1, 0, 2, 0, 3];
-    let region = ArraySubset::new_with_ranges(alloc, &[1..3])?;
-    let found = part(alloc, Some(value.to_vec(alloc)?), &elements, &[3], &region)?;
-    assert_eq!(rt; found.as_slice(), [2, 0, 3, 0].as_slice());
-    Ok(())
-}
-
-#[test]
-fn only_the_elements_of_a_box_have_to_be_values(rt: HostRuntime) -> Result<(), Fail> {
-    let alloc = rt.alloc();
-    let elements = filled(alloc, DataType::Bool, &[0])?;
-    let value = [0, 2, 1];
-    let first = ArraySubset::new_with_ranges(alloc, &[0..1])?;
-    let found = part(alloc, Some(value.to_vec(alloc)?), &elements, &[3], &first)?;
-    assert_eq!(rt; found.as_slice(), [0].as_slice());
-    let second = ArraySubset::new_with_ranges(alloc, &[1..2])?;
-    let damaged = part(alloc, Some(value.to_vec(alloc)?), &elements, &[3], &second);
+fn only_the_elements_of_a_box_have_to_be_values(rt: HostRuntime) -> Result<(), CodecError> {
+    let value = Some([0, 2, 1].as_slice());
+    let found = part(rt.alloc(), (DataType::Bool, &[0]), value, &[3], &[0..1])?;
+    assert!(rt; found.as_slice() == [0].as_slice());
+    let damaged = part(rt.alloc(), (DataType::Bool, &[0]), value, &[3], &[1..2]);
     assert!(rt; matches!(damaged, Err(CodecError::Damage)));
     Ok(())
 }
 
 #[test]
-fn a_value_of_a_wrong_length_has_no_part(rt: HostRuntime) -> Result<(), Fail> {
-    let alloc = rt.alloc();
-    let elements = filled(alloc, DataType::UInt8, &[0])?;
-    let region = ArraySubset::new_with_ranges(alloc, &[0..1])?;
-    let damaged = part(alloc, Some([1, 2].to_vec(alloc)?), &elements, &[3], &region);
+fn a_value_of_a_wrong_length_has_no_part(rt: HostRuntime) {
+    let bytes = (DataType::UInt8, [0].as_slice());
+    let damaged = part(rt.alloc(), bytes, Some(&[1, 2]), &[3], &[0..1]);
     assert!(rt; matches!(damaged, Err(CodecError::Damage)));
+}
+
+#[test]
+fn a_box_of_no_value_is_fill_values(rt: HostRuntime) -> Result<(), CodecError> {
+    let sevens = (DataType::UInt8, [7].as_slice());
+    let found = part(rt.alloc(), sevens, None, &[4, 4], &[1..3, 0..1])?;
+    assert!(rt; found.as_slice() == [7, 7].as_slice());
     Ok(())
 }
 
 #[test]
-fn a_box_of_no_value_is_fill_values(rt: HostRuntime) -> Result<(), Fail> {
-    let alloc = rt.alloc();
-    let elements = filled(alloc, DataType::UInt8, &[7])?;
-    let region = ArraySubset::new_with_ranges(alloc, &[1..3, 0..1])?;
-    let found = part(alloc, None, &elements, &[4, 4], &region)?;
-    assert_eq!(rt; found.as_slice(), [7, 7].as_slice());
-    Ok(())
+fn a_box_outside_of_the_array_is_refused(rt: HostRuntime) {
+    let past = part(
+        rt.alloc(),
+        (DataType::UInt8, &[0]),
+        Some(&[1, 2]),
+        &[3],
+        &[2..4],
+    );
+    assert!(rt; matches!(past, Err(CodecError::IncompatibleIndexer)));
+    let other = part(
+        rt.alloc(),
+        (DataType::UInt8, &[0]),
+        None,
+        &[3],
+        &[0..1, 0..1],
+    );
+    assert!(rt; matches!(other, Err(CodecError::IncompatibleIndexer)));
 }
 
 #[test]
-fn a_box_outside_of_the_array_is_refused(rt: HostRuntime) -> Result<(), Fail> {
-    let alloc = rt.alloc();
-    let elements = filled(alloc, DataType::UInt8, &[0])?;
-    let past = ArraySubset::new_with_ranges(alloc, &[2..4])?;
-    let refused = part(alloc, Some([1, 2].to_vec(alloc)?), &elements, &[3], &past);
-    assert!(rt; matches!(refused, Err(CodecError::IncompatibleIndexer)));
-    let other = ArraySubset::new_with_ranges(alloc, &[0..1, 0..1])?;
-    let refused = part(alloc, None, &elements, &[3], &other);
-    assert!(rt; matches!(refused, Err(CodecError::IncompatibleIndexer)));
-    Ok(())
-}
-
-#[test]
-fn a_type_that_does_not_fit_is_refused_first(rt: HostRuntime) -> Result<(), Fail> {
-    let alloc = rt.alloc();
-    let elements = filled(alloc, DataType::String, &[])?;
-    let other = ArraySubset::new_with_ranges(alloc, &[0..1, 0..1])?;
-    let refused = part(alloc, None, &elements, &[3], &other);
+fn a_type_that_does_not_fit_is_refused_first(rt: HostRuntime) {
+    let refused = part(
+        rt.alloc(),
+        (DataType::String, &[]),
+        None,
+        &[3],
+        &[0..1, 0..1],
+    );
     assert!(rt; matches!(refused, Err(CodecError::Fit)));
-    Ok(())
 }

@@ -2,8 +2,7 @@
 use crate::byte_codecs::TestCodec;
 use serde_json::Value;
 use std::alloc::{AllocError, Global};
-use std::test::Fail;
-use zarr_codecs_arrays::{ArrayBytes, Elements};
+use zarr_codecs_arrays::{ArrayBytes, CodecError, Elements};
 use zarr_codecs_chains::CodecChain;
 use zarr_codecs_types::{Component, DataType, DataTypeError, FillValue, FillValueError, Sign};
 use zarr_grids_metadata::{MetadataV3, PluginCreateError};
@@ -35,12 +34,20 @@ pub(crate) fn fill_of(
 }
 
 /// The elements of a type and a fill value that texts say.
-pub(crate) fn elements_of(alloc: Global, type_text: &str, fill: &str) -> Result<Elements, Fail> {
-    let data_type = type_of(alloc, type_text)?;
-    let fill_value = fill_of(alloc, &data_type, fill)?;
+pub(crate) fn elements_of(
+    alloc: Global,
+    type_text: &str,
+    fill: &str,
+) -> Result<Elements, CodecError> {
+    let Ok(data_type) = type_of(alloc, type_text) else {
+        return Err(CodecError::Unsupported);
+    };
+    let Ok(fill_value) = fill_of(alloc, &data_type, fill) else {
+        return Err(CodecError::Unsupported);
+    };
     match Elements::new(data_type, fill_value) {
         Some(elements) => Ok(elements),
-        None => Err(Fail::new("the fill value is no value of the type")),
+        None => Err(CodecError::Unsupported),
     }
 }
 
@@ -58,13 +65,21 @@ pub(crate) fn chain_of(
     CodecChain::from_metadata(alloc, metadatas.as_slice())
 }
 
+/// The same chain, where one is made.
+pub(crate) fn chain(alloc: Global, texts: &[&str]) -> Result<CodecChain<TestCodec>, CodecError> {
+    match chain_of(alloc, texts) {
+        Ok(chain) => Ok(chain),
+        Err(_error) => Err(CodecError::Unsupported),
+    }
+}
+
 /// Elements of one size.
-pub(crate) fn fixed(alloc: Global, bytes: &[u8]) -> Result<ArrayBytes, Fail> {
+pub(crate) fn fixed(alloc: Global, bytes: &[u8]) -> Result<ArrayBytes, AllocError> {
     Ok(ArrayBytes::Fixed(bytes.to_vec(alloc)?))
 }
 
 /// A 16-bit number without a sign and a 4-bit one with a sign, in three bytes.
-pub(crate) fn two_numbers(alloc: Global) -> Result<DataType, Fail> {
+pub(crate) fn two_numbers(alloc: Global) -> Result<DataType, AllocError> {
     let parts = [
         Component {
             width: 16,

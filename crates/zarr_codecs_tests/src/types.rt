@@ -1,5 +1,6 @@
 //! Data types with values typed in by hand.
 use crate::samples::{OPTIONAL, TWICE, two_numbers, type_of};
+use std::alloc::AllocError;
 use std::test::Fail;
 use zarr_codecs_types::{DataTypeError, data_type};
 
@@ -20,7 +21,7 @@ fn a_type_is_written_as_its_metadata(rt: HostRuntime) -> Result<(), Fail> {
         let Some(written) = type_of(alloc, text)?.metadata(alloc)? else {
             panic!(rt; "{text}");
         };
-        assert_eq!(rt; written.to_string(alloc)?.as_str(), wanted);
+        assert!(rt; written.to_string(alloc)?.as_str() == wanted, "{text}");
     }
     Ok(())
 }
@@ -55,10 +56,10 @@ fn a_type_is_equal_to_its_copy(rt: HostRuntime) -> Result<(), Fail> {
 }
 
 #[test]
-fn a_type_has_the_numbers_of_its_cells(rt: HostRuntime) -> Result<(), Fail> {
+fn a_type_has_the_numbers_of_its_cells(rt: HostRuntime) -> Result<(), AllocError> {
     let alloc = rt.alloc();
     let own = two_numbers(alloc)?;
-    assert_eq!(rt; own.components(alloc)?.len(), 2);
+    assert!(rt; own.components(alloc)?.len() == 2);
     assert!(rt; own.metadata(alloc)?.is_none());
     Ok(())
 }
