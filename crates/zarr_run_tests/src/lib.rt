@@ -7,6 +7,8 @@ mod answers;
 #[cfg(test)]
 mod changing_store;
 #[cfg(test)]
+mod counting_store;
+#[cfg(test)]
 mod lines;
 #[cfg(test)]
 mod refusing_codec;

@@ -1,6 +1,7 @@
 //! Sessions by typed commands.
 
 use crate::changing_store::ChangingStore;
+use crate::counting_store::CountingStore;
 use crate::refusing_codec::RefusingCodec;
 use crate::samples::{
     CREATE, DONE, MemorySession, READ, READ_ANSWER, REOPEN, answers, command, create_row, has,
@@ -214,5 +215,31 @@ fn a_session_tells_the_types_of_its_arrays(rt: HostRuntime) -> Result<(), Fail> 
     assert!(rt; answers(alloc, &mut session, CREATE, DONE)?);
     assert!(rt; session.data_type_at("/a").is_some());
     assert!(rt; session.data_type_at("/").is_none());
+    Ok(())
+}
+
+/// The first write finds no values. The second puts parts into three of them unread, and fetches the fourth, whose chunk becomes
+/// all fill.
+#[test]
+fn parts_are_written_into_values_that_nobody_reads(rt: HostRuntime) -> Result<(), Fail> {
+    let alloc = rt.alloc();
+    let store = CountingStore {
+        inner: MemoryStore::new(alloc),
+        fetches: 0,
+        patches: 0,
+    };
+    let mut session: Session<CountingStore, ReverseCodec> = Session::new(alloc, store);
+    assert!(rt; answers(alloc, &mut session, CREATE, DONE)?);
+    for cells in [[1, 2, 3, 4], [5, 6, 0, 8]] {
+        let wrote = session.step(&write(alloc, &cells)?);
+        assert!(rt; is_answered(alloc, &session, &wrote, DONE)?);
+    }
+    let mut store = session.close();
+    assert_eq!(rt; store.fetches, 1);
+    assert_eq!(rt; store.patches, 3);
+    assert_eq!(rt; store.inner.list()?.len(), 4);
+    assert!(rt; has(alloc, &mut store.inner, "a/c/0/0", &[0, 0, 0, 5])?);
+    assert!(rt; has(alloc, &mut store.inner, "a/c/0/1", &[0, 0, 6, 0])?);
+    assert!(rt; has(alloc, &mut store.inner, "a/c/1/1", &[8, 0, 0, 0])?);
     Ok(())
 }
