@@ -1,7 +1,8 @@
-"""Tries the must-fail edits of a crate in rounds: many edits in one check, at most one a function. An edit counts as refused only
-where its own function is reported as unproved by itself; where that function only calls another one that is not proved, the
-edit waits for a round without that one's edits. An edit with no function of its own, as one of a definition that many
-contracts rest on, is tried alone."""
+"""Tries the must-fail edits of a crate in rounds: many edits in one check, each in a copy of its function, or else at most one a
+function. An edit counts as refused only where its own function is reported as unproved by itself; where that function only calls
+another one that is not proved, the edit waits for a round without that one's edits. What is not plainly refused in a copy is
+tried again in its place. An edit with no function of its own, as one of a definition that many contracts rest on, is tried
+alone."""
 from __future__ import annotations
 
 import enum
@@ -10,8 +11,9 @@ from dataclasses import dataclass, field, replace
 from typing import Callable, Dict, List, Optional, Set, Tuple
 
 from check_output import CheckOutput, Placed
+from edit_copies import Copy, copy_of, with_copies
 from edit_files import DoesNotApply, Edit, apply_edit
-from rattle_sources import Sources
+from rattle_sources import Function, Sources
 
 
 class Verdict(enum.Enum):
@@ -42,19 +44,31 @@ class Judgement:
 
 @dataclass
 class Trial:
-    """An edit on its way: its function, where it has one of its own, and the functions that must not be edited beside it."""
+    """An edit on its way: its function, where it has one of its own, the copy that it is tried in, and the functions that must not
+    be edited beside it."""
 
     edit: Edit
     function: Optional[str]
+    copy: Optional[Copy] = None
     apart_from: Set[str] = field(default_factory=set)
     judgement: Optional[Judgement] = None
+
+    @property
+    def path(self) -> str:
+        """The path of the function that is checked."""
+        return self.copy.path if self.copy else self.function or ""
+
+    def leave(self) -> None:
+        """Has the edit tried in its place where it was tried in a copy, and else alone."""
+        self.function = self.function if self.copy else None
+        self.copy = None
 
 
 # Checks the crate with some texts in place of its own, and only the functions named; with none named, all of it.
 Check = Callable[[Dict[str, str], List[str]], CheckOutput]
 
 
-def own_function(edit: Edit, sources: Sources) -> Optional[str]:
+def own_function(edit: Edit, sources: Sources) -> Optional[Function]:
     """The one function in which an edit lies, or whose contract alone is the definition that it changes."""
     found = set()
     for change in edit.changes:
@@ -65,7 +79,7 @@ def own_function(edit: Edit, sources: Sources) -> Optional[str]:
             function = sources.function_at(change.path, start, start + len(change.old))
         else:
             function = sources.law_of(change.path, start) if change.path.startswith("specs/") else None
-        found.add(function.path if function else None)
+        found.add(function)
     return found.pop() if len(found) == 1 else None
 
 
@@ -75,13 +89,16 @@ def text_in(sources: Sources, path: str) -> str:
     return sources.texts[path]
 
 
-def trial_of(edit: Edit, sources: Sources) -> Trial:
-    """The trial of an edit, which is over where the edit does not apply."""
+def trial_of(edit: Edit, number: int, sources: Sources) -> Trial:
+    """The trial of an edit, the one with this number, which is over where the edit does not apply."""
     try:
         apply_edit(edit, lambda path: text_in(sources, path))
     except DoesNotApply as why:
         return Trial(edit, None, judgement=Judgement(Verdict.DOES_NOT_APPLY, goal=str(why)))
-    return Trial(edit, own_function(edit, sources))
+    function = own_function(edit, sources)
+    if not function:
+        return Trial(edit, None)
+    return Trial(edit, function.path, copy_of(edit, function, number, sources))
 
 
 class Rounds:
@@ -89,7 +106,7 @@ class Rounds:
 
     def __init__(self, edits: List[Edit], sources: Sources, check: Check):
         self.sources, self.check = sources, check
-        self.trials = [trial_of(it, sources) for it in edits]
+        self.trials = [trial_of(it, number, sources) for number, it in enumerate(edits)]
 
     def run(self) -> List[Tuple[Edit, Judgement]]:
         """Tries every edit, and gives each with its judgement."""
@@ -105,27 +122,28 @@ class Rounds:
         return [it for it in self.trials if it.function and not it.judgement]
 
     def _are_apart(self, one: Trial, other: Trial) -> bool:
-        a, b = one.function or "", other.function or ""
+        a, b = one.path, other.path
         return a != b and b not in one.apart_from and a not in other.apart_from
 
     def _next_batch(self) -> Tuple[List[Trial], Dict[str, str]]:
         """Edits that can be tried side by side, those first whose function has the most edits left."""
         left, batch, texts = self._left(), [], {}
         count = Counter(it.function for it in left)
-        for trial in sorted(left, key=lambda it: -count[it.function]):
+        for trial in sorted(left, key=lambda it: (bool(it.copy), -count[it.function])):
             if not all(self._are_apart(trial, it) for it in batch):
                 continue
             try:
-                texts.update(apply_edit(trial.edit, lambda path: texts.get(path) or text_in(self.sources, path)))
+                if not trial.copy:
+                    texts.update(apply_edit(trial.edit, lambda path: texts.get(path) or text_in(self.sources, path)))
             except DoesNotApply:
                 # Another edit of the batch changed the same text.
                 continue
             batch.append(trial)
-        return batch, texts
+        return batch, self._applied(batch)
 
     def _try_batch(self, batch: List[Trial], texts: Dict[str, str]) -> None:
-        output = self.check(texts, [it.function for it in batch if it.function])
-        unknown = [it for it in batch if it.function == output.unknown_function]
+        output = self.check(texts, [it.path for it in batch])
+        unknown = [it for it in batch if it.path == output.unknown_function]
         if unknown:
             self._without_function(unknown, batch)
             return
@@ -133,17 +151,18 @@ class Rounds:
         if not output.reached_the_prover or unreadable:
             self._split(batch, texts, output)
             return
-        edited = {it.function for it in batch}
+        edited = {it.path for it in batch}
         for trial in batch:
+            path = trial.path
             self._judge(trial, output, edited, len(batch) == 1)
             if trial.judgement:
-                trial.judgement = replace(trial.judgement, seconds=output.seconds_for(trial.judgement.function))
+                trial.judgement = replace(trial.judgement, seconds=output.seconds_for(path))
 
     def _without_function(self, unknown: List[Trial], batch: List[Trial]) -> None:
-        """Leaves those edits to be tried alone whose function the check knows by another name, and tries the others."""
+        """Leaves those edits to be tried in another way whose function the check knows by another name, and tries the others."""
+        rest = [it for it in batch if it not in unknown]
         for trial in unknown:
-            trial.function = None
-        rest = [it for it in batch if it.function]
+            trial.leave()
         if rest:
             self._try_batch(rest, self._applied(rest))
 
@@ -154,7 +173,7 @@ class Rounds:
             return
         edited = Sources({**self.sources.texts, **texts})
         faulty = {edited.function_on(it.file, it.line) for it in output.errors}
-        parts = [it for it in batch if it.function in faulty], [it for it in batch if it.function not in faulty]
+        parts = [it for it in batch if it.path in faulty], [it for it in batch if it.path not in faulty]
         for part in parts if all(parts) else (batch[: len(batch) // 2], batch[len(batch) // 2 :]):
             self._try_batch(part, self._applied(part))
 
@@ -162,32 +181,42 @@ class Rounds:
         """The texts of the files that the edits of a batch change."""
         texts: Dict[str, str] = {}
         for trial in batch:
-            texts.update(apply_edit(trial.edit, lambda path: texts.get(path) or text_in(self.sources, path)))
-        return texts
+            if not trial.copy:
+                texts.update(apply_edit(trial.edit, lambda path: texts.get(path) or text_in(self.sources, path)))
+        return with_copies(texts, [(it.copy, it.function or "") for it in batch if it.copy], self.sources)
 
     def _without_proof(self, trial: Trial, output: CheckOutput) -> Optional[Judgement]:
-        """The judgement on an edit whose check stopped before any proof, or none where it is to be tried alone."""
-        if output.status == 2 and trial.function:
-            # The check knows the function by another name.
-            trial.function = None
+        """The judgement on an edit whose check stopped before any proof, or none where it is to be tried in another way."""
+        if trial.copy or output.status == 2 and trial.function:
+            # The check knows the function by another name, or there can be no copy of it.
+            trial.leave()
             return None
         lines = [str(it) for it in output.errors] or [it for it in output.lines if it]
         verdict = Verdict.DOES_NOT_COMPILE if output.status == 1 else Verdict.NOT_JUDGED
         return Judgement(verdict, trial.function or "", " ".join(lines[:1]))
 
-    def _judge(self, trial: Trial, output: CheckOutput, edited: Set[Optional[str]], is_alone: bool) -> None:
-        path = trial.function or ""
-        lines = output.of_function(path)
+    def _judge(self, trial: Trial, output: CheckOutput, edited: Set[str], is_alone: bool) -> None:
+        path, lines = trial.path, output.of_function(trial.path)
+        is_by_itself = is_alone or any(not it.is_proved and not output.waits(it) for it in lines)
         if not lines:
-            trial.function = None
+            trial.leave()
         elif all(it.is_proved for it in lines):
-            trial.judgement = Judgement(Verdict.PROVED, path)
-        elif is_alone or any(not it.is_proved and not output.waits(it) for it in lines):
-            trial.judgement = refusal(path, output.faults_of(path), " ".join(it.text for it in lines if not it.is_proved))
+            self._end(trial, Judgement(Verdict.PROVED, trial.function or ""))
+        elif is_by_itself:
+            said = " ".join(it.text for it in lines if not it.is_proved)
+            self._end(trial, refusal(trial.function or "", output.faults_of(path), said))
         else:
             causes = self._edited_below(lines[0].path, output) & edited - {path}
-            trial.apart_from |= {it for it in causes if it}
-            trial.function = trial.function if causes else None
+            trial.apart_from |= causes
+            if not causes:
+                trial.leave()
+
+    def _end(self, trial: Trial, judgement: Judgement) -> None:
+        """Gives a trial its judgement. One in a copy is only believed where a goal is refused."""
+        if trial.copy and judgement.verdict is not Verdict.REFUSED:
+            trial.leave()
+        else:
+            trial.judgement = judgement
 
     def _edited_below(self, path: str, output: CheckOutput) -> Set[str]:
         """The unproved functions that a function waits for, and those that they wait for."""

@@ -9,6 +9,7 @@ import re
 import shutil
 import signal
 import subprocess
+import time
 from dataclasses import dataclass
 from typing import Dict, Iterable, List, Set
 
@@ -17,6 +18,8 @@ from check_output import CheckOutput, read_output
 KIT = os.path.dirname(os.path.dirname(os.path.realpath(shutil.which("rt") or "/opt/rattle/bin/rt")))
 PARTS = ("src", "specs", "proofs")
 TICKS = os.sysconf("SC_CLK_TCK")
+# What a check takes of the memory at most, as seen, and with some room.
+MEMORY_OF_A_CHECK = 3 << 30
 
 
 @dataclass(frozen=True)
@@ -137,6 +140,18 @@ class Clock:
         self.last = now
 
 
+def free_memory() -> int:
+    with open("/proc/meminfo", encoding="ascii") as it:
+        return next(int(line.split()[1]) * 1024 for line in it if line.startswith("MemAvailable:"))
+
+
+def wait_for_memory(seconds: int = 600) -> None:
+    """Waits until there is memory for a check, for so long at most: what runs beside gives some back when it ends."""
+    until = time.monotonic() + seconds
+    while free_memory() < MEMORY_OF_A_CHECK and time.monotonic() < until:
+        time.sleep(5)
+
+
 class Room:
     """A folder for checks of a crate with other texts; what they prove is kept there from one to the next.
 
@@ -194,6 +209,7 @@ class Room:
     def _run(self, words: List[str]) -> CheckOutput:
         if Room.is_stopped:
             raise InterruptedError("the run was stopped")
+        wait_for_memory()
         ran = subprocess.Popen(
             [*words, "--progress"], cwd=self.folder, stdin=subprocess.DEVNULL, stdout=subprocess.PIPE, stderr=subprocess.STDOUT, start_new_session=True, errors="replace"
         )

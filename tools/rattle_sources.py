@@ -14,12 +14,13 @@ DEFINITION = re.compile(r"(?m)^(?:(?:pub|abbrev|unfoldable|opaque|data|record)[ 
 
 @dataclass(frozen=True)
 class Function:
-    """A function of a crate: its path below the crate, and where its text lies, its clauses included."""
+    """A function of a crate: its path below the crate, where its text lies, its clauses included, and whether a trait names it."""
 
     path: str
     file: str
     start: int
     end: int
+    is_of_trait: bool = False
 
     @property
     def name(self) -> str:
@@ -107,17 +108,18 @@ class Sources:
         for it in FUNCTION.finditer(text):
             close = re.compile(rf"(?m)^{it[1]}(?:}}|{{}})[ ]*$|^{it[1]}\{{.*}}$").search(text, it.end())
             above = [block for block in blocks if block[0] < it.start()]
-            path = module_of(file)
+            path, is_of_trait = module_of(file), False
             end = close.end() if close else len(text)
             if it[1] and above:
                 _, name, kind, head = above[-1]
+                is_of_trait = kind == "trait" or " for " in head
                 if kind == "impl" and " for " not in head:
                     # (the functions of a type stand in the module of the type, those of a trait where its impl does)
                     of_type = [known for known in self.modules if name.startswith(known)]
                     path = self.modules.get(max(of_type, key=len, default=""), path)
                 path = [*path, name]
                 end = it.start() + end_of_declaration(text[it.start() : end]) if kind == "trait" else end
-            found.append(Function("::".join([*path, it[2]]), file, it.start(), end))
+            found.append(Function("::".join([*path, it[2]]), file, it.start(), end, is_of_trait))
         return found
 
     def with_bodies(self) -> List[str]:

@@ -11,6 +11,7 @@ HERE = os.path.dirname(os.path.realpath(__file__))
 sys.path.insert(0, HERE)
 
 from check_output import read_output  # noqa: E402
+from edit_copies import copy_of  # noqa: E402
 from edit_files import DoesNotApply, apply_edit, edit_files, parse_edit  # noqa: E402
 from edit_queue import Queue  # noqa: E402
 from edit_rounds import Rounds, Verdict, refusal  # noqa: E402
@@ -138,12 +139,21 @@ class ChoosingBatches(unittest.TestCase):
         rounds = Rounds([edit_of(*it) for it in edits], Sources({"src/lib.rt": SOURCE}), lambda texts, functions: None)
         return sorted(it.edit.name for it in rounds._next_batch()[0])
 
-    def test_one_edit_a_function(self):
-        self.assertEqual(self.batch_of(("a", "    3", "    4"), ("b", "    3", "    5"), ("c", "        10", "        11")), ["a", "c"])
+    def test_edits_of_one_function_share_a_batch_in_copies(self):
+        edits = ("a", "    3", "    4"), ("b", "    3", "    5"), ("c", "        10", "        11")
+        self.assertEqual(self.batch_of(*edits), ["a", "b", "c"])
+
+    def test_one_edit_a_function_of_a_trait(self):
+        code = "impl Walk for Step {\n    fn next(&self) {\n        3\n    }\n}\n\nfn last() {\n    4\n}\n"
+        edits = [edit_of("a", "        3", "5"), edit_of("b", "        3", "6"), edit_of("c", "    4", "5")]
+        batch, texts = Rounds(edits, Sources({"src/lib.rt": code}), lambda texts, functions: None)._next_batch()
+        self.assertEqual([it.path for it in batch], ["StepWalk::next", "last_edit_2"])
+        self.assertEqual(texts["src/lib.rt"], code.replace("        3", "5")[:-1] + "\n\nfn last_edit_2() {\n5\n}\n")
 
     def test_a_function_that_waits_for_another_stands_apart_from_it(self):
         edits = [edit_of("callee", "    n + 1", "    n"), edit_of("caller", "one_more(one_more(n))", "n")]
         rounds = Rounds(edits, Sources({"src/lib.rt": SOURCE}), lambda texts, functions: None)
+        rounds.trials[0].copy = None
         self.assertEqual(len(rounds._next_batch()[0]), 2)
         rounds.trials[1].apart_from.add("one_more")
         self.assertEqual(len(rounds._next_batch()[0]), 1)
@@ -169,17 +179,46 @@ class ChoosingBatches(unittest.TestCase):
 
         def check(texts, functions):
             asked.append(functions)
-            if "one_more" in functions:
-                return read_output(2, "rattle: error: `tiny` has no function `one_more`: help: write the name that a check prints")
-            return read_output(1, "src/lib.rt:9:1: error: no\nfn tiny::cut: not proved\nonly=1 proved=0")
+            unknown = [it for it in functions if it.startswith("one_more")]
+            if unknown:
+                return read_output(2, f"rattle: error: `tiny` has no function `{unknown[0]}`: help: write the name that a check prints")
+            return read_output(1, "src/lib.rt:9:1: error: no\nfn tiny::cut_edit_1: not proved\nonly=1 proved=0")
 
         rounds = Rounds([edit_of("a", "    n + 1", "    n"), edit_of("b", "        10", "        11")], Sources({"src/lib.rt": SOURCE}), check)
         rounds._try_batch(*rounds._next_batch())
-        self.assertEqual((asked[1], rounds.trials[0].function), (["cut"], None))
+        # The copy isn't known, and then the function in its place isn't either.
+        self.assertEqual((asked[1], rounds.trials[0].path), (["cut_edit_1"], "one_more"))
+        rounds._try_batch(*rounds._next_batch())
+        self.assertIsNone(rounds.trials[0].function)
 
     def test_blocks_are_named_as_a_check_names_them(self):
         self.assertEqual(block_name("impl", "<'a> Iterator for Walk<'a> "), "WalkIterator")
         self.assertEqual(block_name("impl", " From<std::alloc::AllocError> for Fault "), "FaultFromAllocError")
+
+
+class CopyingFunctions(unittest.TestCase):
+    def copy_in(self, code, new="    4", **proofs):
+        sources = Sources({"src/a.rt": code, **{f"proofs/{name}.antt": it for name, it in proofs.items()}})
+        function = next(it for it in sources.functions if it.name == "small")
+        return copy_of(edit_of("name", "    3", new, "src/a.rt"), function, 7, sources)
+
+    def test_a_copy_has_the_text_of_the_function_its_attributes_and_the_edit(self):
+        copy = self.copy_in("use b::c;\n/// A number;\n#[tactic(auto)]\nfn small() {\n    3\n}\n")
+        self.assertEqual(copy.path, "a::small_edit_7")
+        self.assertEqual(copy.text, "/// A number;\n#[tactic(auto)]\nfn small_edit_7() {\n    4\n}")
+
+    def test_a_copy_has_the_proof_files_of_the_function(self):
+        proofs = {"a/small/Answers": "use Rattle.x.proofs.a.small.Goals as goal\nuse Rattle.x.proofs.a.smaller.Met"}
+        copy = self.copy_in("fn small() {\n    3\n}\n", **proofs)
+        wanted = "use Rattle.x.proofs.a.small_edit_7.Goals as goal\nuse Rattle.x.proofs.a.smaller.Met"
+        self.assertEqual(copy.proofs, {"proofs/a/small_edit_7/Answers.antt": wanted})
+
+    def test_there_is_no_copy_in_a_cycle_of_calls_nor_where_a_lemma_names_the_goals(self):
+        code = "fn small() {\n    3\n}\n"
+        self.assertIsNone(self.copy_in("#[cycle(numbers)]\n" + code))
+        self.assertIsNone(self.copy_in("fn small() {\n    3\n    small()\n}\n"))
+        self.assertIsNone(self.copy_in(code, Lemmas="use Rattle.x.proofs.a.small.Given as given"))
+        self.assertIsNotNone(self.copy_in(code, Lemmas="use Rattle.x.proofs.a.small.Met"))
 
 
 class LeavingProofsOut(unittest.TestCase):

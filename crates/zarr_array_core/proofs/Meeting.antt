@@ -15,7 +15,7 @@ use Rattle.zarr_grids_boxes.proofs.Sharing.{share_place-has}
 use Rattle.zarr_grids_boxes.proofs.Steps.{in_box_same}
 use Rattle.zarr_grids_boxes.proofs.Walking.{get_or-places}
 use Rattle.zarr_grids_chunks.specs.Grids.{Grid, chunk_box, intersects}
-use Rattle.zarr_codecs_traits.specs.Outcomes.{lies_in, numbers_of}
+use Rattle.zarr_codecs_traits.specs.Indexers.{lies_in, numbers_of}
 use Rattle.zarr_array_meaning.specs.Chunks.{number_in}
 
 -- ---- lists of numbers, each at most the other's
@@ -122,8 +122,12 @@ meeting region box h =
           ∙ ap (λ place. ravel place box.shape) (get_or-places part.start part.shape n [] part_rank below ∙ shifted n);
     }
 
+-- the box of a chunk that a box intersects shares a place with it
+pub shares_own : (grid : Grid) (chunk : List ℕ) (region box : Region) → chunk_box grid chunk ≡ Some box → intersects grid region chunk ≡ true → share_place box.start box.shape region.start region.shape ≡ true
+shares_own grid chunk region box h shares = sym (ap (λ (o : Option Region). option_map_or (λ (b : Region). share_place b.start b.shape region.start region.shape) o false) h) ∙ shares
+
 -- a chunk that a box intersects
 pub met : (grid : Grid) (chunk : List ℕ) (region box shared part : Region) → chunk_box grid chunk ≡ Some box → intersects grid region chunk ≡ true → shared ≡ overlapped region box → part ≡ relative shared box.start → IsMeeting region box shared part
 met grid chunk region box shared part h shares e f =
-    let share : share_place box.start box.shape region.start region.shape ≡ true = sym (ap (λ (o : Option Region). option_map_or (λ (b : Region). share_place b.start b.shape region.start region.shape) o false) h) ∙ shares in
+    let share = shares_own grid chunk region box h shares in
     subst (λ (p : Region). IsMeeting region box shared p) (sym f) (subst (λ (s : Region). IsMeeting region box s (relative s box.start)) (sym e) (meeting region box share))

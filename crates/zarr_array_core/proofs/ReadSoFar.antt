@@ -1,6 +1,5 @@
 -- A read of a box, chunk by chunk.
-use Rattle.std.proofs.Common.{◌≡◌, ◌∙◌, ℕ, ◌+◌, ◌*◌, ◌<◌, Bool, true, false, ◌||◌, List, [], ◌∷◌, ◌++◌, length, replicate, take, drop, refl, sym, ap, subst, ⊎_elim, arith, Option, Some, None, is_some, Result, Ok, Err, IfErr, Vec, bytes_eq}
-use Rattle.std.specs.Prelude.{MatchOption}
+use Rattle.std.proofs.Common.{◌≡◌, ◌∙◌, ℕ, ◌+◌, ◌*◌, ◌<◌, Bool, true, false, ◌||◌, List, [], ◌∷◌, ◌++◌, length, replicate, take, drop, refl, sym, ap, subst, ⊎_elim, arith, Option, Some, None, is_some, option_map, Result, Ok, Err, IfErr, Vec, bytes_eq}
 use Rattle.std.specs.declared.alloc.Global.{Global}
 use Rattle.std.specs.FinMap.{get}
 use Rattle.std.specs.List.{list_any}
@@ -21,7 +20,7 @@ use Rattle.zarr_grids_cover.specs.Intersecting.{AreIntersecting}
 use Rattle.zarr_codecs_meaning.specs.Chunks.{chunk_part}
 use Rattle.zarr_codecs_meaning.specs.Payloads.{fixed, fixed_cells}
 use Rattle.zarr_codecs_meaning.specs.Types.{Cell, byte_width}
-use Rattle.zarr_array_meaning.specs.Boxes.{cell_of_box, IsPlaceOf, IsRead}
+use Rattle.zarr_array_meaning.specs.Boxes.{cell_of_box, IsPlaceOf, IsRead, IsUnfitIn}
 use Rattle.zarr_array_meaning.specs.Chunks.{number_in, stored_at, fits_box, ReadsCell, is_listed}
 use Rattle.zarr_array_meaning.specs.Documents.{Document}
 use Rattle.zarr_array_meaning.specs.StoreMaps.{StoreMap}
@@ -36,46 +35,39 @@ use Rattle.zarr_array_core.proofs.MetChunks.{first_chunks, first_chunks-more, fi
 use Rattle.zarr_array_core.proofs.Payloads.{fixed_listed}
 use Rattle.zarr_array_core.proofs.Placed.{same_box}
 
--- what a store gave for a chunk
-pub found_value : (store : StoreMap) (key other : List ℕ) (found : Option (Vec ℕ Global)) (value : Vec ℕ Global) → value_bytes found ≡ get store key → key ≡ other → found ≡ Some value → get store other ≡ Some value.items
-found_value store key other found value gave same is = sym (gave ∙ ap (get store) same) ∙ ap value_bytes is
-
 -- ---- why a chunk is not read
-value_stops : (path : List ℕ) (document : Document) (store : StoreMap) (region : Region) (chunk value : List ℕ) (box : Region) (e : ChunkError) → IsInGrid document.grid chunk box → intersects document.grid region chunk ≡ true
-    → stored_at path document store chunk ≡ Some value → ValueStops document region box value e → ReadStops path document store region e
-value_stops path document store region chunk value box error.Fit below shares found h = record { chunk = chunk; box = box; below = below; shares = shares; stored = ap is_some found; fit = h }
-value_stops path document store region chunk value box (error.Storage s) below shares found h = elim h [ ]
-value_stops path document store region chunk value box error.Damage below shares found h = record {
+value_stops : (path : List ℕ) (document : Document) (store : StoreMap) (region : Region) (chunk : List ℕ) (box : Region) (e : ChunkError) → IsInGrid document.grid chunk box
+    → ValueStops document region box (stored_at path document store chunk) e → ReadStops path document store region e
+value_stops path document store region chunk box error.Fit below h = elim h [ ]
+value_stops path document store region chunk box (error.Storage s) below h = tt
+value_stops path document store region chunk box error.Damage below h = record {
   chunk = chunk;
   box = box;
   place = h.place;
   is = record { below = below; of_region = h.of_region; of_chunk = h.of_chunk };
   fit = h.fit;
-  lost = ap (λ (o : Option (List ℕ)). chunk_part document.chain document.elements box.shape o (number_in box h.place ∷ [])) found ∙ h.lost;
+  lost = h.lost;
 }
-value_stops path document store region chunk value box error.Codec below shares found h = h
-value_stops path document store region chunk value box error.Size below shares found h = h
-value_stops path document store region chunk value box error.Memory below shares found h = h
+value_stops path document store region chunk box error.Codec below h = h
+value_stops path document store region chunk box error.Size below h = h
+value_stops path document store region chunk box error.Memory below h = h
 
-pub chunk_stops : {A : Type 0} (path : List ℕ) (document : Document) (store : StoreMap) (region : Region) (chunk value : List ℕ) (found : (box : Region) × IsInGrid document.grid chunk box) (result : Result A ChunkError)
-    → intersects document.grid region chunk ≡ true → stored_at path document store chunk ≡ Some value
-    → IfErr result (λ e. (box : Region) → IsInGrid document.grid chunk box → ValueStops document region box value e) → IfErr result (ReadStops path document store region)
-chunk_stops path document store region chunk value found (Ok done) shares stored h = tt
-chunk_stops path document store region chunk value found (Err e) shares stored h = value_stops path document store region chunk value found.0 e found.1 shares stored (h found.0 found.1)
+pub chunk_stops : (path : List ℕ) (document : Document) (store : StoreMap) (region : Region) (chunk : List ℕ) (found : (box : Region) × IsInGrid document.grid chunk box) (e : ChunkError)
+    → ((box : Region) → IsInGrid document.grid chunk box → ValueStops document region box (stored_at path document store chunk) e) → ReadStops path document store region e
+chunk_stops path document store region chunk found e h = value_stops path document store region chunk found.0 e found.1 (h found.0 found.1)
 
-value_counts : (document : Document) (region box : Region) (value : List ℕ) (e : ChunkError) (count : ℕ) → ValueStops document region box value e → refused_with e count ≡ count
-value_counts document region box value error.Fit count h = refl
-value_counts document region box value (error.Storage s) count h = elim h [ ]
-value_counts document region box value error.Damage count h = refl
-value_counts document region box value error.Codec count h = refl
-value_counts document region box value error.Size count h = refl
-value_counts document region box value error.Memory count h = refl
+-- a value that has a size is there
+has_value : (stored : Option (List ℕ)) (size : Option ℕ) (n : ℕ) → size ≡ option_map length stored → size ≡ Some n → is_some stored ≡ true
+has_value None size n told some = cc
+has_value (Some value) size n told some = refl
 
--- no value makes the store refuse
-pub chunk_counts : {A : Type 0} (document : Document) (region : Region) (chunk value : List ℕ) (found : (box : Region) × IsInGrid document.grid chunk box) (result : Result A ChunkError) (count : ℕ)
-    → IfErr result (λ e. (box : Region) → IsInGrid document.grid chunk box → ValueStops document region box value e) → refused_after count result ≡ count
-chunk_counts document region chunk value found (Ok done) count h = refl
-chunk_counts document region chunk value found (Err e) count h = value_counts document region found.0 value e count (h found.0 found.1)
+pub sized_value : (store mid : StoreMap) (key other : List ℕ) (size : Option ℕ) (n : ℕ) → mid ≡ store → key ≡ other → size ≡ option_map length (get mid key) → size ≡ Some n → is_some (get store other) ≡ true
+sized_value store mid key other size n same is told some = ap is_some (sym (ap (λ (m : StoreMap). get m key) same ∙ ap (get store) is)) ∙ has_value (get mid key) size n told some
+
+-- a chunk that is stored and does not fit
+pub unfit_stops : (path : List ℕ) (document : Document) (store : StoreMap) (region : Region) (chunk : List ℕ) (found : (box : Region) × IsInGrid document.grid chunk box) → intersects document.grid region chunk ≡ true
+    → is_some (stored_at path document store chunk) ≡ true → ((box : Region) → IsInGrid document.grid chunk box → fits_box document box ≡ false) → IsUnfitIn path document store region
+unfit_stops path document store region chunk found shares some h = record { chunk = chunk; box = found.0; below = found.1; shares = shares; stored = some; fit = h found.0 found.1 }
 
 -- ---- the chunks that were read so far: their places show what is read of them, and the other places are fill values
 pub record ReadSoFar (path : List ℕ) (document : Document) (width : ℕ) (store : StoreMap) (region : Region) (chunks : List (List ℕ)) (bytes : List ℕ) : Type 0 where
@@ -114,31 +106,36 @@ empty_shows path document store chunk box place cell none e =
 -- ---- one more chunk
 
 -- what stays where a place lies outside of the chunk
-stays : (path : List ℕ) (document : Document) (width : ℕ) (store : StoreMap) (region : Region) (chunk : List ℕ) (box : Region) (old new place : List ℕ) (stored : Option (List ℕ))
-    → MatchOption stored (new ≡ old) (λ value. IsPlaced document width region box value old new) → is_in_box region.start region.shape place ≡ true → is_in_box box.start box.shape place ≡ false
+stays : (path : List ℕ) (document : Document) (width : ℕ) (store : StoreMap) (region : Region) (chunk : List ℕ) (box : Region) (old new place : List ℕ)
+    → GivesChunk path document width store region chunk box old new → is_in_box region.start region.shape place ≡ true → is_in_box box.start box.shape place ≡ false
     → cell_in document width region new place ≡ cell_in document width region old place
-stays path document width store region chunk box old new place None h t out = ap (λ bytes. cell_in document width region bytes place) h
-stays path document width store region chunk box old new place (Some value) h t out = h.kept place t out
+stays path document width store region chunk box old new place h t out = ⊎_elim (λ k. ap (λ bytes. cell_in document width region bytes place) k.1) (λ k. k.kept place t out) h
 
--- what the chunk itself shows
-shows : (path : List ℕ) (document : Document) (width : ℕ) (store : StoreMap) (region : Region) (cs : List (List ℕ)) (chunk : List ℕ) (box : Region) (old new place : List ℕ) (stored : Option (List ℕ)) → stored_at path document store chunk ≡ stored
-    → MatchOption stored (new ≡ old) (λ value. IsPlaced document width region box value old new) → IsPlaceOf document region chunk box place → ReadSoFar path document width store region cs old
-    → ReadsCell path document store chunk box place (cell_in document width region new place)
-shows path document width store region cs chunk box old new place (Some value) found h is first =
-    ap (λ (o : Option (List ℕ)). chunk_part document.chain document.elements box.shape o (number_in box place ∷ [])) found ∙ h.shown place is.of_region is.of_chunk
-shows path document width store region cs chunk box old new place None found h is first =
-    subst (λ bytes. ReadsCell path document store chunk box place (cell_in document width region bytes place)) (sym h)
-    (⊎_elim
+-- what a chunk that has no value shows where the box stays as it was
+still_shows : (path : List ℕ) (document : Document) (width : ℕ) (store : StoreMap) (region : Region) (cs : List (List ℕ)) (chunk : List ℕ) (box : Region) (old place : List ℕ) → stored_at path document store chunk ≡ None
+    → IsPlaceOf document region chunk box place → ReadSoFar path document width store region cs old
+    → ReadsCell path document store chunk box place (cell_in document width region old place)
+still_shows path document width store region cs chunk box old place none is first =
+    ⊎_elim
     (λ t.
     let among = any_lies document.grid place cs t in
     let same : among.0 ≡ chunk = chunks_apart document.grid among.0 chunk place among.2 (lies_here document.grid chunk place box is.below.has_box ∙ is.of_chunk) in
     first.each chunk box place is (ap (is_listed cs) (sym same) ∙ among.1))
-    (λ t. empty_shows path document store chunk box place (cell_in document width region old place) found (first.rest place is.of_region t))
-    (told (list_any (lies_in_chunk document.grid place) cs)))
+    (λ t. empty_shows path document store chunk box place (cell_in document width region old place) none (first.rest place is.of_region t))
+    (told (list_any (lies_in_chunk document.grid place) cs))
 
-fits_stored : (document : Document) (width : ℕ) (region box : Region) (old new : List ℕ) (stored : Option (List ℕ)) → MatchOption stored (new ≡ old) (λ value. IsPlaced document width region box value old new) → is_some stored ≡ true → fits_box document box ≡ true
-fits_stored document width region box old new None h some = absurd (false≢true some)
-fits_stored document width region box old new (Some value) h some = h.fit
+-- what the chunk itself shows
+shows : (path : List ℕ) (document : Document) (width : ℕ) (store : StoreMap) (region : Region) (cs : List (List ℕ)) (chunk : List ℕ) (box : Region) (old new place : List ℕ)
+    → GivesChunk path document width store region chunk box old new → IsPlaceOf document region chunk box place → ReadSoFar path document width store region cs old
+    → ReadsCell path document store chunk box place (cell_in document width region new place)
+shows path document width store region cs chunk box old new place h is first = ⊎_elim
+    (λ k. subst (λ bytes. ReadsCell path document store chunk box place (cell_in document width region bytes place)) (sym k.1) (still_shows path document width store region cs chunk box old place k.0 is first))
+    (λ k. k.shown place is.of_region is.of_chunk)
+    h
+
+fits_stored : (path : List ℕ) (document : Document) (width : ℕ) (store : StoreMap) (region : Region) (chunk : List ℕ) (box : Region) (old new : List ℕ) → GivesChunk path document width store region chunk box old new → is_some (stored_at path document store chunk) ≡ true
+    → fits_box document box ≡ true
+fits_stored path document width store region chunk box old new h some = ⊎_elim (λ k. absurd (false≢true (sym (ap (λ (o : Option (List ℕ)). is_some o) k.0) ∙ some))) (λ k. k.fit) h
 
 -- of two tests, where one or the other holds
 neither : (a b : Bool) → (a || b) ≡ false → (a ≡ false) × (b ≡ false)
@@ -160,20 +157,20 @@ read_more path document width store region cs c box old new below gives first = 
       let same : box ≡ other = same_box document.grid c box other below here in
       subst (λ (k : List ℕ). ReadsCell path document store k other place (cell_in document width region new place)) (sym e)
       (subst (λ (b : Region). ReadsCell path document store c b place (cell_in document width region new place)) same
-      (shows path document width store region cs c box old new place (stored_at path document store c) refl gives (record { below = below; of_region = is.of_region; of_chunk = ap (λ (b : Region). is_in_box b.start b.shape place) same ∙ is.of_chunk }) first)))
+      (shows path document width store region cs c box old new place gives (record { below = below; of_region = is.of_region; of_chunk = ap (λ (b : Region). is_in_box b.start b.shape place) same ∙ is.of_chunk }) first)))
       (λ (ne, k).
       let out = outside document.grid place c d box other below.has_box is.below.has_box ne is.of_chunk in
-      let same = stays path document width store region c box old new place (stored_at path document store c) gives is.of_region out in
+      let same = stays path document width store region c box old new place gives is.of_region out in
       subst (λ (cell : Cell). ReadsCell path document store d other place cell) (sym same) (first.each d other place is k))
       (listed_more cs c d l);
   rest = λ place t none.
       let apart = neither (list_any (lies_in_chunk document.grid place) cs) (lies_in_chunk document.grid place c) (sym (list_any-append (lies_in_chunk document.grid place) cs c) ∙ none) in
-      stays path document width store region c box old new place (stored_at path document store c) gives t (sym (lies_here document.grid c place box below.has_box) ∙ apart.1) ∙ first.rest place t apart.0;
+      stays path document width store region c box old new place gives t (sym (lies_here document.grid c place box below.has_box) ∙ apart.1) ∙ first.rest place t apart.0;
   fit = λ d other over l some. ⊎_elim
       (λ e.
       let here : IsInGrid document.grid c other = subst (λ (k : List ℕ). IsInGrid document.grid k other) e over in
       let same : box ≡ other = same_box document.grid c box other below here in
-      subst (λ (b : Region). fits_box document b ≡ true) same (fits_stored document width region box old new (stored_at path document store c) gives (ap (λ (k : List ℕ). is_some (stored_at path document store k)) (sym e) ∙ some)))
+      subst (λ (b : Region). fits_box document b ≡ true) same (fits_stored path document width store region c box old new gives (ap (λ (k : List ℕ). is_some (stored_at path document store k)) (sym e) ∙ some)))
       (λ (ne, k). first.fit d other over k some)
       (listed_more cs c d l);
 }

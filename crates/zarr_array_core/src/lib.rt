@@ -3,6 +3,7 @@
 
 pub mod array_core;
 pub mod chunk;
+mod chunk_reading;
 mod chunk_value;
 mod chunk_writing;
 pub mod erasing;
@@ -11,6 +12,7 @@ mod holding;
 mod part_writing;
 pub mod reading;
 pub mod store_calls;
+mod store_source;
 mod texts;
 pub mod writing;
 

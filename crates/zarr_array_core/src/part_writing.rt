@@ -5,9 +5,11 @@ use crate::chunk_writing::put_value;
 use crate::error::ChunkError;
 use crate::holding::holds_box;
 use crate::store_calls::{set_partial, size_key};
+use std::alloc::Global;
 use zarr_array_storage::{ValuePatch, WritableStorageTraits};
-use zarr_codecs_arrays::ArrayBytes;
-use zarr_codecs_traits::ArrayToBytesCodecTraits;
+use zarr_codecs_arrays::{ArrayBytes, CodecError};
+use zarr_codecs_options::CodecOptions;
+use zarr_codecs_traits::{ArrayPart, ArrayToBytesCodecTraits, Indexer};
 use zarr_grids_boxes::ArraySubset;
 use zarr_grids_keys::StoreKey;
 use zarr_grids_overlay::Extent;
@@ -23,10 +25,11 @@ impl<C: ArrayToBytesCodecTraits> ArrayCore<C> {
     ghost use Rattle.zarr_array_core.specs.declared.error.ChunkError.TheVariants.{Memory};
     ghost use Rattle.zarr_array_meaning.specs.Chunks.{holds_box};
     ghost use Rattle.zarr_codecs_arrays.specs.Outcomes.{IsTooLarge};
+    ghost use Rattle.zarr_codecs_arrays.specs.Views.{payload_of};
     ghost use Rattle.zarr_codecs_meaning.specs.Fits.{fits};
     ghost use Rattle.zarr_codecs_meaning.specs.Payloads.{fixed_cells};
     ghost use Rattle.zarr_codecs_meaning.specs.Types.{is_value};
-    ghost use Rattle.zarr_codecs_traits.specs.PartEncoding.{takes_patches};
+    ghost use Rattle.zarr_codecs_traits.specs.PartEncoding.{EncodesPart, takes_patches};
     ghost use Rattle.zarr_grids_boxes.specs.Boxes.{product, share_place};
     ghost use Rattle.zarr_grids_boxes.specs.Subsets.{region_of};
     ghost use Rattle.zarr_grids_overlay.specs.Overlays.{extent_of};
@@ -89,18 +92,34 @@ impl<C: ArrayToBytesCodecTraits> ArrayCore<C> {
             return Ok(None);
         }
         let (given, own_shape) = (ArrayBytes::Fixed(bytes), own.shape());
-        let elements = &self.elements;
-        match self.codecs.partial_encode(
-            write.alloc,
-            given,
-            elements,
-            own_shape,
-            &part,
-            write.options,
-        ) {
+        match self.encode_part(write.alloc, given, own_shape, &part, write.options) {
             Ok(patches) => Ok(patches),
             Err(_) => Err(ChunkError::Memory),
         }
+    }
+
+    /// The ranges to be written into the value of a chunk of this shape so that the elements of a
+    /// box of it are replaced.
+    fn encode_part<'x>(
+        &'x self,
+        alloc: Global,
+        given: ArrayBytes,
+        shape: &'x [u64],
+        part: &'x ArraySubset,
+        options: &CodecOptions,
+    ) -> Result<Option<Vec<ValuePatch>>, CodecError>
+        ensures { EncodesPart (document_of C.meaning self.now).chain
+            (C.is_function self.now.codecs) (document_of C.meaning self.now).elements shape.now
+            (region_of part.now) (payload_of given) result }
+    {
+        let elements = &self.elements;
+        let indexer = Indexer::Subset(part);
+        let asked = ArrayPart {
+            elements,
+            shape,
+            indexer,
+        };
+        self.codecs.partial_encode(alloc, given, asked, options)
     }
 
     /// Writes the elements of a box that lie in a chunk that has no value.

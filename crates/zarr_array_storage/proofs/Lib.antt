@@ -1,3 +1,4 @@
 mod KeyLemmas
 pub mod PartialDecoderLemmas
+pub mod PartialEncoderLemmas
 mod ValueMapLemmas

@@ -1,5 +1,6 @@
 pub mod MemoryStores
 pub mod PartialDecoders
+pub mod PartialEncoders
 pub mod Ranges
 pub mod RefusedCalls
 pub mod Refusals

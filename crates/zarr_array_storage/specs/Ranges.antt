@@ -1,10 +1,9 @@
 -- Ranges of the bytes of a value, to be read or written.
-use Rattle.std.specs.Prelude.{ℕ, ◌+◌, List, [], Option, unwrap_or, length, Bool, nat_lt}
-use Rattle.std.specs.List.{list_any}
+use Rattle.std.specs.Prelude.{ℕ, List, Option, Bool}
 use Rattle.std.specs.FinMap.{get}
 use Rattle.zarr_array_meaning.specs.StoreMaps.{StoreMap}
 use Rattle.zarr_codecs_traits.specs.Sources as source
-use Rattle.zarr_codecs_traits.specs.Patches.{patched}
+use Rattle.zarr_codecs_traits.specs.Patches.{patched_contents}
 use Rattle.zarr_codecs_traits.specs.declared.byte_range.ByteRange.{ByteRange}
 use Rattle.zarr_codecs_traits.specs.declared.value_patch.ValuePatch.{ValuePatch}
 
@@ -18,12 +17,4 @@ any_past_end held key ranges = source.any_past_end (get held key) ranges
 
 -- the value at a key with several ranges written; no value counts as empty
 abbrev pub patched_at : StoreMap → List ℕ → List ValuePatch → List ℕ
-patched_at held key patches = patched (unwrap_or (get held key) []) patches
-
--- whether a range to write ends past the end of a value of so many bytes
-abbrev pub ends_past : ℕ → ValuePatch → Bool
-ends_past len patch = nat_lt len (patch.offset + length patch.bytes.items)
-
--- whether one of the ranges to write ends past the end of a value of so many bytes
-abbrev pub any_ends_past : ℕ → List ValuePatch → Bool
-any_ends_past len patches = list_any (ends_past len) patches
+patched_at held key patches = patched_contents (get held key) patches

@@ -1,17 +1,11 @@
 -- The values that a store in memory holds, each at a key.
-use Rattle.std.specs.Prelude.{ℕ, List, map, Vec, Option, Some, None, String}
+use Rattle.std.specs.Prelude.{ℕ, List, map, Vec, String}
 use Rattle.std.specs.String.{string_bytes}
 use Rattle.std.specs.declared.alloc.Global.{Global}
-use denote.Ref.{Bor}
 
 -- the bytes of each key and of its value
 abbrev pub plain_entries : List (String Global × Vec ℕ Global) → List (List ℕ × List ℕ)
 plain_entries entries = map (λ (entry : String Global × Vec ℕ Global). (string_bytes entry.0, entry.1.items)) entries
-
--- the bytes that a look-up lends
-abbrev pub value_found : Option (Bor (List ℕ)) → Option (List ℕ)
-value_found None = None
-value_found (Some value) = Some value.now
 
 -- the bytes of each key
 abbrev pub key_bytes : List (String Global) → List (List ℕ)

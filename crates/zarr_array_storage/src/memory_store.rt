@@ -11,10 +11,10 @@ ghost use Rattle.zarr_grids_keys.specs.Paths.{ends_with_slash};
 use crate::error::StorageError;
 use crate::traits::{ReadableStorageTraits, WritableStorageTraits};
 use crate::value_map::ValueMap;
-use crate::value_patch::any_too_far;
 use std::alloc::{AllocError, Global};
 use std::marker::Model;
 use zarr_codecs_traits::byte_range::{any_ends_past, read_ranges};
+use zarr_codecs_traits::value_patch::any_too_far;
 use zarr_codecs_traits::{ByteRange, ValuePatch};
 use zarr_grids_keys::StoreKey;
 

@@ -13,8 +13,8 @@ use zarr_grids_keys::StoreKey;
 /// refuses a call, it keeps why.
 #[derive(Drop)]
 pub struct StoragePartialDecoder<'a, S> {
-    store: &'a mut S,
-    key: &'a StoreKey,
+    pub(crate) store: &'a mut S,
+    pub(crate) key: &'a StoreKey,
     refusal: Option<StorageError>,
 }
 
@@ -40,10 +40,19 @@ impl<'a, S: ReadableStorageTraits> StoragePartialDecoder<'a, S> {
     {
         self.refusal.take()
     }
+
+    /// Keeps why the store refused a call.
+    pub(crate) fn keep(&mut self, error: StorageError)
+        ensures same_reference { self.new.store.ghost_name ≡ self.old.store.ghost_name }
+        ensures store { self.new.store.now ≡ self.old.store.now }
+        ensures key { self.new.key.now ≡ self.old.key.now }
+    {
+        self.refusal = Some(error);
+    }
 }
 
 /// Why a source isn't read where a store refuses.
-fn of_storage(error: &StorageError) -> CodecError
+pub fn of_storage(error: &StorageError) -> CodecError
     ensures { result ≡ source_error error.now }
 {
     match error {
@@ -68,6 +77,8 @@ impl<'a, S: ReadableStorageTraits> BytesPartialDecoderTraits for StoragePartialD
         × (a.key.now ≡ b.key.now) × (S.held a.store.now ≡ S.held b.store.now)
         × (S.is_honest a.store.now ≡ S.is_honest b.store.now)
         × (S.accepted_writes a.store.now ≡ S.accepted_writes b.store.now) };
+
+    ghost held_bytes = { λ _. 0 };
 
     #[tactic(auto, using(crate::proofs::PartialDecoderLemmas::source_counts, crate::proofs::PartialDecoderLemmas::source_refused))]
     fn size(&mut self) -> Result<Option<u64>, CodecError> {
@@ -95,6 +106,10 @@ impl<'a, S: ReadableStorageTraits> BytesPartialDecoderTraits for StoragePartialD
                 Err(cause)
             }
         }
+    }
+
+    fn size_held(&self) -> usize {
+        0
     }
 
     ghost same = { λ a b f. ap (λ held. get held a.key.now) f.2 ∙ ap (get (S.held b.store.now)) f.1 };

@@ -3,15 +3,16 @@ ghost use Rattle.std.specs.Prelude.{◌≡◌, true, false, length, IfOk, OnOk, 
 ghost use Rattle.std.specs.FinMap as map;
 ghost use Rattle.zarr_array_storage.specs.Ranges.{patched_at};
 ghost use Rattle.zarr_array_storage.specs.Stores.{HasBytesAt};
-ghost use Rattle.zarr_array_storage.specs.ValueMaps.{key_bytes, value_found};
+ghost use Rattle.zarr_array_storage.specs.ValueMaps.{key_bytes};
 ghost use Rattle.zarr_codecs_meaning.specs.Types.{are_bytes};
 ghost use Rattle.zarr_codecs_traits.specs.Patches.{any_too_far};
+ghost use Rattle.zarr_codecs_traits.specs.Sources.{value_lent};
 
-use crate::value_patch::{any_ends_past, overwrite_each, patched};
 use std::alloc::{AllocError, Global};
 use std::collections::BTreeMap;
 use std::marker::Model;
 use zarr_codecs_traits::ValuePatch;
+use zarr_codecs_traits::value_patch::{any_ends_past, overwrite_each, patched};
 
 /// Values in memory, each at a key of its own.
 #[derive(Drop)]
@@ -55,7 +56,7 @@ impl ValueMap {
 
     /// The value at a key.
     pub(crate) fn get(&self, key: &str) -> Option<&[u8]>
-        ensures { value_found result ≡ map.get self.now key.now }
+        ensures { value_lent result ≡ map.get self.now key.now }
     {
         match self.values.get(key) {
             Some(value) => Some(value.as_slice()),

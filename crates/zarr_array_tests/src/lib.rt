@@ -2,7 +2,11 @@
 #![tactic(auto)]
 
 #[cfg(test)]
+mod counting_store;
+#[cfg(test)]
 mod metadata;
+#[cfg(test)]
+mod partial_encoder;
 #[cfg(test)]
 mod samples;
 #[cfg(test)]

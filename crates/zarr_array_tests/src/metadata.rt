@@ -1,9 +1,8 @@
 //! What array documents say and why they are refused, with values typed in by hand.
 
-use crate::samples::{PLAIN, nested, object_of, plain_with, put_members, with_member};
+use crate::samples::{nested, object_of, plain_with, plain_without, put_members, value_of};
 use serde_json::Value;
 use std::alloc::{AllocError, Global};
-use std::test::Fail;
 use zarr_array_metadata::{ArrayDocument, DocumentError, read_document, written_document};
 use zarr_codecs_reverse::ReverseCodec;
 use zarr_codecs_types::FillValue;
@@ -114,105 +113,160 @@ StorageTransformers {"fill_value": 255}
 ChunkKeyEncoding {"storage_transformers": []}
 DimensionNames {"chunk_key_encoding": "default"}"#;
 
-/// An error, and members of a document.
-fn case(alloc: Global, line: &str) -> Result<(&str, Value), Fail> {
-    let (error, members) = line.split_once(' ').ok_or("no members")?;
-    Ok((error, Value::from_str(alloc, members)?))
-}
-
 /// Reads a document with the codec `x-reverse`.
 fn read(alloc: Global, document: &Value) -> Result<ArrayDocument<ReverseCodec>, DocumentError> {
     read_document(alloc, document)
 }
 
+/// Reads the plain document with the members that a text says put in.
+fn read_with(alloc: Global, members: &str) -> Result<ArrayDocument<ReverseCodec>, DocumentError> {
+    let document = plain_with(alloc, members)?;
+    read(alloc, &document)
+}
+
+/// The error that refuses a document.
+fn refusal(alloc: Global, document: &Value) -> Option<DocumentError> {
+    match read(alloc, document) {
+        Ok(_) => None,
+        Err(error) => Some(error),
+    }
+}
+
 /// Whether a document is refused with the error of this name.
 fn is_refused(alloc: Global, document: &Value, error: &str) -> Result<bool, AllocError> {
-    match read(alloc, document) {
-        Ok(_) => Ok(false),
-        Err(found) => Ok(format!(in alloc; "{found:?}")?.as_str() == error),
+    match refusal(alloc, document) {
+        Some(found) => Ok(format!(in alloc; "{found:?}")?.as_str() == error),
+        None => Ok(false),
     }
 }
 
-/// The text of the metadata of a document's codecs, which a comma follows each.
-fn codecs_of(alloc: Global, document: &ArrayDocument<ReverseCodec>) -> Result<String, Fail> {
-    let mut text = String::new(alloc);
-    for codec in document.codecs.create_metadatas(alloc)?.iter() {
-        text.push_str(codec.to_value(alloc)?.to_string(alloc)?.as_str())?;
-        text.push_str(",")?;
-    }
-    Ok(text)
+/// Whether the error of a line refuses the plain document that has the line's members.
+fn is_case(alloc: Global, line: &str) -> Result<bool, DocumentError> {
+    let Some((error, members)) = line.split_once(' ') else {
+        return Ok(false);
+    };
+    Ok(is_refused(alloc, &plain_with(alloc, members)?, error)?)
 }
 
 #[test]
-fn a_refusal_names_the_field_that_is_wrong(rt: HostRuntime) -> Result<(), Fail> {
-    let alloc = rt.alloc();
+fn a_refusal_names_the_field_that_is_wrong(rt: HostRuntime) -> Result<(), DocumentError> {
     for line in REFUSED.lines() {
-        let (error, members) = case(alloc, line)?;
-        let mut document = Value::from_str(alloc, PLAIN)?;
-        put_members(alloc, &mut document, members)?;
-        assert!(rt; is_refused(alloc, &document, error)?, "{line}");
+        assert!(rt; is_case(rt.alloc(), line)?, "{line}");
     }
     Ok(())
 }
 
+/// A document that is too deep and has the unmended fields.
+fn unmended(alloc: Global) -> Result<Value, DocumentError> {
+    let mut document = value_of(alloc, UNMENDED)?;
+    put_members(
+        alloc,
+        &mut document,
+        object_of(alloc, "more", nested(alloc, 127)?)?,
+    )?;
+    Ok(document)
+}
+
+/// Puts the members of a line into a document. Whether the error of the line then refuses it.
+fn is_mended(alloc: Global, document: &mut Value, line: &str) -> Result<bool, DocumentError> {
+    let Some((error, members)) = line.split_once(' ') else {
+        return Ok(false);
+    };
+    put_members(alloc, document, value_of(alloc, members)?)?;
+    Ok(is_refused(alloc, document, error)?)
+}
+
 #[test]
-fn a_field_that_is_mended_brings_the_next_error(rt: HostRuntime) -> Result<(), Fail> {
-    let alloc = rt.alloc();
-    let mut document = Value::from_str(alloc, UNMENDED)?;
-    let deep = nested(alloc, 127)?;
-    put_members(alloc, &mut document, object_of(alloc, "more", deep)?)?;
-    assert!(rt; is_refused(alloc, &document, "Depth")?);
+fn a_field_that_is_mended_brings_the_next_error(rt: HostRuntime) -> Result<(), DocumentError> {
+    let mut document = unmended(rt.alloc())?;
+    assert!(rt; is_refused(rt.alloc(), &document, "Depth")?);
     for line in MENDED.lines() {
-        let (error, members) = case(alloc, line)?;
-        put_members(alloc, &mut document, members)?;
-        assert!(rt; is_refused(alloc, &document, error)?, "{line}");
+        assert!(rt; is_mended(rt.alloc(), &mut document, line)?, "{line}");
     }
     Ok(())
 }
 
+/// Whether the plain document is refused without this field.
+fn is_required(alloc: Global, name: &str) -> Result<bool, DocumentError> {
+    Ok(is_refused(alloc, &plain_without(alloc, name)?, "Fields")?)
+}
+
 #[test]
-fn eight_fields_are_required(rt: HostRuntime) -> Result<(), Fail> {
-    let alloc = rt.alloc();
+fn eight_fields_are_required(rt: HostRuntime) -> Result<(), DocumentError> {
     let names =
         "zarr_format node_type shape data_type chunk_grid chunk_key_encoding fill_value codecs";
     for name in names.split(' ') {
-        let mut document = Value::from_str(alloc, PLAIN)?;
-        if let Some(members) = document.as_object_mut() {
-            members.remove(name);
-        }
-        assert!(rt; is_refused(alloc, &document, "Fields")?, "{name}");
+        assert!(rt; is_required(rt.alloc(), name)?, "{name}");
     }
     Ok(())
+}
+
+/// The error that refuses the plain document once a field of it is an object that has so many lists
+/// within one another.
+fn refusal_of_lists(
+    alloc: Global,
+    name: &str,
+    levels: u32,
+) -> Result<Option<DocumentError>, DocumentError> {
+    let mut field = value_of(alloc, r#"{"must_understand": false}"#)?;
+    put_members(
+        alloc,
+        &mut field,
+        object_of(alloc, "deep", nested(alloc, levels)?)?,
+    )?;
+    let mut document = plain_with(alloc, "{}")?;
+    put_members(alloc, &mut document, object_of(alloc, name, field)?)?;
+    Ok(refusal(alloc, &document))
 }
 
 /// The document and the field are objects, so 125 lists more are 127 levels.
 #[test]
-fn a_document_is_at_most_127_levels_deep(rt: HostRuntime) -> Result<(), Fail> {
-    let alloc = rt.alloc();
+fn a_document_is_at_most_127_levels_deep(rt: HostRuntime) -> Result<(), DocumentError> {
     for name in ["attributes", "more"] {
-        for (levels, wanted) in [(125, None), (126, Some(DocumentError::Depth))] {
-            let mut field = Value::from_str(alloc, r#"{"must_understand": false}"#)?;
-            let deep = nested(alloc, levels)?;
-            put_members(alloc, &mut field, object_of(alloc, "deep", deep)?)?;
-            let document = with_member(alloc, name, field)?;
-            assert_eq!(rt; read(alloc, &document).err(), wanted, "{name}: {levels}");
-        }
+        let deepest = refusal_of_lists(rt.alloc(), name, 125)?;
+        assert!(rt; deepest == None, "{name}");
+        let deeper = refusal_of_lists(rt.alloc(), name, 126)?;
+        assert!(rt; deeper == Some(DocumentError::Depth), "{name}");
     }
     Ok(())
 }
 
+/// Whether the value that a text says is refused as one that lacks fields.
+fn lacks_fields(alloc: Global, text: &str) -> Result<bool, DocumentError> {
+    Ok(is_refused(alloc, &value_of(alloc, text)?, "Fields")?)
+}
+
 #[test]
-fn other_values_are_no_documents(rt: HostRuntime) -> Result<(), Fail> {
+fn other_values_are_no_documents(rt: HostRuntime) -> Result<(), DocumentError> {
     for text in ["null", "[]", "3", "\"array\"", "{}"] {
-        let value = Value::from_str(rt.alloc(), text)?;
-        assert!(rt; is_refused(rt.alloc(), &value, "Fields")?, "{text}");
+        assert!(rt; lacks_fields(rt.alloc(), text)?, "{text}");
     }
     Ok(())
 }
 
+/// Whether a document's data type has a name, and its fill value bytes.
+fn has_fill(
+    alloc: Global,
+    document: &ArrayDocument<ReverseCodec>,
+    name: &str,
+    bytes: &[u8],
+) -> Result<bool, AllocError> {
+    let fill = FillValue::new(bytes.to_vec(alloc)?);
+    let Some(found) = document.elements.data_type().metadata(alloc)? else {
+        return Ok(false);
+    };
+    Ok(*document.elements.fill_value() == fill && found.as_str() == Some(name))
+}
+
+/// Whether a fill value of the type of this name is these bytes.
+fn is_fill(alloc: Global, name: &str, fill: &str, bytes: &[u8]) -> Result<bool, DocumentError> {
+    let members = format!(in alloc; r#"{{"data_type": "{name}", "fill_value": {fill}}}"#)?;
+    let document = read_with(alloc, members.as_str())?;
+    Ok(has_fill(alloc, &document, name, bytes)?)
+}
+
 #[test]
-fn each_type_of_one_size_has_its_fill_value(rt: HostRuntime) -> Result<(), Fail> {
-    let alloc = rt.alloc();
+fn each_type_of_one_size_has_its_fill_value(rt: HostRuntime) -> Result<(), DocumentError> {
     let rows: [(&str, &str, &[u8]); 14] = [
         ("bool", "true", &[1]),
         ("bool", "false", &[0]),
@@ -230,51 +284,80 @@ fn each_type_of_one_size_has_its_fill_value(rt: HostRuntime) -> Result<(), Fail>
         ("uint64", "18446744073709551615", &[255; 8]),
     ];
     for (name, fill, bytes) in rows {
-        let members = format!(in alloc; r#"{{"data_type": "{name}", "fill_value": {fill}}}"#)?;
-        let document = read(alloc, &plain_with(alloc, members.as_str())?)?;
-        let wanted = FillValue::new(bytes.to_vec(alloc)?);
-        assert!(rt; *document.elements.fill_value() == wanted, "{name}");
-        let Some(found) = document.elements.data_type().metadata(alloc)? else {
-            panic!(rt; "{name}");
-        };
-        assert_eq!(rt; found.as_str(), Some(name));
+        assert!(rt; is_fill(rt.alloc(), name, fill, bytes)?, "{name} {fill}");
     }
     Ok(())
 }
 
+/// The text of the metadata of a document's codecs, which a comma follows each.
+fn codecs_of(alloc: Global, document: &ArrayDocument<ReverseCodec>) -> Result<String, AllocError> {
+    let mut text = String::new(alloc);
+    for codec in document.codecs.create_metadatas(alloc)?.iter() {
+        text.push_str(codec.to_value(alloc)?.to_string(alloc)?.as_str())?;
+        text.push_str(",")?;
+    }
+    Ok(text)
+}
+
+/// Whether codecs make a chain whose metadata has this text.
+fn make_chain(alloc: Global, codecs: &str, wanted: &str) -> Result<bool, DocumentError> {
+    let members = format!(in alloc; r#"{{"data_type": "uint16", "codecs": [{codecs}]}}"#)?;
+    let document = read_with(alloc, members.as_str())?;
+    Ok(codecs_of(alloc, &document)?.as_str() == wanted)
+}
+
 #[test]
-fn codecs_make_a_chain(rt: HostRuntime) -> Result<(), Fail> {
-    let alloc = rt.alloc();
-    let big = r#"{"configuration":{"endian":"big"},"name":"bytes"}"#;
-    let little = r#"{"configuration":{"endian":"little"},"name":"bytes"}"#;
+fn codecs_make_a_chain(rt: HostRuntime) -> Result<(), DocumentError> {
     let rows = [
-        (r#""bytes""#, r#""bytes""#),
-        (r#"{"name": "bytes", "configuration": {}}"#, r#""bytes""#),
+        (r#""bytes""#, r#""bytes","#),
+        (r#"{"name": "bytes", "configuration": {}}"#, r#""bytes","#),
         (
             r#"{"name": "bytes", "must_understand": false}"#,
-            r#""bytes""#,
+            r#""bytes","#,
         ),
-        (big, big),
-        (little, little),
-        (r#""bytes", "x-reverse""#, r#""bytes","x-reverse""#),
+        (
+            r#"{"configuration":{"endian":"big"},"name":"bytes"}"#,
+            r#"{"configuration":{"endian":"big"},"name":"bytes"},"#,
+        ),
+        (
+            r#"{"configuration":{"endian":"little"},"name":"bytes"}"#,
+            r#"{"configuration":{"endian":"little"},"name":"bytes"},"#,
+        ),
+        (r#""bytes", "x-reverse""#, r#""bytes","x-reverse","#),
         (
             r#""bytes", "x-reverse", {"name": "x-reverse"}"#,
-            r#""bytes","x-reverse","x-reverse""#,
+            r#""bytes","x-reverse","x-reverse","#,
         ),
     ];
     for (codecs, wanted) in rows {
-        let members = format!(in alloc; r#"{{"data_type": "uint16", "codecs": [{codecs}]}}"#)?;
-        let document = read(alloc, &plain_with(alloc, members.as_str())?)?;
-        let wanted = format!(in alloc; "{wanted},")?;
-        assert_eq!(rt; codecs_of(alloc, &document)?.as_str(), wanted.as_str());
+        assert!(rt; make_chain(rt.alloc(), codecs, wanted)?, "{codecs}");
     }
     Ok(())
 }
 
-/// The chunk in the middle of the first dimension, and the last one in the second.
+/// Whether the chunk in the middle of the first dimension, and the last one in the second, has this
+/// shape.
+fn has_chunk(
+    alloc: Global,
+    document: &ArrayDocument<ReverseCodec>,
+    wanted: &[u64],
+) -> Result<bool, DocumentError> {
+    match document.grid.chunk_shape_u64(alloc, &[1, 1]) {
+        Ok(Some(found)) => Ok(found.as_slice() == wanted),
+        Ok(None) => Ok(false),
+        Err(_) => Err(DocumentError::Memory),
+    }
+}
+
+/// Whether a grid of two dimensions has a chunk of this shape.
+fn is_grid(alloc: Global, grid: &str, wanted: &[u64]) -> Result<bool, DocumentError> {
+    let members = format!(in alloc; r#"{{"chunk_grid": {{"name": {grid}}}}}"#)?;
+    let document = read_with(alloc, members.as_str())?;
+    Ok(document.grid.dimensionality() == 2 && has_chunk(alloc, &document, wanted)?)
+}
+
 #[test]
-fn chunks_are_those_of_the_grid(rt: HostRuntime) -> Result<(), Fail> {
-    let alloc = rt.alloc();
+fn chunks_are_those_of_the_grid(rt: HostRuntime) -> Result<(), DocumentError> {
     let rows: [(&str, &[u64]); 4] = [
         (
             r#""regular", "configuration": {"chunk_shape": [2, 3]}"#,
@@ -294,20 +377,20 @@ fn chunks_are_those_of_the_grid(rt: HostRuntime) -> Result<(), Fail> {
         ),
     ];
     for (grid, wanted) in rows {
-        let members = format!(in alloc; r#"{{"chunk_grid": {{"name": {grid}}}}}"#)?;
-        let document = read(alloc, &plain_with(alloc, members.as_str())?)?;
-        let Some(found) = document.grid.chunk_shape_u64(alloc, &[1, 1])? else {
-            panic!(rt; "{grid}");
-        };
-        assert_eq!(rt; found.as_slice(), wanted, "{grid}");
-        assert_eq!(rt; document.grid.dimensionality(), 2, "{grid}");
+        assert!(rt; is_grid(rt.alloc(), grid, wanted)?, "{grid}");
     }
     Ok(())
 }
 
+/// Whether an encoding gives the chunk (1, 2) this key.
+fn gives_key(alloc: Global, encoding: &str, wanted: &str) -> Result<bool, DocumentError> {
+    let members = format!(in alloc; r#"{{"chunk_key_encoding": {encoding}}}"#)?;
+    let document = read_with(alloc, members.as_str())?;
+    Ok(document.keys.encode(alloc, &[1, 2])?.as_str() == wanted)
+}
+
 #[test]
-fn keys_are_those_of_the_encoding(rt: HostRuntime) -> Result<(), Fail> {
-    let alloc = rt.alloc();
+fn keys_are_those_of_the_encoding(rt: HostRuntime) -> Result<(), DocumentError> {
     let rows = [
         (r#""default""#, "c/1/2"),
         (
@@ -321,16 +404,18 @@ fn keys_are_those_of_the_encoding(rt: HostRuntime) -> Result<(), Fail> {
         ),
     ];
     for (encoding, wanted) in rows {
-        let members = format!(in alloc; r#"{{"chunk_key_encoding": {encoding}}}"#)?;
-        let document = read(alloc, &plain_with(alloc, members.as_str())?)?;
-        assert_eq!(rt; document.keys.encode(alloc, &[1, 2])?.as_str(), wanted);
+        assert!(rt; gives_key(rt.alloc(), encoding, wanted)?, "{encoding}");
     }
     Ok(())
 }
 
+/// Whether the plain document is read with these members put in.
+fn is_read(alloc: Global, members: &str) -> bool {
+    read_with(alloc, members).is_ok()
+}
+
 #[test]
-fn fields_may_be_absent_or_say_nothing(rt: HostRuntime) -> Result<(), Fail> {
-    let alloc = rt.alloc();
+fn fields_may_be_absent_or_say_nothing(rt: HostRuntime) {
     let rows = [
         "{}",
         r#"{"attributes": {"a": [1, null]}}"#,
@@ -340,19 +425,20 @@ fn fields_may_be_absent_or_say_nothing(rt: HostRuntime) -> Result<(), Fail> {
         r#"{"more": {"must_understand": false}}"#,
     ];
     for members in rows {
-        assert!(rt;
-            read(alloc, &plain_with(alloc, members)?).is_ok(),
-            "{members}"
-        );
+        assert!(rt; is_read(rt.alloc(), members), "{members}");
     }
-    Ok(())
+}
+
+/// The text of the document that is written for the plain one with these members put in.
+fn written(alloc: Global, members: &str) -> Result<String, DocumentError> {
+    let document = plain_with(alloc, members)?;
+    Ok(written_document(alloc, &document)?.to_string(alloc)?)
 }
 
 #[test]
-fn a_written_document_has_the_mark_and_short_names(rt: HostRuntime) -> Result<(), Fail> {
-    let alloc = rt.alloc();
-    let document = plain_with(
-        alloc,
+fn a_written_document_has_the_mark_and_short_names(rt: HostRuntime) -> Result<(), DocumentError> {
+    let found = written(
+        rt.alloc(),
         r#"{"shape": [], "chunk_grid": "other", "dimension_names": null, "storage_transformers": [],
             "codecs": [{"name": "bytes", "configuration": {}}, {"name": "x-reverse"}]}"#,
     )?;
@@ -362,7 +448,6 @@ fn a_written_document_has_the_mark_and_short_names(rt: HostRuntime) -> Result<()
         r#""chunk_key_encoding":"default","codecs":[{"configuration":{},"name":"bytes"},"x-reverse"],"#,
         r#""data_type":"uint8","fill_value":0,"node_type":"array","shape":[],"zarr_format":3}"#
     );
-    let written = written_document(alloc, &document)?;
-    assert_eq!(rt; written.to_string(alloc)?.as_str(), wanted);
+    assert!(rt; found.as_str() == wanted);
     Ok(())
 }

@@ -2,7 +2,7 @@
 
 use serde_json::{Map, Value, put};
 use std::alloc::{AllocError, Global};
-use std::test::Fail;
+use zarr_array_metadata::DocumentError;
 
 /// 4 by 4 cells in chunks of 2 by 2.
 pub(crate) const PLAIN: &str = r#"{
@@ -16,29 +16,52 @@ pub(crate) const PLAIN: &str = r#"{
     "codecs": ["bytes"]
 }"#;
 
-/// The plain document with these members put in.
-pub(crate) fn plain_with(alloc: Global, members: &str) -> Result<Value, Fail> {
-    let mut document = Value::from_str(alloc, PLAIN)?;
-    put_members(alloc, &mut document, Value::from_str(alloc, members)?)?;
-    Ok(document)
+/// The value that a text says.
+pub(crate) fn value_of(alloc: Global, text: &str) -> Result<Value, DocumentError> {
+    match Value::from_str(alloc, text) {
+        Ok(value) => Ok(value),
+        Err(_) => Err(DocumentError::Memory),
+    }
 }
 
-/// The plain document with this member put in.
-pub(crate) fn with_member(alloc: Global, name: &str, value: Value) -> Result<Value, Fail> {
-    let mut document = Value::from_str(alloc, PLAIN)?;
-    put_members(alloc, &mut document, object_of(alloc, name, value)?)?;
+/// The plain document with the members that a text says put in.
+pub(crate) fn plain_with(alloc: Global, members: &str) -> Result<Value, DocumentError> {
+    with_members(alloc, PLAIN, members)
+}
+
+/// The document that a text says with the members that another text says put in.
+pub(crate) fn with_members(
+    alloc: Global,
+    document: &str,
+    members: &str,
+) -> Result<Value, DocumentError> {
+    let mut document = value_of(alloc, document)?;
+    put_members(alloc, &mut document, value_of(alloc, members)?)?;
     Ok(document)
 }
 
 /// Puts the members of an object into a document.
-pub(crate) fn put_members(alloc: Global, document: &mut Value, members: Value) -> Result<(), Fail> {
+pub(crate) fn put_members(
+    alloc: Global,
+    document: &mut Value,
+    members: Value,
+) -> Result<(), DocumentError> {
     let (Some(fields), Value::Object(members)) = (document.as_object_mut(), members) else {
-        return Err(Fail::from("no object"));
+        return Err(DocumentError::Memory);
     };
     for (name, value) in members.iter() {
         put(fields, alloc, name.as_str(), value.clone()?)?;
     }
     Ok(())
+}
+
+/// The plain document without this member.
+pub(crate) fn plain_without(alloc: Global, name: &str) -> Result<Value, DocumentError> {
+    let mut document = value_of(alloc, PLAIN)?;
+    if let Some(members) = document.as_object_mut() {
+        members.remove(name);
+    }
+    Ok(document)
 }
 
 /// An object with one member.

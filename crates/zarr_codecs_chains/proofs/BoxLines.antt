@@ -17,7 +17,7 @@ use Rattle.zarr_codecs_meaning.specs.Types.{Cell}
 use Rattle.zarr_codecs_meaning.specs.Payloads.{fixed_cells}
 use Rattle.zarr_codecs_meaning.proofs.Covers.{zeros}
 use Rattle.zarr_codecs_meaning.proofs.Lists.{Each, each_passes, zero_list}
-use Rattle.zarr_codecs_traits.specs.Outcomes.{lies_in, numbers_of}
+use Rattle.zarr_codecs_traits.specs.Indexers.{lies_in, numbers_of}
 use Rattle.zarr_codecs_traits.specs.Sources.{bytes_at}
 use Rattle.zarr_codecs_traits.specs.declared.byte_range.ByteRange.{ByteRange}
 use Rattle.zarr_codecs_regions.proofs.InsideArray.{inside_rank, inside_places}

@@ -2,6 +2,9 @@ pub mod Orders
 pub mod Types
 pub mod Decoding
 pub mod Chains
+pub mod PartChains
+pub mod Counts
+pub mod ArrayCodecs
 pub mod ReadsBack
 pub mod PartDecoding
 pub mod BoxLines
@@ -11,3 +14,4 @@ pub mod Scattered
 pub mod BoxScattered
 pub mod Encoding
 pub mod Telling
+mod ListedParts

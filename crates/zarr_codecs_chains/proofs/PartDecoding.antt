@@ -26,7 +26,8 @@ use Rattle.zarr_codecs_types.specs.Parts.{word_sized}
 use Rattle.zarr_codecs_arrays.specs.Views.{payload_of}
 use Rattle.zarr_codecs_arrays.proofs.Counts.{known_width}
 use Rattle.zarr_codecs_arrays.proofs.FixedCells.{fixed_cells-nil, get_or-fixed_cells, length-fixed_cells}
-use Rattle.zarr_codecs_traits.specs.Outcomes.{DecodesPart, IsPart, lies_in, numbers_of, UndoesBytes}
+use Rattle.zarr_codecs_traits.specs.Indexers.{Asked, in_box, are_inside, lies_in, numbers_asked, numbers_of}
+use Rattle.zarr_codecs_traits.specs.Outcomes.{DecodesPart, IsPart, UndoesBytes}
 use Rattle.zarr_codecs_regions.proofs.InsideArray.{inside_product}
 use Rattle.zarr_codecs_chains.specs.Codecs.{all_decoded}
 use Rattle.zarr_codecs_chains.specs.Orders.{all_ordered}
@@ -54,31 +55,32 @@ element_in width count value n some long = elim (cases_lt n count) [
   many = ap (λ n. n / width) long ∙ mul-div_left count some
 
 -- what is known of the elements of a part once they are put in the other order
-pub record IsPartRead (order : Option Endianness) (type : DataType) (shape : List ℕ) (region : Region) (value extracted made : List ℕ) : Type 0 where
+pub record IsPartRead (order : Option Endianness) (type : DataType) (shape : List ℕ) (asked : Asked) (count : ℕ) (value extracted made : List ℕ) : Type 0 where
   pub fit : fits (bytes order) type [] ≡ true
   pub positive : 0 < bytes_in (components type)
   pub whole : length value ≡ product shape * bytes_in (components type)
-  pub inside : lies_in shape region ≡ true
-  pub part : IsExtracted (bytes_in (components type)) value shape region nothing extracted
+  pub inside : are_inside shape asked ≡ true
+  pub long : length extracted ≡ count * bytes_in (components type)
+  pub elements : fixed_cells (bytes_in (components type)) extracted ≡ gather nothing (fixed_cells (bytes_in (components type)) value) (numbers_asked shape asked)
   pub is : made ≡ all_ordered order (components type) extracted
 
-part_as_read : (order : Option Endianness) (type : DataType) (shape : List ℕ) (region : Region) (value extracted made : List ℕ) → IsPartRead order type shape region value extracted made → IsRead order type (product region.shape) extracted made
-part_as_read order type shape region value extracted made read = record { fit = read.fit; positive = read.positive; long = read.part.long; is = read.is }
+part_as_read : (order : Option Endianness) (type : DataType) (shape : List ℕ) (asked : Asked) (count : ℕ) (value extracted made : List ℕ) → IsPartRead order type shape asked count value extracted made → IsRead order type count extracted made
+part_as_read order type shape asked count value extracted made read = record { fit = read.fit; positive = read.positive; long = read.long; is = read.is }
 
 -- a part of a value is the elements of its places in the other order, where each is a value
-pub part_made : (order : Option Endianness) (elements : Elements) (shape : List ℕ) (region : Region) (value extracted made : List ℕ) → IsPartRead order elements.type shape region value extracted made
-    → part_decoded (bytes order) elements shape value (numbers_of shape region)
+pub part_made : (order : Option Endianness) (elements : Elements) (shape : List ℕ) (asked : Asked) (count : ℕ) (value extracted made : List ℕ) → IsPartRead order elements.type shape asked count value extracted made
+    → part_decoded (bytes order) elements shape value (numbers_asked shape asked)
     ≡ (if list_all (is_value elements.type) (fixed_cells (bytes_in (components elements.type)) made) then Some (fixed_cells (bytes_in (components elements.type)) made) else None)
-part_made order elements shape region value extracted made read =
+part_made order elements shape asked count value extracted made read =
     let type = elements.type in
     let parts = components type in
     let width = bytes_in parts in
-    let ns = numbers_of shape region in
+    let ns = numbers_asked shape asked in
     let step = λ (cell : Cell). of_bytes (ordered order parts (cell_bytes cell)) in
     let turned : product shape * width ≡ width * product shape = grind arith in
     let is : is_whole type shape value ≡ true = eq-eqb (length value) (width * product shape) (read.whole ∙ turned) in
     let cells : fixed_cells width made ≡ map (λ n. step (get_or (fixed_cells width value) n nothing)) ns =
-    ap (fixed_cells width) read.is ∙ (cells_ordered order parts (product region.shape) extracted read.positive read.part.long ∙ (ap (map step) read.part.elements ∙ map-map step (λ n. get_or (fixed_cells width value) n nothing) ns)) in
+    ap (fixed_cells width) read.is ∙ (cells_ordered order parts count extracted read.positive read.long ∙ (ap (map step) read.elements ∙ map-map step (λ n. get_or (fixed_cells width value) n nothing) ns)) in
     let each : map (tested type) (fixed_cells width made) ≡ map (element_at order type value) ns =
     ap (map (tested type)) cells ∙ (map-map (tested type) (λ n. step (get_or (fixed_cells width value) n nothing)) ns
     ∙ ap (λ (f : ℕ → Option Cell). map f ns) (λ i n. (ap (λ cell. tested type (step cell)) (element_in width (product shape) value n read.positive read.whole)) i)) in
@@ -87,11 +89,11 @@ part_made order elements shape region value extracted made read =
 
 -- ---- what the test of values says
 
-pub part_valid : (order : Option Endianness) (elements : Elements) (shape : List ℕ) (region : Region) (value extracted made : List ℕ) (cells : List Cell) → IsPartRead order elements.type shape region value extracted made
-    → IsValid elements.type (fixed made) (product region.shape) cells → IsPart (bytes order) elements shape (Some value) region (fixed made)
-part_valid order elements shape region value extracted made cells read valid =
+pub part_valid : (order : Option Endianness) (elements : Elements) (shape : List ℕ) (asked : Asked) (count : ℕ) (value extracted made : List ℕ) (cells : List Cell) → IsPartRead order elements.type shape asked count value extracted made
+    → IsValid elements.type (fixed made) count cells → IsPart (bytes order) elements shape (Some value) asked (fixed made)
+part_valid order elements shape asked count value extracted made cells read valid =
     let width = bytes_in (components elements.type) in
-    let counted = made_counted order elements.type (product region.shape) extracted made (part_as_read order elements.type shape region value extracted made read) in
+    let counted = made_counted order elements.type count extracted made (part_as_read order elements.type shape asked count value extracted made read) in
     let same : cells ≡ fixed_cells width made = some_same (sym valid.is.lists ∙ counted.lists) in
     let values : list_all (is_value elements.type) (fixed_cells width made) ≡ true = ap (list_all (is_value elements.type)) (sym same) ∙ valid.values in
     record {
@@ -99,15 +101,15 @@ part_valid order elements shape region value extracted made cells read valid =
       fit = read.fit;
       inside = read.inside;
       lists = valid.is.lists;
-      is = part_made order elements shape region value extracted made read ∙ (ap (λ (b : Bool). if b then Some (fixed_cells width made) else None) values ∙ ap Some (sym same));
+      is = part_made order elements shape asked count value extracted made read ∙ (ap (λ (b : Bool). if b then Some (fixed_cells width made) else None) values ∙ ap Some (sym same));
     }
 
-pub part_damaged : (order : Option Endianness) (elements : Elements) (shape : List ℕ) (region : Region) (value extracted made : List ℕ) (e : CodecError) → IsPartRead order elements.type shape region value extracted made
-    → Validates {A = Unit {0}} elements.type (fixed made) (product region.shape) (Err e) → part_decoded (bytes order) elements shape value (numbers_of shape region) ≡ None
-part_damaged order elements shape region value extracted made e read refused =
+pub part_damaged : (order : Option Endianness) (elements : Elements) (shape : List ℕ) (asked : Asked) (count : ℕ) (value extracted made : List ℕ) (e : CodecError) → IsPartRead order elements.type shape asked count value extracted made
+    → Validates {A = Unit {0}} elements.type (fixed made) count (Err e) → part_decoded (bytes order) elements shape value (numbers_asked shape asked) ≡ None
+part_damaged order elements shape asked count value extracted made e read refused =
     let cells = fixed_cells (bytes_in (components elements.type)) made in
-    let counted = made_counted order elements.type (product region.shape) extracted made (part_as_read order elements.type shape region value extracted made read) in
-    part_made order elements shape region value extracted made read ∙ ap (λ (b : Bool). if b then Some cells else None) (refused_value elements.type made (product region.shape) cells e counted refused)
+    let counted = made_counted order elements.type count extracted made (part_as_read order elements.type shape asked count value extracted made read) in
+    part_made order elements shape asked count value extracted made read ∙ ap (λ (b : Bool). if b then Some cells else None) (refused_value elements.type made count cells e counted refused)
 
 -- a value of another length has no part
 pub part_not_whole : (order : Option Endianness) (elements : Elements) (shape value ns : List ℕ) → (length value ≡ product shape * bytes_in (components elements.type) → ⊥) → part_decoded (bytes order) elements shape value ns ≡ None
@@ -130,7 +132,7 @@ larger_too type shape region l inside (inr wide) = inr (at_width (byte_width typ
 
 -- as many fill values as the box has places
 pub filled_part : (chain : Chain) (elements : Elements) (shape : List ℕ) (region : Region) (payload : Payload) → length region.shape ≡ length region.start → lies_in shape region ≡ true → fits chain elements.type shape ≡ true
-    → cells_in elements.type payload ≡ Some (replicate (product region.shape) elements.fill) → IsPart chain elements shape None region payload
+    → cells_in elements.type payload ≡ Some (replicate (product region.shape) elements.fill) → IsPart chain elements shape None (in_box region) payload
 filled_part chain elements shape region payload l inside fit lists = record {
   cells = replicate (product region.shape) elements.fill;
   fit = fit;
@@ -141,60 +143,6 @@ filled_part chain elements shape region payload l inside fit lists = record {
   each : (ns : List ℕ) → replicate (length ns) elements.fill ≡ map (λ n. elements.fill) ns
   each [] = refl
   each (n ∷ ns) = ap (λ cells. elements.fill ∷ cells) (each ns)
-
--- ---- the caller's codecs after `bytes`
-
-bound_part : (chain : Chain) (codec : ByteCodec) (elements : Elements) (shape ns : List ℕ) (o : Option (List ℕ)) →
-    option_and_then (λ value. part_decoded (then_bytes chain codec) elements shape value ns) o ≡ option_and_then (λ value. part_decoded chain elements shape value ns) (option_and_then codec.decode o)
-bound_part chain codec elements shape ns None = refl
-bound_part chain codec elements shape ns (Some value) = undone (codec.decode value) where
-  undone : (o : Option (List ℕ)) →
-      (if elim o [ None ↦ false | Some inside ↦ opens chain elements shape inside ] then all_there (map (λ n. option_and_then (λ inside. cell_at chain elements shape inside n) o) ns) else None)
-      ≡ option_and_then (λ value. part_decoded chain elements shape value ns) o
-  undone None = refl
-  undone (Some inside) = refl
-
-pub part_with : (chain : Chain) (codecs : List ByteCodec) (elements : Elements) (shape value ns : List ℕ) →
-    part_decoded (with_codecs chain codecs) elements shape value ns ≡ option_and_then (λ inside. part_decoded chain elements shape inside ns) (all_decoded codecs value)
-part_with chain [] elements shape value ns = refl
-part_with chain (codec ∷ codecs) elements shape value ns = part_with (then_bytes chain codec) codecs elements shape value ns ∙ bound_part chain codec elements shape ns (all_decoded codecs value)
-
--- a chain fits an array where what comes before the codecs does
-pub fits_as : (chain : Chain) (codecs : List ByteCodec) (type other : DataType) (shape : List ℕ) (suits fit : Bool) → type ≡ other → suits ≡ fits chain type shape → suits ≡ fit → fits (with_codecs chain codecs) other shape ≡ fit
-fits_as chain codecs type other shape suits fit same is told = fits_with chain codecs other shape ∙ (ap (λ t. fits chain t shape) (sym same) ∙ (sym is ∙ told))
-
--- what `bytes` makes of what codecs undid
-pub decodes_part_with : (order : Option Endianness) (codecs : List ByteCodec) (elements : Elements) (shape value inside : List ℕ) (region : Region) (r : Result ArrayBytes CodecError) → all_decoded codecs value ≡ Some inside
-    → DecodesPart (bytes order) elements shape (Some inside) region r → DecodesPart (with_codecs (bytes order) codecs) elements shape (Some value) region r
-decodes_part_with order codecs elements shape value inside region (Ok found) undone h = record {
-  cells = h.cells;
-  fit = fits_with (bytes order) codecs elements.type shape ∙ h.fit;
-  inside = h.inside;
-  lists = h.lists;
-  is = part_with (bytes order) codecs elements shape value (numbers_of shape region) ∙ (ap (option_and_then (λ ns. part_decoded (bytes order) elements shape ns (numbers_of shape region))) undone ∙ h.is);
-}
-decodes_part_with order codecs elements shape value inside region (Err error.Fit) undone h = fits_with (bytes order) codecs elements.type shape ∙ h
-decodes_part_with order codecs elements shape value inside region (Err error.IncompatibleIndexer) undone h = h
-decodes_part_with order codecs elements shape value inside region (Err error.Damage) undone h = (
-  fits_with (bytes order) codecs elements.type shape ∙ h.0,
-  h.1,
-  part_with (bytes order) codecs elements shape value (numbers_of shape region) ∙ (ap (option_and_then (λ ns. part_decoded (bytes order) elements shape ns (numbers_of shape region))) undone ∙ h.2),
-)
-decodes_part_with order codecs elements shape value inside region (Err error.Size) undone h = h
-decodes_part_with order codecs elements shape value inside region (Err error.Source) undone h = tt
-decodes_part_with order codecs elements shape value inside region (Err error.Memory) undone h = tt
-decodes_part_with order codecs elements shape value inside region (Err e) undone h = absurd h
-
--- what codecs do not undo
-pub undone_part_with : (order : Option Endianness) (codecs : List ByteCodec) (elements : Elements) (shape value : List ℕ) (region : Region) (e : CodecError) → fits (bytes order) elements.type shape ≡ true → lies_in shape region ≡ true
-    → UndoesBytes (all_decoded codecs) value (Err e) → DecodesPart (with_codecs (bytes order) codecs) elements shape (Some value) region (Err e)
-undone_part_with order codecs elements shape value region error.Damage fit inside h = (
-  fits_with (bytes order) codecs elements.type shape ∙ fit,
-  inside,
-  part_with (bytes order) codecs elements shape value (numbers_of shape region) ∙ ap (option_and_then (λ ns. part_decoded (bytes order) elements shape ns (numbers_of shape region))) h,
-)
-undone_part_with order codecs elements shape value region error.Memory fit inside h = tt
-undone_part_with order codecs elements shape value region e fit inside h = absurd h
 
 -- ---- the bytes of a part
 
@@ -214,23 +162,30 @@ pub extracted_by : {E : Type 0} (r : Result (Vec ℕ Global) E) (width other_wid
 extracted_by (Ok v) width other_width value shape region same elements long other = subst (λ w. IsExtracted w value shape region other v.items) same (record { long = long; elements = elements other })
 extracted_by (Err e) width other_width value shape region same elements long other = tt
 
+-- elements that are too wide for a slice are none
+pub no_places : (n width m : ℕ) → m ≤ n → n * width < 2 ^ 64 → 2 ^ 64 ≤ width → m ≡ 0
+no_places zero width m few small wide = omega arith
+no_places (suc n) width m few small wide = let more : suc n * width ≡ width + n * width = grind arith in absurd (omega (arith, more, small, wide))
+
+-- the width of a type whose elements are too wide for a slice
+pub too_wide : (type : DataType) → is_fixed type ≡ true → None ≡ option_and_then word_sized (byte_width type) → 2 ^ 64 ≤ bytes_in (components type)
+too_wide type one_size h =
+    let width = bytes_in (components type) in
+    let known : byte_width type ≡ Some width = ap (λ (b : Bool). if b then Some width else None) one_size in
+    at_least width (2 ^ 64) (λ below. let e : None ≡ Some width = h ∙ (ap (option_and_then word_sized) known ∙ ap (λ (b : Bool). if b then Some width else None) (lt-ltb width (2 ^ 64) below)) in cc)
+
 -- an array whose elements are too wide for a slice has none
 pub nothing_extracted : (type : DataType) (value shape : List ℕ) (region : Region) (extracted : List ℕ) → is_fixed type ≡ true → None ≡ option_and_then word_sized (byte_width type) → length value ≡ product shape * bytes_in (components type) → length value < 2 ^ 64
     → length region.shape ≡ length region.start → lies_in shape region ≡ true → extracted ≡ [] → (other : Cell) → IsExtracted (bytes_in (components type)) value shape region other extracted
 nothing_extracted type value shape region extracted one_size h whole few l inside empty other =
     let width = bytes_in (components type) in
-    let known : byte_width type ≡ Some width = ap (λ (b : Bool). if b then Some width else None) one_size in
-    let wide : 2 ^ 64 ≤ width = at_least width (2 ^ 64) (λ below. let e : None ≡ Some width = h ∙ (ap (option_and_then word_sized) known ∙ ap (λ (b : Bool). if b then Some width else None) (lt-ltb width (2 ^ 64) below)) in cc) in
+    let wide : 2 ^ 64 ≤ width = too_wide type one_size h in
     let none : product region.shape ≡ 0 = no_places (product shape) width (product region.shape) (inside_product shape region l inside) (omega (arith, whole, few)) wide in
     let no_numbers : numbers_of shape region ≡ [] = ap (map (λ place. ravel place shape)) (no_elements (places region.start region.shape) (length-places region.start region.shape (sym l) ∙ none)) in
     record {
       long = ap length empty ∙ sym (ap (λ n. n * width) none ∙ zero-mul width);
       elements = ap (fixed_cells width) empty ∙ (fixed_cells-nil width ∙ sym (ap (gather other (fixed_cells width value)) no_numbers));
     } where
-      no_places : (n width m : ℕ) → m ≤ n → n * width < 2 ^ 64 → 2 ^ 64 ≤ width → m ≡ 0
-      no_places zero width m few small wide = omega arith
-      no_places (suc n) width m few small wide = let more : suc n * width ≡ width + n * width = grind arith in absurd (omega (arith, more, small, wide))
-
       no_elements : (ps : List (List ℕ)) → length ps ≡ 0 → ps ≡ []
       no_elements [] h = refl
       no_elements (p ∷ ps) h = absurd (omega arith)
@@ -238,7 +193,7 @@ nothing_extracted type value shape region extracted one_size h whole few l insid
 -- ---- where nothing is stored
 
 pub fills_part : (chain : Chain) (elements : Elements) (shape : List ℕ) (region : Region) (count : ℕ) (r : Result ArrayBytes CodecError) → length region.shape ≡ length region.start → lies_in shape region ≡ true → fits chain elements.type shape ≡ true → count ≡ product region.shape
-    → IfOk r (λ made. cells_in elements.type (payload_of made) ≡ Some (replicate count elements.fill)) → IfErr r (λ e. e ≢ error.Memory → (e ≡ error.Size) × IsTooLarge elements.type count) → DecodesPart chain elements shape None region r
+    → IfOk r (λ made. cells_in elements.type (payload_of made) ≡ Some (replicate count elements.fill)) → IfErr r (λ e. e ≢ error.Memory → (e ≡ error.Size) × IsTooLarge elements.type count) → DecodesPart chain elements shape None (in_box region) r
 fills_part chain elements shape region count (Ok made) l inside fit many lists large = filled_part chain elements shape region (payload_of made) l inside fit (lists ∙ ap (λ n. Some (replicate n elements.fill)) many)
 fills_part chain elements shape region count (Err error.Memory) l inside fit many lists large = tt
 fills_part chain elements shape region count (Err error.Size) l inside fit many lists large = larger_too elements.type shape region l inside (subst (IsTooLarge elements.type) many (large (λ q. cc)).1)
@@ -259,7 +214,7 @@ fills_part chain elements shape region count (Err (error.Other text)) l inside f
 
 -- elements of a part that cannot be counted
 pub uncounted_part : (chain : Chain) (elements : Elements) (shape : List ℕ) (stored : Option (List ℕ)) (region : Region) (type : DataType) (count : ℕ) (e : CodecError) → length region.shape ≡ length region.start → lies_in shape region ≡ true → type ≡ elements.type → count ≡ product region.shape
-    → (e ≢ error.Memory → (e ≡ error.Size) × IsTooLarge type count) → DecodesPart chain elements shape stored region (Err e)
+    → (e ≢ error.Memory → (e ≡ error.Size) × IsTooLarge type count) → DecodesPart chain elements shape stored (in_box region) (Err e)
 uncounted_part chain elements shape stored region type count error.Memory l inside same many large = tt
 uncounted_part chain elements shape stored region type count error.Size l inside same many large = larger_too elements.type shape region l inside (subst (λ t. IsTooLarge t (product region.shape)) same (subst (IsTooLarge type) many (large (λ q. cc)).1))
 uncounted_part chain elements shape stored region type count error.Source l inside same many large = tt

@@ -9,6 +9,7 @@ use Rattle.zarr_codecs_meaning.specs.Types.{Elements}
 use Rattle.zarr_codecs_meaning.proofs.Lists.{some_same}
 use Rattle.zarr_codecs_arrays.specs.declared.error.CodecError.{CodecError}
 use Rattle.zarr_codecs_arrays.specs.declared.error.CodecError.TheVariants as error
+use Rattle.zarr_codecs_traits.specs.Indexers.{in_box}
 use Rattle.zarr_codecs_traits.specs.Outcomes.{DecodesPart}
 use Rattle.zarr_codecs_traits.specs.Sources.{RangesRefused, bytes_at, part_bytes, part_lists, parts_of}
 use Rattle.zarr_codecs_traits.specs.declared.byte_range.ByteRange.{ByteRange}
@@ -28,7 +29,7 @@ parts_joined contents value ranges found parts is given read =
 
 -- ranges that lie in the value are refused only by the source, or for want of memory
 pub ranges_refused : (chain : Chain) (elements : Elements) (shape : List ℕ) (region : Region) (contents : Option (List ℕ)) (value : List ℕ) (size : ℕ) (ranges : List ByteRange) (e : CodecError) → contents ≡ Some value → length value ≡ size → list_any (ends_after size) ranges ≡ false
-    → RangesRefused {A = Option (Vec (Vec ℕ Global) Global)} contents ranges (Err e) → DecodesPart chain elements shape contents region (Err e)
+    → RangesRefused {A = Option (Vec (Vec ℕ Global) Global)} contents ranges (Err e) → DecodesPart chain elements shape contents (in_box region) (Err e)
 ranges_refused chain elements shape region (Some other) value size ranges error.Damage is long within past =
     let here : list_any (ends_after (length other)) ranges ≡ false = ap (λ (ns : List ℕ). list_any (ends_after (length ns)) ranges) (some_same is) ∙ (ap (λ n. list_any (ends_after n) ranges) long ∙ within) in
     absurd (false≢true (sym here ∙ past))

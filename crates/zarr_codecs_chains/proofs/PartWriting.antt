@@ -31,7 +31,7 @@ use Rattle.zarr_codecs_arrays.specs.Views.{elements_of}
 use Rattle.zarr_codecs_arrays.proofs.FixedCells.{fixed_in-whole, flat_map-fixed_cells, get_or-fixed_cells, length-fixed_cells, whole_length}
 use Rattle.zarr_codecs_regions.proofs.Extracts.{element_bytes, bytes_of_place, place_width, elements_are, element_within, array_laid}
 use Rattle.zarr_codecs_regions.proofs.InsideArray.{all_places, inside_places}
-use Rattle.zarr_codecs_traits.specs.Outcomes.{lies_in, numbers_of}
+use Rattle.zarr_codecs_traits.specs.Indexers.{lies_in, numbers_of}
 use Rattle.zarr_codecs_traits.specs.PartEncoding.{EncodesPart, takes_patches, cells_with_box}
 use Rattle.zarr_codecs_traits.specs.Patches.{any_too_far, overwritten, patched, written_at}
 use Rattle.zarr_codecs_traits.specs.declared.byte_range.ByteRange.{ByteRange}
@@ -42,7 +42,7 @@ use Rattle.zarr_codecs_chains.specs.Orders.{all_ordered}
 use Rattle.zarr_codecs_chains.specs.Parts.{IsExtracted, PatchesPart, part_width}
 use Rattle.zarr_codecs_chains.specs.Views.{with_codecs}
 use Rattle.zarr_codecs_chains.specs.declared.lines.PartRanges.{PartRanges}
-use Rattle.zarr_codecs_chains.specs.declared.part.ArrayPart.{ArrayPart}
+use Rattle.zarr_codecs_chains.specs.declared.part.BoxPart.{BoxPart}
 use Rattle.zarr_codecs_chains.proofs.BoxLines.{mul_le, number_below, same_flat}
 use Rattle.zarr_codecs_chains.proofs.BoxScattered.{element_positions, scatter_box}
 use Rattle.zarr_codecs_chains.proofs.Decoding.{IsRead, decoded_made, fixed_cells_in}
@@ -286,7 +286,7 @@ part_encoded order elements shape region given ranges value before h =
 -- ---- a part
 
 -- the ranges that were found are those of a box
-pub found_ranges : (part : ArrayPart) (found : PartRanges) → 0 < part_width part → ArePartRanges part found → AreBoxRanges (part_width part) part.shape.now (region_of part.region.now) found.ranges.items
+pub found_ranges : (part : BoxPart) (found : PartRanges) → 0 < part_width part → ArePartRanges part found → AreBoxRanges (part_width part) part.shape.now (region_of part.region.now) found.ranges.items
 found_ranges part found some h =
     let size = product part.shape.now * part_width part in
     record {
@@ -298,7 +298,7 @@ found_ranges part found some h =
     }
 
 -- what is known of patches that were made of them
-pub record AreMade (order : Option Endianness) (part : ArrayPart) (found : PartRanges) (given content : List ℕ) (patches : List ValuePatch) : Type 0 where
+pub record AreMade (order : Option Endianness) (part : BoxPart) (found : PartRanges) (given content : List ℕ) (patches : List ValuePatch) : Type 0 where
   pub fit : fits (bytes order) (elements_of part.elements.now).type [] ≡ true
   pub some : 0 < part_width part
   pub many : length given ≡ product part.region.now.shape.items * part_width part
@@ -307,13 +307,13 @@ pub record AreMade (order : Option Endianness) (part : ArrayPart) (found : PartR
   pub offsets : patch_offsets patches ≡ range_offsets found.ranges.items
   pub are : patch_bytes patches ≡ cut found.ranges.items content
 
-pub content_total : (order : Option Endianness) (part : ArrayPart) (found : PartRanges) (given content : List ℕ) → 0 < part_width part → length given ≡ product part.region.now.shape.items * part_width part → ArePartRanges part found
+pub content_total : (order : Option Endianness) (part : BoxPart) (found : PartRanges) (given content : List ℕ) → 0 < part_width part → length given ≡ product part.region.now.shape.items * part_width part → ArePartRanges part found
     → content ≡ all_ordered order (components (elements_of part.elements.now).type) given → length content ≡ total_length found.ranges.items
 content_total order part found given content some many ranges is =
     ap length is ∙ (length-all_ordered order (components (elements_of part.elements.now).type) (product part.region.now.shape.items) given some many
     ∙ sym (ranges_total (part_width part) part.shape.now (region_of part.region.now) found.ranges.items (found_ranges part found some ranges)))
 
-pub part_patched : (order : Option Endianness) (part : ArrayPart) (found : PartRanges) (given content : List ℕ) (patches : List ValuePatch) → AreMade order part found given content patches → PatchesPart (bytes order) part given patches
+pub part_patched : (order : Option Endianness) (part : BoxPart) (found : PartRanges) (given content : List ℕ) (patches : List ValuePatch) → AreMade order part found given content patches → PatchesPart (bytes order) part given patches
 part_patched order part found given content patches h =
     let elements = elements_of part.elements.now in
     let shape = part.shape.now in
@@ -339,7 +339,7 @@ given_cells type given count cells fit valid =
     let many : length given / width ≡ count = sym (ap length w.is ∙ length-fixed_cells width given) ∙ valid.is.many in
     record { are = w.is; long = whole_length width given w.whole ∙ ap (λ n. n * width) many }
 
-pub part_encodes : (order : Option Endianness) (part : ArrayPart) (given : List ℕ) (cells : List Cell) (found : Option (Vec ValuePatch Global)) → fits (bytes order) (elements_of part.elements.now).type [] ≡ true
+pub part_encodes : (order : Option Endianness) (part : BoxPart) (given : List ℕ) (cells : List Cell) (found : Option (Vec ValuePatch Global)) → fits (bytes order) (elements_of part.elements.now).type [] ≡ true
     → IsValid (elements_of part.elements.now).type (fixed given) (product part.region.now.shape.items) cells → IfSome found (λ patches. PatchesPart (bytes order) part given patches.items)
     → EncodesPart (bytes order) true (elements_of part.elements.now) part.shape.now (region_of part.region.now) (fixed given) (Ok found)
 part_encodes order part given cells None fit valid h = tt

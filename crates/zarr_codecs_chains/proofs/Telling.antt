@@ -1,17 +1,22 @@
 -- What chains with the caller's codecs tell of themselves.
-use Rattle.std.proofs.Common.{◌≡◌, ◌∙◌, ℕ, List, [], ◌∷◌, length, map, ap, sym, refl, Bool, true, false, ◌||◌, inl, inr, Result, Ok, Err}
+use Rattle.std.proofs.Common.{◌≡◌, ◌∙◌, ℕ, List, [], ◌∷◌, length, map, ap, sym, refl, Bool, true, false, ◌&&◌, ◌||◌, inl, inr, Result, Ok, Err}
 use Rattle.zarr_codecs_meaning.specs.Types.{DataType}
-use Rattle.zarr_codecs_meaning.specs.Chains.{ByteCodec, Chain}
+use Rattle.zarr_codecs_meaning.specs.Chains.{ArrayCodec, ByteCodec, Chain}
 use Rattle.zarr_codecs_meaning.specs.Chains.Chain.{then_bytes}
-use Rattle.zarr_codecs_meaning.specs.Fits.{representation_of}
+use Rattle.zarr_codecs_meaning.specs.Fits.{is_plain, representation_of}
 use Rattle.zarr_codecs_arrays.specs.declared.error.CodecError.{CodecError}
 use Rattle.zarr_codecs_arrays.specs.declared.error.CodecError.TheVariants as error
-use Rattle.zarr_codecs_traits.specs.Capabilities.{decodes_parts, encodes_parts, granularity}
+use Rattle.zarr_codecs_traits.specs.Capabilities.{decodes_parts, encodes_parts, granularity, keeps_boxes}
+use Rattle.zarr_codecs_traits.specs.PartEncoding.{takes_patches}
 use Rattle.zarr_codecs_traits.specs.Representations.{IsRepresented, RepresentsArray, is_too_long, known_size, tells_too_long}
 use Rattle.zarr_codecs_traits.specs.declared.bytes_representation.BytesRepresentation.{BytesRepresentation}
 use Rattle.zarr_codecs_chains.specs.Codecs.{RepresentsAll, all_represented, any_too_long}
-use Rattle.zarr_codecs_chains.specs.Views.{with_codecs}
-use Rattle.zarr_codecs_chains.proofs.Chains.{fits_with}
+use Rattle.zarr_codecs_chains.specs.Views.{bytes_meaning, codec_chain, codecs_of, with_array_codecs, with_codecs}
+use Rattle.zarr_codecs_chains.specs.declared.array_to_bytes.ArrayToBytesCodec.{ArrayToBytesCodec}
+use Rattle.zarr_codecs_chains.specs.declared.array_to_bytes.ArrayToBytesCodec.TheVariants.{Bytes, PackBits}
+use Rattle.zarr_codecs_chains.specs.declared.bytes_chain.BytesChain.{BytesChain}
+use Rattle.zarr_codecs_array_to_array.specs.declared.codec.ArrayToArrayCodec.{ArrayToArrayCodec}
+use Rattle.zarr_codecs_chains.proofs.Chains.{fits_with, plain_with}
 
 -- ---- sizes
 
@@ -81,3 +86,41 @@ never_encodes chain meaning (codec ∷ codecs) some = encodes_after chain (meani
 pub granularity_with : (chain : Chain) (codecs : List ByteCodec) (shape : List ℕ) → granularity (with_codecs chain codecs) shape ≡ granularity chain shape
 granularity_with chain [] shape = refl
 granularity_with chain (codec ∷ codecs) shape = granularity_with (then_bytes chain codec) codecs shape
+
+-- ---- array codecs
+
+-- array codecs before a chain leave whether parts are decoded by parts as it is
+pub decodes_before : (codecs : List ArrayCodec) (chain : Chain) → decodes_parts (with_array_codecs codecs chain) ≡ decodes_parts chain
+decodes_before [] chain = refl
+decodes_before (codec ∷ codecs) chain = decodes_before codecs chain
+
+pub plain_before : (codecs : List ArrayCodec) (chain : Chain) → is_plain (with_array_codecs codecs chain) ≡ is_plain chain
+plain_before [] chain = refl
+plain_before (codec ∷ codecs) chain = plain_before codecs chain
+
+-- whether parts are encoded by parts too, where there is no shard
+pub encodes_before : (codecs : List ArrayCodec) (chain : Chain) → is_plain chain ≡ true → encodes_parts (with_array_codecs codecs chain) ≡ encodes_parts chain
+encodes_before [] chain plain = refl
+encodes_before (codec ∷ codecs) chain plain =
+    let whole = with_array_codecs codecs chain in
+    ap (λ (b : Bool). encodes_parts whole && b) (or_second (keeps_boxes codec) (is_plain whole) (plain_before codecs chain ∙ plain)) ∙ (and_truth (encodes_parts whole) ∙ encodes_before codecs chain plain) where
+      and_truth : (b : Bool) → (b && true) ≡ b
+      and_truth true = refl
+      and_truth false = refl
+
+-- what codecs there are makes no shard
+pub codec_plain : (codec : ArrayToBytesCodec) → is_plain (codec_chain codec) ≡ true
+codec_plain (Bytes codec) = refl
+codec_plain (PackBits codec) = refl
+
+pub bytes_plain : {B : Type 0} (meaning : B → ByteCodec) (chain : BytesChain B) → is_plain (bytes_meaning meaning chain) ≡ true
+bytes_plain meaning chain = plain_with (codec_chain chain.array_to_bytes) (map meaning chain.bytes_to_bytes.items) ∙ codec_plain chain.array_to_bytes
+
+-- where there is an array codec, the parts that are decoded are all of the array, and no bytes are replaced in values that nobody reads
+pub granularity_whole : (codecs : List ArrayToArrayCodec) (chain : Chain) (shape : List ℕ) → (length codecs ≡ 0 → ⊥) → shape ≡ granularity (with_array_codecs (codecs_of codecs) chain) shape
+granularity_whole [] chain shape some = absurd (some refl)
+granularity_whole (codec ∷ codecs) chain shape some = refl
+
+pub never_replaced : (codecs : List ArrayToArrayCodec) (chain : Chain) (type : DataType) → (length codecs ≡ 0 → ⊥) → false ≡ takes_patches (with_array_codecs (codecs_of codecs) chain) type
+never_replaced [] chain type some = absurd (some refl)
+never_replaced (codec ∷ codecs) chain type some = refl

@@ -3,3 +3,4 @@ pub mod Orders
 pub mod Codecs
 pub mod Parts
 pub mod Lines
+pub mod Asking

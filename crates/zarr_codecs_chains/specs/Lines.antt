@@ -7,7 +7,7 @@ use Rattle.zarr_codecs_traits.specs.Sources.{bytes_at}
 use Rattle.zarr_codecs_traits.specs.declared.byte_range.ByteRange.{ByteRange}
 use Rattle.zarr_codecs_traits.specs.declared.value_patch.ValuePatch.{ValuePatch}
 use Rattle.zarr_codecs_chains.specs.Parts.{HasPart, part_width}
-use Rattle.zarr_codecs_chains.specs.declared.part.ArrayPart.{ArrayPart}
+use Rattle.zarr_codecs_chains.specs.declared.part.BoxPart.{BoxPart}
 use Rattle.zarr_codecs_chains.specs.declared.lines.LineSizes.{LineSizes}
 use Rattle.zarr_codecs_chains.specs.declared.lines.PartRanges.{PartRanges}
 
@@ -54,7 +54,7 @@ abbrev pub patch_bytes : List ValuePatch → List (List ℕ)
 patch_bytes patches = map (λ (patch : ValuePatch). patch.bytes.items) patches
 
 -- how many bytes an element, a line and the value have, of a part with one dimension or more
-pub record AreLineSizes (part : ArrayPart) (sizes : LineSizes) : Type 0 where
+pub record AreLineSizes (part : BoxPart) (sizes : LineSizes) : Type 0 where
   pub some : 0 < length part.region.now.shape.items
   pub positive : 0 < part_width part
   pub width : sizes.width ≡ part_width part
@@ -63,7 +63,7 @@ pub record AreLineSizes (part : ArrayPart) (sizes : LineSizes) : Type 0 where
   pub small : sizes.value < 2 ^ 63
 
 -- the ranges of a value in which the elements of a part stand, one after another
-pub record ArePartRanges (part : ArrayPart) (found : PartRanges) : Type 0 where
+pub record ArePartRanges (part : BoxPart) (found : PartRanges) : Type 0 where
   pub size : found.size ≡ product part.shape.now * part_width part
   pub small : found.size < 2 ^ 63
   pub within : list_any (ends_after found.size) found.ranges.items ≡ false

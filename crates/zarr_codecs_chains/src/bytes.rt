@@ -1,6 +1,7 @@
 //! The codec `bytes`.
 
-use crate::part::ArrayPart;
+use crate::listed::read_listed;
+use crate::part::{BoxPart, ListedPart};
 use crate::patches::replace_part;
 use crate::reading::read_part;
 use crate::sizes::{byte_count, have_one_byte};
@@ -8,9 +9,10 @@ use crate::swapping::swapped;
 use std::alloc::{AllocError, Global};
 use zarr_codecs_arrays::{ArrayBytes, CodecError, Elements, takes_all_bytes};
 use zarr_codecs_options::CodecOptions;
-use zarr_codecs_regions::is_inside;
+use zarr_codecs_regions::{are_below, is_inside};
 use zarr_codecs_traits::{
-    ArrayToBytesCodecTraits, BytesPartialDecoderTraits, BytesRepresentation, ValuePatch,
+    ArrayPart, ArrayToBytesCodecTraits, BytesPartialDecoderTraits, BytesRepresentation, Indexer,
+    ValuePatch,
 };
 use zarr_codecs_types::DataType;
 use zarr_grids_boxes::ArraySubset;
@@ -31,7 +33,13 @@ pub struct BytesCodec {
 }
 
 impl BytesCodec {
-    ghost use Rattle.std.specs.Prelude.{◌≡◌, ◌<◌, ◌%◌, [], Some, option_map, length, IfOk};
+    ghost use Rattle.std.specs.Prelude.{◌≡◌, ◌<◌, ◌%◌, [], Some, option_map, length, true, IfOk, IsTrue};
+    ghost use Rattle.zarr_grids_boxes.specs.Subsets.{region_of};
+    ghost use Rattle.zarr_codecs_arrays.specs.Views.{elements_of, payload_of};
+    ghost use Rattle.zarr_codecs_traits.specs.Indexers.{in_box, listed};
+    ghost use Rattle.zarr_codecs_traits.specs.Outcomes.{DecodesPart};
+    ghost use Rattle.zarr_codecs_traits.specs.PartEncoding.{EncodesPart};
+    ghost use Rattle.zarr_codecs_traits.specs.Sources.{refused_after};
     ghost use Rattle.zarr_codecs_meaning.specs.Types.{components, bytes_in};
     ghost use Rattle.zarr_codecs_meaning.specs.Fits.{fits};
     ghost use Rattle.zarr_codecs_types.specs.Views.{type_of};
@@ -85,6 +93,96 @@ impl BytesCodec {
                 Endianness::Little => Ok(bytes),
                 Endianness::Big => swapped(alloc, data_type, bytes),
             },
+        }
+    }
+
+    /// The elements of a box of an array, of the value that a source holds.
+    fn decode_box<D: BytesPartialDecoderTraits>(
+        self,
+        alloc: Global,
+        source: &mut D,
+        array: ArrayPart<'_>,
+        region: &ArraySubset,
+    ) -> Result<ArrayBytes, CodecError>
+        ensures part { IsTrue (D.is_honest source.old) → DecodesPart (bytes_chain self)
+            (elements_of array.entry.elements.now) array.entry.shape.now (D.contents source.old)
+            (in_box (region_of region.now)) result }
+        ensures refused { D.refused_calls source.new ≡
+            refused_after (D.refused_calls source.old) result }
+        ensures follows { D.follows source.old source.new }
+    {
+        let (elements, shape) = (array.elements, array.shape);
+        if !self.suits(elements.data_type()) {
+            return Err(CodecError::Fit);
+        }
+        if !is_inside(shape, region) {
+            return Err(CodecError::IncompatibleIndexer);
+        }
+        let part = BoxPart {
+            elements,
+            shape,
+            region,
+        };
+        read_part(alloc, source, self, part)
+    }
+
+    /// The elements with some numbers, of the value that a source holds.
+    fn decode_listed<D: BytesPartialDecoderTraits>(
+        self,
+        alloc: Global,
+        source: &mut D,
+        array: ArrayPart<'_>,
+        numbers: &[u64],
+    ) -> Result<ArrayBytes, CodecError>
+        ensures part { IsTrue (D.is_honest source.old) → DecodesPart (bytes_chain self)
+            (elements_of array.entry.elements.now) array.entry.shape.now (D.contents source.old)
+            (listed numbers.now) result }
+        ensures refused { D.refused_calls source.new ≡
+            refused_after (D.refused_calls source.old) result }
+        ensures follows { D.follows source.old source.new }
+    {
+        let (elements, shape) = (array.elements, array.shape);
+        if !self.suits(elements.data_type()) {
+            return Err(CodecError::Fit);
+        }
+        let Some(count) = count_places(shape) else {
+            return Err(CodecError::Size);
+        };
+        if !are_below(numbers, count) {
+            return Err(CodecError::IncompatibleIndexer);
+        }
+        let part = ListedPart {
+            elements,
+            shape,
+            numbers,
+        };
+        read_listed(alloc, source, self, part)
+    }
+
+    /// The ranges to be written into a value so that the elements of a box are replaced.
+    fn encode_box(
+        self,
+        alloc: Global,
+        bytes: ArrayBytes,
+        array: ArrayPart<'_>,
+        region: &ArraySubset,
+    ) -> Result<Option<Vec<ValuePatch>>, CodecError>
+        ensures { EncodesPart (bytes_chain self) true (elements_of array.entry.elements.now)
+            array.entry.shape.now (region_of region.now) (payload_of bytes) result }
+    {
+        let (elements, shape) = (array.elements, array.shape);
+        if !self.suits(elements.data_type()) {
+            return Err(CodecError::Fit);
+        }
+        if is_inside(shape, region) {
+            let part = BoxPart {
+                elements,
+                shape,
+                region,
+            };
+            replace_part(alloc, self, bytes, part)
+        } else {
+            Err(CodecError::IncompatibleIndexer)
         }
     }
 }
@@ -192,23 +290,13 @@ impl ArrayToBytesCodecTraits for BytesCodec {
         &self,
         alloc: Global,
         source: &mut D,
-        elements: &Elements,
-        shape: &[u64],
-        region: &ArraySubset,
+        part: ArrayPart<'_>,
         _: &CodecOptions,
     ) -> Result<ArrayBytes, CodecError> {
-        if !self.suits(elements.data_type()) {
-            return Err(CodecError::Fit);
+        match part.indexer {
+            Indexer::Subset(region) => self.decode_box(alloc, source, part, region),
+            Indexer::List(numbers) => self.decode_listed(alloc, source, part, numbers),
         }
-        if !is_inside(shape, region) {
-            return Err(CodecError::IncompatibleIndexer);
-        }
-        let part = ArrayPart {
-            elements,
-            shape,
-            region,
-        };
-        read_part(alloc, source, *self, part)
     }
 
     fn supports_partial_encode(&self, data_type: &DataType) -> bool {
@@ -219,24 +307,27 @@ impl ArrayToBytesCodecTraits for BytesCodec {
         &self,
         alloc: Global,
         bytes: ArrayBytes,
-        elements: &Elements,
-        shape: &[u64],
-        region: &ArraySubset,
+        part: ArrayPart<'_>,
         _: &CodecOptions,
     ) -> Result<Option<Vec<ValuePatch>>, CodecError> {
+        match part.indexer {
+            Indexer::Subset(region) => self.encode_box(alloc, bytes, part, region),
+            Indexer::List(_numbers) => Ok(None),
+        }
+    }
+
+    fn compact(
+        &self,
+        _: Global,
+        _: &[u8],
+        elements: &Elements,
+        _: &[u64],
+        _: &CodecOptions,
+    ) -> Result<Option<Vec<u8>>, CodecError> {
         if !self.suits(elements.data_type()) {
             return Err(CodecError::Fit);
         }
-        if is_inside(shape, region) {
-            let part = ArrayPart {
-                elements,
-                shape,
-                region,
-            };
-            replace_part(alloc, *self, bytes, part)
-        } else {
-            Err(CodecError::IncompatibleIndexer)
-        }
+        Ok(None)
     }
 
     fn try_clone(&self, _: Global) -> Result<BytesCodec, AllocError> {

@@ -1,33 +1,40 @@
 //! Codec chains.
-use crate::byte_codecs::{copies, decode_all, encode_all, represent_all};
-use crate::bytes::BytesCodec;
-use crate::metadata::{push_metadatas, read_codecs};
-use crate::part::ArrayPart;
-use crate::partial::{decode_part_with, fill_part};
-use crate::reading::read_part;
+ghost use Rattle.std.specs.Prelude.{◌≡◌, ◌≢◌, Some, None, map, option_map, IfOk, IfErr};
+ghost use Rattle.zarr_grids_metadata.specs.Views.{point_of};
+ghost use Rattle.zarr_codecs_metadata.specs.Chains.{chain_of};
+ghost use Rattle.zarr_codecs_chains.specs.Views.{codecs_of, meaning_of, with_array_codecs};
+
+use crate::array_metadata::{array_copies, array_metadatas};
+use crate::asked::{numbers_asked, test_asked};
+use crate::bytes_chain::BytesChain;
+use crate::part::ListedPart;
 use std::alloc::{AllocError, Global};
+use zarr_codecs_array_to_array::ArrayToArrayCodec;
 use zarr_codecs_arrays::{ArrayBytes, CodecError, Elements};
 use zarr_codecs_options::CodecOptions;
-use zarr_codecs_regions::is_inside;
 use zarr_codecs_traits::{
-    ArrayToBytesCodecTraits, BytesPartialDecoderTraits, BytesRepresentation,
-    BytesToBytesCodecTraits, ValuePatch, read_value,
+    ArrayPart, ArrayToBytesCodecTraits, BytesPartialDecoderTraits, BytesRepresentation,
+    BytesToBytesCodecTraits, ValuePatch,
 };
 use zarr_codecs_types::DataType;
-use zarr_grids_boxes::ArraySubset;
+use zarr_grids_boxes::walk::count_places;
 use zarr_grids_metadata::{MetadataV3, PluginCreateError};
 
-/// A codec chain: an array to bytes codec, and the caller's bytes to bytes codecs in the order in
-/// which they encode (Zarr core specification, "Codecs").
+/// A codec chain: array to array codecs in the order in which they encode, an array to bytes codec,
+/// and the caller's bytes to bytes codecs in that order (Zarr core specification, "Codecs").
 #[derive(Debug, Drop)]
 pub struct CodecChain<B: BytesToBytesCodecTraits> {
-    array_to_bytes: BytesCodec,
-    bytes_to_bytes: Vec<B>,
+    array_to_array: Vec<ArrayToArrayCodec>,
+    others: BytesChain<B>,
 }
 
 impl<B: BytesToBytesCodecTraits> CodecChain<B> {
-    ghost use Rattle.std.specs.Prelude.{◌≡◌, ◌≢◌, Some, None, map, IfOk, IfErr, option_and_then};
-    ghost use Rattle.zarr_codecs_chains.specs.Views.{meaning_of, points_of};
+    ghost use Rattle.std.specs.Prelude.{◌≡◌, ◌≢◌, Some, None, map, option_map, IfOk, IfErr, IsTrue};
+    ghost use Rattle.zarr_codecs_arrays.specs.Views.{elements_of};
+    ghost use Rattle.zarr_codecs_traits.specs.Indexers.{asked_of};
+    ghost use Rattle.zarr_codecs_traits.specs.Outcomes.{DecodesPart};
+    ghost use Rattle.zarr_codecs_traits.specs.Sources.{refused_after};
+    ghost use Rattle.zarr_codecs_chains.specs.Views.{codecs_of, meaning_of, points_of, with_array_codecs};
     ghost use Rattle.zarr_codecs_metadata.specs.Chains.{chain_of};
     ghost use Rattle.zarr_grids_metadata.specs.Views.{point_of};
 
@@ -43,20 +50,7 @@ impl<B: BytesToBytesCodecTraits> CodecChain<B> {
         ensures err { IfErr result (λ e. e ≢ PluginCreateError.Memory →
             chain_of B.reads (map point_of codecs.now) ≡ None) }
     {
-        let Some((first, others)) = codecs.split_first() else {
-            return Err(PluginCreateError::MetadataInvalid);
-        };
-        let array_to_bytes = match BytesCodec::from_metadata(first) {
-            Ok(codec) => codec,
-            Err(error) => return Err(error),
-        };
-        match read_codecs(alloc, others) {
-            Ok(bytes_to_bytes) => Ok(CodecChain {
-                array_to_bytes,
-                bytes_to_bytes,
-            }),
-            Err(error) => Err(error),
-        }
+        read_chain(alloc, Vec::new(alloc), codecs)
     }
 
     /// The metadata of the codecs, of which `from_metadata` makes an equal chain. `Err` only where
@@ -67,10 +61,75 @@ impl<B: BytesToBytesCodecTraits> CodecChain<B> {
         ensures reads_back { IfOk result (λ codecs.
             chain_of B.reads (map point_of codecs.items) ≡ Some (meaning_of B.meaning self.now)) }
     {
-        let mut metadatas = Vec::new(alloc);
-        metadatas.push(self.array_to_bytes.metadata(alloc)?)?;
-        push_metadatas(&mut metadatas, alloc, self.bytes_to_bytes.as_slice())?;
+        let mut metadatas = array_metadatas(alloc, self.array_to_array.as_slice())?;
+        self.others.push_metadatas(&mut metadatas, alloc)?;
         Ok(metadatas)
+    }
+
+    /// The elements at the places that are asked for, each of which goes through the array codecs.
+    fn decode_numbers<D: BytesPartialDecoderTraits>(
+        &self,
+        alloc: Global,
+        source: &mut D,
+        part: ArrayPart<'_>,
+        options: &CodecOptions,
+    ) -> Result<ArrayBytes, CodecError>
+        ensures part { IsTrue (D.is_honest source.old) →
+            DecodesPart (meaning_of B.meaning self.now) (elements_of part.entry.elements.now)
+            part.entry.shape.now (D.contents source.old) (asked_of part.entry.indexer) result }
+        ensures refused { D.refused_calls source.new ≡
+            refused_after (D.refused_calls source.old) result }
+        ensures follows { D.follows source.old source.new }
+    {
+        let (elements, shape) = (part.elements, part.shape);
+        if let Err(error) = test_asked(shape, part.indexer) {
+            return Err(error);
+        }
+        if count_places(shape).is_none() {
+            return Err(CodecError::Size);
+        }
+        let numbers = numbers_asked(alloc, shape, part.indexer)?;
+        let codecs = self.array_to_array.as_slice();
+        let listed = ListedPart {
+            elements,
+            shape,
+            numbers: numbers.as_slice(),
+        };
+        self.others
+            .decode_listed_after(alloc, codecs, source, listed, options)
+    }
+}
+
+/// The chain of array codecs that were read already, and of what the metadata that is left names and
+/// describes.
+fn read_chain<B: BytesToBytesCodecTraits>(
+    alloc: Global,
+    array_to_array: Vec<ArrayToArrayCodec>,
+    codecs: &[MetadataV3],
+) -> Result<CodecChain<B>, PluginCreateError>
+    ensures ok { IfOk result (λ chain. option_map (with_array_codecs
+        (codecs_of array_to_array.items)) (chain_of B.reads (map point_of codecs.now))
+        ≡ Some (meaning_of B.meaning chain)) }
+    ensures err { IfErr result (λ e. e ≢ PluginCreateError.Memory →
+        chain_of B.reads (map point_of codecs.now) ≡ None) }
+{
+    let mut array_to_array = array_to_array;
+    let Some((first, rest)) = codecs.split_first() else {
+        return Err(PluginCreateError::MetadataInvalid);
+    };
+    match ArrayToArrayCodec::from_metadata(alloc, first) {
+        Ok(codec) => match array_to_array.push(codec) {
+            Ok(()) => read_chain(alloc, array_to_array, rest),
+            Err(_failed) => Err(PluginCreateError::Memory),
+        },
+        Err(PluginCreateError::Memory) => Err(PluginCreateError::Memory),
+        Err(_) => match BytesChain::from_metadata(alloc, codecs) {
+            Ok(others) => Ok(CodecChain {
+                array_to_array,
+                others,
+            }),
+            Err(error) => Err(error),
+        },
     }
 }
 
@@ -82,8 +141,9 @@ impl<B: BytesToBytesCodecTraits> ArrayToBytesCodecTraits for CodecChain<B> {
 
     ghost is_function = { λ chain. true };
 
-    fn fits(&self, _: Global, data_type: &DataType, _: &[u64]) -> Result<bool, AllocError> {
-        Ok(self.array_to_bytes.suits(data_type))
+    fn fits(&self, alloc: Global, data_type: &DataType, shape: &[u64]) -> Result<bool, AllocError> {
+        let codecs = self.array_to_array.as_slice();
+        self.others.fits_after(alloc, codecs, data_type, shape)
     }
 
     fn encode(
@@ -94,13 +154,12 @@ impl<B: BytesToBytesCodecTraits> ArrayToBytesCodecTraits for CodecChain<B> {
         shape: &[u64],
         options: &CodecOptions,
     ) -> Result<Vec<u8>, CodecError> {
-        match self
-            .array_to_bytes
-            .encode(alloc, bytes, elements, shape, options)
-        {
-            Ok(made) => encode_all(alloc, self.bytes_to_bytes.as_slice(), made),
-            Err(error) => Err(error),
+        if !self.fits(alloc, elements.data_type(), shape)? {
+            return Err(CodecError::Fit);
         }
+        let codecs = self.array_to_array.as_slice();
+        self.others
+            .encode_after(alloc, codecs, bytes, elements, shape, options)
     }
 
     fn decode(
@@ -111,15 +170,9 @@ impl<B: BytesToBytesCodecTraits> ArrayToBytesCodecTraits for CodecChain<B> {
         shape: &[u64],
         options: &CodecOptions,
     ) -> Result<ArrayBytes, CodecError> {
-        if !self.array_to_bytes.suits(elements.data_type()) {
-            return Err(CodecError::Fit);
-        }
-        match decode_all(alloc, self.bytes_to_bytes.as_slice(), value) {
-            Ok(value) => self
-                .array_to_bytes
-                .decode(alloc, value, elements, shape, options),
-            Err(error) => Err(error),
-        }
+        let codecs = self.array_to_array.as_slice();
+        self.others
+            .decode_after(alloc, codecs, value, elements, shape, options)
     }
 
     fn encoded_representation(
@@ -128,21 +181,16 @@ impl<B: BytesToBytesCodecTraits> ArrayToBytesCodecTraits for CodecChain<B> {
         data_type: &DataType,
         shape: &[u64],
     ) -> Result<BytesRepresentation, CodecError> {
-        match self
-            .array_to_bytes
-            .encoded_representation(alloc, data_type, shape)
-        {
-            Ok(size) => represent_all(self.bytes_to_bytes.as_slice(), size),
-            Err(error) => Err(error),
-        }
+        let codecs = self.array_to_array.as_slice();
+        self.others.represent_after(alloc, codecs, data_type, shape)
     }
 
     fn partial_decoder_capability(&self) -> bool {
-        self.bytes_to_bytes.is_empty() && self.array_to_bytes.partial_decoder_capability()
+        self.others.partial_decoder_capability()
     }
 
     fn partial_encoder_capability(&self) -> bool {
-        self.bytes_to_bytes.is_empty() && self.array_to_bytes.partial_encoder_capability()
+        self.others.partial_encoder_capability()
     }
 
     fn partial_decode_granularity(
@@ -150,67 +198,62 @@ impl<B: BytesToBytesCodecTraits> ArrayToBytesCodecTraits for CodecChain<B> {
         alloc: Global,
         shape: &[u64],
     ) -> Result<Vec<u64>, AllocError> {
-        self.array_to_bytes.partial_decode_granularity(alloc, shape)
+        if self.array_to_array.is_empty() {
+            return self.others.partial_decode_granularity(alloc, shape);
+        }
+        shape.to_vec(alloc)
     }
 
     fn partial_decode<D: BytesPartialDecoderTraits>(
         &self,
         alloc: Global,
         source: &mut D,
-        elements: &Elements,
-        shape: &[u64],
-        region: &ArraySubset,
-        _: &CodecOptions,
+        part: ArrayPart<'_>,
+        options: &CodecOptions,
     ) -> Result<ArrayBytes, CodecError> {
-        if !self.array_to_bytes.suits(elements.data_type()) {
-            return Err(CodecError::Fit);
+        if self.array_to_array.is_empty() {
+            return self.others.partial_decode(alloc, source, part, options);
         }
-        if !is_inside(shape, region) {
-            return Err(CodecError::IncompatibleIndexer);
-        }
-        let part = ArrayPart {
-            elements,
-            shape,
-            region,
-        };
-        if self.bytes_to_bytes.is_empty() {
-            return read_part(alloc, source, self.array_to_bytes, part);
-        }
-        match read_value(alloc, source) {
-            Ok(Some(value)) => {
-                let codecs = self.bytes_to_bytes.as_slice();
-                decode_part_with(alloc, self.array_to_bytes, codecs, value, part)
-            }
-            Ok(None) => fill_part(alloc, part),
-            Err(error) => Err(error),
-        }
+        self.decode_numbers(alloc, source, part, options)
     }
 
     fn supports_partial_encode(&self, data_type: &DataType) -> bool {
-        self.bytes_to_bytes.is_empty() && self.array_to_bytes.supports_partial_encode(data_type)
+        self.array_to_array.is_empty() && self.others.supports_partial_encode(data_type)
     }
 
     fn partial_encode(
         &self,
         alloc: Global,
         bytes: ArrayBytes,
-        elements: &Elements,
-        shape: &[u64],
-        region: &ArraySubset,
+        part: ArrayPart<'_>,
         options: &CodecOptions,
     ) -> Result<Option<Vec<ValuePatch>>, CodecError> {
-        if !self.bytes_to_bytes.is_empty() {
+        if !self.array_to_array.is_empty() {
             return Ok(None);
         }
-        self.array_to_bytes
-            .partial_encode(alloc, bytes, elements, shape, region, options)
+        self.others.partial_encode(alloc, bytes, part, options)
+    }
+
+    fn compact(
+        &self,
+        alloc: Global,
+        _: &[u8],
+        elements: &Elements,
+        shape: &[u64],
+        _: &CodecOptions,
+    ) -> Result<Option<Vec<u8>>, CodecError> {
+        if !self.fits(alloc, elements.data_type(), shape)? {
+            return Err(CodecError::Fit);
+        }
+        Ok(None)
     }
 
     fn try_clone(&self, alloc: Global) -> Result<Self, AllocError> {
-        let bytes_to_bytes = copies(alloc, self.bytes_to_bytes.as_slice())?;
+        let array_to_array = array_copies(alloc, self.array_to_array.as_slice())?;
+        let others = self.others.try_clone(alloc)?;
         Ok(CodecChain {
-            array_to_bytes: self.array_to_bytes,
-            bytes_to_bytes,
+            array_to_array,
+            others,
         })
     }
 

@@ -8,7 +8,7 @@ ghost use Rattle.zarr_codecs_meaning.specs.Types.{is_fixed};
 ghost use Rattle.zarr_codecs_arrays.specs.Views.{elements_of};
 ghost use Rattle.zarr_codecs_traits.specs.Sources.{bytes_at};
 
-use crate::part::ArrayPart;
+use crate::part::BoxPart;
 use crate::sizes::byte_count;
 use std::alloc::{AllocError, Global};
 use zarr_codecs_traits::ByteRange;
@@ -35,7 +35,7 @@ ghost use Rattle.zarr_codecs_chains.specs.Lines.{AreLineSizes, ArePartRanges, by
 
 /// The ranges in which the elements of a part of an array stand, in their order. `None` where the
 /// value is better read whole: see `is_worthwhile`.
-pub(crate) fn part_ranges(alloc: Global, part: ArrayPart) -> Result<Option<PartRanges>, AllocError>
+pub(crate) fn part_ranges(alloc: Global, part: BoxPart) -> Result<Option<PartRanges>, AllocError>
     requires { is_fixed (elements_of part.elements.now).type ≡ true }
     ensures { IfOk result (λ found. IfSome found (ArePartRanges part.entry)) }
 {
@@ -59,7 +59,7 @@ pub(crate) fn part_ranges(alloc: Global, part: ArrayPart) -> Result<Option<PartR
 
 /// How many bytes an element, a line of the part and the value have. `None` where the array has no
 /// dimension, or one of them is too large.
-fn line_sizes(part: ArrayPart) -> Option<LineSizes>
+fn line_sizes(part: BoxPart) -> Option<LineSizes>
     requires { is_fixed (elements_of part.elements.now).type ≡ true }
     ensures { IfSome result (AreLineSizes part.entry) }
 {

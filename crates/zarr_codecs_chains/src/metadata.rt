@@ -17,7 +17,7 @@ use zarr_grids_metadata::{MetadataV3, PluginCreateError, has_only, member};
 impl BytesCodec {
     ghost use Rattle.std.specs.Prelude.{◌≡◌, Some, None, IfOk, IfErr};
     ghost use Rattle.zarr_grids_metadata.specs.Views.{point_of};
-    ghost use Rattle.zarr_codecs_metadata.specs.Chains.{array_to_bytes_in};
+    ghost use Rattle.zarr_codecs_metadata.specs.Chains.{bytes_in};
     ghost use Rattle.zarr_codecs_chains.specs.Views.{bytes_chain, bytes_point};
 
     /// The codec that metadata describes. `NameUnsupported` where its name is not `bytes`,
@@ -25,8 +25,8 @@ impl BytesCodec {
     /// `little` or `big`.
     pub fn from_metadata(metadata: &MetadataV3) -> Result<BytesCodec, PluginCreateError>
         ensures ok { IfOk result
-            (λ codec. array_to_bytes_in (point_of metadata.now) ≡ Some (bytes_chain codec)) }
-        ensures err { IfErr result (λ e. array_to_bytes_in (point_of metadata.now) ≡ None) }
+            (λ codec. bytes_in (point_of metadata.now) ≡ Some (bytes_chain codec)) }
+        ensures err { IfErr result (λ e. bytes_in (point_of metadata.now) ≡ None) }
     {
         if metadata.name() != "bytes" {
             return Err(PluginCreateError::NameUnsupported);

@@ -1,5 +1,5 @@
 //! The elements of a box of an array, of what is stored of it.
-ghost use Rattle.std.specs.Prelude.{◌≡◌, ◌*◌, ◌<◌, ℕ, List, None, Some, map, length, true, IfOk};
+ghost use Rattle.std.specs.Prelude.{◌≡◌, ◌*◌, ◌<◌, ℕ, List, None, Some, length, true, IfOk};
 ghost use Rattle.zarr_grids_boxes.specs.Boxes.{product};
 ghost use Rattle.zarr_grids_boxes.specs.Subsets.{region_of};
 ghost use Rattle.zarr_codecs_meaning.specs.Chains.{Chain};
@@ -7,21 +7,19 @@ ghost use Rattle.zarr_codecs_meaning.specs.Types.{Cell, is_fixed};
 ghost use Rattle.zarr_codecs_arrays.specs.Views.{elements_of};
 ghost use Rattle.zarr_codecs_traits.specs.Sources.{refused_after};
 ghost use Rattle.zarr_codecs_chains.specs.Parts.{GivesPart, HasPart, IsExtracted, fits_part, part_width};
-ghost use Rattle.zarr_codecs_chains.specs.Views.{bytes_chain, with_codecs};
+ghost use Rattle.zarr_codecs_chains.specs.Views.{bytes_chain};
 
-use crate::byte_codecs::decode_all;
 use crate::bytes::BytesCodec;
-use crate::part::ArrayPart;
+use crate::part::BoxPart;
 use crate::sizes::byte_count;
 use std::alloc::{AllocError, Global};
 use zarr_codecs_arrays::{ArrayBytes, CodecError};
 use zarr_codecs_regions::extract_box;
-use zarr_codecs_traits::BytesToBytesCodecTraits;
 use zarr_grids_boxes::walk::count_places;
 
 /// The elements of a part of an array where nothing is stored: fill values. `Size` where they would
 /// have 2^63 bytes or more.
-pub(crate) fn fill_part(alloc: Global, part: ArrayPart) -> Result<ArrayBytes, CodecError>
+pub(crate) fn fill_part(alloc: Global, part: BoxPart) -> Result<ArrayBytes, CodecError>
     ensures part { (chain : Chain) → fits_part chain part.entry ≡ true
         → GivesPart chain None part.entry result }
     ensures no_source { (count : ℕ) → refused_after count result ≡ count }
@@ -32,33 +30,13 @@ pub(crate) fn fill_part(alloc: Global, part: ArrayPart) -> Result<ArrayBytes, Co
     ArrayBytes::new_fill_value(alloc, part.elements, count)
 }
 
-/// The elements of a part of an array, of a value that the caller's codecs made. Errors as those of
-/// `decode_part`, and `Damage` where the codecs did not make it.
-pub(crate) fn decode_part_with<B: BytesToBytesCodecTraits>(
-    alloc: Global,
-    codec: BytesCodec,
-    codecs: &[B],
-    value: Vec<u8>,
-    part: ArrayPart,
-) -> Result<ArrayBytes, CodecError>
-    requires { fits_part (bytes_chain codec) part ≡ true }
-    ensures part { GivesPart (with_codecs (bytes_chain codec) (map B.meaning codecs.now))
-        (Some value.items) part.entry result }
-    ensures no_source { (count : ℕ) → refused_after count result ≡ count }
-{
-    match decode_all(alloc, codecs, value) {
-        Ok(value) => decode_part(alloc, codec, value.as_slice(), part),
-        Err(error) => Err(error),
-    }
-}
-
 /// The elements of a part of an array, of a value of `bytes`. `Damage` where the value has another
 /// length, or one of the elements of the part is no value; `Size` where the array is too large.
 pub(crate) fn decode_part(
     alloc: Global,
     codec: BytesCodec,
     value: &[u8],
-    part: ArrayPart,
+    part: BoxPart,
 ) -> Result<ArrayBytes, CodecError>
     requires { fits_part (bytes_chain codec) part ≡ true }
     ensures part { GivesPart (bytes_chain codec) (Some value.now) part.entry result }
@@ -83,7 +61,7 @@ fn decode_elements(
     alloc: Global,
     codec: BytesCodec,
     value: &[u8],
-    part: ArrayPart,
+    part: BoxPart,
 ) -> Result<ArrayBytes, CodecError>
     requires fit { fits_part (bytes_chain codec) part ≡ true }
     requires positive { 0 < part_width part }
@@ -101,7 +79,7 @@ pub(crate) fn order_elements(
     alloc: Global,
     codec: BytesCodec,
     extracted: Vec<u8>,
-    part: ArrayPart,
+    part: BoxPart,
 ) -> Result<ArrayBytes, CodecError>
     requires { fits_part (bytes_chain codec) part ≡ true }
     ensures part { (value : List ℕ) → HasPart part.entry value extracted.items
@@ -127,7 +105,7 @@ pub(crate) fn order_elements(
 
 /// The bytes of the elements of a part of an array. Where an element has 2^64 bytes or more, the
 /// array has no elements.
-fn extract(alloc: Global, value: &[u8], part: ArrayPart) -> Result<Vec<u8>, AllocError>
+fn extract(alloc: Global, value: &[u8], part: BoxPart) -> Result<Vec<u8>, AllocError>
     requires fixed { is_fixed (elements_of part.elements.now).type ≡ true }
     requires positive { 0 < part_width part }
     requires whole { length value.now ≡ product part.shape.now * part_width part }

@@ -10,7 +10,7 @@ ghost use Rattle.zarr_codecs_chains.specs.Views.{bytes_chain};
 
 use crate::bytes::BytesCodec;
 use crate::lines::part_ranges;
-use crate::part::ArrayPart;
+use crate::part::BoxPart;
 use std::alloc::{AllocError, Global};
 use zarr_codecs_arrays::{ArrayBytes, CodecError};
 use zarr_codecs_traits::{ByteRange, ValuePatch};
@@ -23,7 +23,7 @@ pub(crate) fn replace_part(
     alloc: Global,
     codec: BytesCodec,
     bytes: ArrayBytes,
-    part: ArrayPart,
+    part: BoxPart,
 ) -> Result<Option<Vec<ValuePatch>>, CodecError>
     requires { fits_part (bytes_chain codec) part ≡ true }
     ensures { EncodesPart (bytes_chain codec) true (elements_of part.entry.elements.now)
@@ -49,7 +49,7 @@ pub(crate) fn part_patches(
     alloc: Global,
     codec: BytesCodec,
     bytes: Vec<u8>,
-    part: ArrayPart,
+    part: BoxPart,
 ) -> Result<Option<Vec<ValuePatch>>, AllocError>
     requires fit { fits_part (bytes_chain codec) part ≡ true }
     requires positive { 0 < part_width part }

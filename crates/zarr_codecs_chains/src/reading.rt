@@ -7,7 +7,7 @@ ghost use Rattle.zarr_codecs_chains.specs.Views.{bytes_chain};
 
 use crate::bytes::BytesCodec;
 use crate::lines::{PartRanges, part_ranges};
-use crate::part::ArrayPart;
+use crate::part::BoxPart;
 use crate::partial::{decode_part, fill_part, order_elements};
 use std::alloc::{AllocError, Global};
 use zarr_codecs_arrays::{ArrayBytes, CodecError};
@@ -20,7 +20,7 @@ pub(crate) fn read_part<D: BytesPartialDecoderTraits>(
     alloc: Global,
     source: &mut D,
     codec: BytesCodec,
-    part: ArrayPart,
+    part: BoxPart,
 ) -> Result<ArrayBytes, CodecError>
     requires { fits_part (bytes_chain codec) part ≡ true }
     ensures part { IsTrue (D.is_honest source.old) →
@@ -40,7 +40,7 @@ fn read_whole<D: BytesPartialDecoderTraits>(
     alloc: Global,
     source: &mut D,
     codec: BytesCodec,
-    part: ArrayPart,
+    part: BoxPart,
 ) -> Result<ArrayBytes, CodecError>
     requires { fits_part (bytes_chain codec) part ≡ true }
     ensures part { IsTrue (D.is_honest source.old) →
@@ -62,7 +62,7 @@ fn read_ranges<D: BytesPartialDecoderTraits>(
     source: &mut D,
     codec: BytesCodec,
     found: &PartRanges,
-    part: ArrayPart,
+    part: BoxPart,
 ) -> Result<ArrayBytes, CodecError>
     requires fit { fits_part (bytes_chain codec) part ≡ true }
     requires ranges { ArePartRanges part found.now }

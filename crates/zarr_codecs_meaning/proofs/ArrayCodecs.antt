@@ -1,5 +1,6 @@
 -- Array codecs and what they gather.
-use Rattle.std.proofs.Common.{◌≡◌, ℕ, ◌*◌, List, [], ◌∷◌, length, map, get_or, ap, ◌∙◌, sym, refl, arith, Bool, true, false, not, cond, ◌==◌}
+use Rattle.std.proofs.Common.{◌≡◌, ℕ, ◌*◌, List, [], ◌∷◌, length, map, get_or, ap, ◌∙◌, sym, refl, arith, Bool, true, false, not, cond, ◌==◌, ◌&&◌, ◌^◌}
+use Rattle.std.specs.Prelude.{nat_lt}
 use Rattle.std.specs.List.{list_all, filter}
 use Rattle.std.proofs.lemmas.List.{length-map}
 use Rattle.std.proofs.lemmas.List.FromFn.{length-range_with_len}
@@ -43,6 +44,7 @@ product-squeezed shape = squeezed_from (filter (λ size. not (size == 1)) shape)
 pub array_codec_count : (codec : ArrayCodec) (shape : List ℕ) → array_codec_fits codec shape ≡ true → length (source_places codec shape) ≡ product (encoded_shape codec shape)
 array_codec_count (transpose order) shape h = length-map (places_of (encoded_shape (transpose order) shape)) (λ place. ravel (untransposed order place) shape) ∙ length-places_of (encoded_shape (transpose order) shape)
 array_codec_count (reshape entries) shape h =
-    let both = and_parts (list_all (entry_fits (known_product entries shape) (length shape)) entries) (product (encoded_shape (reshape entries) shape) == product shape) h in
-    length-range_with_len 0 (product shape) ∙ sym (exact_unsigned_eq (product (encoded_shape (reshape entries) shape)) (product shape) both.1)
+    let rest = (and_parts (list_all (entry_fits (known_product entries shape) (length shape)) entries) ((product (encoded_shape (reshape entries) shape) == product shape) && (nat_lt (product shape) (2 ^ 63) && list_all (λ size. nat_lt size (2 ^ 64)) (encoded_shape (reshape entries) shape))) h).1 in
+    let same = (and_parts (product (encoded_shape (reshape entries) shape) == product shape) (nat_lt (product shape) (2 ^ 63) && list_all (λ size. nat_lt size (2 ^ 64)) (encoded_shape (reshape entries) shape)) rest).0 in
+    length-range_with_len 0 (product shape) ∙ sym (exact_unsigned_eq (product (encoded_shape (reshape entries) shape)) (product shape) same)
 array_codec_count squeeze shape h = length-range_with_len 0 (product shape) ∙ sym (product-squeezed shape)

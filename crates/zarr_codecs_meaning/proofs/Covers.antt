@@ -78,7 +78,7 @@ is_order order fit =
           any_among d order (subst (λ k. list_any (λ m. m == k) order ≡ true) at_d (each_at (λ d. list_any (λ m. m == d) order ≡ true) (range_with_len 0 n) d 0 every_one in_range));
     }
 
-transposed_index : (order p shape : List ℕ) → IsOrder order → length order ≡ length shape → IsIndex p shape → IsIndex (map (slice_index p) order) (map (slice_index shape) order)
+pub transposed_index : (order p shape : List ℕ) → IsOrder order → length order ≡ length shape → IsIndex p shape → IsIndex (map (slice_index p) order) (map (slice_index shape) order)
 transposed_index order p shape is same h = record {
   same = length-map order (slice_index p) ∙ sym (length-map order (slice_index shape));
   below = λ k l.
@@ -91,7 +91,7 @@ transposed_index order p shape is same h = record {
       omega (arith, left, right, b);
 }
 
-untransposed_back : (order p : List ℕ) → length p ≡ length order → ((d : ℕ) → d < length order → IsAmong d order) → untransposed order (map (slice_index p) order) ≡ p
+pub untransposed_back : (order p : List ℕ) → length p ≡ length order → ((d : ℕ) → d < length order → IsAmong d order) → untransposed order (map (slice_index p) order) ≡ p
 untransposed_back order p same covers =
     sym (fill_by_all (λ d. slice_index (map (slice_index p) order) (position_of d order)) p (length order) 0 same (λ d below.
     let found = position_found d order (covers d below) in

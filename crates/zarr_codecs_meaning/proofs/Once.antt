@@ -42,7 +42,7 @@ among_without x n [] h = elim h [ ]
 among_without x n (m ∷ ms) h = among_step (m == x) x n m ms refl (among_without x n ms) h
 
 -- a list of all numbers below a count is at least as long
-covering_long : (count : ℕ) (ns : List ℕ) → ((n : ℕ) → n < count → IsAmong n ns) → count ≤ length ns
+pub covering_long : (count : ℕ) (ns : List ℕ) → ((n : ℕ) → n < count → IsAmong n ns) → count ≤ length ns
 covering_long zero ns covers = omega arith
 covering_long (suc c) ns covers =
     let less = shorter c ns (covers c (omega arith)) in

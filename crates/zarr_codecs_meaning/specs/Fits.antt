@@ -23,10 +23,11 @@ entry_fits known dimensions (size_entry size) = true
 entry_fits known dimensions (product_entry named) = list_all (λ d. nat_lt d dimensions) named
 entry_fits known dimensions left_over = nat_lt 0 known
 
--- `transpose`: as many dimensions as its order names; `reshape`: as many elements as before; `squeeze`: always
+-- `transpose`: as many dimensions as its order names; `reshape`: as many elements as before, fewer than 2^63 of them, each size below 2^64; `squeeze`: always
 abbrev pub array_codec_fits : ArrayCodec → List ℕ → Bool
 array_codec_fits (transpose order) shape = (length order == length shape) && is_permutation order
-array_codec_fits (reshape entries) shape = list_all (entry_fits (known_product entries shape) (length shape)) entries && (product (encoded_shape (reshape entries) shape) == product shape)
+array_codec_fits (reshape entries) shape =
+    list_all (entry_fits (known_product entries shape) (length shape)) entries && ((product (encoded_shape (reshape entries) shape) == product shape) && (nat_lt (product shape) (2 ^ 63) && list_all (λ size. nat_lt size (2 ^ 64)) (encoded_shape (reshape entries) shape)))
 array_codec_fits squeeze shape = true
 
 -- ---- `packbits`

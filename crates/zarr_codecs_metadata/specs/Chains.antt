@@ -6,7 +6,9 @@ use Rattle.zarr_grids_metadata.specs.ExtensionPoints.{ExtensionPoint, extension_
 use Rattle.zarr_grids_metadata.specs.Members.{has_only}
 use Rattle.zarr_codecs_meaning.specs.Chains.{ByteCodec, Endianness, Chain}
 use Rattle.zarr_codecs_meaning.specs.Chains.Endianness.{little, big}
-use Rattle.zarr_codecs_meaning.specs.Chains.Chain.{bytes, then_bytes}
+use Rattle.zarr_codecs_meaning.specs.Chains.Chain.{bytes, after_array_codec, then_bytes}
+use Rattle.zarr_codecs_metadata.specs.ArrayCodecs.{array_codec_in}
+use Rattle.zarr_codecs_metadata.specs.PackBits.{packbits_of}
 
 -- what a caller's bytes codecs are, by their metadata: none where no codec has it
 abbrev pub ReadsCodecs : Type 0
@@ -25,9 +27,15 @@ endian_in (Some d) = option_map Some (option_and_then endianness_named (as_str d
 abbrev pub bytes_of : Members → Option Chain
 bytes_of ms = if has_only (codes "endian" ∷ []) ms then option_map bytes (endian_in (get_member (codes "endian") ms)) else None
 
--- the array to bytes codec that an extension point is: `bytes`
+-- `bytes`, where an extension point names it
+abbrev pub bytes_in : ExtensionPoint → Option Chain
+bytes_in point = if bytes_eq point.name (codes "bytes") then bytes_of (configuration_members point.configuration) else None
+
+-- the array to bytes codec that an extension point is: `bytes` or `packbits`
 abbrev pub array_to_bytes_in : ExtensionPoint → Option Chain
-array_to_bytes_in point = if bytes_eq point.name (codes "bytes") then bytes_of (configuration_members point.configuration) else None
+array_to_bytes_in point =
+    if bytes_eq point.name (codes "bytes") then bytes_of (configuration_members point.configuration)
+    else (if bytes_eq point.name (codes "packbits") then packbits_of (configuration_members point.configuration) else None)
 
 -- a chain, and after it the caller's codecs that extension points say
 abbrev pub with_byte_codecs : ReadsCodecs → Chain → List ExtensionPoint → Option Chain
@@ -35,9 +43,15 @@ with_byte_codecs reads chain [] = Some chain
 with_byte_codecs reads chain (point ∷ points) = option_and_then (λ codec. with_byte_codecs reads (then_bytes chain codec) points) (reads point)
 
 -- the chain that extension points say: an array to bytes codec, and then bytes to bytes codecs
+abbrev pub bytes_chain_of : ReadsCodecs → List ExtensionPoint → Option Chain
+bytes_chain_of reads [] = None
+bytes_chain_of reads (point ∷ points) = option_and_then (λ chain. with_byte_codecs reads chain points) (array_to_bytes_in point)
+
+-- the chain that extension points say: array to array codecs, an array to bytes codec, and then bytes to bytes codecs
 abbrev pub chain_of : ReadsCodecs → List ExtensionPoint → Option Chain
 chain_of reads [] = None
-chain_of reads (point ∷ points) = option_and_then (λ chain. with_byte_codecs reads chain points) (array_to_bytes_in point)
+chain_of reads (point ∷ points) =
+    elim (array_codec_in point) [ Some codec ↦ option_map (after_array_codec codec) (chain_of reads points) | None ↦ bytes_chain_of reads (point ∷ points) ]
 
 -- the extension points that a list says, where each of its values says one
 abbrev pub points_in : Items → Option (List ExtensionPoint)

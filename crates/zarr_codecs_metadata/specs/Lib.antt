@@ -1,1 +1,3 @@
+pub mod ArrayCodecs
+pub mod PackBits
 pub mod Chains

@@ -21,7 +21,7 @@ use Rattle.zarr_codecs_meaning.specs.Places.{gather}
 use Rattle.zarr_codecs_meaning.proofs.Covers.{zeros, length-zeros, ravel_place}
 use Rattle.zarr_codecs_meaning.proofs.Lists.{Each, each_passes, zero_list}
 use Rattle.zarr_codecs_arrays.proofs.FixedCells.{fixed_cells-nil, fixed_cells-cons, get_or-fixed_cells, flat_map-fixed_cells}
-use Rattle.zarr_codecs_traits.specs.Outcomes.{lies_in, numbers_of}
+use Rattle.zarr_codecs_traits.specs.Indexers.{lies_in, numbers_of}
 use Rattle.zarr_codecs_regions.proofs.InsideArray.{inside_rank, inside_places}
 
 -- ---- the bytes of one element

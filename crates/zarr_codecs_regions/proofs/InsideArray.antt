@@ -13,7 +13,7 @@ use Rattle.zarr_grids_boxes.proofs.Places.{in_box_below, places_by_number}
 use Rattle.zarr_grids_boxes.proofs.InBox.{in_box-place_at, place_at-number, length-places}
 use Rattle.zarr_grids_boxes.proofs.Walking.{get_or-places, start_in_box}
 use Rattle.zarr_codecs_meaning.proofs.Covers.{zeros}
-use Rattle.zarr_codecs_traits.specs.Outcomes.{lies_in}
+use Rattle.zarr_codecs_traits.specs.Indexers.{lies_in}
 
 -- ---- a test of each place of a box
 

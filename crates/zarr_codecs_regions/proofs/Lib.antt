@@ -1,2 +1,4 @@
 pub mod InsideArray
 pub mod Extracts
+pub mod Listed
+pub mod Gathers

@@ -5,7 +5,7 @@ ghost use Rattle.zarr_grids_boxes.specs.Subsets.{region_of};
 ghost use Rattle.zarr_codecs_meaning.specs.Payloads.{fixed_cells};
 ghost use Rattle.zarr_codecs_meaning.specs.Places.{gather};
 ghost use Rattle.zarr_codecs_meaning.specs.Types.{Cell};
-ghost use Rattle.zarr_codecs_traits.specs.Outcomes.{lies_in, numbers_of};
+ghost use Rattle.zarr_codecs_traits.specs.Indexers.{lies_in, numbers_of};
 
 use std::alloc::{AllocError, Global};
 use zarr_grids_boxes::ArraySubset;

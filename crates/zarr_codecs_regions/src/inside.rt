@@ -1,7 +1,7 @@
 //! Whether a box lies in an array.
 ghost use Rattle.std.specs.Prelude.{◌≡◌};
 ghost use Rattle.zarr_grids_boxes.specs.Subsets.{region_of};
-ghost use Rattle.zarr_codecs_traits.specs.Outcomes.{lies_in};
+ghost use Rattle.zarr_codecs_traits.specs.Indexers.{lies_in};
 
 use zarr_grids_boxes::ArraySubset;
 

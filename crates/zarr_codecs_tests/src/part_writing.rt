@@ -1,12 +1,12 @@
 //! Ranges that are written where elements of a box are replaced, with bytes typed in by hand.
 use crate::byte_codecs::TestCodec;
-use crate::samples::{chain, elements_of, fixed};
+use crate::samples::{box_part, chain, elements_of, fixed};
 use std::alloc::Global;
 use std::ops::Range;
 use zarr_codecs_arrays::{CodecError, takes_all_bytes};
 use zarr_codecs_chains::{BytesCodec, CodecChain};
 use zarr_codecs_options::CodecOptions;
-use zarr_codecs_traits::{ArrayToBytesCodecTraits, ValuePatch};
+use zarr_codecs_traits::{ArrayPart, ArrayToBytesCodecTraits, Indexer, ValuePatch};
 use zarr_codecs_types::DataType;
 use zarr_grids_boxes::ArraySubset;
 
@@ -39,8 +39,8 @@ fn patches(
     let elements = elements_of(alloc, name, "0")?;
     let region = ArraySubset::new_with_ranges(alloc, ranges)?;
     let given = fixed(alloc, bytes)?;
-    let options = CodecOptions::default();
-    BytesCodec::big().partial_encode(alloc, given, &elements, shape, &region, &options)
+    let part = box_part(&elements, shape, &region);
+    BytesCodec::big().partial_encode(alloc, given, part, &CodecOptions::default())
 }
 
 /// The ranges that a chain writes for 9 at the third of four places.
@@ -51,14 +51,12 @@ fn chain_patches(
     let elements = elements_of(alloc, r#""uint8""#, "0")?;
     let region = ArraySubset::new_with_ranges(alloc, &[2..3])?;
     let given = fixed(alloc, &[9])?;
-    chain.partial_encode(
-        alloc,
-        given,
-        &elements,
-        &[4],
-        &region,
-        &CodecOptions::default(),
-    )
+    let part = ArrayPart {
+        elements: &elements,
+        shape: &[4],
+        indexer: Indexer::Subset(&region),
+    };
+    chain.partial_encode(alloc, given, part, &CodecOptions::default())
 }
 
 #[test]

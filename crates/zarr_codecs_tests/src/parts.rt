@@ -1,4 +1,5 @@
 //! Boxes that are read of values, with values typed in by hand.
+use crate::samples::box_part;
 use std::alloc::Global;
 use std::ops::Range;
 use zarr_codecs_arrays::{ArrayBytes, CodecError, Elements};
@@ -45,9 +46,13 @@ fn part(
     let elements = filled(alloc, data_type, fill)?;
     let mut source = source(alloc, value)?;
     let region = ArraySubset::new_with_ranges(alloc, ranges)?;
-    let options = CodecOptions::default();
-    let codec = BytesCodec::big();
-    fixed_bytes(codec.partial_decode(alloc, &mut source, &elements, shape, &region, &options)?)
+    let part = box_part(&elements, shape, &region);
+    fixed_bytes(BytesCodec::big().partial_decode(
+        alloc,
+        &mut source,
+        part,
+        &CodecOptions::default(),
+    )?)
 }
 
 #[test]

@@ -4,7 +4,9 @@ use serde_json::Value;
 use std::alloc::{AllocError, Global};
 use zarr_codecs_arrays::{ArrayBytes, CodecError, Elements};
 use zarr_codecs_chains::CodecChain;
+use zarr_codecs_traits::{ArrayPart, Indexer};
 use zarr_codecs_types::{Component, DataType, DataTypeError, FillValue, FillValueError, Sign};
+use zarr_grids_boxes::ArraySubset;
 use zarr_grids_metadata::{MetadataV3, PluginCreateError};
 
 pub(crate) const OPTIONAL: &str =
@@ -93,4 +95,18 @@ pub(crate) fn two_numbers(alloc: Global) -> Result<DataType, AllocError> {
         },
     ];
     Ok(DataType::Custom(parts.to_vec(alloc)?))
+}
+
+/// The part of an array that a box of its places is.
+pub(crate) fn box_part<'x>(
+    elements: &'x Elements,
+    shape: &'x [u64],
+    region: &'x ArraySubset,
+) -> ArrayPart<'x> {
+    let indexer = Indexer::Subset(region);
+    ArrayPart {
+        elements,
+        shape,
+        indexer,
+    }
 }

@@ -1,6 +1,10 @@
+pub mod Indexers
 pub mod Outcomes
 pub mod Sources
 pub mod Patches
+pub mod Writes
+pub mod Targets
 pub mod PartEncoding
 pub mod Representations
 pub mod Capabilities
+pub mod Compactions

@@ -1,17 +1,17 @@
 -- What calls of codecs answer.
-use Rattle.std.specs.Prelude.{◌≡◌, ◌⊎◌, ℕ, List, Bool, Option, Some, None, Result, Ok, Err, Vec, IsTrue, true, false, map, length, ◌==◌, ◌&&◌}
-use Rattle.std.specs.List.{list_all}
+use Rattle.std.specs.Prelude.{◌≡◌, ◌⊎◌, ℕ, List, Bool, Option, Some, None, Result, Ok, Err, Vec, IsTrue, true, false, length}
 use Rattle.std.specs.declared.alloc.Global.{Global}
-use Rattle.zarr_grids_boxes.specs.Boxes.{Region, product, places, is_in_box, ravel}
+use Rattle.zarr_grids_boxes.specs.Boxes.{product}
 use Rattle.zarr_grids_metadata.specs.ExtensionPoints.{ExtensionPoint}
 use Rattle.zarr_grids_metadata.specs.declared.error.PluginCreateError.{PluginCreateError}
 use Rattle.zarr_grids_metadata.specs.declared.error.PluginCreateError.TheVariants as plugin
-use Rattle.zarr_codecs_meaning.specs.Chains.{ByteCodec, Chain}
+use Rattle.zarr_codecs_meaning.specs.Chains.{ArrayCodec, ByteCodec, Chain}
 use Rattle.zarr_codecs_meaning.specs.Chunks.{chunk_part}
 use Rattle.zarr_codecs_meaning.specs.Decoding.{decoded}
 use Rattle.zarr_codecs_meaning.specs.Encoding.{encoded}
-use Rattle.zarr_codecs_meaning.specs.Fits.{fits, is_lossless, is_size_as, representation_of}
+use Rattle.zarr_codecs_meaning.specs.Fits.{array_codec_fits, fits, is_lossless, is_size_as, representation_of}
 use Rattle.zarr_codecs_meaning.specs.Payloads.{Payload, cells_in}
+use Rattle.zarr_codecs_meaning.specs.Places.{encoded_shape, gather, source_places, undone_places}
 use Rattle.zarr_codecs_meaning.specs.Refusals.{CodecRefuses, PassesIndex}
 use Rattle.zarr_codecs_meaning.specs.Standing.{Stands}
 use Rattle.zarr_codecs_meaning.specs.Types.{Cell, Elements}
@@ -20,6 +20,7 @@ use Rattle.zarr_codecs_arrays.specs.Views.{payload_of}
 use Rattle.zarr_codecs_arrays.specs.declared.array_bytes.ArrayBytes.{ArrayBytes}
 use Rattle.zarr_codecs_arrays.specs.declared.error.CodecError.{CodecError}
 use Rattle.zarr_codecs_arrays.specs.declared.error.CodecError.TheVariants as error
+use Rattle.zarr_codecs_traits.specs.Indexers.{Asked, are_inside, numbers_asked}
 
 -- ---- codecs between bytes
 
@@ -84,29 +85,53 @@ Decodes chain elements shape value (Err error.Size) = IsTooLarge elements.type (
 Decodes chain elements shape value (Err error.Memory) = Unit {0}
 Decodes chain elements shape value (Err e) = ⊥
 
--- whether a box lies in a shape of as many dimensions
-abbrev pub lies_in : List ℕ → Region → Bool
-lies_in shape region = (length region.start == length shape) && list_all (λ place. is_in_box (map (λ size. 0) shape) shape place) (places region.start region.shape)
-
--- the numbers of the places of a box in a shape, row-major
-abbrev pub numbers_of : List ℕ → Region → List ℕ
-numbers_of shape region = map (λ place. ravel place shape) (places region.start region.shape)
-
--- the elements at the places of a box, of what is stored
-pub record IsPart (chain : Chain) (elements : Elements) (shape : List ℕ) (stored : Option (List ℕ)) (region : Region) (payload : Payload) : Type 0 where
+-- the elements at the places that are asked for, of what is stored
+pub record IsPart (chain : Chain) (elements : Elements) (shape : List ℕ) (stored : Option (List ℕ)) (asked : Asked) (payload : Payload) : Type 0 where
   pub cells : List Cell
   pub fit : fits chain elements.type shape ≡ true
-  pub inside : lies_in shape region ≡ true
+  pub inside : are_inside shape asked ≡ true
   pub lists : cells_in elements.type payload ≡ Some cells
-  pub is : chunk_part chain elements shape stored (numbers_of shape region) ≡ Some cells
+  pub is : chunk_part chain elements shape stored (numbers_asked shape asked) ≡ Some cells
 
--- the elements at the places of a box, of what is stored, or why there are none
-abbrev pub DecodesPart : Chain → Elements → List ℕ → Option (List ℕ) → Region → Result ArrayBytes CodecError → Type 0
-DecodesPart chain elements shape stored region (Ok bytes) = IsPart chain elements shape stored region (payload_of bytes)
-DecodesPart chain elements shape stored region (Err error.Fit) = fits chain elements.type shape ≡ false
-DecodesPart chain elements shape stored region (Err error.IncompatibleIndexer) = lies_in shape region ≡ false
-DecodesPart chain elements shape stored region (Err error.Damage) = (fits chain elements.type shape ≡ true) × (lies_in shape region ≡ true) × (chunk_part chain elements shape stored (numbers_of shape region) ≡ None)
-DecodesPart chain elements shape stored region (Err error.Size) = IsTooLarge elements.type (product shape)
-DecodesPart chain elements shape stored region (Err error.Source) = Unit {0}
-DecodesPart chain elements shape stored region (Err error.Memory) = Unit {0}
-DecodesPart chain elements shape stored region (Err e) = ⊥
+-- the elements at the places that are asked for, of what is stored, or why there are none
+abbrev pub DecodesPart : Chain → Elements → List ℕ → Option (List ℕ) → Asked → Result ArrayBytes CodecError → Type 0
+DecodesPart chain elements shape stored asked (Ok bytes) = IsPart chain elements shape stored asked (payload_of bytes)
+DecodesPart chain elements shape stored asked (Err error.Fit) = fits chain elements.type shape ≡ false
+DecodesPart chain elements shape stored asked (Err error.IncompatibleIndexer) = are_inside shape asked ≡ false
+DecodesPart chain elements shape stored asked (Err error.Damage) = (fits chain elements.type shape ≡ true) × (are_inside shape asked ≡ true) × (chunk_part chain elements shape stored (numbers_asked shape asked) ≡ None)
+DecodesPart chain elements shape stored asked (Err error.Size) = IsTooLarge elements.type (product shape)
+DecodesPart chain elements shape stored asked (Err error.Source) = Unit {0}
+DecodesPart chain elements shape stored asked (Err error.Memory) = Unit {0}
+DecodesPart chain elements shape stored asked (Err e) = ⊥
+
+-- ---- array to array codecs
+
+-- what an array codec makes of the shape of an array, or why it makes nothing
+abbrev pub EncodesShape : ArrayCodec → List ℕ → Result (Vec ℕ Global) CodecError → Type 0
+EncodesShape codec shape (Ok made) = (array_codec_fits codec shape ≡ true) × (made.items ≡ encoded_shape codec shape)
+EncodesShape codec shape (Err error.Fit) = array_codec_fits codec shape ≡ false
+EncodesShape codec shape (Err error.Memory) = Unit {0}
+EncodesShape codec shape (Err e) = ⊥
+
+-- the elements that stand at these places of others, in this order
+pub record IsMoved (codec : ArrayCodec) (elements : Elements) (shape : List ℕ) (count : ℕ) (numbers : List ℕ) (payload made : Payload) : Type 0 where
+  pub cells : List Cell
+  pub fit : array_codec_fits codec shape ≡ true
+  pub valid : IsValid elements.type payload count cells
+  pub lists : cells_in elements.type made ≡ Some (gather elements.fill cells numbers)
+
+-- what an array codec makes of so many elements, or why it makes nothing
+abbrev pub Moves : ArrayCodec → Elements → List ℕ → ℕ → List ℕ → Payload → Result ArrayBytes CodecError → Type 0
+Moves codec elements shape count numbers payload (Ok made) = IsMoved codec elements shape count numbers payload (payload_of made)
+Moves codec elements shape count numbers payload (Err error.Fit) = array_codec_fits codec shape ≡ false
+Moves codec elements shape count numbers payload (Err error.Size) = IsTooLarge elements.type (product shape)
+Moves codec elements shape count numbers payload (Err error.Memory) = Unit {0}
+Moves codec elements shape count numbers payload (Err e) = (array_codec_fits codec shape ≡ true) × IsInvalid elements.type payload count e
+
+-- what an array codec makes of the elements of an array of this shape
+abbrev pub EncodesArray : ArrayCodec → Elements → List ℕ → Payload → Result ArrayBytes CodecError → Type 0
+EncodesArray codec elements shape payload result = Moves codec elements shape (product shape) (source_places codec shape) payload result
+
+-- the elements of an array of this shape of which an array codec made these
+abbrev pub DecodesArray : ArrayCodec → Elements → List ℕ → Payload → Result ArrayBytes CodecError → Type 0
+DecodesArray codec elements shape payload result = Moves codec elements shape (product (encoded_shape codec shape)) (undone_places codec shape) payload result

@@ -16,7 +16,7 @@ use Rattle.zarr_codecs_arrays.specs.Outcomes.{IsTooLarge, IsInvalid, IsValid}
 use Rattle.zarr_codecs_arrays.specs.Values.{takes_all_bytes}
 use Rattle.zarr_codecs_arrays.specs.declared.error.CodecError.{CodecError}
 use Rattle.zarr_codecs_arrays.specs.declared.error.CodecError.TheVariants as error
-use Rattle.zarr_codecs_traits.specs.Outcomes.{lies_in}
+use Rattle.zarr_codecs_traits.specs.Indexers.{Asked, in_box, listed, lies_in}
 use Rattle.zarr_codecs_traits.specs.Patches.{patched, any_too_far}
 use Rattle.zarr_codecs_traits.specs.declared.value_patch.ValuePatch.{ValuePatch}
 
@@ -63,3 +63,11 @@ EncodesPart chain exact elements shape region payload (Err error.IncompatibleInd
 EncodesPart chain exact elements shape region payload (Err error.Size) = IsTooLarge elements.type (product shape)
 EncodesPart chain exact elements shape region payload (Err error.Memory) = Unit {0}
 EncodesPart chain exact elements shape region payload (Err e) = (fits chain elements.type shape ≡ true) × IsInvalid elements.type payload (product region.shape) e
+
+-- the ranges to be written where the elements at the places that are asked for are replaced; where they are asked for by their numbers, the value is written whole
+abbrev pub EncodesAsked : Chain → Bool → Elements → List ℕ → Asked → Payload → Result (Option (Vec ValuePatch Global)) CodecError → Type 0
+EncodesAsked chain exact elements shape (in_box region) payload result = EncodesPart chain exact elements shape region payload result
+EncodesAsked chain exact elements shape (listed numbers) payload (Ok None) = Unit {0}
+EncodesAsked chain exact elements shape (listed numbers) payload (Ok (Some patches)) = ⊥
+EncodesAsked chain exact elements shape (listed numbers) payload (Err error.Memory) = Unit {0}
+EncodesAsked chain exact elements shape (listed numbers) payload (Err e) = ⊥

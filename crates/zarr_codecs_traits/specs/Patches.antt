@@ -1,5 +1,5 @@
 -- Ranges of the bytes of a value, to be written.
-use Rattle.std.specs.Prelude.{ℕ, ◌+◌, ◌-◌, ◌^◌, List, [], ◌∷◌, ◌++◌, length, take, drop, replicate, Bool, nat_lt}
+use Rattle.std.specs.Prelude.{ℕ, ◌+◌, ◌-◌, ◌^◌, List, [], ◌∷◌, ◌++◌, length, take, drop, replicate, Bool, nat_lt, Option, unwrap_or}
 use Rattle.std.specs.List.{list_any}
 use Rattle.zarr_codecs_traits.specs.declared.value_patch.ValuePatch.{ValuePatch}
 
@@ -27,3 +27,15 @@ is_too_far patch = nat_lt (2 ^ 63 - 1) (patch.offset + length patch.bytes.items)
 -- whether one of the ranges to write ends past 2^63 - 1 bytes
 abbrev pub any_too_far : List ValuePatch → Bool
 any_too_far patches = list_any is_too_far patches
+
+-- what a value is after several ranges were written into it; no value counts as empty
+abbrev pub patched_contents : Option (List ℕ) → List ValuePatch → List ℕ
+patched_contents contents patches = patched (unwrap_or contents []) patches
+
+-- whether a range to write ends past the end of a value of so many bytes
+abbrev pub ends_past : ℕ → ValuePatch → Bool
+ends_past len patch = nat_lt len (patch.offset + length patch.bytes.items)
+
+-- whether one of the ranges to write ends past the end of a value of so many bytes
+abbrev pub any_ends_past : ℕ → List ValuePatch → Bool
+any_ends_past len patches = list_any (ends_past len) patches

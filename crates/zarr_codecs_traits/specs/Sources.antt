@@ -1,11 +1,13 @@
 -- What sources of bytes answer.
 use Rattle.std.specs.Prelude.{ℕ, ◌+◌, ◌-◌, ◌^◌, min, map, List, Vec, Bool, Option, None, Some, option_map, length, take, drop, false, nat_lt, IsTrue, Result, Ok, Err}
 use Rattle.std.specs.List.{list_any}
+use Rattle.std.specs.Option.{option_map_or}
 use Rattle.std.specs.declared.alloc.Global.{Global}
 use Rattle.zarr_codecs_arrays.specs.declared.error.CodecError.{CodecError}
 use Rattle.zarr_codecs_arrays.specs.declared.error.CodecError.TheVariants as error
 use Rattle.zarr_codecs_traits.specs.declared.byte_range.ByteRange.{ByteRange}
 use Rattle.zarr_codecs_traits.specs.declared.memory_source.MemorySource.{MemorySource}
+use denote.Ref.{Bor}
 
 -- the bytes of a value in a range
 abbrev pub bytes_at : List ℕ → ByteRange → List ℕ
@@ -50,6 +52,11 @@ abbrev pub RangesRefused : {A : Type 0} → Option (List ℕ) → List ByteRange
 RangesRefused contents ranges (Err error.Damage) = IsTrue (any_past_end contents ranges)
 RangesRefused contents ranges result = ReadRefused result
 
+-- the bytes of a value that is lent, if one is
+abbrev pub value_lent : Option (Bor (List ℕ)) → Option (List ℕ)
+value_lent None = None
+value_lent (Some value) = Some value.now
+
 -- ---- the source in memory
 
 -- the bytes of a value, if there is one
@@ -59,3 +66,11 @@ value_bytes value = option_map (λ (bytes : Vec ℕ Global). bytes.items) value
 -- the value that a source in memory holds, if it holds one
 abbrev pub source_contents : MemorySource → Option (List ℕ)
 source_contents source = value_bytes source.value
+
+-- how many writing calls a source in memory accepted
+abbrev pub source_accepted : MemorySource → ℕ
+source_accepted source = source.accepted
+
+-- how many bytes the value has that a source in memory holds, or 0 where it holds none
+abbrev pub source_length : MemorySource → ℕ
+source_length source = option_map_or length (source_contents source) 0

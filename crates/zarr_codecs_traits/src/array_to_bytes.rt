@@ -1,25 +1,28 @@
 //! Codecs between arrays and bytes.
-ghost use Rattle.std.specs.Prelude.{◌≡◌, Bool, IfOk, IsTrue};
-ghost use Rattle.zarr_grids_boxes.specs.Subsets.{region_of};
+ghost use Rattle.std.specs.Prelude.{◌≡◌, Bool, IfErr, IfOk, IsTrue, OnErr, OnOk};
 ghost use Rattle.zarr_codecs_meaning.specs.Chains.{Chain};
 ghost use Rattle.zarr_codecs_meaning.specs.Fits.{fits};
 ghost use Rattle.zarr_codecs_meaning.specs.Laws.{IsLawfulChain};
 ghost use Rattle.zarr_codecs_types.specs.Views.{type_of};
 ghost use Rattle.zarr_codecs_arrays.specs.Views.{payload_of, elements_of};
 ghost use Rattle.zarr_codecs_traits.specs.Capabilities.{decodes_parts, encodes_parts, granularity};
+ghost use Rattle.zarr_codecs_traits.specs.Compactions.{Compacts};
+ghost use Rattle.zarr_codecs_traits.specs.Indexers.{asked_of};
 ghost use Rattle.zarr_codecs_traits.specs.Outcomes.{Encodes, Decodes, DecodesPart};
-ghost use Rattle.zarr_codecs_traits.specs.PartEncoding.{EncodesPart, takes_patches};
+ghost use Rattle.zarr_codecs_traits.specs.PartEncoding.{EncodesAsked, takes_patches};
 ghost use Rattle.zarr_codecs_traits.specs.Representations.{RepresentsArray};
 ghost use Rattle.zarr_codecs_traits.specs.Sources.{refused_after};
+ghost use Rattle.zarr_codecs_traits.specs.Targets.{IsDecodedInto, NotDecodedInto};
 
+use crate::array_part::{ArrayPart, WholeArray};
 use crate::byte_source::BytesPartialDecoderTraits;
 use crate::bytes_representation::BytesRepresentation;
+use crate::target::{ArrayBytesDecodeIntoTarget, put_all};
 use crate::value_patch::ValuePatch;
 use std::alloc::{AllocError, Global};
 use zarr_codecs_arrays::{ArrayBytes, CodecError, Elements};
 use zarr_codecs_options::CodecOptions;
 use zarr_codecs_types::DataType;
-use zarr_grids_boxes::ArraySubset;
 
 /// A codec between arrays and bytes: an array to bytes codec alone, or a whole chain with it (Zarr
 /// core specification, "Codecs"). Shapes count elements, one number for each dimension.
@@ -66,6 +69,31 @@ pub trait ArrayToBytesCodecTraits: Sized + Drop {
         ensures { Decodes (meaning self.now) (elements_of elements.now) shape.now value.items
             result };
 
+    /// Decodes a value as `decode` does, and puts the elements over those of a target. A refusal
+    /// leaves the target as it was. Errors as those of `decode`; `InvalidNumberOfElements` where the
+    /// target has more or fewer elements than the array, and the errors of the target's `put`.
+    fn decode_into<T: ArrayBytesDecodeIntoTarget>(
+        &self,
+        alloc: Global,
+        value: Vec<u8>,
+        array: WholeArray<'_>,
+        target: &mut T,
+        options: &CodecOptions,
+    ) -> Result<(), CodecError>
+        ensures ok { OnOk result (IsDecodedInto (meaning self.now)
+            (elements_of array.entry.elements.now) array.entry.shape.now value.items
+            (T.count target.old) (λ payload. T.puts target.old payload target.new)) }
+        ensures err { OnErr result (target.new ≡ target.old) }
+        ensures cause { IfErr result (NotDecodedInto (meaning self.now)
+            (elements_of array.entry.elements.now) array.entry.shape.now value.items
+            (T.count target.old) (T.misfits target.old)) }
+    {
+        match self.decode(alloc, value, array.elements, array.shape, options) {
+            Ok(elements) => put_all(alloc, &elements, array.shape, target),
+            Err(error) => Err(error),
+        }
+    }
+
     /// What the data type and the shape of an array tell of the size of the value that it is encoded
     /// to. `Fit` where the codec doesn't suit the array; `Size` only where the array has 2^63
     /// elements or bytes or more, or one of the codecs tells a size of 2^63 or more.
@@ -97,23 +125,21 @@ pub trait ArrayToBytesCodecTraits: Sized + Drop {
     ) -> Result<Vec<u64>, AllocError>
         ensures { IfOk result (λ part. part.items ≡ granularity (meaning self.now) shape.now) };
 
-    /// The elements at the places of a box of an array, row-major, of the value that a source holds;
-    /// each is the fill value where it holds none. `Fit` where the codec doesn't suit the array;
-    /// `IncompatibleIndexer` where the box doesn't lie in the shape; `Damage` where a place that is
-    /// asked for cannot be decoded; `Size` where the array has 2^63 elements or bytes or more;
-    /// `Source` where the source refuses.
+    /// The elements at the places that are asked for, in their order, of the value that a source
+    /// holds; each is the fill value where it holds none. `Fit` where the codec doesn't suit the
+    /// array; `IncompatibleIndexer` where a place isn't one of the array's; `Damage` where a place
+    /// that is asked for cannot be decoded; `Size` where the array has 2^63 elements or bytes or
+    /// more; `Source` where the source refuses.
     fn partial_decode<D: BytesPartialDecoderTraits>(
         &self,
         alloc: Global,
         source: &mut D,
-        elements: &Elements,
-        shape: &[u64],
-        region: &ArraySubset,
+        part: ArrayPart<'_>,
         options: &CodecOptions,
     ) -> Result<ArrayBytes, CodecError>
         ensures part { IsTrue (D.is_honest source.old) → DecodesPart (meaning self.now)
-            (elements_of elements.now) shape.now (D.contents source.old) (region_of region.now)
-            result }
+            (elements_of part.entry.elements.now) part.entry.shape.now (D.contents source.old)
+            (asked_of part.entry.indexer) result }
         ensures refused { D.refused_calls source.new ≡
             refused_after (D.refused_calls source.old) result }
         ensures follows { D.follows source.old source.new };
@@ -125,21 +151,36 @@ pub trait ArrayToBytesCodecTraits: Sized + Drop {
 
     /// The ranges to be written into a value of an array, so that the elements at the places of a
     /// box are replaced by others, row-major. `None` where the value is better written whole, as it
-    /// is where the codec can write no part of it. `Fit` where the codec doesn't suit the array;
-    /// `IncompatibleIndexer` where the box doesn't lie in the shape; `InvalidNumberOfElements`,
-    /// `Expected..` or `CellOutOfRange` where these are not elements of the box; `Size` where the
-    /// array has 2^63 elements or bytes or more.
+    /// is where the codec can write no part of it, or where the places are asked for by their
+    /// numbers. `Fit` where the codec doesn't suit the array; `IncompatibleIndexer` where the box
+    /// doesn't lie in the shape; `InvalidNumberOfElements`, `Expected..` or `CellOutOfRange` where
+    /// these are not elements of the box; `Size` where the array has 2^63 elements or bytes or more.
     fn partial_encode(
         &self,
         alloc: Global,
         bytes: ArrayBytes,
-        elements: &Elements,
-        shape: &[u64],
-        region: &ArraySubset,
+        part: ArrayPart<'_>,
         options: &CodecOptions,
     ) -> Result<Option<Vec<ValuePatch>>, CodecError>
-        ensures { EncodesPart (meaning self.now) (is_function self.now) (elements_of elements.now)
-            shape.now (region_of region.now) (payload_of bytes) result };
+        ensures { EncodesAsked (meaning self.now) (is_function self.now)
+            (elements_of part.entry.elements.now) part.entry.shape.now
+            (asked_of part.entry.indexer) (payload_of bytes) result };
+
+    /// The value with what it holds of shards written anew: their present slices row-major without
+    /// gaps. `None` where nothing is gained, as for each value of a codec that makes no shard. `Fit`
+    /// where the codec doesn't suit the array; `Damage` where the value isn't one of shards whose
+    /// present slices lie in their data parts; `Codec` where the caller's codec refuses; `Size`
+    /// where the shard would have 2^63 bytes or more.
+    fn compact(
+        &self,
+        alloc: Global,
+        value: &[u8],
+        elements: &Elements,
+        shape: &[u64],
+        options: &CodecOptions,
+    ) -> Result<Option<Vec<u8>>, CodecError>
+        ensures { Compacts (meaning self.now) (elements_of elements.now).type shape.now value.now
+            result };
 
     /// An equal codec. `Err` only where an allocation failed.
     fn try_clone(&self, alloc: Global) -> Result<Self, AllocError>

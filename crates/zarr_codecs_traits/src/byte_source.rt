@@ -1,5 +1,5 @@
 //! Sources of bytes that are read in part.
-ghost use Rattle.std.specs.Prelude.{◌≡◌, ◌≤◌, ℕ, List, Bool, Option, IsTrue, IfOk, option_map, length};
+ghost use Rattle.std.specs.Prelude.{◌≡◌, ◌≤◌, ℕ, List, Bool, Option, IsTrue, IfOk, option_map, is_some, length};
 ghost use Rattle.zarr_codecs_traits.specs.Sources.{ReadRefused, RangesRefused, any_past_end, part_lists, parts_of, refused_after};
 
 use crate::byte_range::ByteRange;
@@ -21,6 +21,9 @@ pub trait BytesPartialDecoderTraits {
     /// Whether the second is the first after calls: a source of the same value, with all else that
     /// stands behind it as it was.
     ghost follows: { Self → Self → Type 0 };
+
+    /// How many bytes it keeps in memory of its own.
+    ghost held_bytes: { Self → ℕ };
 
     /// How many bytes the value has, or `None` where there is none. `Source` where the source
     /// refuses.
@@ -44,6 +47,21 @@ pub trait BytesPartialDecoderTraits {
             RangesRefused (contents self.old) ranges.now result }
         ensures refused { refused_calls self.new ≡ refused_after (refused_calls self.old) result }
         ensures follows { follows self.old self.new };
+
+    /// Whether there is a value. `Source` where the source refuses.
+    fn exists(&mut self) -> Result<bool, CodecError>
+        ensures exists { IsTrue (is_honest self.old) →
+            IfOk result (λ there. there ≡ is_some (contents self.old)) }
+        ensures cause { ReadRefused result }
+        ensures refused { refused_calls self.new ≡ refused_after (refused_calls self.old) result }
+        ensures follows { follows self.old self.new }
+    {
+        Ok(self.size()?.is_some())
+    }
+
+    /// How many bytes it keeps in memory of its own. Those of a value that stands elsewhere are none.
+    fn size_held(&self) -> usize
+        ensures { result ≡ held_bytes self.now };
 
     ghost same: { (a b : Self) → follows a b → contents a ≡ contents b };
 

@@ -1,24 +1,31 @@
 //! A source of bytes in memory.
-ghost use Rattle.std.specs.Prelude.{◌≡◌, true};
-ghost use Rattle.zarr_codecs_traits.specs.Sources.{source_contents, value_bytes};
+ghost use Rattle.std.specs.Prelude.{◌≡◌, Some, true, false, OnOk, OnErr};
+ghost use Rattle.zarr_codecs_traits.specs.Patches.{any_too_far, patched_contents};
+ghost use Rattle.zarr_codecs_traits.specs.Sources.{source_accepted, source_contents, source_length, value_bytes};
 
 use crate::byte_range::{ByteRange, any_ends_past, read_ranges};
 use crate::byte_source::BytesPartialDecoderTraits;
-use std::alloc::Global;
+use crate::byte_target::BytesPartialEncoderTraits;
+use crate::value_patch;
+use crate::value_patch::{ValuePatch, any_too_far, overwrite_each, patched};
+use std::alloc::{AllocError, Global};
 use zarr_codecs_arrays::CodecError;
 
-/// A source of the bytes of one value, or of none, in memory. It refuses no call.
+/// A source of the bytes of one value, or of none, in memory, which can be written. It refuses no
+/// call but for want of memory and where a range is wrong.
 #[derive(Debug, Drop)]
 pub struct MemorySource {
     value: Option<Vec<u8>>,
+    accepted: u128,
 }
 
 impl MemorySource {
     /// A source of a value, or of none.
     pub fn new(value: Option<Vec<u8>>) -> Self
-        ensures { source_contents result ≡ value_bytes value }
+        ensures contents { source_contents result ≡ value_bytes value }
+        ensures accepted { source_accepted result ≡ 0 }
     {
-        MemorySource { value }
+        MemorySource { value, accepted: 0 }
     }
 
     /// The value that the source holds.
@@ -31,7 +38,7 @@ impl MemorySource {
 
 impl BytesPartialDecoderTraits for MemorySource {
     ghost use Rattle.std.specs.Prelude.{refl};
-    ghost use Rattle.std.proofs.Common.{subst};
+    ghost use Rattle.std.proofs.Common.{◌∙◌};
 
     ghost contents = { source_contents };
 
@@ -39,7 +46,10 @@ impl BytesPartialDecoderTraits for MemorySource {
 
     ghost refused_calls = { λ _. 0 };
 
-    ghost follows = { λ a b. source_contents a ≡ source_contents b };
+    ghost follows = { λ a b. (source_contents a ≡ source_contents b)
+        × (source_accepted a ≡ source_accepted b) };
+
+    ghost held_bytes = { source_length };
 
     fn size(&mut self) -> Result<Option<u64>, CodecError> {
         match &self.value {
@@ -62,11 +72,84 @@ impl BytesPartialDecoderTraits for MemorySource {
         Ok(Some(read_ranges(alloc, value, ranges)?))
     }
 
-    ghost same = { λ _ _ same. same };
+    fn size_held(&self) -> usize {
+        match &self.value {
+            None => 0,
+            Some(value) => value.len(),
+        }
+    }
+
+    ghost same = { λ _ _ f. f.0 };
 
     ghost honest = { λ _ _ _. refl };
 
-    ghost stays = { λ _. refl };
+    ghost stays = { λ _. (refl, refl) };
 
-    ghost goes_on = { λ a _ _ first second. subst (λ v. source_contents a ≡ v) second first };
+    ghost goes_on = { λ _ _ _ f h. (f.0 ∙ h.0, f.1 ∙ h.1) };
+}
+
+impl BytesPartialEncoderTraits for MemorySource {
+    ghost use Rattle.std.specs.Prelude.{refl};
+
+    ghost accepted_writes = { source_accepted };
+
+    ghost rewrites = { λ _ _. Unit {0} };
+
+    fn partial_encode(
+        &mut self,
+        alloc: Global,
+        patches: Vec<ValuePatch>,
+    ) -> Result<(), CodecError> {
+        if any_too_far(&patches) {
+            return Err(CodecError::Size);
+        }
+        patch_value(alloc, &mut self.value, &patches)?;
+        self.accepted = self.accepted.saturating_add(1);
+        Ok(())
+    }
+
+    fn set(&mut self, value: Vec<u8>) -> Result<(), CodecError> {
+        self.value = Some(value);
+        self.accepted = self.accepted.saturating_add(1);
+        Ok(())
+    }
+
+    fn erase(&mut self) -> Result<(), CodecError> {
+        self.value = None;
+        self.accepted = self.accepted.saturating_add(1);
+        Ok(())
+    }
+
+    ghost reads = { λ _ _ _. tt };
+
+    ghost unwritten = { λ _ _ f. f.1 };
+
+    ghost still_honest = { λ _ _ _. refl };
+
+    ghost writes_on = { λ _ _ _ _ _. tt };
+}
+
+/// Writes ranges into a value, one after another; no value counts as empty. Where each of them lies
+/// in the value, nothing is copied. An `Err` leaves it as it was.
+fn patch_value(
+    alloc: Global,
+    value: &mut Option<Vec<u8>>,
+    patches: &[ValuePatch],
+) -> Result<(), AllocError>
+    requires { any_too_far patches.now ≡ false }
+    ensures ok { OnOk result (value_bytes value.new
+        ≡ Some (patched_contents (value_bytes value.old) patches.now)) }
+    ensures err { OnErr result (value_bytes value.new ≡ value_bytes value.old) }
+{
+    match value {
+        Some(held) => {
+            if !value_patch::any_ends_past(patches, held.len()) {
+                overwrite_each(held.as_mut_slice(), patches);
+                return Ok(());
+            }
+            *held = patched(alloc, Some(held.as_slice()), patches)?;
+        }
+        None => *value = Some(patched(alloc, None, patches)?),
+    }
+    Ok(())
 }

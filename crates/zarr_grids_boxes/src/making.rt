@@ -14,13 +14,9 @@ impl ArraySubset {
         ensures { IfOk result (λ subset. region_of subset
             ≡ between (map (λ r. r.start) ranges.now) (map (λ r. r.end) ranges.now)) }
     {
-        let mut start = Vec::with_capacity(alloc, ranges.len())?;
-        let mut shape = Vec::with_capacity(alloc, ranges.len())?;
-        for range in ranges {
-            start.push(range.start)?;
-            shape.push(range.end.saturating_sub(range.start))?;
-        }
-        Ok(ArraySubset { start, shape })
+        let start: Vec<u64> = ranges.iter().map(|range| range.start).collect(alloc)?;
+        let end: Vec<u64> = ranges.iter().map(|range| range.end).collect(alloc)?;
+        Ok(box_between(start, end))
     }
 
     /// The box of this shape that starts at 0.

@@ -1,4 +1,5 @@
-//! Tests of boxes, chunk grids, chunk keys and the metadata of both, using only the public names of `zarr_grids`.
+//! Tests of boxes, chunk grids, chunk keys and the metadata of both, using only the public names of
+//! `zarr_grids`.
 #![tactic(auto)]
 
 #[cfg(test)]

@@ -1,7 +1,7 @@
 //! Metadata with values typed in by hand.
-use crate::samples::written;
+use crate::samples::{is_written, says};
 use serde_json::{Map, Value};
-use std::test::Fail;
+use std::alloc::{AllocError, Global};
 use zarr_grids::{MetadataV3, PluginCreateError};
 
 const REGULAR: &str = r#"{"name":"regular","configuration":{"chunk_shape":[2,2]}}"#;
@@ -14,9 +14,21 @@ const CONFIGURED: &str = r#"{"configuration":{},"name":"x"}"#;
 
 const OTHER_FLAG: &str = r#"{"must_understand":false,"name":"x"}"#;
 
+/// Whether the metadata that a text says is written as this text, and so are its copy and what is
+/// made of its point.
+fn is_written_as(alloc: Global, text: &str, want: &str) -> Result<bool, PluginCreateError> {
+    let metadata = MetadataV3::from_text(alloc, text)?;
+    let copy = metadata.try_clone(alloc)?;
+    let point = MetadataV3::from_point(alloc, metadata.as_point())?;
+    Ok(
+        is_written(alloc, &metadata, want)?
+            && is_written(alloc, &copy, want)?
+            && is_written(alloc, &point, want)?,
+    )
+}
+
 #[test]
-fn metadata_is_written_with_its_members_in_order(rt: HostRuntime) -> Result<(), Fail> {
-    let alloc = rt.alloc();
+fn metadata_is_written_with_its_members_in_order(rt: HostRuntime) -> Result<(), PluginCreateError> {
     let rows = [
         (r#""bytes""#, BYTES),
         (r#"{"name": "bytes"}"#, BYTES),
@@ -26,14 +38,17 @@ fn metadata_is_written_with_its_members_in_order(rt: HostRuntime) -> Result<(), 
         (r#"{"name": "x", "must_understand": false}"#, OTHER_FLAG),
     ];
     for (text, want) in rows {
-        let metadata = MetadataV3::from_text(alloc, text)?;
-        assert_eq!(rt; written(alloc, &metadata)?.as_str(), want);
-        let copy = metadata.try_clone(alloc)?;
-        assert_eq!(rt; written(alloc, &copy)?.as_str(), want);
-        let point = MetadataV3::from_point(alloc, metadata.as_point())?;
-        assert_eq!(rt; written(alloc, &point)?.as_str(), want);
+        assert!(rt; is_written_as(rt.alloc(), text, want)?, "{text}");
     }
     Ok(())
+}
+
+/// The error that refuses the metadata that a text says.
+fn refusal(alloc: Global, text: &str) -> Option<PluginCreateError> {
+    match MetadataV3::from_text(alloc, text) {
+        Ok(_) => None,
+        Err(error) => Some(error),
+    }
 }
 
 #[test]
@@ -54,55 +69,64 @@ fn other_texts_are_refused(rt: HostRuntime) {
         "",
     ];
     for text in texts {
-        let found = MetadataV3::from_text(rt.alloc(), text).err();
-        assert_eq!(rt; found, Some(PluginCreateError::MetadataInvalid), "{text}");
+        let found = refusal(rt.alloc(), text);
+        assert!(rt; found == Some(PluginCreateError::MetadataInvalid), "{text}");
     }
 }
 
 #[test]
-fn metadata_has_a_name_and_a_configuration(rt: HostRuntime) -> Result<(), Fail> {
+fn metadata_has_a_name_and_a_configuration(rt: HostRuntime) -> Result<(), PluginCreateError> {
     let metadata = MetadataV3::from_text(rt.alloc(), REGULAR)?;
-    assert_eq!(rt; metadata.name(), "regular");
+    assert!(rt; metadata.name() == "regular");
     assert!(rt; metadata.must_understand());
-    let configuration = metadata.configuration().ok_or("none")?;
-    assert_eq!(rt; configuration.len(), 1);
+    match metadata.configuration() {
+        Some(configuration) => assert!(rt; configuration.len() == 1),
+        None => panic!(rt; "no configuration"),
+    }
     Ok(())
 }
 
 #[test]
-fn metadata_is_made_of_a_name(rt: HostRuntime) -> Result<(), Fail> {
+fn metadata_is_made_of_a_name(rt: HostRuntime) -> Result<(), AllocError> {
     let alloc = rt.alloc();
     let mut metadata = MetadataV3::new(String::from_str(alloc, "bytes")?);
-    assert_eq!(rt; written(alloc, &metadata)?.as_str(), r#""bytes""#);
+    assert!(rt; is_written(alloc, &metadata, r#""bytes""#)?);
     metadata.set_name(String::from_str(alloc, "vlen")?);
-    assert_eq!(rt; written(alloc, &metadata)?.as_str(), r#""vlen""#);
+    assert!(rt; is_written(alloc, &metadata, r#""vlen""#)?);
     Ok(())
 }
 
 #[test]
-fn metadata_is_made_of_a_name_and_a_configuration(rt: HostRuntime) -> Result<(), Fail> {
+fn metadata_is_made_of_a_name_and_a_configuration(rt: HostRuntime) -> Result<(), AllocError> {
     let alloc = rt.alloc();
     let name = String::from_str(alloc, "x")?;
     let metadata = MetadataV3::new_with_configuration(name, Map::new(alloc));
-    assert_eq!(rt;
-        written(alloc, &metadata)?.as_str(),
-        r#"{"configuration":{},"name":"x"}"#
-    );
+    assert!(rt; is_written(alloc, &metadata, CONFIGURED)?);
     Ok(())
 }
 
+/// The value that a text says.
+fn value_of(alloc: Global, text: &str) -> Result<Value, PluginCreateError> {
+    match Value::from_str(alloc, text) {
+        Ok(value) => Ok(value),
+        Err(_) => Err(PluginCreateError::Other),
+    }
+}
+
 #[test]
-fn metadata_is_read_of_a_value(rt: HostRuntime) -> Result<(), Fail> {
+fn metadata_is_read_of_a_value(rt: HostRuntime) -> Result<(), PluginCreateError> {
     let alloc = rt.alloc();
-    let value = Value::from_str(alloc, r#"{"name":"x","must_understand":false}"#)?;
-    let metadata = MetadataV3::from_value(alloc, &value)?.ok_or("refused")?;
-    assert!(rt; !metadata.must_understand());
+    let value = value_of(alloc, r#"{"name":"x","must_understand":false}"#)?;
+    match MetadataV3::from_value(alloc, &value)? {
+        Some(metadata) => assert!(rt; !metadata.must_understand()),
+        None => panic!(rt; "refused"),
+    }
     assert!(rt; MetadataV3::from_value(alloc, &Value::Null)?.is_none());
     Ok(())
 }
 
 #[test]
-fn a_refusal_of_metadata_is_said(rt: HostRuntime) -> Result<(), Fail> {
+fn a_refusal_of_metadata_is_said(rt: HostRuntime) -> Result<(), AllocError> {
     use PluginCreateError::{Memory, MetadataInvalid, NameUnsupported, Other, TooDeep};
     let rows = [
         (NameUnsupported, "the name is not supported"),
@@ -112,25 +136,38 @@ fn a_refusal_of_metadata_is_said(rt: HostRuntime) -> Result<(), Fail> {
         (Other, "the metadata is refused"),
     ];
     for (error, want) in rows {
-        assert_eq!(rt; format!(in rt.alloc(); "{error}")?.as_str(), want);
+        assert!(rt; says(rt.alloc(), &error, want)?, "{want}");
     }
     Ok(())
 }
 
-#[test]
-fn metadata_is_equal_whatever_the_order_of_members(rt: HostRuntime) -> Result<(), Fail> {
-    let alloc = rt.alloc();
-    let text = r#"{"name":"x","configuration":{"a":[1,null,true],"b":-1.5}}"#;
+/// Whether the metadata that two texts say is equal, from either side.
+fn are_equal(alloc: Global, text: &str, other: &str) -> Result<bool, PluginCreateError> {
     let one = MetadataV3::from_text(alloc, text)?;
-    let text = r#"{"configuration":{"b":-1.5,"a":[1,null,true]},"name":"x"}"#;
-    assert!(rt; one == MetadataV3::from_text(alloc, text)?);
-    Ok(())
+    let two = MetadataV3::from_text(alloc, other)?;
+    Ok(one == two && two == one)
 }
 
 #[test]
-fn metadata_differs_by_each_of_its_members(rt: HostRuntime) -> Result<(), Fail> {
-    let alloc = rt.alloc();
-    let one = MetadataV3::from_text(alloc, r#"{"name":"x","configuration":{"a":[1.5]}}"#)?;
+fn metadata_is_equal_whatever_the_order_of_members(
+    rt: HostRuntime,
+) -> Result<(), PluginCreateError> {
+    let text = r#"{"name":"x","configuration":{"a":[1,null,true],"b":-1.5}}"#;
+    let other = r#"{"configuration":{"b":-1.5,"a":[1,null,true]},"name":"x"}"#;
+    assert!(rt; are_equal(rt.alloc(), text, other)?);
+    Ok(())
+}
+
+/// Whether the metadata that two texts say differs, from either side.
+fn are_different(alloc: Global, text: &str, other: &str) -> Result<bool, PluginCreateError> {
+    let one = MetadataV3::from_text(alloc, text)?;
+    let two = MetadataV3::from_text(alloc, other)?;
+    Ok(one != two && two != one)
+}
+
+#[test]
+fn metadata_differs_by_each_of_its_members(rt: HostRuntime) -> Result<(), PluginCreateError> {
+    let one = r#"{"name":"x","configuration":{"a":[1.5]}}"#;
     let others = [
         r#""x""#,
         r#"{"name":"y","configuration":{"a":[1.5]}}"#,
@@ -141,8 +178,7 @@ fn metadata_differs_by_each_of_its_members(rt: HostRuntime) -> Result<(), Fail> 
         r#"{"name":"x","configuration":{"a":[1.5,2]}}"#,
     ];
     for text in others {
-        let other = MetadataV3::from_text(alloc, text)?;
-        assert!(rt; one != other && other != one, "{text}");
+        assert!(rt; are_different(rt.alloc(), one, text)?, "{text}");
     }
     Ok(())
 }

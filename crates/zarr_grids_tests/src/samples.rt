@@ -1,9 +1,9 @@
 //! What the tests share.
-use std::alloc::Global;
-use std::process::Abort;
-use std::test::Fail;
+use std::alloc::{AllocError, Global};
+use std::fmt::Display;
 use zarr_grids::{
-    ArraySubset, ChunkGrid, ChunkKeyEncoding, ChunkShape, MetadataV3, PluginCreateError,
+    ArraySubset, ArraySubsetError, ChunkGrid, ChunkKeyEncoding, ChunkShape, GridError, LookupError,
+    MetadataV3, PluginCreateError,
 };
 
 /// The last number of 64 bits.
@@ -13,13 +13,21 @@ pub(crate) const LAST: u64 = 18446744073709551615;
 pub(crate) const QUARTER: u64 = 4611686018427387904;
 
 /// The box with this start and shape.
-pub(crate) fn area(alloc: Global, start: &[u64], shape: &[u64]) -> Result<ArraySubset, Fail> {
-    Ok(ArraySubset::new_with_start_shape(start.to_vec(alloc)?, shape.to_vec(alloc)?)?)
+pub(crate) fn area(
+    alloc: Global,
+    start: &[u64],
+    shape: &[u64],
+) -> Result<ArraySubset, ArraySubsetError> {
+    let start = start.to_vec(alloc)?;
+    ArraySubset::new_with_start_shape(start, shape.to_vec(alloc)?)
 }
 
 /// The chunk shape of these edges.
-pub(crate) fn edges(alloc: Global, edges: &[u64]) -> Result<ChunkShape, Fail> {
-    Ok(ChunkShape::new(edges.to_vec(alloc)?)?)
+pub(crate) fn edges(alloc: Global, edges: &[u64]) -> Result<ChunkShape, GridError> {
+    match ChunkShape::new(edges.to_vec(alloc)?) {
+        Ok(shape) => Ok(shape),
+        Err(_) => Err(GridError::ZeroEdge),
+    }
 }
 
 /// The grid that a text says, of an array of this shape.
@@ -38,39 +46,62 @@ pub(crate) fn keys_of(alloc: Global, text: &str) -> Result<ChunkKeyEncoding, Plu
     ChunkKeyEncoding::from_metadata(alloc, &metadata)
 }
 
-/// The text of the metadata of a chunk key encoding.
-pub(crate) fn written_keys(alloc: Global, keys: &ChunkKeyEncoding) -> Result<String, Fail> {
-    written(alloc, &keys.metadata(alloc)?)
+/// Whether metadata is written as this text.
+pub(crate) fn is_written(
+    alloc: Global,
+    metadata: &MetadataV3,
+    want: &str,
+) -> Result<bool, AllocError> {
+    Ok(metadata.to_value(alloc)?.to_string(alloc)?.as_str() == want)
 }
 
-/// The text of metadata.
-pub(crate) fn written(alloc: Global, metadata: &MetadataV3) -> Result<String, Fail> {
-    Ok(metadata.to_value(alloc)?.to_string(alloc)?)
+/// Whether an error is said in these words.
+pub(crate) fn says<D: Display>(alloc: Global, error: &D, want: &str) -> Result<bool, AllocError> {
+    Ok(format!(in alloc; "{error}")?.as_str() == want)
 }
 
-/// Asserts that a look-up found these numbers.
-pub(crate) fn assert_found(rt: &impl Abort, found: Option<Vec<u64>>, want: &[u64]) {
+/// Whether there are these numbers.
+pub(crate) fn are(found: Option<Vec<u64>>, want: &[u64]) -> bool {
     match found {
-        Some(found) => assert_eq!(rt; found.as_slice(), want),
-        None => panic!(rt; "not {want:?}"),
+        Some(numbers) => numbers.as_slice() == want,
+        None => false,
     }
 }
 
-/// Asserts that a box has this start and shape.
-pub(crate) fn assert_area(rt: &impl Abort, subset: &ArraySubset, start: &[u64], shape: &[u64]) {
-    assert_eq!(rt; subset.start(), start);
-    assert_eq!(rt; subset.shape(), shape);
+/// Whether a look-up found these numbers.
+pub(crate) fn is_found(found: Result<Option<Vec<u64>>, LookupError>, want: &[u64]) -> bool {
+    match found {
+        Ok(numbers) => are(numbers, want),
+        Err(_) => false,
+    }
 }
 
-/// Asserts that a look-up found the box with this start and shape.
-pub(crate) fn assert_found_area(
-    rt: &impl Abort,
-    found: Option<ArraySubset>,
+/// Whether a look-up found that there is nothing.
+pub(crate) fn is_nothing(found: Result<Option<Vec<u64>>, LookupError>) -> bool {
+    matches!(found, Ok(None))
+}
+
+/// Whether a walk goes on with these numbers.
+pub(crate) fn is_next(item: Option<Result<Vec<u64>, AllocError>>, want: &[u64]) -> bool {
+    match item {
+        Some(Ok(numbers)) => numbers.as_slice() == want,
+        _ => false,
+    }
+}
+
+/// Whether a box has this start and shape.
+pub(crate) fn is_area(subset: &ArraySubset, start: &[u64], shape: &[u64]) -> bool {
+    subset.start() == start && subset.shape() == shape
+}
+
+/// Whether a look-up found the box with this start and shape.
+pub(crate) fn is_found_area(
+    found: Result<Option<ArraySubset>, LookupError>,
     start: &[u64],
     shape: &[u64],
-) {
+) -> bool {
     match found {
-        Some(found) => assert_area(rt, &found, start, shape),
-        None => panic!(rt; "not {start:?} {shape:?}"),
+        Ok(Some(subset)) => is_area(&subset, start, shape),
+        _ => false,
     }
 }

@@ -1,7 +1,7 @@
 //! The four grids beside a look over all chunks along each dimension, over an array of 5 by 4.
-use crate::samples::{assert_found, assert_found_area, grid_of};
-use std::test::Fail;
-use zarr_grids::{ChunkGridTraits, unravel_index};
+use crate::samples::{are, grid_of, is_found, is_found_area, is_nothing};
+use std::alloc::{AllocError, Global};
+use zarr_grids::{ChunkGrid, ChunkGridTraits, PluginCreateError, unravel_index};
 
 /// The first place of each chunk along a dimension, and its length.
 type Line = &'static [(u64, u64)];
@@ -10,7 +10,8 @@ const TWOS: Line = &[(0, 2), (2, 2), (4, 2), (6, 2)];
 
 const THREES: Line = &[(0, 3), (3, 3), (6, 3)];
 
-/// Each grid, how many chunks it has, and the chunks along its rows and columns that have a place below 8.
+/// Each grid, how many chunks it has, and the chunks along its rows and columns that have a place
+/// below 8.
 const SAMPLES: [(&str, [u64; 2], [Line; 2]); 4] = [
     (
         r#"{"name":"regular","configuration":{"chunk_shape":[2,3]}}"#,
@@ -46,51 +47,102 @@ fn chunk_with(line: Line, place: u64) -> Option<u64> {
     None
 }
 
-#[test]
-fn a_place_is_in_the_chunk_that_a_look_over_all_finds(rt: HostRuntime) -> Result<(), Fail> {
-    let alloc = rt.alloc();
-    for (text, _, [rows, columns]) in SAMPLES {
-        let grid = grid_of(alloc, text, &[5, 4])?;
-        for n in 0..64u64 {
-            let found = grid.chunk_indices(alloc, &[n / 8, n % 8])?;
-            match (chunk_with(rows, n / 8), chunk_with(columns, n % 8)) {
-                (Some(row), Some(column)) => assert_found(&rt, found, &[row, column]),
-                _ => assert!(rt; found.is_none(), "{text} {n}"),
-            }
+/// Whether a grid finds the chunk of a place that a look over its lines finds, or none as well.
+fn finds_chunk(
+    alloc: Global,
+    grid: &ChunkGrid,
+    [rows, columns]: [Line; 2],
+    place: [u64; 2],
+) -> bool {
+    let found = grid.chunk_indices(alloc, &place);
+    match (chunk_with(rows, place[0]), chunk_with(columns, place[1])) {
+        (Some(row), Some(column)) => is_found(found, &[row, column]),
+        _ => is_nothing(found),
+    }
+}
+
+/// Whether a grid finds the chunks of the places below (8, 8).
+fn finds_chunks(alloc: Global, text: &str, lines: [Line; 2]) -> Result<bool, PluginCreateError> {
+    let grid = grid_of(alloc, text, &[5, 4])?;
+    for n in 0..64u64 {
+        if !finds_chunk(alloc, &grid, lines, [n / 8, n % 8]) {
+            return Ok(false);
         }
+    }
+    Ok(true)
+}
+
+#[test]
+fn a_place_is_in_the_chunk_that_a_look_over_all_finds(
+    rt: HostRuntime,
+) -> Result<(), PluginCreateError> {
+    for (text, _, lines) in SAMPLES {
+        assert!(rt; finds_chunks(rt.alloc(), text, lines)?, "{text}");
     }
     Ok(())
 }
 
-#[test]
-fn a_chunk_has_the_box_that_a_look_over_all_finds(rt: HostRuntime) -> Result<(), Fail> {
-    let alloc = rt.alloc();
-    for (text, _, [rows, columns]) in SAMPLES {
-        let grid = grid_of(alloc, text, &[5, 4])?;
-        for n in 0..64u64 {
-            let found = grid.subset(alloc, &[n / 8, n % 8])?;
-            if let (Some((top, height)), Some((left, width))) = (
-                rows.get(n as usize / 8),
-                columns.get(n as usize % 8),
-            ) {
-                assert_found_area(&rt, found, &[*top, *left], &[*height, *width]);
-            }
+/// Whether a grid finds the box of a chunk that its lines give, where they give one.
+fn finds_box(alloc: Global, grid: &ChunkGrid, [rows, columns]: [Line; 2], n: usize) -> bool {
+    let (Some((top, height)), Some((left, width))) = (rows.get(n / 8), columns.get(n % 8)) else {
+        return true;
+    };
+    let found = grid.subset(alloc, &[(n / 8) as u64, (n % 8) as u64]);
+    is_found_area(found, &[*top, *left], &[*height, *width])
+}
+
+/// Whether a grid finds the boxes of the chunks below (8, 8).
+fn finds_boxes(alloc: Global, text: &str, lines: [Line; 2]) -> Result<bool, PluginCreateError> {
+    let grid = grid_of(alloc, text, &[5, 4])?;
+    for n in 0..64usize {
+        if !finds_box(alloc, &grid, lines, n) {
+            return Ok(false);
         }
+    }
+    Ok(true)
+}
+
+#[test]
+fn a_chunk_has_the_box_that_a_look_over_all_finds(
+    rt: HostRuntime,
+) -> Result<(), PluginCreateError> {
+    for (text, _, lines) in SAMPLES {
+        assert!(rt; finds_boxes(rt.alloc(), text, lines)?, "{text}");
     }
     Ok(())
 }
 
+/// Whether a walk's item is the place in a shape that has a number.
+fn has_number(
+    alloc: Global,
+    item: Result<Vec<u64>, AllocError>,
+    number: u64,
+    count: &[u64],
+) -> bool {
+    let (Ok(chunk), Ok(place)) = (item, unravel_index(alloc, number, count)) else {
+        return false;
+    };
+    are(place, chunk.as_slice())
+}
+
+/// Whether a walk over a grid has as many chunks as there are places in a shape, in the order of
+/// their numbers.
+fn walks(alloc: Global, text: &str, count: &[u64]) -> Result<bool, PluginCreateError> {
+    let grid = grid_of(alloc, text, &[5, 4])?;
+    let mut number = 0u64;
+    for chunk in grid.iter_chunk_indices(alloc)? {
+        if !has_number(alloc, chunk, number, count) {
+            return Ok(false);
+        }
+        number = number.saturating_add(1);
+    }
+    Ok(unravel_index(alloc, number, count)?.is_none())
+}
+
 #[test]
-fn a_walk_has_each_chunk_in_the_grid(rt: HostRuntime) -> Result<(), Fail> {
-    let alloc = rt.alloc();
+fn a_walk_has_each_chunk_in_the_grid(rt: HostRuntime) -> Result<(), PluginCreateError> {
     for (text, count, _) in SAMPLES {
-        let grid = grid_of(alloc, text, &[5, 4])?;
-        let mut number = 0u64;
-        for chunk in grid.iter_chunk_indices(alloc)? {
-            assert_found(&rt, unravel_index(alloc, number, &count)?, &chunk?);
-            number = number.saturating_add(1);
-        }
-        assert!(rt; unravel_index(alloc, number, &count)?.is_none(), "{text}");
+        assert!(rt; walks(rt.alloc(), text, &count)?, "{text}");
     }
     Ok(())
 }

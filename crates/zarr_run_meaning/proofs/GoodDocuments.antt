@@ -1,5 +1,5 @@
 -- Documents that open are good where the caller's codecs are lawful.
-use Rattle.std.proofs.Common.{◌≡◌, ◌∙◌, ℕ, ◌+◌, ◌/◌, ℤ, pos, negsuc, List, [], ◌∷◌, length, sym, ap, subst, refl, Bool, true, false, Some, None, if◌then◌else◌, option_map, option_and_then, bytes_eq, codes, Ok, arith}
+use Rattle.std.proofs.Common.{◌≡◌, ◌∙◌, ℕ, ◌+◌, ◌/◌, ℤ, pos, negsuc, List, [], ◌∷◌, length, sym, ap, subst, refl, Bool, true, false, Option, Some, None, if◌then◌else◌, option_map, option_and_then, unwrap_or, bytes_eq, codes, Ok, arith}
 use Rattle.std.specs.Option.{ok_or}
 use Rattle.serde_json.specs.Data.{Data, Members}
 use Rattle.serde_json.specs.Find.{get_member, as_array, as_bool, as_object}
@@ -8,8 +8,8 @@ use Rattle.zarr_grids_metadata.specs.Members.{has_only}
 use Rattle.zarr_grids_configurations.specs.Configurations.{configuration_in}
 use Rattle.zarr_grids_configurations.specs.Grids.{grid_in}
 use Rattle.zarr_grids_keys.specs.EncodingMetadata.{keys_in}
-use Rattle.zarr_codecs_meaning.specs.Chains.{Chain}
-use Rattle.zarr_codecs_meaning.specs.Chains.Chain.{bytes, then_bytes}
+use Rattle.zarr_codecs_meaning.specs.Chains.{ArrayCodec, Chain}
+use Rattle.zarr_codecs_meaning.specs.Chains.Chain.{bytes, packbits, after_array_codec, then_bytes}
 use Rattle.zarr_codecs_meaning.specs.Laws.{IsLawfulChain}
 use Rattle.zarr_codecs_meaning.specs.Types.{DataType, bool, integer, custom, string, variable_bytes, optional_of, Cell, of_bytes, is_fixed, is_value, are_bytes}
 use Rattle.zarr_codecs_meaning.proofs.Digits.{digits_below}
@@ -19,7 +19,9 @@ use Rattle.zarr_codecs_types.specs.Integers.{integer_bytes}
 use Rattle.zarr_codecs_types.specs.Metadata.{data_type_in}
 use Rattle.zarr_codecs_types.proofs.Bytes.{are_bytes_each}
 use Rattle.zarr_codecs_types.proofs.FillValues.{fill_is_value}
-use Rattle.zarr_codecs_metadata.specs.Chains.{ReadsCodecs, endian_in, bytes_of, array_to_bytes_in, with_byte_codecs, chain_of, points_in, chain_in}
+use Rattle.zarr_codecs_metadata.specs.ArrayCodecs.{array_codec_in}
+use Rattle.zarr_codecs_metadata.specs.Chains.{ReadsCodecs, endian_in, bytes_of, array_to_bytes_in, with_byte_codecs, bytes_chain_of, chain_of, points_in, chain_in}
+use Rattle.zarr_codecs_metadata.specs.PackBits.{padding_in, bit_in, packbits_with, packbits_of}
 use Rattle.zarr_array_meaning.specs.Documents.{Metadata, fields_in, read_members, read_metadata}
 use Rattle.zarr_array_meaning.specs.declared.error.DocumentError.TheVariants.{Codecs, DataTypes, FillValue}
 use Rattle.zarr_array_meaning.specs.Parts.{type_in, dimension_names_in}
@@ -57,13 +59,31 @@ fill_good d e type cell said is =
 
 -- ---- chains
 
-bytes_lawful : (point : ExtensionPoint) (chain : Chain) → array_to_bytes_in point ≡ Some chain → IsLawfulChain chain
-bytes_lawful point chain h =
-    let ms = configuration_members point.configuration in
-    let named = if_some (bytes_eq point.name (codes "bytes")) (bytes_of ms) chain h in
-    let configured = if_some (has_only (codes "endian" ∷ []) ms) (option_map bytes (endian_in (get_member (codes "endian") ms))) chain named.1 in
+bytes_lawful : (ms : Members) (chain : Chain) → bytes_of ms ≡ Some chain → IsLawfulChain chain
+bytes_lawful ms chain h =
+    let configured = if_some (has_only (codes "endian" ∷ []) ms) (option_map bytes (endian_in (get_member (codes "endian") ms))) chain h in
     let found = map_some bytes (endian_in (get_member (codes "endian") ms)) chain configured.1 in
     subst IsLawfulChain found.2 tt
+
+packbits_lawful : (ms : Members) (chain : Chain) → packbits_of ms ≡ Some chain → IsLawfulChain chain
+packbits_lawful ms chain h =
+    let padding = get_member (codes "padding_encoding") ms in
+    let first = get_member (codes "first_bit") ms in
+    let last = get_member (codes "last_bit") ms in
+    let configured = if_some (has_only (codes "padding_encoding" ∷ codes "first_bit" ∷ codes "last_bit" ∷ []) ms) (packbits_with padding first last) chain h in
+    let told = bind_some (λ told. option_and_then (λ low. option_map (λ high. packbits told (unwrap_or low 0) high) (bit_in last)) (bit_in first)) (padding_in padding) chain configured.1 in
+    let low = bind_some (λ low. option_map (λ high. packbits told.0 (unwrap_or low 0) high) (bit_in last)) (bit_in first) chain told.2 in
+    let high = map_some (λ high. packbits told.0 (unwrap_or low.0 0) high) (bit_in last) chain low.2 in
+    subst IsLawfulChain high.2 tt
+
+-- a codec by its name: `bytes`, or else `packbits`
+named_lawful : (is_bytes is_packbits : Bool) (ms : Members) (chain : Chain) → (if is_bytes then bytes_of ms else (if is_packbits then packbits_of ms else None)) ≡ Some chain → IsLawfulChain chain
+named_lawful true is_packbits ms chain h = bytes_lawful ms chain h
+named_lawful false true ms chain h = packbits_lawful ms chain h
+named_lawful false false ms chain h = absurd (cc)
+
+array_to_bytes_lawful : (point : ExtensionPoint) (chain : Chain) → array_to_bytes_in point ≡ Some chain → IsLawfulChain chain
+array_to_bytes_lawful point chain h = named_lawful (bytes_eq point.name (codes "bytes")) (bytes_eq point.name (codes "packbits")) (configuration_members point.configuration) chain h
 
 all_lawful : (reads : ReadsCodecs) → ReadsLawful reads → (first : Chain) (points : List ExtensionPoint) (chain : Chain) → IsLawfulChain first → with_byte_codecs reads first points ≡ Some chain → IsLawfulChain chain
 all_lawful reads law first [] chain lawful h = subst IsLawfulChain (some_same h) lawful
@@ -71,11 +91,23 @@ all_lawful reads law first (point ∷ points) chain lawful h =
     let found = bind_some (λ codec. with_byte_codecs reads (then_bytes first codec) points) (reads point) chain h in
     all_lawful reads law (then_bytes first found.0) points chain (lawful, law point found.0 found.1) found.2
 
+bytes_chain_lawful : (reads : ReadsCodecs) → ReadsLawful reads → (points : List ExtensionPoint) (chain : Chain) → bytes_chain_of reads points ≡ Some chain → IsLawfulChain chain
+bytes_chain_lawful reads law [] chain h = absurd (cc)
+bytes_chain_lawful reads law (point ∷ points) chain h =
+    let found = bind_some (λ first. with_byte_codecs reads first points) (array_to_bytes_in point) chain h in
+    all_lawful reads law found.0 points chain (array_to_bytes_lawful point found.0 found.1) found.2
+
+-- what stands before a lawful chain leaves it lawful
+after_lawful : (reads : ReadsCodecs) → ReadsLawful reads → (before : Option ArrayCodec) (point : ExtensionPoint) (points : List ExtensionPoint) (chain : Chain) → ((rest : Chain) → chain_of reads points ≡ Some rest → IsLawfulChain rest)
+    → elim before [ Some codec ↦ option_map (after_array_codec codec) (chain_of reads points) | None ↦ bytes_chain_of reads (point ∷ points) ] ≡ Some chain → IsLawfulChain chain
+after_lawful reads law None point points chain rest h = bytes_chain_lawful reads law (point ∷ points) chain h
+after_lawful reads law (Some codec) point points chain rest h =
+    let found = map_some (after_array_codec codec) (chain_of reads points) chain h in
+    subst IsLawfulChain found.2 (rest found.0 found.1)
+
 points_lawful : (reads : ReadsCodecs) → ReadsLawful reads → (points : List ExtensionPoint) (chain : Chain) → chain_of reads points ≡ Some chain → IsLawfulChain chain
 points_lawful reads law [] chain h = absurd (cc)
-points_lawful reads law (point ∷ points) chain h =
-    let found = bind_some (λ first. with_byte_codecs reads first points) (array_to_bytes_in point) chain h in
-    all_lawful reads law found.0 points chain (bytes_lawful point found.0 found.1) found.2
+points_lawful reads law (point ∷ points) chain h = after_lawful reads law (array_codec_in point) point points chain (points_lawful reads law points) h
 
 -- the chain of a document is lawful
 chain_lawful : (reads : ReadsCodecs) → ReadsLawful reads → (d : Data) (chain : Chain) → chain_in reads d ≡ Some chain → IsLawfulChain chain

@@ -1,7 +1,7 @@
 //! The texts of replies.
 
-use crate::samples::{DONE, create_row, is_answered, new_session};
-use std::test::Fail;
+use crate::samples::{creates, is_answered, new_session};
+use std::alloc::{AllocError, Global};
 use zarr_run::{ArrayBytes, Cause, Reply};
 
 /// Data types with fill values, the bytes of cells, and the answers of reads that give these.
@@ -35,30 +35,50 @@ const CELLS: [(&str, &str, &[u8], &str); 10] = [
     ("uint16", "0", &[1, 0, 2], r#"{"fault":"text"}"#),
 ];
 
+/// A reply of cells with these bytes.
+fn cells(alloc: Global, bytes: &[u8]) -> Result<Reply, AllocError> {
+    Ok(Reply::Cells(ArrayBytes::Fixed(bytes.to_vec(alloc)?)))
+}
+
+/// Whether bytes are printed by this text as cells of a type with a fill value.
+fn prints(
+    alloc: Global,
+    (data_type, fill): (&str, &str),
+    bytes: &[u8],
+    want: &str,
+) -> Result<bool, AllocError> {
+    let mut session = new_session(alloc);
+    if !creates(alloc, &mut session, (data_type, fill, r#"["bytes"]"#))? {
+        return Ok(false);
+    }
+    is_answered(alloc, &session, &cells(alloc, bytes)?, want)
+}
+
 #[test]
-fn cells_are_printed_by_their_type(rt: HostRuntime) -> Result<(), Fail> {
-    let alloc = rt.alloc();
+fn cells_are_printed_by_their_type(rt: HostRuntime) -> Result<(), AllocError> {
     for (data_type, fill, bytes, want) in CELLS {
-        let mut session = new_session(alloc);
-        let created = session.step(&create_row(alloc, (data_type, fill, r#"["bytes"]"#))?);
-        assert!(rt; is_answered(alloc, &session, &created, DONE)?);
-        let reply = Reply::Cells(ArrayBytes::Fixed(Vec::from_slice(alloc, bytes)?));
-        assert!(rt; is_answered(alloc, &session, &reply, want)?);
+        assert!(rt;
+            prints(rt.alloc(), (data_type, fill), bytes, want)?,
+            "{want}"
+        );
     }
     Ok(())
 }
 
+/// Whether a reply of a session that holds no array is answered by this text.
+fn is_printed(alloc: Global, reply: &Reply, want: &str) -> Result<bool, AllocError> {
+    is_answered(alloc, &new_session(alloc), reply, want)
+}
+
 #[test]
-fn cells_of_no_array_have_no_text(rt: HostRuntime) -> Result<(), Fail> {
-    let alloc = rt.alloc();
-    let reply = Reply::Cells(ArrayBytes::Fixed(vec![in alloc; 1]?));
-    assert!(rt; is_answered(alloc, &new_session(alloc), &reply, r#"{"fault":"text"}"#)?);
+fn cells_of_no_array_have_no_text(rt: HostRuntime) -> Result<(), AllocError> {
+    let reply = cells(rt.alloc(), &[1])?;
+    assert!(rt; is_printed(rt.alloc(), &reply, r#"{"fault":"text"}"#)?);
     Ok(())
 }
 
 #[test]
-fn a_refusal_names_its_cause(rt: HostRuntime) -> Result<(), Fail> {
-    let alloc = rt.alloc();
+fn a_refusal_names_its_cause(rt: HostRuntime) -> Result<(), AllocError> {
     let refusals = [
         (Cause::Region, 0, r#"{"applied":0,"refused":"Region"}"#),
         (Cause::Store, 2, r#"{"applied":2,"refused":"Store"}"#),
@@ -70,10 +90,7 @@ fn a_refusal_names_its_cause(rt: HostRuntime) -> Result<(), Fail> {
     ];
     for (cause, applied, want) in refusals {
         let reply = Reply::Refused { cause, applied };
-        assert!(rt;
-            is_answered(alloc, &new_session(alloc), &reply, want)?,
-            "{want}"
-        );
+        assert!(rt; is_printed(rt.alloc(), &reply, want)?, "{want}");
     }
     Ok(())
 }

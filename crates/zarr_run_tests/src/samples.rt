@@ -1,7 +1,6 @@
 //! Lines, and the commands and answers of lines.
 
 use std::alloc::{AllocError, Global};
-use std::test::Fail;
 use zarr_run::{
     BytesToBytesCodecTraits, Command, MemoryStore, ReadableStorageTraits, Reply, ReverseCodec,
     Session, StoreKey, WritableStorageTraits, push_answer, read_command,
@@ -28,16 +27,20 @@ pub(crate) fn new_session(alloc: Global) -> MemorySession {
     Session::new(alloc, MemoryStore::new(alloc))
 }
 
-/// The command of a line.
-pub(crate) fn command(alloc: Global, line: &str) -> Result<Command, Fail> {
-    Ok(read_command(alloc, line.as_bytes())?.ok_or("no command")?)
+/// The command of a line. `Err` also where it says none.
+pub(crate) fn command(alloc: Global, line: &str) -> Result<Command, AllocError> {
+    match read_command(alloc, line.as_bytes())? {
+        Some(command) => Ok(command),
+        None => Err(AllocError),
+    }
 }
 
-/// Creates at `/a` an array of four cells in chunks of two, of a data type with a fill value and codecs.
-pub(crate) fn create_row(
+/// Creates at `/a` an array of four cells in chunks of two, of a data type with a fill value and
+/// codecs.
+fn create_row(
     alloc: Global,
     (data_type, fill, codecs): (&str, &str, &str),
-) -> Result<Command, Fail> {
+) -> Result<Command, AllocError> {
     let line = format!(in alloc;
         r#"{{"op":"create","path":"/a","document":{{"zarr_format":3,"node_type":"array","shape":[4],"data_type":"{data_type}","chunk_grid":{{"name":"regular","configuration":{{"chunk_shape":[2]}}}},"chunk_key_encoding":"default","fill_value":{fill},"codecs":{codecs}}}}}"#
     )?;
@@ -56,27 +59,69 @@ pub(crate) fn is_answered<S: WritableStorageTraits, B: BytesToBytesCodecTraits>(
     Ok(text.as_slice() == want.as_bytes())
 }
 
+/// Whether replies of a session about `/a` are answered by these texts.
+pub(crate) fn are_answered<S: WritableStorageTraits, B: BytesToBytesCodecTraits>(
+    alloc: Global,
+    session: &Session<S, B>,
+    replies: &[Reply],
+    wants: &[&str],
+) -> Result<bool, AllocError> {
+    for (reply, want) in replies.iter().zip(wants) {
+        if !is_answered(alloc, session, reply, want)? {
+            return Ok(false);
+        }
+    }
+    Ok(replies.len() == wants.len())
+}
+
+/// Whether a session answers a command by this text.
+pub(crate) fn does<S: WritableStorageTraits, B: BytesToBytesCodecTraits>(
+    alloc: Global,
+    session: &mut Session<S, B>,
+    command: &Command,
+    want: &str,
+) -> Result<bool, AllocError> {
+    let reply = session.step(command);
+    is_answered(alloc, session, &reply, want)
+}
+
 /// Whether a session answers a line by this text.
 pub(crate) fn answers<S: WritableStorageTraits, B: BytesToBytesCodecTraits>(
     alloc: Global,
     session: &mut Session<S, B>,
     line: &str,
     want: &str,
-) -> Result<bool, Fail> {
-    let reply = session.step(&command(alloc, line)?);
-    Ok(is_answered(alloc, session, &reply, want)?)
+) -> Result<bool, AllocError> {
+    does(alloc, session, &command(alloc, line)?, want)
+}
+
+/// Whether a session creates the array of four cells of a data type with a fill value and codecs.
+pub(crate) fn creates<S: WritableStorageTraits, B: BytesToBytesCodecTraits>(
+    alloc: Global,
+    session: &mut Session<S, B>,
+    row: (&str, &str, &str),
+) -> Result<bool, AllocError> {
+    does(alloc, session, &create_row(alloc, row)?, DONE)
 }
 
 /// Whether a store has this value at a key.
-pub(crate) fn has(
-    alloc: Global,
-    store: &mut MemoryStore,
-    key: &str,
-    want: &[u8],
-) -> Result<bool, Fail> {
-    let key = StoreKey::new(String::from_str(alloc, key)?)?;
-    match store.get(&key)? {
-        Some(value) => Ok(value.as_slice() == want),
-        None => Ok(false),
+pub(crate) fn has(alloc: Global, store: &mut MemoryStore, key: &str, want: &[u8]) -> bool {
+    let Ok(text) = String::from_str(alloc, key) else {
+        return false;
+    };
+    let Ok(key) = StoreKey::new(text) else {
+        return false;
+    };
+    match store.get(&key) {
+        Ok(Some(value)) => value.as_slice() == want,
+        _ => false,
+    }
+}
+
+/// Whether a store has so many keys.
+pub(crate) fn has_keys(store: &mut MemoryStore, count: usize) -> bool {
+    match store.list() {
+        Ok(keys) => keys.len() == count,
+        Err(_) => false,
     }
 }

@@ -4,11 +4,10 @@ use crate::samples::new_session;
 use std::alloc::Global;
 use std::cell::Cell;
 use std::io::{Error, ErrorKind, Read, Result, Write};
-use std::test::Fail;
 use zarr_run::{LinesFault, run_lines};
 
 #[test]
-fn the_last_line_needs_no_line_feed(rt: HostRuntime) -> std::result::Result<(), Fail> {
+fn the_last_line_needs_no_line_feed(rt: HostRuntime) {
     let alloc = rt.alloc();
     let mut session = new_session(alloc);
     let mut output = Vec::new(alloc);
@@ -16,7 +15,6 @@ fn the_last_line_needs_no_line_feed(rt: HostRuntime) -> std::result::Result<(), 
     let ran = run_lines(alloc, &mut session, input, &mut output);
     assert!(rt; ran.is_ok());
     assert!(rt; output.as_slice() == b"{\"fault\":\"line\"}\n{\"fault\":\"line\"}\n".as_slice());
-    Ok(())
 }
 
 /// Gives a text at some reads, and fails after them or ends. It fails too where a line that it gave is not answered yet.
@@ -113,7 +111,7 @@ fn a_failing_read_is_a_read_fault(rt: HostRuntime) {
     for left in 0..3usize {
         let (ran, answered) = run(rt.alloc(), (b"\n", left, false), 99);
         assert!(rt; ran == Err(LinesFault::Read));
-        assert_eq!(rt; answered, left);
+        assert!(rt; answered == left, "after {left} reads");
     }
 }
 
@@ -131,5 +129,5 @@ fn a_failing_write_is_a_write_fault(rt: HostRuntime) {
 fn answers_come_before_a_wait(rt: HostRuntime) {
     let (ran, answered) = run(rt.alloc(), (b"\n\nx", 3, true), 99);
     assert!(rt; ran.is_ok());
-    assert_eq!(rt; answered, 7);
+    assert!(rt; answered == 7);
 }

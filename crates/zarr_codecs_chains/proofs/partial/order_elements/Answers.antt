@@ -5,6 +5,7 @@ use Rattle.zarr_codecs_meaning.specs.Types.{components, bytes_in}
 use Rattle.zarr_codecs_meaning.specs.Payloads.{fixed}
 use Rattle.zarr_codecs_types.specs.Views.{type_of}
 use Rattle.zarr_codecs_arrays.specs.Views.{elements_of}
+use Rattle.zarr_codecs_traits.specs.Indexers.{in_box}
 use Rattle.zarr_codecs_chains.specs.Orders.{all_ordered}
 use Rattle.zarr_codecs_chains.specs.Parts.{part_width}
 use Rattle.zarr_codecs_chains.specs.Views.{order_of, bytes_chain}
@@ -36,16 +37,17 @@ returns-in-Ok-validate-clause-part c = λ value has.
     let region = region_of c.args.part.region.now in
     let extracted = c.args.extracted.items in
     let made = c.in_ok-ordered.field-0.items in
-    let read : IsPartRead order elements.type c.args.part.shape.now region value extracted made = record {
+    let read : IsPartRead order elements.type c.args.part.shape.now (in_box region) (product region.shape) value extracted made = record {
       fit = c.requires;
       positive = subst (λ t. 0 < bytes_in (components t)) c.data_type-data_type.ensures c.in-Ok.ensures.some;
       whole = has.whole;
       inside = c.args.part.inside;
-      part = has.are nothing;
+      long = (has.are nothing).long;
+      elements = (has.are nothing).elements;
       is = c.in_ok-ordered.ensures ∙ ap (λ t. all_ordered order (components t) extracted) c.data_type-data_type.ensures;
     } in
     let found = c.in-Ok-validate.ensures in
-    part_valid order elements c.args.part.shape.now region value extracted made found.0 read (IsValid-at c.data_type-data_type.ensures (c.in-Some.ensures.1 ∙ ap product c.shape.ensures) found.1)
+    part_valid order elements c.args.part.shape.now (in_box region) (product region.shape) value extracted made found.0 read (IsValid-at c.data_type-data_type.ensures (c.in-Some.ensures.1 ∙ ap product c.shape.ensures) found.1)
 
 pub returns-in-Err-validate-clause-part : goal.returns-in-Err-validate-clause-part
 returns-in-Err-validate-clause-part c = λ value has.
@@ -54,13 +56,14 @@ returns-in-Err-validate-clause-part c = λ value has.
     let region = region_of c.args.part.region.now in
     let extracted = c.args.extracted.items in
     let made = c.in_ok-ordered.field-0.items in
-    let read : IsPartRead order elements.type c.args.part.shape.now region value extracted made = record {
+    let read : IsPartRead order elements.type c.args.part.shape.now (in_box region) (product region.shape) value extracted made = record {
       fit = c.requires;
       positive = subst (λ t. 0 < bytes_in (components t)) c.data_type-data_type.ensures c.in-Ok.ensures.some;
       whole = has.whole;
       inside = c.args.part.inside;
-      part = has.are nothing;
+      long = (has.are nothing).long;
+      elements = (has.are nothing).elements;
       is = c.in_ok-ordered.ensures ∙ ap (λ t. all_ordered order (components t) extracted) c.data_type-data_type.ensures;
     } in
     let e = c.in-Err-validate.field-0 in
-    (c.requires, c.args.part.inside, part_damaged order elements c.args.part.shape.now region value extracted made e read (Validates-at (fixed made) (Err e) c.data_type-data_type.ensures (c.in-Some.ensures.1 ∙ ap product c.shape.ensures) c.in-Err-validate.ensures))
+    (c.requires, c.args.part.inside, part_damaged order elements c.args.part.shape.now (in_box region) (product region.shape) value extracted made e read (Validates-at (fixed made) (Err e) c.data_type-data_type.ensures (c.in-Some.ensures.1 ∙ ap product c.shape.ensures) c.in-Err-validate.ensures))

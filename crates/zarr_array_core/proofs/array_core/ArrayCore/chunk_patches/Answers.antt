@@ -37,8 +37,8 @@ whole_cells-requires-clause-holds g c =
     ap (λ (s : List ℕ). contains_box region.start region.shape s c.shape-shape.result.now) start
     ∙ (ap (λ (x : List ℕ). contains_box region.start region.shape (overlapped region box).start x) shape ∙ shared_held region box c.requires.shares)
 
-pub returns-in-Ok-partial_encode-clause-ok : goal.returns-in-Ok-partial_encode-clause-ok
-returns-in-Ok-partial_encode-clause-ok g c =
+pub returns-in-Ok-encode_part-clause-ok : goal.returns-in-Ok-encode_part-clause-ok
+returns-in-Ok-encode_part-clause-ok g c =
     let document = document_of g.C.ArrayToBytesCodecTraits.meaning c.args.self.now in
     let exact = g.C.ArrayToBytesCodecTraits.is_function c.args.self.now.codecs in
     let width = c.args.self.now.width in
@@ -65,6 +65,6 @@ returns-in-Ok-partial_encode-clause-ok g c =
       | else-not-write-via-else-not-write w ↦ (λ empty. absurd (false≢true (sym empty ∙ w.if-not-write.false)))
     ] in
     let are : AreShared document width region box given bytes c.args.write.now.options.now.store_empty_chunks = record { share = c.requires.shares; rank = c.requires.rank; fit = c.requires.fit; fine = c.args.self.now.elements.fills; are = elements; becomes = becomes; some = some } in
-    let encodes = subst (λ (s : List ℕ). EncodesPart document.chain exact document.elements s (relative (overlapped region box) box.start) (fixed bytes) (Ok c.in-Ok-partial_encode.patches)) c.shape-own_shape.ensures
-    (subst (λ (p : Region). EncodesPart document.chain exact document.elements c.shape-own_shape.result.now p (fixed bytes) (Ok c.in-Ok-partial_encode.patches)) part c.in-Ok-partial_encode.ensures) in
-    found_patches document exact width region box given bytes c.args.write.now.options.now.store_empty_chunks c.in-Ok-partial_encode.patches are encodes
+    let encodes = subst (λ (s : List ℕ). EncodesPart document.chain exact document.elements s (relative (overlapped region box) box.start) (fixed bytes) (Ok c.in-Ok-encode_part.patches)) c.shape-own_shape.ensures
+    (subst (λ (p : Region). EncodesPart document.chain exact document.elements c.shape-own_shape.result.now p (fixed bytes) (Ok c.in-Ok-encode_part.patches)) part c.in-Ok-encode_part.ensures) in
+    found_patches document exact width region box given bytes c.args.write.now.options.now.store_empty_chunks c.in-Ok-encode_part.patches are encodes

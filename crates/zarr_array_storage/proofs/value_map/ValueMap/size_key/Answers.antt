@@ -2,7 +2,6 @@ use Rattle.std.proofs.Common.{◌≡◌, ◌∙◌, sym, ap, subst, true, List, 
 use Rattle.std.specs.FinMap as map
 use Rattle.zarr_codecs_meaning.specs.Types.{are_bytes}
 use Rattle.zarr_codecs_meaning.proofs.Lists.{some_same}
-use Rattle.zarr_array_storage.specs.ValueMaps.{value_found}
 use Rattle.zarr_array_storage.proofs.value_map.ValueMap.size_key.Goals as goal
 
 pub returns-in-Some-clause-bytes : goal.returns-in-Some-clause-bytes

@@ -1,20 +1,14 @@
-use Rattle.std.proofs.Common.{map, ap, ◌∙◌, option_map}
+use Rattle.std.proofs.Common.{◌≡◌, ◌∙◌, sym, map, Some, option_map}
+use Rattle.std.proofs.lemmas.Result.{IfOk-weaker}
 use Rattle.zarr_grids_metadata.specs.Views.{point_of}
 use Rattle.zarr_codecs_metadata.specs.Chains.{chain_of}
-use Rattle.zarr_codecs_chains.specs.Views.{bytes_chain, with_codecs}
-use Rattle.zarr_codecs_chains.proofs.ReadsBack.{chain_read}
+use Rattle.zarr_codecs_chains.specs.Views.{codecs_of, meaning_of, with_array_codecs}
+use Rattle.zarr_codecs_chains.proofs.ReadsBack.{none_before}
 use Rattle.zarr_codecs_chains.proofs.chain.CodecChain.from_metadata.Goals as goal
 
-pub returns-in-Ok-read_codecs-clause-ok : goal.returns-in-Ok-read_codecs-clause-ok
-returns-in-Ok-read_codecs-clause-ok g c =
-    let reads = g.B.BytesToBytesCodecTraits.reads in
-    let chain = bytes_chain c.in-Ok.codec in
-    ap (λ points. chain_of reads (map point_of points)) c.in-Some.ensures.cases.0
-    ∙ (chain_read reads (point_of c.in-Some.first.now) (map point_of c.in-Some.others.now) chain c.in-Ok.ensures.ok ∙ ap (option_map (with_codecs chain)) c.in-Ok-read_codecs.ensures.ok)
-
-pub returns-in-Err-read_codecs-clause-err : goal.returns-in-Err-read_codecs-clause-err
-returns-in-Err-read_codecs-clause-err g c = λ other.
-    let reads = g.B.BytesToBytesCodecTraits.reads in
-    let chain = bytes_chain c.in-Ok.codec in
-    ap (λ points. chain_of reads (map point_of points)) c.in-Some.ensures.cases.0
-    ∙ (chain_read reads (point_of c.in-Some.first.now) (map point_of c.in-Some.others.now) chain c.in-Ok.ensures.ok ∙ ap (option_map (with_codecs chain)) (c.in-Err-read_codecs.ensures.err other))
+pub returns-clause-ok : goal.returns-clause-ok
+returns-clause-ok g c =
+    let b = g.B.BytesToBytesCodecTraits in
+    let said = chain_of b.reads (map point_of c.args.codecs.now) in
+    IfOk-weaker c.read_chain.result (λ chain. option_map (with_array_codecs (codecs_of c.new.result.items)) said ≡ Some (meaning_of b.meaning chain)) (λ chain. said ≡ Some (meaning_of b.meaning chain))
+    (λ chain e. sym (none_before c.new.result.items said c.new.ensures.items) ∙ e) c.read_chain.ensures.ok

@@ -1,17 +1,11 @@
-use Rattle.std.proofs.Common.{map, subst}
+use Rattle.std.proofs.Common.{List, subst}
 use Rattle.zarr_codecs_types.specs.Views.{type_of}
-use Rattle.zarr_codecs_traits.specs.Representations.{known_size}
-use Rattle.zarr_codecs_chains.specs.Codecs.{RepresentsAll}
-use Rattle.zarr_codecs_chains.specs.Views.{bytes_chain}
-use Rattle.zarr_codecs_chains.proofs.Telling.{represents_with, unrepresented_with}
+use Rattle.zarr_codecs_array_to_array.specs.declared.codec.ArrayToArrayCodec.{ArrayToArrayCodec}
+use Rattle.zarr_codecs_traits.specs.Representations.{RepresentsArray}
+use Rattle.zarr_codecs_chains.specs.Views.{bytes_meaning, codecs_of, with_array_codecs}
 use Rattle.zarr_codecs_chains.proofs.chain.CodecChainArrayToBytesCodecTraits.encoded_representation.Goals as goal
 
-pub returns-in-Ok : goal.returns-in-Ok
-returns-in-Ok g c =
-    let codecs = map g.B.BytesToBytesCodecTraits.meaning c.args.self.now.bytes_to_bytes.items in
-    let told = subst (λ xs. RepresentsAll (map g.B.BytesToBytesCodecTraits.meaning xs) (known_size c.in-Ok.size) c.represent_all.result) c.as_slice.ensures.value c.represent_all.ensures in
-    represents_with (bytes_chain c.args.self.now.array_to_bytes) codecs (type_of c.args.data_type.now) c.args.shape.now c.in-Ok.size c.represent_all.result c.in-Ok.ensures told
-
-pub returns-in-Err : goal.returns-in-Err
-returns-in-Err g c =
-    unrepresented_with (bytes_chain c.args.self.now.array_to_bytes) (map g.B.BytesToBytesCodecTraits.meaning c.args.self.now.bytes_to_bytes.items) (type_of c.args.data_type.now) c.args.shape.now c.in-Err.error c.in-Err.ensures
+pub returns : goal.returns
+returns g c =
+    let rest = bytes_meaning g.B.BytesToBytesCodecTraits.meaning c.args.self.now.others in
+    subst (λ (codecs : List ArrayToArrayCodec). RepresentsArray (with_array_codecs (codecs_of codecs) rest) (type_of c.args.data_type.now) c.args.shape.now c.represent_after.result) c.as_slice-codecs.ensures.value c.represent_after.ensures

@@ -1,8 +1,12 @@
-use Rattle.std.proofs.Common.{map, ◌∙◌, sym}
+use Rattle.std.proofs.Common.{◌≡◌, List, subst}
+use Rattle.std.specs.Prelude.{IfOk}
+use Rattle.zarr_codecs_meaning.specs.Fits.{fits}
 use Rattle.zarr_codecs_types.specs.Views.{type_of}
-use Rattle.zarr_codecs_chains.specs.Views.{bytes_chain}
-use Rattle.zarr_codecs_chains.proofs.Chains.{fits_with}
+use Rattle.zarr_codecs_array_to_array.specs.declared.codec.ArrayToArrayCodec.{ArrayToArrayCodec}
+use Rattle.zarr_codecs_chains.specs.Views.{bytes_meaning, codecs_of, with_array_codecs}
 use Rattle.zarr_codecs_chains.proofs.chain.CodecChainArrayToBytesCodecTraits.fits.Goals as goal
 
 pub returns : goal.returns
-returns g c = c.suits.ensures ∙ sym (fits_with (bytes_chain c.args.self.now.array_to_bytes) (map g.B.BytesToBytesCodecTraits.meaning c.args.self.now.bytes_to_bytes.items) (type_of c.args.data_type.now) c.args.arg4.now)
+returns g c =
+    let rest = bytes_meaning g.B.BytesToBytesCodecTraits.meaning c.args.self.now.others in
+    subst (λ (codecs : List ArrayToArrayCodec). IfOk c.fits_after.result (λ fit. fit ≡ fits (with_array_codecs (codecs_of codecs) rest) (type_of c.args.data_type.now) c.args.shape.now)) c.as_slice-codecs.ensures.value c.fits_after.ensures

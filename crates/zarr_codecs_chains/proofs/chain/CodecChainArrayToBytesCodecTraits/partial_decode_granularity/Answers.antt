@@ -1,10 +1,15 @@
-use Rattle.std.proofs.Common.{◌≡◌, map, sym, subst}
+use Rattle.std.proofs.Common.{rules, ◌≡◌, ◌∙◌, sym, subst, length}
+use Rattle.std.proofs.lemmas.Bool.{eqb-false}
 use Rattle.std.specs.Prelude.{IfOk}
-use Rattle.zarr_codecs_chains.specs.Views.{bytes_chain}
-use Rattle.zarr_codecs_chains.proofs.Telling.{granularity_with}
+use Rattle.zarr_codecs_chains.specs.Views.{bytes_meaning}
+use Rattle.zarr_codecs_chains.proofs.Telling.{granularity_whole}
 use Rattle.zarr_codecs_chains.proofs.chain.CodecChainArrayToBytesCodecTraits.partial_decode_granularity.Goals as goal
 
 pub returns : goal.returns
 returns g c =
-    let codecs = map g.B.BytesToBytesCodecTraits.meaning c.args.self.now.bytes_to_bytes.items in
-    subst (λ sizes. IfOk c.partial_decode_granularity.result (λ part. part.items ≡ sizes)) (sym (granularity_with (bytes_chain c.args.self.now.array_to_bytes) codecs c.args.shape.now)) c.partial_decode_granularity.ensures
+    let rest = bytes_meaning g.B.BytesToBytesCodecTraits.meaning c.args.self.now.others in
+    let codecs = c.args.self.now.array_to_array in
+    let some = eqb-false codecs.len 0 (sym c.is_empty.ensures ∙ c.if-is_empty.false) in
+    let same : codecs.len ≡ length codecs.items = search rules in
+    let copied : IfOk c.to_vec.result (λ part. part.items ≡ c.args.shape.now) = search rules in
+    subst (λ es. IfOk c.to_vec.result (λ part. part.items ≡ es)) (granularity_whole codecs.items rest c.args.shape.now (λ e. some (same ∙ e))) copied

@@ -1,12 +1,9 @@
-use Rattle.std.proofs.Common.{rules, ◌≡◌, ◌∙◌, sym, length}
-use Rattle.std.proofs.lemmas.Bool.{eqb-false}
-use Rattle.zarr_codecs_chains.specs.Views.{bytes_chain}
-use Rattle.zarr_codecs_chains.proofs.Telling.{never_encodes}
+use Rattle.std.proofs.Common.{◌∙◌, sym}
+use Rattle.zarr_codecs_chains.specs.Views.{bytes_meaning, codecs_of}
+use Rattle.zarr_codecs_chains.proofs.Telling.{bytes_plain, encodes_before}
 use Rattle.zarr_codecs_chains.proofs.chain.CodecChainArrayToBytesCodecTraits.partial_encoder_capability.Goals as goal
 
-pub returns-else-is_empty : goal.returns-else-is_empty
-returns-else-is_empty g c =
-    let codecs = c.args.self.now.bytes_to_bytes in
-    let some = eqb-false codecs.len 0 (sym c.is_empty.ensures ∙ c.if-is_empty.false) in
-    let same : codecs.len ≡ length codecs.items = search rules in
-    c.if-is_empty.false ∙ never_encodes (bytes_chain c.args.self.now.array_to_bytes) g.B.BytesToBytesCodecTraits.meaning codecs.items (λ e. some (same ∙ e))
+pub returns : goal.returns
+returns g c =
+    let rest = bytes_meaning g.B.BytesToBytesCodecTraits.meaning c.args.self.now.others in
+    c.partial_encoder_capability.ensures ∙ sym (encodes_before (codecs_of c.args.self.now.array_to_array.items) rest (bytes_plain g.B.BytesToBytesCodecTraits.meaning c.args.self.now.others))

@@ -1,0 +1,75 @@
+//! The value at a key of a store, as codecs read it.
+use std::alloc::Global;
+use zarr_array_storage::storage_partial_decoder::of_storage;
+use zarr_array_storage::{ReadableStorageTraits, StorageError};
+use zarr_codecs_arrays::CodecError;
+use zarr_codecs_traits::{ByteRange, BytesPartialDecoderTraits};
+use zarr_grids_keys::StoreKey;
+
+/// The value at a key of a store, of which codecs read the ranges that they need. Where the store
+/// refuses a call, `refusal` says why.
+#[derive(Drop)]
+pub(crate) struct StoreSource<'a, S> {
+    pub store: &'a mut S,
+    pub key: &'a StoreKey,
+    pub refusal: &'a mut Option<StorageError>,
+}
+
+impl<'a, S: ReadableStorageTraits> BytesPartialDecoderTraits for StoreSource<'a, S> {
+    ghost use Rattle.std.specs.Prelude.{◌≡◌, refl};
+    ghost use Rattle.std.proofs.Common.{ap, ◌∙◌};
+    ghost use Rattle.std.specs.FinMap.{get};
+
+    ghost contents = { λ d. get (S.held d.store.now) d.key.now };
+
+    ghost is_honest = { λ d. S.is_honest d.store.now };
+
+    ghost refused_calls = { λ d. S.refused_calls d.store.now };
+
+    ghost follows = { λ a b. (a.store.ghost_name ≡ b.store.ghost_name)
+        × (a.key.now ≡ b.key.now) × (S.held a.store.now ≡ S.held b.store.now)
+        × (S.is_honest a.store.now ≡ S.is_honest b.store.now)
+        × (S.accepted_writes a.store.now ≡ S.accepted_writes b.store.now) };
+
+    ghost held_bytes = { λ _. 0 };
+
+    #[tactic(auto, using(zarr_array_storage::proofs::PartialDecoderLemmas::source_counts, zarr_array_storage::proofs::PartialDecoderLemmas::source_refused))]
+    fn size(&mut self) -> Result<Option<u64>, CodecError> {
+        match self.store.size_key(self.key) {
+            Ok(size) => Ok(size),
+            Err(error) => {
+                let cause = of_storage(&error);
+                *self.refusal = Some(error);
+                Err(cause)
+            }
+        }
+    }
+
+    #[tactic(auto, using(zarr_array_storage::proofs::PartialDecoderLemmas::source_counts, zarr_array_storage::proofs::PartialDecoderLemmas::ranges_refused))]
+    fn partial_decode(
+        &mut self,
+        alloc: Global,
+        ranges: &[ByteRange],
+    ) -> Result<Option<Vec<Vec<u8>>>, CodecError> {
+        match self.store.get_partial(self.key, ranges) {
+            Ok(found) => Ok(found),
+            Err(error) => {
+                let cause = of_storage(&error);
+                *self.refusal = Some(error);
+                Err(cause)
+            }
+        }
+    }
+
+    fn size_held(&self) -> usize {
+        0
+    }
+
+    ghost same = { λ a b f. ap (λ held. get held a.key.now) f.2 ∙ ap (get (S.held b.store.now)) f.1 };
+
+    ghost honest = { λ _ _ f. f.3 };
+
+    ghost stays = { λ _. (refl, refl, refl, refl, refl) };
+
+    ghost goes_on = { λ _ _ _ f h. (f.0 ∙ h.0, f.1 ∙ h.1, f.2 ∙ h.2, f.3 ∙ h.3, f.4 ∙ h.4) };
+}

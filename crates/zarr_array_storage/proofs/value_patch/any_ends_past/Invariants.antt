@@ -1,6 +1,0 @@
-use Rattle.std.proofs.Common.{◌≡◌, drop}
-use Rattle.zarr_array_storage.specs.Ranges.{any_ends_past}
-use Rattle.zarr_array_storage.proofs.value_patch.any_ends_past.Given as goal
-
-abbrev pub invariant-loop-patch : goal.invariant-loop-patch
-invariant-loop-patch l = any_ends_past l.fn.len l.patches ≡ any_ends_past l.fn.len (drop l.patch-index l.patches)

@@ -1,0 +1,21 @@
+-- The value at a key of a store, written in part.
+use Rattle.std.specs.Prelude.{◌≡◌, List, ℕ}
+use Rattle.std.specs.FinMap.{remove}
+use Rattle.zarr_array_meaning.specs.StoreMaps.{StoreMap}
+use Rattle.zarr_codecs_arrays.specs.declared.error.CodecError.{CodecError}
+use Rattle.zarr_codecs_arrays.specs.declared.error.CodecError.TheVariants as codec
+use Rattle.zarr_array_storage.specs.declared.error.StorageError.{StorageError}
+use Rattle.zarr_array_storage.specs.declared.error.StorageError.TheVariants.{Io, InvalidMetadata, InvalidKey, InvalidByteRange, Other, Memory}
+
+-- two stores hold the same at every key but one
+abbrev pub SameElsewhere : List ℕ → StoreMap → StoreMap → Type 0
+SameElsewhere key before after = remove before key ≡ remove after key
+
+-- why a value isn't written where the store behind it refuses
+abbrev pub target_error : StorageError → CodecError
+target_error Io = codec.Source
+target_error (InvalidMetadata key text) = codec.Source
+target_error InvalidKey = codec.Source
+target_error InvalidByteRange = codec.Size
+target_error (Other text) = codec.Source
+target_error Memory = codec.Memory

@@ -1,0 +1,213 @@
+//! The value at a key of a store, written in part.
+ghost use Rattle.std.specs.Prelude.{◌≡◌, IsTrue, OnOk, OnErr};
+ghost use Rattle.std.specs.FinMap.{insert};
+ghost use Rattle.zarr_array_meaning.specs.StoreMaps.{counted};
+ghost use Rattle.zarr_array_storage.specs.PartialEncoders.{target_error};
+ghost use Rattle.zarr_array_storage.specs.Ranges.{patched_at};
+ghost use Rattle.zarr_array_storage.specs.Refusals.{OnByteRange, refused_after};
+ghost use Rattle.zarr_codecs_traits.specs.Patches.{any_too_far};
+
+use crate::error::StorageError;
+use crate::storage_partial_decoder::StoragePartialDecoder;
+use crate::traits::WritableStorageTraits;
+use std::alloc::Global;
+use zarr_codecs_arrays::CodecError;
+use zarr_codecs_traits::value_patch::{any_too_far, patched};
+use zarr_codecs_traits::{
+    ByteRange, BytesPartialDecoderTraits, BytesPartialEncoderTraits, ValuePatch,
+};
+use zarr_grids_keys::StoreKey;
+
+/// The value at a key of a store, which codecs read and write in part. Each writing call is one
+/// writing call of the store. Ranges are written by `set_partial` where the store supports it; else
+/// the value is read, and set with the ranges written into it. Where the store refuses a call, it
+/// keeps why.
+#[derive(Drop)]
+pub struct StoragePartialEncoder<'a, S> {
+    source: StoragePartialDecoder<'a, S>,
+}
+
+impl<'a, S: WritableStorageTraits> StoragePartialEncoder<'a, S> {
+    /// The value at a key of a store, or none where it has none.
+    pub fn new(store: &'a mut S, key: &'a StoreKey) -> Self
+        ensures same_store { result.source.store.ghost_name ≡ store.entry.ghost_name }
+        ensures store { result.source.store.now ≡ store.old }
+        ensures key { result.source.key.now ≡ key.now }
+    {
+        StoragePartialEncoder {
+            source: StoragePartialDecoder::new(store, key),
+        }
+    }
+
+    /// Why the store refused a call, if it refused one since this was last asked.
+    pub fn take_refusal(&mut self) -> Option<StorageError>
+        ensures same_store { self.new.source.store.ghost_name ≡ self.old.source.store.ghost_name }
+        ensures store { self.new.source.store.now ≡ self.old.source.store.now }
+        ensures key { self.new.source.key.now ≡ self.old.source.key.now }
+    {
+        self.source.take_refusal()
+    }
+
+    /// Keeps why the store refused to be written, and tells what that is to a codec.
+    fn refuse(&mut self, error: StorageError) -> CodecError
+        ensures cause { result ≡ target_error error }
+        ensures same_store { self.new.source.store.ghost_name ≡ self.old.source.store.ghost_name }
+        ensures store { self.new.source.store.now ≡ self.old.source.store.now }
+        ensures key { self.new.source.key.now ≡ self.old.source.key.now }
+    {
+        let cause = of_storage(&error);
+        self.source.keep(error);
+        cause
+    }
+}
+
+/// Why a value isn't written where a store refuses.
+fn of_storage(error: &StorageError) -> CodecError
+    ensures { result ≡ target_error error.now }
+{
+    match error {
+        StorageError::Memory => CodecError::Memory,
+        StorageError::InvalidByteRange => CodecError::Size,
+        _ => CodecError::Source,
+    }
+}
+
+/// Writes several ranges into the value at a key, in their order, by one writing call.
+fn write_ranges<S: WritableStorageTraits>(
+    alloc: Global,
+    store: &mut S,
+    key: &StoreKey,
+    patches: &[ValuePatch],
+) -> Result<(), StorageError>
+    ensures ok { IsTrue (S.is_honest store.old) → OnOk result (S.held store.new
+        ≡ insert (S.held store.old) key.now (patched_at (S.held store.old) key.now patches.now)) }
+    ensures err { IsTrue (S.is_honest store.old) →
+        OnErr result (S.held store.new ≡ S.held store.old) }
+    ensures honest { S.is_honest store.new ≡ S.is_honest store.old }
+    ensures refused { S.refused_calls store.new ≡
+        refused_after (S.refused_calls store.old) result }
+    ensures byte_range { IsTrue (S.is_honest store.old) →
+        OnByteRange result (IsTrue (any_too_far patches.now)) }
+    ensures accepted { OnOk result
+        (S.accepted_writes store.new ≡ counted (S.accepted_writes store.old) 1) }
+    ensures none_accepted { OnErr result
+        (S.accepted_writes store.new ≡ S.accepted_writes store.old) }
+{
+    if store.supports_set_partial() {
+        return store.set_partial(key, patches);
+    }
+    if any_too_far(patches) {
+        return Err(StorageError::InvalidByteRange);
+    }
+    let value = match store.get(key)? {
+        Some(held) => patched(alloc, Some(held.as_slice()), patches)?,
+        None => patched(alloc, None, patches)?,
+    };
+    store.set(key, value.as_slice())
+}
+
+impl<'a, S: WritableStorageTraits> BytesPartialDecoderTraits for StoragePartialEncoder<'a, S> {
+    ghost use Rattle.std.specs.Prelude.{◌≡◌, refl};
+    ghost use Rattle.std.proofs.Common.{ap, ◌∙◌};
+    ghost use Rattle.std.specs.FinMap.{get};
+
+    ghost contents = { λ e. get (S.held e.source.store.now) e.source.key.now };
+
+    ghost is_honest = { λ e. S.is_honest e.source.store.now };
+
+    ghost refused_calls = { λ e. S.refused_calls e.source.store.now };
+
+    ghost follows = { λ a b. (a.source.store.ghost_name ≡ b.source.store.ghost_name)
+        × (a.source.key.now ≡ b.source.key.now)
+        × (S.held a.source.store.now ≡ S.held b.source.store.now)
+        × (S.is_honest a.source.store.now ≡ S.is_honest b.source.store.now)
+        × (S.accepted_writes a.source.store.now ≡ S.accepted_writes b.source.store.now) };
+
+    ghost held_bytes = { λ _. 0 };
+
+    fn size(&mut self) -> Result<Option<u64>, CodecError> {
+        self.source.size()
+    }
+
+    fn partial_decode(
+        &mut self,
+        alloc: Global,
+        ranges: &[ByteRange],
+    ) -> Result<Option<Vec<Vec<u8>>>, CodecError> {
+        self.source.partial_decode(alloc, ranges)
+    }
+
+    fn size_held(&self) -> usize {
+        self.source.size_held()
+    }
+
+    ghost same = { λ a b f. ap (λ held. get held a.source.key.now) f.2
+        ∙ ap (get (S.held b.source.store.now)) f.1 };
+
+    ghost honest = { λ _ _ f. f.3 };
+
+    ghost stays = { λ _. (refl, refl, refl, refl, refl) };
+
+    ghost goes_on = { λ _ _ _ f h. (f.0 ∙ h.0, f.1 ∙ h.1, f.2 ∙ h.2, f.3 ∙ h.3, f.4 ∙ h.4) };
+}
+
+impl<'a, S: WritableStorageTraits> BytesPartialEncoderTraits for StoragePartialEncoder<'a, S> {
+    ghost use Rattle.std.specs.Prelude.{◌≡◌, IsTrue};
+    ghost use Rattle.std.proofs.Common.{ap, subst, sym, ◌∙◌};
+    ghost use Rattle.std.specs.FinMap.{remove};
+    ghost use Rattle.zarr_array_storage.specs.PartialEncoders.{SameElsewhere};
+
+    ghost accepted_writes = { λ e. S.accepted_writes e.source.store.now };
+
+    ghost rewrites = { λ a b. (a.source.store.ghost_name ≡ b.source.store.ghost_name)
+        × (a.source.key.now ≡ b.source.key.now)
+        × (S.is_honest a.source.store.now ≡ S.is_honest b.source.store.now)
+        × (IsTrue (S.is_honest a.source.store.now) → SameElsewhere a.source.key.now
+        (S.held a.source.store.now) (S.held b.source.store.now)) };
+
+    #[tactic(auto, using(crate::proofs::PartialEncoderLemmas::target_counts, crate::proofs::PartialEncoderLemmas::patches_refused, crate::proofs::PartialEncoderLemmas::get_inserted, crate::proofs::PartialEncoderLemmas::inserted_elsewhere))]
+    fn partial_encode(
+        &mut self,
+        alloc: Global,
+        patches: Vec<ValuePatch>,
+    ) -> Result<(), CodecError> {
+        let key = self.source.key;
+        match write_ranges(alloc, self.source.store, key, &patches) {
+            Ok(()) => Ok(()),
+            Err(error) => Err(self.refuse(error)),
+        }
+    }
+
+    #[tactic(auto, using(crate::proofs::PartialEncoderLemmas::target_counts, crate::proofs::PartialEncoderLemmas::target_refused, crate::proofs::PartialEncoderLemmas::get_inserted, crate::proofs::PartialEncoderLemmas::inserted_elsewhere))]
+    fn set(&mut self, value: Vec<u8>) -> Result<(), CodecError> {
+        let key = self.source.key;
+        match self.source.store.set(key, &value) {
+            Ok(()) => Ok(()),
+            Err(error) => Err(self.refuse(error)),
+        }
+    }
+
+    #[tactic(auto, using(crate::proofs::PartialEncoderLemmas::target_counts, crate::proofs::PartialEncoderLemmas::target_refused, crate::proofs::PartialEncoderLemmas::get_removed, crate::proofs::PartialEncoderLemmas::removed_elsewhere))]
+    fn erase(&mut self) -> Result<(), CodecError> {
+        let key = self.source.key;
+        match self.source.store.erase(key) {
+            Ok(()) => Ok(()),
+            Err(error) => Err(self.refuse(error)),
+        }
+    }
+
+    ghost reads = { λ a _ f. (f.0, f.1, f.3, λ _. ap (λ held. remove held a.source.key.now) f.2) };
+
+    ghost unwritten = { λ _ _ f. f.4 };
+
+    ghost still_honest = { λ _ _ f. f.2 };
+
+    ghost writes_on = { λ a b c f h. (
+      f.0 ∙ h.0,
+      f.1 ∙ h.1,
+      f.2 ∙ h.2,
+      λ honest. f.3 honest
+          ∙ subst (λ key. SameElsewhere key (S.held b.source.store.now) (S.held c.source.store.now))
+          (sym f.1) (h.3 (subst (λ b. IsTrue b) f.2 honest)),
+    ) };
+}

@@ -1,0 +1,161 @@
+//! The codec `squeeze`.
+ghost use Rattle.std.specs.Prelude.{◌≡◌, ◌==◌, not, IfOk};
+ghost use Rattle.std.specs.List.{filter};
+ghost use Rattle.zarr_codecs_meaning.specs.Places.{squeezed};
+
+use crate::metadata::is_empty;
+use crate::walks::kept;
+use std::alloc::{AllocError, Global};
+use zarr_codecs_arrays::{ArrayBytes, CodecError, Elements};
+use zarr_codecs_traits::ArrayToArrayCodecTraits;
+use zarr_grids_metadata::{MetadataV3, PluginCreateError};
+
+/// The codec `squeeze` (this project's profile): the elements in their row-major order, in the shape
+/// without its dimensions of size one, or [1] where there are no others. It suits each shape.
+#[derive(Clone, Copy, Debug, PartialEq, Eq)]
+pub struct SqueezeCodec {}
+
+impl SqueezeCodec {
+    ghost use Rattle.std.specs.Prelude.{◌≡◌, ◌≢◌, ◌<◌, ◌^◌, true, Some, None, IfOk, IfErr};
+    ghost use Rattle.zarr_grids_boxes.specs.Boxes.{product};
+    ghost use Rattle.zarr_grids_metadata.specs.Views.{point_of};
+    ghost use Rattle.zarr_codecs_meaning.specs.Fits.{array_codec_fits};
+    ghost use Rattle.zarr_codecs_meaning.specs.Places.{encoded_shape};
+    ghost use Rattle.zarr_codecs_array_to_array.specs.Moving.{are_places, moved_numbers};
+    ghost use Rattle.zarr_codecs_array_to_array.specs.Written.{array_codec_point, squeeze_in};
+    ghost use Rattle.zarr_codecs_array_to_array.specs.Views.{squeeze_of};
+    ghost use Rattle.zarr_codecs_meaning.specs.Chains.ArrayCodec.{squeeze};
+
+    /// `squeeze`.
+    pub fn new() -> SqueezeCodec {
+        SqueezeCodec {}
+    }
+
+    /// The numbers that places have after the codec, of the numbers that they have before it.
+    /// `Err` only where an allocation failed.
+    pub fn encoded_numbers(
+        &self,
+        alloc: Global,
+        shape: &[u64],
+        numbers: &[u64],
+    ) -> Result<Vec<u64>, AllocError>
+        requires fits { array_codec_fits (squeeze_of self.now) shape.now ≡ true }
+        requires inside { are_places shape.now numbers.now ≡ true }
+        requires small { product shape.now < 2 ^ 63 }
+        ensures moved { IfOk result
+            (λ made. made.items ≡ moved_numbers (squeeze_of self.now) shape.now numbers.now) }
+        ensures within { IfOk result (λ made.
+            are_places (encoded_shape (squeeze_of self.now) shape.now) made.items ≡ true) }
+    {
+        copied(alloc, numbers)
+    }
+
+    /// The codec that metadata describes. `NameUnsupported` where its name is neither `squeeze`
+    /// nor `zarrs.squeeze`, `MetadataInvalid` where its configuration has a member; `Memory` where an
+    /// allocation failed.
+    pub fn from_metadata(metadata: &MetadataV3) -> Result<SqueezeCodec, PluginCreateError>
+        ensures ok { IfOk result
+            (λ codec. squeeze_in (point_of metadata.now) ≡ Some (squeeze_of codec)) }
+        ensures err { IfErr result (λ e. e ≢ PluginCreateError.Memory
+            → squeeze_in (point_of metadata.now) ≡ None) }
+    {
+        let name = metadata.name();
+        if name != "squeeze" && name != "zarrs.squeeze" {
+            return Err(PluginCreateError::NameUnsupported);
+        }
+        if !is_empty(metadata.configuration()) {
+            return Err(PluginCreateError::MetadataInvalid);
+        }
+        Ok(SqueezeCodec::new())
+    }
+
+    /// The codec's metadata, of which `from_metadata` makes an equal codec. `Err` only where an
+    /// allocation failed.
+    pub fn metadata(&self, alloc: Global) -> Result<MetadataV3, AllocError>
+        ensures written { IfOk result
+            (λ metadata. point_of metadata ≡ array_codec_point (squeeze_of self.now)) }
+        ensures reads_back { IfOk result
+            (λ metadata. squeeze_in (point_of metadata) ≡ Some (squeeze_of self.now)) }
+    {
+        Ok(MetadataV3::new(String::from_str(alloc, "squeeze")?))
+    }
+
+    /// An equal codec. `Err` only where an allocation failed.
+    pub fn try_clone(&self, alloc: Global) -> Result<SqueezeCodec, AllocError>
+        ensures { IfOk result (λ codec. squeeze_of codec ≡ squeeze_of self.now) }
+    {
+        Ok(*self)
+    }
+}
+
+impl Default for SqueezeCodec {
+    fn default() -> SqueezeCodec {
+        SqueezeCodec::new()
+    }
+}
+
+impl ArrayToArrayCodecTraits for SqueezeCodec {
+    ghost use Rattle.zarr_codecs_array_to_array.specs.Views.{squeeze_of};
+
+    ghost meaning = { squeeze_of };
+
+    fn fits(&self, shape: &[u64]) -> bool {
+        true
+    }
+
+    fn encoded_shape(&self, alloc: Global, decoded_shape: &[u64]) -> Result<Vec<u64>, CodecError> {
+        Ok(squeezed(alloc, decoded_shape)?)
+    }
+
+    fn encode(
+        &self,
+        alloc: Global,
+        bytes: ArrayBytes,
+        elements: &Elements,
+        shape: &[u64],
+    ) -> Result<ArrayBytes, CodecError> {
+        kept(bytes, elements, shape)
+    }
+
+    fn decode(
+        &self,
+        alloc: Global,
+        bytes: ArrayBytes,
+        elements: &Elements,
+        shape: &[u64],
+    ) -> Result<ArrayBytes, CodecError> {
+        kept(bytes, elements, shape)
+    }
+}
+
+/// A shape without its dimensions of size one, or [1] where it has no others.
+fn squeezed(alloc: Global, shape: &[u64]) -> Result<Vec<u64>, AllocError>
+    ensures { IfOk result (λ v. v.items ≡ squeezed shape.now) }
+{
+    let mut sizes = without_ones(alloc, shape)?;
+    if sizes.is_empty() {
+        sizes.push(1)?;
+    }
+    Ok(sizes)
+}
+
+/// The sizes of a shape that are not one.
+fn without_ones(alloc: Global, shape: &[u64]) -> Result<Vec<u64>, AllocError>
+    ensures { IfOk result (λ v. v.items ≡ filter (λ size. not (size == 1)) shape.now) }
+{
+    let mut sizes = Vec::new(alloc);
+    for size in shape {
+        if *size != 1 {
+            sizes.push(*size)?;
+        }
+    }
+    Ok(sizes)
+}
+
+/// The same numbers, in memory of their own.
+fn copied(alloc: Global, numbers: &[u64]) -> Result<Vec<u64>, AllocError>
+    ensures { IfOk result (λ v. v.items ≡ numbers.now) }
+{
+    let copy = numbers.to_vec(alloc)?;
+    Ok(copy)
+}

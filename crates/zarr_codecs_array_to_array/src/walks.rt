@@ -1,0 +1,180 @@
+//! Elements moved to other places.
+ghost use Rattle.std.specs.Prelude.{◌≡◌, ◌<◌, map, slice_index, length, replicate, IfOk, OnOk};
+ghost use Rattle.std.specs.List.{range_with_len};
+ghost use Rattle.zarr_grids_boxes.specs.Boxes.{product, place_at};
+ghost use Rattle.zarr_codecs_meaning.specs.Places.{place_numbers, position_of};
+ghost use Rattle.zarr_codecs_arrays.specs.Views.{payload_of, elements_of};
+ghost use Rattle.zarr_codecs_array_to_array.specs.Moving.{Checks, Gathers, picked_number};
+
+use std::alloc::{AllocError, Global};
+use zarr_codecs_arrays::{ArrayBytes, CodecError, Elements};
+use zarr_codecs_regions::gather_elements;
+use zarr_grids_boxes::ravel_indices;
+use zarr_grids_boxes::walk::{count_places, place_into};
+
+/// How places of a shape are those of another one: dimension i of the other one is the dimension
+/// that stands at i among the picks.
+#[derive(Clone, Copy)]
+pub(crate) struct Route<'a> {
+    pub(crate) from: &'a [u64],
+    pub(crate) picks: &'a [u64],
+    pub(crate) to: &'a [u64],
+}
+
+/// Tests that these are the elements of an array of this shape.
+fn check(bytes: &ArrayBytes, elements: &Elements, shape: &[u64]) -> Result<(), CodecError>
+    ensures { Checks (elements_of elements.now).type (product shape.now) (payload_of bytes.now)
+        result }
+{
+    let Some(count) = count_places(shape) else {
+        return Err(CodecError::Size);
+    };
+    bytes.validate(elements.data_type(), count)
+}
+
+/// Elements of an array of this shape that stay in their row-major order.
+pub(crate) fn kept(
+    bytes: ArrayBytes,
+    elements: &Elements,
+    shape: &[u64],
+) -> Result<ArrayBytes, CodecError>
+    ensures { Gathers (elements_of elements.now) (product shape.now) (place_numbers shape.now)
+        (payload_of bytes) result }
+{
+    match check(&bytes, elements, shape) {
+        Ok(()) => Ok(bytes),
+        Err(error) => Err(error),
+    }
+}
+
+/// For each place of the first shape of a route, the element of its place in the other shape.
+pub(crate) fn gathered(
+    alloc: Global,
+    bytes: &ArrayBytes,
+    elements: &Elements,
+    route: Route<'_>,
+) -> Result<ArrayBytes, CodecError>
+    ensures { Gathers (elements_of elements.now) (product route.entry.to.now)
+        (map (picked_number route.entry.from.now route.entry.picks.now
+        route.entry.to.now) (place_numbers route.entry.from.now)) (payload_of bytes.now) result }
+{
+    if let Err(error) = check(bytes, elements, route.to) {
+        return Err(error);
+    }
+    let numbers = all_numbers(alloc, route.from)?;
+    let numbers = picked_numbers(alloc, route, &numbers)?;
+    Ok(gather_elements(alloc, bytes, elements, &numbers)?)
+}
+
+/// The numbers of all places of a shape.
+fn all_numbers(alloc: Global, shape: &[u64]) -> Result<Vec<u64>, AllocError>
+    ensures { IfOk result (λ v. v.items ≡ place_numbers shape.now) }
+{
+    let Some(count) = count_places(shape) else {
+        return Err(AllocError);
+    };
+    let mut numbers = Vec::with_capacity(alloc, count as usize)?;
+    for number in 0..count {
+        numbers.push(number)?;
+    }
+    Ok(numbers)
+}
+
+/// The numbers in the other shape of a route of the places that have these numbers in the first.
+/// `Err` only where an allocation failed, and where there is no such place or number.
+pub(crate) fn picked_numbers(
+    alloc: Global,
+    route: Route<'_>,
+    numbers: &[u64],
+) -> Result<Vec<u64>, AllocError>
+    ensures { IfOk result (λ v. v.items
+        ≡ map (picked_number route.entry.from.now route.entry.picks.now route.entry.to.now)
+        numbers.now) }
+{
+    let Some(count) = count_places(route.from) else {
+        return Err(AllocError);
+    };
+    let start = origin(alloc, route.from)?;
+    let mut place = origin(alloc, route.from)?;
+    let mut index = Vec::with_capacity(alloc, route.picks.len())?;
+    let mut picked = Vec::with_capacity(alloc, numbers.len())?;
+    for number in numbers {
+        if *number >= count {
+            return Err(AllocError);
+        }
+        place_of(&start, route.from, count, *number, &mut place);
+        pick(&place, route.picks, &mut index)?;
+        let Some(found) = ravel_indices(&index, route.to) else {
+            return Err(AllocError);
+        };
+        picked.push(found)?;
+    }
+    Ok(picked)
+}
+
+/// The first place of a shape.
+fn origin(alloc: Global, shape: &[u64]) -> Result<Vec<u64>, AllocError>
+    ensures { IfOk result (λ place. place.items ≡ replicate (length shape.now) 0) }
+{
+    vec![in alloc; 0u64; shape.len()]
+}
+
+/// Writes the place with a number, of a shape with so many places. The start is the first place.
+fn place_of(start: &[u64], shape: &[u64], count: u64, number: u64, place: &mut [u64])
+    requires start { start.now ≡ map (λ size. 0) shape.now }
+    requires room { length place.old ≡ length shape.now }
+    requires count { count ≡ product shape.now }
+    requires below { number < product shape.now }
+    ensures { place.new ≡ place_at (map (λ size. 0) shape.now) shape.now number }
+{
+    place_into(start, shape, count, number, place);
+}
+
+/// Replaces numbers by those that stand at these places of others. `Err` also where there is no
+/// such place.
+pub(crate) fn pick(place: &[u64], picks: &[u64], index: &mut Vec<u64>) -> Result<(), AllocError>
+    ensures { OnOk result (index.new.items ≡ map (slice_index place.now) picks.now) }
+{
+    index.clear();
+    for dimension in picks {
+        let Some(number) = place.get(*dimension as usize) else {
+            return Err(AllocError);
+        };
+        index.push(*number)?;
+    }
+    Ok(())
+}
+
+/// The sizes that stand at these places of a shape. `Err` also where there is no such place.
+pub(crate) fn permuted(alloc: Global, shape: &[u64], order: &[u64]) -> Result<Vec<u64>, AllocError>
+    ensures { IfOk result (λ v. v.items ≡ map (slice_index shape.now) order.now) }
+{
+    let mut sizes = Vec::with_capacity(alloc, order.len())?;
+    pick(shape, order, &mut sizes)?;
+    Ok(sizes)
+}
+
+/// Where each number below the length of an order stands in it.
+pub(crate) fn inverse(alloc: Global, order: &[u64]) -> Result<Vec<u64>, AllocError>
+    ensures { IfOk result (λ v. v.items
+        ≡ map (λ d. position_of d order.now) (range_with_len 0 (length order.now))) }
+{
+    let mut positions = Vec::with_capacity(alloc, order.len())?;
+    for dimension in 0..order.len() {
+        positions.push(position(order, dimension as u64))?;
+    }
+    Ok(positions)
+}
+
+fn position(order: &[u64], dimension: u64) -> u64
+    ensures { result ≡ position_of dimension order.now }
+{
+    let mut position: u64 = 0;
+    for named in order {
+        if *named == dimension {
+            return position;
+        }
+        position += 1;
+    }
+    position
+}

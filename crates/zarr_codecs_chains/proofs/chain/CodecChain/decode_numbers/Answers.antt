@@ -1,0 +1,29 @@
+use Rattle.std.proofs.Common.{◌≡◌, ◌∙◌, List, ap, subst, true}
+use Rattle.zarr_codecs_arrays.specs.Views.{elements_of}
+use Rattle.zarr_codecs_array_to_array.specs.Moving.{are_places}
+use Rattle.zarr_codecs_array_to_array.specs.declared.codec.ArrayToArrayCodec.{ArrayToArrayCodec}
+use Rattle.zarr_codecs_traits.specs.Indexers.{are_inside, asked_of, listed, numbers_asked}
+use Rattle.zarr_codecs_traits.specs.Outcomes.{DecodesPart}
+use Rattle.zarr_codecs_chains.specs.Views.{bytes_meaning, codecs_of, meaning_of, with_array_codecs}
+use Rattle.zarr_codecs_chains.proofs.PartChains.{asked_places, asked_by_numbers}
+use Rattle.zarr_codecs_chains.proofs.chain.CodecChain.decode_numbers.Goals as goal
+
+pub invariant_of-listed : goal.invariant_of-listed
+invariant_of-listed g c =
+    let shape = c.args.part.shape.now in
+    let asked = asked_of c.args.part.indexer in
+    let inside : are_inside shape asked ≡ true = c.in_default.ensures in
+    record { inside = ap (are_places shape) (c.as_slice.ensures.value ∙ c.in_ok-numbers.ensures) ∙ asked_places shape asked inside }
+
+pub returns-clause-part : goal.returns-clause-part
+returns-clause-part g c = λ honest.
+    let rest = bytes_meaning g.B.BytesToBytesCodecTraits.meaning c.args.self.now.others in
+    let chain = meaning_of g.B.BytesToBytesCodecTraits.meaning c.args.self.now in
+    let elements = elements_of c.args.part.elements.now in
+    let shape = c.args.part.shape.now in
+    let asked = asked_of c.args.part.indexer in
+    let stored = g.D.BytesPartialDecoderTraits.contents c.args.source.now in
+    let r = c.decode_listed_after.result in
+    let inside : are_inside shape asked ≡ true = c.in_default.ensures in
+    let found = subst (λ (codecs : List ArrayToArrayCodec). DecodesPart (with_array_codecs (codecs_of codecs) rest) elements shape stored (listed c.as_slice.result.now) r) c.as_slice-codecs.ensures.value (c.decode_listed_after.ensures.part honest) in
+    asked_by_numbers chain elements shape stored asked r inside (subst (λ ns. DecodesPart chain elements shape stored (listed ns) r) (c.as_slice.ensures.value ∙ c.in_ok-numbers.ensures) found)

@@ -1,0 +1,276 @@
+//! Codec chains without array to array codecs.
+ghost use Rattle.std.specs.Prelude.{◌≡◌, ℕ};
+ghost use Rattle.zarr_codecs_arrays.specs.Views.{elements_of};
+ghost use Rattle.zarr_codecs_traits.specs.Indexers.{asked_of};
+ghost use Rattle.zarr_codecs_traits.specs.Outcomes.{DecodesPart};
+ghost use Rattle.zarr_codecs_traits.specs.Sources.{refused_after, value_bytes};
+ghost use Rattle.zarr_codecs_chains.specs.Views.{codec_chain};
+
+use crate::array_to_bytes::ArrayToBytesCodec;
+use crate::asked::test_asked;
+use crate::byte_codecs::{copies, decode_all, encode_all, represent_all};
+use crate::metadata::{push_metadatas, read_codecs};
+use std::alloc::{AllocError, Global};
+use zarr_codecs_arrays::{ArrayBytes, CodecError, Elements};
+use zarr_codecs_options::CodecOptions;
+use zarr_codecs_traits::{
+    ArrayPart, ArrayToBytesCodecTraits, BytesPartialDecoderTraits, BytesRepresentation,
+    BytesToBytesCodecTraits, MemorySource, ValuePatch, read_value,
+};
+use zarr_codecs_types::DataType;
+use zarr_grids_metadata::{MetadataV3, PluginCreateError};
+
+/// A codec chain without array to array codecs: an array to bytes codec, and the caller's bytes to
+/// bytes codecs in the order in which they encode (Zarr core specification, "Codecs").
+#[derive(Debug, Drop)]
+pub(crate) struct BytesChain<B: BytesToBytesCodecTraits> {
+    array_to_bytes: ArrayToBytesCodec,
+    bytes_to_bytes: Vec<B>,
+}
+
+impl<B: BytesToBytesCodecTraits> BytesChain<B> {
+    ghost use Rattle.std.specs.Prelude.{◌≡◌, ◌≢◌, ◌++◌, ℕ, Some, None, map, IfOk, IfErr, OnOk};
+    ghost use Rattle.zarr_codecs_arrays.specs.Views.{elements_of};
+    ghost use Rattle.zarr_codecs_traits.specs.Indexers.{asked_of};
+    ghost use Rattle.zarr_codecs_traits.specs.Outcomes.{DecodesPart};
+    ghost use Rattle.zarr_codecs_traits.specs.Sources.{refused_after, value_bytes};
+    ghost use Rattle.zarr_codecs_chains.specs.Views.{bytes_meaning, bytes_points};
+    ghost use Rattle.zarr_codecs_metadata.specs.Chains.{bytes_chain_of, chain_of};
+    ghost use Rattle.zarr_grids_metadata.specs.Views.{point_of};
+
+    /// The chain that the metadata of its codecs names and describes, in their order.
+    pub(crate) fn from_metadata(
+        alloc: Global,
+        codecs: &[MetadataV3],
+    ) -> Result<BytesChain<B>, PluginCreateError>
+        ensures ok { IfOk result (λ chain. bytes_chain_of B.reads (map point_of codecs.now)
+            ≡ Some (bytes_meaning B.meaning chain)) }
+        ensures err { IfErr result (λ e. e ≢ PluginCreateError.Memory →
+            bytes_chain_of B.reads (map point_of codecs.now) ≡ None) }
+    {
+        let Some((first, others)) = codecs.split_first() else {
+            return Err(PluginCreateError::MetadataInvalid);
+        };
+        let array_to_bytes = match ArrayToBytesCodec::from_metadata(first) {
+            Ok(codec) => codec,
+            Err(error) => return Err(error),
+        };
+        match read_codecs(alloc, others) {
+            Ok(bytes_to_bytes) => Ok(BytesChain {
+                array_to_bytes,
+                bytes_to_bytes,
+            }),
+            Err(error) => Err(error),
+        }
+    }
+
+    /// Appends the metadata of the codecs, of which `from_metadata` makes an equal chain.
+    pub(crate) fn push_metadatas(
+        &self,
+        metadatas: &mut Vec<MetadataV3>,
+        alloc: Global,
+    ) -> Result<(), AllocError>
+        ensures written { OnOk result (map point_of metadatas.new.items
+            ≡ map point_of metadatas.old.items ++ bytes_points B.described self.now) }
+        ensures reads_back { OnOk result (chain_of B.reads (bytes_points B.described self.now)
+            ≡ Some (bytes_meaning B.meaning self.now)) }
+    {
+        metadatas.push(self.array_to_bytes.metadata(alloc)?)?;
+        push_metadatas(metadatas, alloc, self.bytes_to_bytes.as_slice())?;
+        Ok(())
+    }
+
+    /// The elements at the places that are asked for, of a value that was read, or of none.
+    fn decode_read(
+        &self,
+        alloc: Global,
+        value: Option<Vec<u8>>,
+        part: ArrayPart<'_>,
+        options: &CodecOptions,
+    ) -> Result<ArrayBytes, CodecError>
+        ensures part { DecodesPart (bytes_meaning B.meaning self.now)
+            (elements_of part.entry.elements.now) part.entry.shape.now (value_bytes value)
+            (asked_of part.entry.indexer) result }
+        ensures no_source { (count : ℕ) → refused_after count result ≡ count }
+    {
+        if !self
+            .array_to_bytes
+            .fits(alloc, part.elements.data_type(), part.shape)?
+        {
+            return Err(CodecError::Fit);
+        }
+        if let Err(error) = test_asked(part.shape, part.indexer) {
+            return Err(error);
+        }
+        let codec = self.array_to_bytes;
+        let Some(value) = value else {
+            return decode_inside(alloc, codec, None, part, options);
+        };
+        match decode_all(alloc, self.bytes_to_bytes.as_slice(), value) {
+            Ok(inside) => decode_inside(alloc, codec, Some(inside), part, options),
+            Err(error) => Err(error),
+        }
+    }
+}
+
+/// The elements at the places that are asked for, of a value of the codec, or of none.
+fn decode_inside(
+    alloc: Global,
+    codec: ArrayToBytesCodec,
+    inside: Option<Vec<u8>>,
+    part: ArrayPart<'_>,
+    options: &CodecOptions,
+) -> Result<ArrayBytes, CodecError>
+    ensures part { DecodesPart (codec_chain codec) (elements_of part.entry.elements.now)
+        part.entry.shape.now (value_bytes inside) (asked_of part.entry.indexer) result }
+    ensures no_source { (count : ℕ) → refused_after count result ≡ count }
+{
+    let mut source = MemorySource::new(inside);
+    codec.partial_decode(alloc, &mut source, part, options)
+}
+
+impl<B: BytesToBytesCodecTraits> ArrayToBytesCodecTraits for BytesChain<B> {
+    ghost use Rattle.std.specs.Prelude.{true};
+    ghost use Rattle.zarr_codecs_chains.specs.Views.{bytes_meaning, bytes_lawful};
+
+    ghost meaning = { bytes_meaning B.meaning };
+
+    ghost is_function = { λ chain. true };
+
+    fn fits(&self, alloc: Global, data_type: &DataType, shape: &[u64]) -> Result<bool, AllocError> {
+        self.array_to_bytes.fits(alloc, data_type, shape)
+    }
+
+    fn encode(
+        &self,
+        alloc: Global,
+        bytes: ArrayBytes,
+        elements: &Elements,
+        shape: &[u64],
+        options: &CodecOptions,
+    ) -> Result<Vec<u8>, CodecError> {
+        match self
+            .array_to_bytes
+            .encode(alloc, bytes, elements, shape, options)
+        {
+            Ok(made) => encode_all(alloc, self.bytes_to_bytes.as_slice(), made),
+            Err(error) => Err(error),
+        }
+    }
+
+    fn decode(
+        &self,
+        alloc: Global,
+        value: Vec<u8>,
+        elements: &Elements,
+        shape: &[u64],
+        options: &CodecOptions,
+    ) -> Result<ArrayBytes, CodecError> {
+        if !self
+            .array_to_bytes
+            .fits(alloc, elements.data_type(), shape)?
+        {
+            return Err(CodecError::Fit);
+        }
+        match decode_all(alloc, self.bytes_to_bytes.as_slice(), value) {
+            Ok(value) => self
+                .array_to_bytes
+                .decode(alloc, value, elements, shape, options),
+            Err(error) => Err(error),
+        }
+    }
+
+    fn encoded_representation(
+        &self,
+        alloc: Global,
+        data_type: &DataType,
+        shape: &[u64],
+    ) -> Result<BytesRepresentation, CodecError> {
+        match self
+            .array_to_bytes
+            .encoded_representation(alloc, data_type, shape)
+        {
+            Ok(size) => represent_all(self.bytes_to_bytes.as_slice(), size),
+            Err(error) => Err(error),
+        }
+    }
+
+    fn partial_decoder_capability(&self) -> bool {
+        self.bytes_to_bytes.is_empty() && self.array_to_bytes.partial_decoder_capability()
+    }
+
+    fn partial_encoder_capability(&self) -> bool {
+        self.bytes_to_bytes.is_empty() && self.array_to_bytes.partial_encoder_capability()
+    }
+
+    fn partial_decode_granularity(
+        &self,
+        alloc: Global,
+        shape: &[u64],
+    ) -> Result<Vec<u64>, AllocError> {
+        self.array_to_bytes.partial_decode_granularity(alloc, shape)
+    }
+
+    fn partial_decode<D: BytesPartialDecoderTraits>(
+        &self,
+        alloc: Global,
+        source: &mut D,
+        part: ArrayPart<'_>,
+        options: &CodecOptions,
+    ) -> Result<ArrayBytes, CodecError> {
+        if self.bytes_to_bytes.is_empty() {
+            return self
+                .array_to_bytes
+                .partial_decode(alloc, source, part, options);
+        }
+        match read_value(alloc, source) {
+            Ok(value) => self.decode_read(alloc, value, part, options),
+            Err(error) => Err(error),
+        }
+    }
+
+    fn supports_partial_encode(&self, data_type: &DataType) -> bool {
+        self.bytes_to_bytes.is_empty() && self.array_to_bytes.supports_partial_encode(data_type)
+    }
+
+    fn partial_encode(
+        &self,
+        alloc: Global,
+        bytes: ArrayBytes,
+        part: ArrayPart<'_>,
+        options: &CodecOptions,
+    ) -> Result<Option<Vec<ValuePatch>>, CodecError> {
+        if !self.bytes_to_bytes.is_empty() {
+            return Ok(None);
+        }
+        self.array_to_bytes
+            .partial_encode(alloc, bytes, part, options)
+    }
+
+    fn compact(
+        &self,
+        alloc: Global,
+        _: &[u8],
+        elements: &Elements,
+        shape: &[u64],
+        _: &CodecOptions,
+    ) -> Result<Option<Vec<u8>>, CodecError> {
+        if !self
+            .array_to_bytes
+            .fits(alloc, elements.data_type(), shape)?
+        {
+            return Err(CodecError::Fit);
+        }
+        Ok(None)
+    }
+
+    fn try_clone(&self, alloc: Global) -> Result<Self, AllocError> {
+        let bytes_to_bytes = copies(alloc, self.bytes_to_bytes.as_slice())?;
+        Ok(BytesChain {
+            array_to_bytes: self.array_to_bytes,
+            bytes_to_bytes,
+        })
+    }
+
+    ghost lawful = { bytes_lawful B.meaning B.lawful };
+}

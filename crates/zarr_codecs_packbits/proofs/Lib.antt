@@ -1,0 +1,6 @@
+pub mod BitLists
+pub mod Restored
+pub mod Turns
+pub mod PackedCells
+pub mod ReadsBack
+pub mod AskedParts

@@ -1,0 +1,4 @@
+pub mod Views
+pub mod Turning
+pub mod Packing
+pub mod Metadata

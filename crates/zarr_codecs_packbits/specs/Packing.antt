@@ -1,0 +1,29 @@
+-- Elements as bytes, packed and unpacked.
+use Rattle.std.specs.Prelude.{◌≡◌, ℕ, ◌*◌, List, [], take, drop, Option, unwrap_or, true}
+use Rattle.std.specs.List.{flat_map, list_all, range_with_len}
+use Rattle.zarr_codecs_types.specs.Views.{components_of}
+use Rattle.zarr_codecs_types.specs.declared.data_type.Component as declared
+use Rattle.zarr_codecs_packbits.specs.Views.{packbits_chain}
+use Rattle.zarr_codecs_packbits.specs.declared.codec.PackBitsCodec.{PackBitsCodec}
+use Rattle.zarr_codecs_meaning.specs.Types.{DataType, Component, components, bytes_in, cell_bytes}
+use Rattle.zarr_codecs_meaning.specs.Encoding.{element_bits, element_of_bits}
+use Rattle.zarr_codecs_meaning.specs.Fits.{bits_fit, bits_in, fits}
+use Rattle.zarr_codecs_meaning.specs.Payloads.{fixed_cells}
+
+-- the kept bits of the elements that bytes are
+abbrev pub kept_of : ℕ → Option ℕ → List Component → List ℕ → List ℕ
+kept_of first last parts bytes = flat_map (λ cell. element_bits first last parts (cell_bytes cell)) (fixed_cells (bytes_in parts) bytes)
+
+-- the bytes of the element at a place of a list of kept bits
+abbrev pub element_in : ℕ → Option ℕ → List Component → List ℕ → ℕ → List ℕ
+element_in first last parts bits place = element_of_bits first last parts (take (bits_in first last parts) (drop (place * bits_in first last parts) bits))
+
+-- the bytes of so many elements of a list of kept bits
+abbrev pub bytes_of : ℕ → Option ℕ → List Component → ℕ → List ℕ → List ℕ
+bytes_of first last parts count bits = flat_map (element_in first last parts bits) (range_with_len 0 count)
+
+-- the codec suits arrays of a type of these components
+pub record Suits (codec : PackBitsCodec) (type : DataType) (parts : List declared.Component) : Type 0 where
+  pub are : components_of parts ≡ components type
+  pub fit : fits (packbits_chain codec) type [] ≡ true
+  pub keeps : list_all (bits_fit (unwrap_or codec.first_bit 0) codec.last_bit) (components_of parts) ≡ true

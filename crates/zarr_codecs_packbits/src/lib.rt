@@ -1,0 +1,14 @@
+//! The codec `packbits`: the bits that are kept of elements of one size, one after another.
+#![tactic(auto)]
+
+mod asked;
+mod bits;
+pub mod codec;
+mod metadata;
+mod packing;
+mod padding;
+mod partial;
+mod sizes;
+mod turning;
+
+pub use codec::{PackBitsCodec, PackBitsPaddingEncoding};

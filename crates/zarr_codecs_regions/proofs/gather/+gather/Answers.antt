@@ -1,0 +1,35 @@
+use Rattle.std.proofs.Common.{◌≡◌, ◌∙◌, sym, ap, Some, flat_map, map, slice_index}
+use Rattle.std.proofs.lemmas.Result.{IfOk-weaker}
+use Rattle.zarr_codecs_meaning.specs.Types.{optional_of}
+use Rattle.zarr_codecs_meaning.specs.Payloads.{cells_in, optional}
+use Rattle.zarr_codecs_meaning.specs.Places.{gather}
+use Rattle.zarr_codecs_types.specs.Views.{type_of}
+use Rattle.zarr_codecs_arrays.specs.Views.{payload_of}
+use Rattle.zarr_codecs_regions.proofs.Gathers.{bytes_at, fixed_payload, masked_payload}
+use Rattle.zarr_codecs_regions.proofs.gather.+gather.Goals as goal
+
+pub returns-in_ok-gathered-in-Some : goal.returns-in_ok-gathered-in-Some
+returns-in_ok-gathered-in-Some t c cells other h all =
+    let type = type_of c.args.data_type.now in
+    let width = c.in-Some.width in
+    let numbers = c.args.numbers.now in
+    let told = sym c.in-Some.is ∙ c.byte_width.ensures in
+    fixed_payload type (payload_of c.args.bytes.now) width c.in-Fixed.bytes.items _ cells other numbers told (ap payload_of c.in-Fixed.is)
+    (c.in_ok-gathered-in-Some.ensures ∙ ap (λ bs. flat_map (bytes_at width bs) numbers) c.as_slice.ensures.value) h all
+
+pub returns-in_ok-mask-in-Optional-data_type : goal.returns-in_ok-mask-in-Optional-data_type
+returns-in_ok-mask-in-Optional-data_type t c cells other h all =
+    let whole = type_of c.args.data_type.now in
+    let numbers = c.args.numbers.now in
+    let payload = payload_of c.args.bytes.now in
+    let type = type_of c.deref-in-Optional-data_type.result.now in
+    let inner = payload_of c.deref.result.now in
+    let made = payload_of c.in_ok-gathered-in-Optional-data_type.gathered in
+    let marks = c.in_ok-mask-in-Optional-data_type.mask.items in
+    let mask = c.in-Optional.mask.items in
+    let t-is : whole ≡ optional_of type = ap type_of c.in-Optional-data_type.is ∙ ap (λ x. optional_of (type_of x)) (sym c.deref-in-Optional-data_type.ensures) in
+    let p-is : payload ≡ optional inner mask = ap payload_of c.in-Optional.is ∙ ap (λ x. optional (payload_of x) mask) (sym c.deref.ensures) in
+    let m-is : marks ≡ map (slice_index mask) numbers = c.in_ok-mask-in-Optional-data_type.ensures ∙ ap (λ ms. map (slice_index ms) numbers) c.as_slice-in-Optional-data_type.ensures.value in
+    let given = masked_payload whole type payload inner made mask marks cells other numbers t-is p-is m-is (λ below. c.in_ok-gathered-in-Optional-data_type.ensures below other) h all in
+    IfOk-weaker c.masked.result (λ a. payload_of a ≡ optional made marks) (λ a. cells_in whole (payload_of a) ≡ Some (gather other cells numbers))
+    (λ a e. ap (cells_in whole) e ∙ given) c.masked.ensures

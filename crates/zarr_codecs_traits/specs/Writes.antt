@@ -1,0 +1,21 @@
+-- What calls that write a value answer.
+use Rattle.std.specs.Prelude.{ℕ, ◌+◌, ◌-◌, ◌^◌, min, List, Result, Ok, Err, IsTrue}
+use Rattle.zarr_codecs_arrays.specs.declared.error.CodecError.{CodecError}
+use Rattle.zarr_codecs_arrays.specs.declared.error.CodecError.TheVariants as error
+use Rattle.zarr_codecs_traits.specs.Patches.{any_too_far}
+use Rattle.zarr_codecs_traits.specs.Sources.{ReadRefused}
+use Rattle.zarr_codecs_traits.specs.declared.value_patch.ValuePatch.{ValuePatch}
+
+-- the count of accepted writing calls after a call: one more where it was accepted (a count stands still at 2^128 - 1)
+abbrev pub accepted_after : {A : Type 0} → ℕ → Result A CodecError → ℕ
+accepted_after count (Ok value) = min (count + 1) (2 ^ 128 - 1)
+accepted_after count (Err e) = count
+
+-- why a value is not written, as why it is not read: what stands behind it refuses, or memory ran out
+abbrev pub WriteRefused : {A : Type 0} → Result A CodecError → Type 0
+WriteRefused result = ReadRefused result
+
+-- why ranges are not written: one ends past 2^63 - 1 bytes, or the value is not written
+abbrev pub PatchesRefused : {A : Type 0} → List ValuePatch → Result A CodecError → Type 0
+PatchesRefused patches (Err error.Size) = IsTrue (any_too_far patches)
+PatchesRefused patches result = WriteRefused result
