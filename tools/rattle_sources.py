@@ -57,11 +57,13 @@ def block_name(kind: str, head: str) -> str:
     head = re.split(r"\bwhere\b", head.strip())[0].strip()
     if kind == "trait":
         return re.match(r"\w*", head)[0]
-    head = head[leading_parameters(head) :].strip()
+    start = leading_parameters(head)
+    own, head = re.findall(r"[<,]\s*(?:const\s+)?(\w+)", head[:start]), head[start:].strip()
     trait, is_of_trait, of_type = head.partition(" for ")
     name = without_parameters(of_type if is_of_trait else trait).strip().split("::")[-1].strip()
     if is_of_trait:
-        plain = re.sub(r"(\w+::)+", "", trait)
+        # (a check leaves out the block's own parameters)
+        plain = re.sub(rf"\b({'|'.join(own)})\b" if own else "$^", "", re.sub(r"(\w+::)+", "", trait))
         name += re.sub(r"[^\w]", "", plain)
     return name
 

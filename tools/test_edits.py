@@ -194,6 +194,7 @@ class ChoosingBatches(unittest.TestCase):
     def test_blocks_are_named_as_a_check_names_them(self):
         self.assertEqual(block_name("impl", "<'a> Iterator for Walk<'a> "), "WalkIterator")
         self.assertEqual(block_name("impl", " From<std::alloc::AllocError> for Fault "), "FaultFromAllocError")
+        self.assertEqual(block_name("impl", "<T: Drop> From<AllocFailed<T>> for Fault "), "FaultFromAllocFailed")
 
 
 class CopyingFunctions(unittest.TestCase):

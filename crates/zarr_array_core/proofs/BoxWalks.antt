@@ -1,17 +1,15 @@
 -- What an array knows of a write of a box.
-use Rattle.std.proofs.Common.{◌≡◌, ◌*◌, ℕ, List, length, Some, true}
+use Rattle.std.proofs.Common.{◌≡◌, ℕ, List, length, true}
 use Rattle.std.specs.List.{list_all}
 use Rattle.zarr_grids_boxes.specs.Boxes.{Region}
 use Rattle.zarr_grids_cover.specs.Intersecting.{AreIntersecting}
 use Rattle.zarr_codecs_meaning.specs.Chains.{Chain}
 use Rattle.zarr_codecs_meaning.specs.Laws.{IsLawfulChain}
-use Rattle.zarr_codecs_meaning.specs.Payloads.{fixed, fixed_cells, cells_in}
 use Rattle.zarr_codecs_meaning.specs.Types.{Cell, is_value}
 use Rattle.zarr_array_core.specs.Views.{document_of, path_of}
 use Rattle.zarr_array_core.specs.declared.array_core.ArrayCore.{ArrayCore}
 use Rattle.zarr_array_core.proofs.ChunkBoxes.{key_apart}
 use Rattle.zarr_array_core.proofs.ChunksWritten.{IsWalk}
-use Rattle.zarr_array_core.proofs.Payloads.{fixed_listed}
 
 pub walk_of : {C : Type 0} (meaning : C → Chain) (lawful : (codec : C) → IsLawfulChain (meaning codec)) (array : ArrayCore C) (region chunks : Region) (given : List Cell) → length region.start ≡ length region.shape → length chunks.start ≡ length chunks.shape
     → length region.start ≡ length (document_of meaning array).grid → AreIntersecting (document_of meaning array).grid region chunks → list_all (is_value (document_of meaning array).elements.type) given ≡ true
@@ -25,6 +23,3 @@ walk_of meaning lawful array region chunks given region_rank chunks_rank rank me
   chunks_rank = chunks_rank;
   intersecting = meets;
 }
-
-pub given_listed : {C : Type 0} (meaning : C → Chain) (array : ArrayCore C) (count : ℕ) (bytes : List ℕ) → length bytes ≡ count * array.width → cells_in (document_of meaning array).elements.type (fixed bytes) ≡ Some (fixed_cells array.width bytes)
-given_listed meaning array count bytes long = fixed_listed (document_of meaning array).elements.type array.width count bytes array.sized array.some long

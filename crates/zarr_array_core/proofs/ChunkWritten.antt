@@ -39,7 +39,7 @@ use Rattle.zarr_array_meaning.specs.StoreMaps.{StoreMap}
 use Rattle.zarr_array_meaning.specs.Writing.{HasKeys, WroteChunks}
 use Rattle.zarr_array_core.specs.ChunkValues.{CellsBecome, MakesValue, with_value}
 use Rattle.zarr_array_core.proofs.ChunkCells.{all_in_range, held_place}
-use Rattle.zarr_array_core.proofs.FixedCells.{cell_of_places, number_below}
+use Rattle.zarr_array_elements.proofs.FixedCells.{cell_of_places, number_below}
 use Rattle.zarr_array_core.proofs.Listed.{listed_one, one_listed}
 
 -- ---- lists of the cells of a box

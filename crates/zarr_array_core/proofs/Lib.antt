@@ -2,13 +2,9 @@ pub mod Listed
 pub mod ChunkBoxes
 pub mod MetChunks
 pub mod Erased
-pub mod FixedCells
-pub mod Payloads
-pub mod Meeting
 pub mod Selected
 pub mod Placed
 pub mod ReadSoFar
-pub mod OneText
 pub mod ChunkPayloads
 pub mod ChunkCells
 pub mod PartBoxes

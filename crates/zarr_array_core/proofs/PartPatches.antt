@@ -12,7 +12,7 @@ use Rattle.zarr_grids_boxes.proofs.Places.{both, length-each2}
 use Rattle.zarr_grids_boxes.proofs.Steps.{in_box_same}
 use Rattle.zarr_codecs_meaning.specs.Decoding.{decoded}
 use Rattle.zarr_codecs_meaning.specs.Fits.{is_lossless}
-use Rattle.zarr_codecs_meaning.specs.Payloads.{fixed, fixed_cells}
+use Rattle.zarr_codecs_meaning.specs.Payloads.{Payload}
 use Rattle.zarr_codecs_meaning.specs.Places.{places_of}
 use Rattle.zarr_codecs_meaning.specs.Standing.{Stands}
 use Rattle.zarr_codecs_meaning.specs.Types.{Cell, is_value, is_fill, same_cell, bytes_in, components, byte_width}
@@ -30,11 +30,10 @@ use Rattle.zarr_array_meaning.specs.StoreMaps.{StoreMap}
 use Rattle.zarr_array_core.specs.ChunkValues.{CellsBecome, MakesValue, NewValueStops, with_value}
 use Rattle.zarr_array_core.specs.PartWrites.{PatchesChunk}
 use Rattle.zarr_array_core.specs.declared.error.ChunkError.TheVariants as error
-use Rattle.zarr_array_core.proofs.ChunkPayloads.{AreArrayElements, decoded_chunk_values, fixed_type}
-use Rattle.zarr_array_core.proofs.FixedCells.{cell_of_places, number_below}
-use Rattle.zarr_array_core.proofs.Meeting.{IsMeeting, in_zeros, meeting}
+use Rattle.zarr_array_core.proofs.ChunkPayloads.{AreArrayElements, decoded_chunk_values}
+use Rattle.zarr_array_elements.proofs.FixedCells.{cell_of_places, number_below}
+use Rattle.zarr_array_elements.proofs.Meeting.{IsMeeting, in_zeros, meeting}
 use Rattle.zarr_array_core.proofs.PartBoxes.{in_part, minus_zeros, number_in_part}
-use Rattle.zarr_array_core.proofs.Payloads.{fixed_listed}
 
 -- ---- tests of all cells
 
@@ -152,39 +151,38 @@ unless_all false h = refl
 -- ---- the value
 
 -- elements of a box that lie in a chunk, to be written into its value
-pub record AreShared (document : Document) (width : ℕ) (region box : Region) (given bytes : List ℕ) (store_empty : Bool) : Type 0 where
+pub record AreShared (document : Document) (region box : Region) (given : List Cell) (payload : Payload) (sub : List Cell) (store_empty : Bool) : Type 0 where
   pub share : share_place box.start box.shape region.start region.shape ≡ true
   pub rank : length region.start ≡ length box.start
   pub fit : fits_box document box ≡ true
   pub fine : is_value document.elements.type document.elements.fill ≡ true
-  pub are : AreArrayElements document.elements width (overlapped region box).shape bytes
-  pub becomes : CellsBecome document region (fixed_cells width given) None (overlapped region box) (fixed_cells width bytes)
-  pub some : store_empty ≡ false → is_fill document.elements.fill (fixed_cells width bytes) ≡ false
+  pub are : AreArrayElements document.elements (overlapped region box).shape payload sub
+  pub becomes : CellsBecome document region given None (overlapped region box) sub
+  pub some : store_empty ≡ false → is_fill document.elements.fill sub ≡ false
 
 -- the cells that the codec put into the value are those of the box
-put_cells : (document : Document) (exact : Bool) (width : ℕ) (region box : Region) (given bytes : List ℕ) (store_empty : Bool) (cells : List Cell) (patches : List ValuePatch) → AreShared document width region box given bytes store_empty
-    → IsEncodedPart document.chain exact document.elements box.shape (part_of region box) (fixed bytes) cells patches → cells ≡ fixed_cells width bytes
-put_cells document exact width region box given bytes store_empty cells patches are h =
-    some_same (sym h.valid.is.lists ∙ fixed_listed document.elements.type width (product (overlapped region box).shape) bytes are.are.sized are.are.some are.are.long)
+put_cells : (document : Document) (exact : Bool) (region box : Region) (given : List Cell) (payload : Payload) (sub : List Cell) (store_empty : Bool) (cells : List Cell) (patches : List ValuePatch) → AreShared document region box given payload sub store_empty
+    → IsEncodedPart document.chain exact document.elements box.shape (part_of region box) payload cells patches → cells ≡ sub
+put_cells document exact region box given payload sub store_empty cells patches are h =
+    some_same (sym h.valid.is.lists ∙ are.are.valid.is.lists)
 
-part_stands : (document : Document) (exact : Bool) (width : ℕ) (region box : Region) (given bytes : List ℕ) (store_empty : Bool) (cells : List Cell) (patches : List ValuePatch) → AreShared document width region box given bytes store_empty
-    → IsEncodedPart document.chain exact document.elements box.shape (part_of region box) (fixed bytes) cells patches → (value : List ℕ) (before : List Cell) → decoded document.chain document.elements box.shape value ≡ Some before
-    → is_lossless document.chain document.elements.type ≡ true → Stands document.chain document.elements box.shape (patched value patches) (new_cells document.elements.fill region box (fixed_cells width bytes) before)
-part_stands document exact width region box given bytes store_empty cells patches are h value before is lossless =
-    subst (λ (cs : List Cell). Stands document.chain document.elements box.shape (patched value patches) (new_cells document.elements.fill region box cs before)) (put_cells document exact width region box given bytes store_empty cells patches are h)
+part_stands : (document : Document) (exact : Bool) (region box : Region) (given : List Cell) (payload : Payload) (sub : List Cell) (store_empty : Bool) (cells : List Cell) (patches : List ValuePatch) → AreShared document region box given payload sub store_empty
+    → IsEncodedPart document.chain exact document.elements box.shape (part_of region box) payload cells patches → (value : List ℕ) (before : List Cell) → decoded document.chain document.elements box.shape value ≡ Some before
+    → is_lossless document.chain document.elements.type ≡ true → Stands document.chain document.elements box.shape (patched value patches) (new_cells document.elements.fill region box sub before)
+part_stands document exact region box given payload sub store_empty cells patches are h value before is lossless =
+    subst (λ (cs : List Cell). Stands document.chain document.elements box.shape (patched value patches) (new_cells document.elements.fill region box cs before)) (put_cells document exact region box given payload sub store_empty cells patches are h)
     (h.stands lossless value before is)
 
-part_become : (document : Document) (width : ℕ) (region box : Region) (given bytes : List ℕ) (store_empty : Bool) (value : List ℕ) (before : List Cell) → AreShared document width region box given bytes store_empty → decoded document.chain document.elements box.shape value ≡ Some before
-    → CellsBecome document region (fixed_cells width given) (Some value) box (new_cells document.elements.fill region box (fixed_cells width bytes) before)
-part_become document width region box given bytes store_empty value before are is =
+part_become : (document : Document) (region box : Region) (given : List Cell) (payload : Payload) (sub : List Cell) (store_empty : Bool) (value : List ℕ) (before : List Cell) → AreShared document region box given payload sub store_empty → decoded document.chain document.elements box.shape value ≡ Some before
+    → CellsBecome document region given (Some value) box (new_cells document.elements.fill region box sub before)
+part_become document region box given payload sub store_empty value before are is =
     let fill = document.elements.fill in
     let test = is_value document.elements.type in
-    let sub = fixed_cells width bytes in
     let meet = meeting region box are.share in
-    let others = decoded_chunk_values document.chain document.elements box.shape (Some value) before (fixed_type document.elements.type width are.are.sized) are.fine are.fit is in
+    let others = decoded_chunk_values document.chain document.elements box.shape (Some value) before are.fine are.fit is in
     record {
       many = new_length fill region box sub before;
-      values = new_values test fill region box sub before are.fine are.are.values others;
+      values = new_values test fill region box sub before are.fine are.are.valid.values others;
       written = λ place r t.
           let s : is_in_box (overlapped region box).start (overlapped region box).shape place ≡ true = meet.both place ∙ (ap (λ (b : Bool). b && is_in_box box.start box.shape place) r ∙ t) in
           cell_in fill region box sub before place are.rank t s ∙ are.becomes.written place r s;
@@ -198,11 +196,10 @@ part_become document width region box given bytes store_empty value before are i
     }
 
 -- the ranges of a codec, written into a chunk's value
-pub part_patches : (document : Document) (exact : Bool) (width : ℕ) (region box : Region) (given bytes : List ℕ) (store_empty : Bool) (patches : Vec ValuePatch Global) → AreShared document width region box given bytes store_empty
-    → EncodesPart document.chain exact document.elements box.shape (part_of region box) (fixed bytes) (Ok (Some patches)) → PatchesChunk document region (fixed_cells width given) store_empty box patches.items
-part_patches document exact width region box given bytes store_empty patches are h =
+pub part_patches : (document : Document) (exact : Bool) (region box : Region) (given : List Cell) (payload : Payload) (sub : List Cell) (store_empty : Bool) (patches : Vec ValuePatch Global) → AreShared document region box given payload sub store_empty
+    → EncodesPart document.chain exact document.elements box.shape (part_of region box) payload (Ok (Some patches)) → PatchesChunk document region given store_empty box patches.items
+part_patches document exact region box given payload sub store_empty patches are h =
     let fill = document.elements.fill in
-    let sub = fixed_cells width bytes in
     let meet = meeting region box are.share in
     record {
       near = h.1.near;
@@ -211,20 +208,20 @@ part_patches document exact width region box given bytes store_empty patches are
           record {
             fit = are.fit;
             cells = cells;
-            becomes = part_become document width region box given bytes store_empty value before are is;
+            becomes = part_become document region box given payload sub store_empty value before are is;
             is = record {
               absent = λ none. let no : Some (patched value patches.items) ≡ None = none in cc;
               present = λ made same empty. unless_all (is_fill fill cells) (not_filled fill region box sub before are.rank meet are.becomes.many (are.some empty));
-              stands = part_stands document exact width region box given bytes store_empty h.0 patches.items are h.1 value before is;
+              stands = part_stands document exact region box given payload sub store_empty h.0 patches.items are h.1 value before is;
             };
           };
     }
 
 -- whatever ranges it gave
-pub found_patches : (document : Document) (exact : Bool) (width : ℕ) (region box : Region) (given bytes : List ℕ) (store_empty : Bool) (found : Option (Vec ValuePatch Global)) → AreShared document width region box given bytes store_empty
-    → EncodesPart document.chain exact document.elements box.shape (part_of region box) (fixed bytes) (Ok found) → IfSome found (λ patches. PatchesChunk document region (fixed_cells width given) store_empty box patches.items)
-found_patches document exact width region box given bytes store_empty None are h = tt
-found_patches document exact width region box given bytes store_empty (Some patches) are h = part_patches document exact width region box given bytes store_empty patches are h
+pub found_patches : (document : Document) (exact : Bool) (region box : Region) (given : List Cell) (payload : Payload) (sub : List Cell) (store_empty : Bool) (found : Option (Vec ValuePatch Global)) → AreShared document region box given payload sub store_empty
+    → EncodesPart document.chain exact document.elements box.shape (part_of region box) payload (Ok found) → IfSome found (λ patches. PatchesChunk document region given store_empty box patches.items)
+found_patches document exact region box given payload sub store_empty None are h = tt
+found_patches document exact region box given payload sub store_empty (Some patches) are h = part_patches document exact region box given payload sub store_empty patches are h
 
 -- ---- values of the right size
 

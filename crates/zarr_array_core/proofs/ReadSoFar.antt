@@ -5,7 +5,6 @@ use Rattle.std.specs.FinMap.{get}
 use Rattle.std.specs.List.{list_any}
 use Rattle.std.specs.Option.{option_map_or}
 use Rattle.std.proofs.lemmas.Bool.{false≢true}
-use Rattle.std.proofs.lemmas.Grind.{common_steps}
 use Rattle.std.proofs.lemmas.List.{get_or-replicate}
 use Rattle.std.proofs.lemmas.Slice.Eq.{bytes_eq-Decides}
 use Rattle.zarr_grids_boxes.specs.Boxes.{Region, product, place_at, is_in_box, share_place}
@@ -18,25 +17,22 @@ use Rattle.zarr_grids_chunks.proofs.Partition.{lies_here}
 use Rattle.zarr_grids_cover.proofs.ChunkLaws.{chunks_apart}
 use Rattle.zarr_grids_cover.specs.Intersecting.{AreIntersecting}
 use Rattle.zarr_codecs_meaning.specs.Chunks.{chunk_part}
-use Rattle.zarr_codecs_meaning.specs.Payloads.{fixed, fixed_cells}
-use Rattle.zarr_codecs_meaning.specs.Types.{Cell, byte_width}
+use Rattle.zarr_codecs_meaning.specs.Types.{Cell}
 use Rattle.zarr_array_meaning.specs.Boxes.{cell_of_box, IsPlaceOf, IsRead, IsUnfitIn}
 use Rattle.zarr_array_meaning.specs.Chunks.{number_in, stored_at, fits_box, ReadsCell, is_listed}
 use Rattle.zarr_array_meaning.specs.Documents.{Document}
 use Rattle.zarr_array_meaning.specs.StoreMaps.{StoreMap}
 use Rattle.zarr_array_storage.specs.Stores.{value_bytes}
 use Rattle.zarr_array_core.specs.Outcomes.{GivesBox, ReadStops, refused_after, refused_with}
-use Rattle.zarr_array_core.specs.Parts.{cell_in, IsPlaced, GivesChunk, ValueStops}
+use Rattle.zarr_array_core.specs.Parts.{IsPlaced, GivesChunk, ValueStops}
 use Rattle.zarr_array_core.specs.declared.error.ChunkError.{ChunkError}
 use Rattle.zarr_array_core.specs.declared.error.ChunkError.TheVariants as error
-use Rattle.zarr_array_core.proofs.FixedCells.{length-fixed_cells}
 use Rattle.zarr_array_core.proofs.Listed.{list_any-append, listed_more, intersecting_listed}
 use Rattle.zarr_array_core.proofs.MetChunks.{first_chunks, first_chunks-more, first_chunks-all}
-use Rattle.zarr_array_core.proofs.Payloads.{fixed_listed}
 use Rattle.zarr_array_core.proofs.Placed.{same_box}
 
 -- ---- why a chunk is not read
-value_stops : (path : List ℕ) (document : Document) (store : StoreMap) (region : Region) (chunk : List ℕ) (box : Region) (e : ChunkError) → IsInGrid document.grid chunk box
+pub value_stops : (path : List ℕ) (document : Document) (store : StoreMap) (region : Region) (chunk : List ℕ) (box : Region) (e : ChunkError) → IsInGrid document.grid chunk box
     → ValueStops document region box (stored_at path document store chunk) e → ReadStops path document store region e
 value_stops path document store region chunk box error.Fit below h = elim h [ ]
 value_stops path document store region chunk box (error.Storage s) below h = tt
@@ -70,14 +66,14 @@ pub unfit_stops : (path : List ℕ) (document : Document) (store : StoreMap) (re
 unfit_stops path document store region chunk found shares some h = record { chunk = chunk; box = found.0; below = found.1; shares = shares; stored = some; fit = h found.0 found.1 }
 
 -- ---- the chunks that were read so far: their places show what is read of them, and the other places are fill values
-pub record ReadSoFar (path : List ℕ) (document : Document) (width : ℕ) (store : StoreMap) (region : Region) (chunks : List (List ℕ)) (bytes : List ℕ) : Type 0 where
-  pub each : (chunk : List ℕ) (box : Region) (place : List ℕ) → IsPlaceOf document region chunk box place → is_listed chunks chunk ≡ true → ReadsCell path document store chunk box place (cell_in document width region bytes place)
-  pub rest : (place : List ℕ) → is_in_box region.start region.shape place ≡ true → list_any (lies_in_chunk document.grid place) chunks ≡ false → cell_in document width region bytes place ≡ document.elements.fill
+pub record ReadSoFar (path : List ℕ) (document : Document) (store : StoreMap) (region : Region) (chunks : List (List ℕ)) (cells : List Cell) : Type 0 where
+  pub each : (chunk : List ℕ) (box : Region) (place : List ℕ) → IsPlaceOf document region chunk box place → is_listed chunks chunk ≡ true → ReadsCell path document store chunk box place (cell_of_box region cells document.elements.fill place)
+  pub rest : (place : List ℕ) → is_in_box region.start region.shape place ≡ true → list_any (lies_in_chunk document.grid place) chunks ≡ false → cell_of_box region cells document.elements.fill place ≡ document.elements.fill
   pub fit : (chunk : List ℕ) (box : Region) → IsInGrid document.grid chunk box → is_listed chunks chunk ≡ true → is_some (stored_at path document store chunk) ≡ true → fits_box document box ≡ true
 
 -- no chunk
-pub read_none : (path : List ℕ) (document : Document) (width : ℕ) (store : StoreMap) (region : Region) (bytes : List ℕ) → fixed_cells width bytes ≡ replicate (product region.shape) document.elements.fill → ReadSoFar path document width store region [] bytes
-read_none path document width store region bytes fill = record {
+pub read_none : (path : List ℕ) (document : Document) (store : StoreMap) (region : Region) (cells : List Cell) → cells ≡ replicate (product region.shape) document.elements.fill → ReadSoFar path document store region [] cells
+read_none path document store region cells fill = record {
   each = λ chunk box place is listed. absurd (false≢true listed);
   rest = λ place t none.
       let below = ravel_below _ region.shape (in_box_below region.start region.shape place t) in
@@ -106,36 +102,36 @@ empty_shows path document store chunk box place cell none e =
 -- ---- one more chunk
 
 -- what stays where a place lies outside of the chunk
-stays : (path : List ℕ) (document : Document) (width : ℕ) (store : StoreMap) (region : Region) (chunk : List ℕ) (box : Region) (old new place : List ℕ)
-    → GivesChunk path document width store region chunk box old new → is_in_box region.start region.shape place ≡ true → is_in_box box.start box.shape place ≡ false
-    → cell_in document width region new place ≡ cell_in document width region old place
-stays path document width store region chunk box old new place h t out = ⊎_elim (λ k. ap (λ bytes. cell_in document width region bytes place) k.1) (λ k. k.kept place t out) h
+stays : (path : List ℕ) (document : Document) (store : StoreMap) (region : Region) (chunk : List ℕ) (box : Region) (old new : List Cell) (place : List ℕ)
+    → GivesChunk path document store region chunk box old new → is_in_box region.start region.shape place ≡ true → is_in_box box.start box.shape place ≡ false
+    → cell_of_box region new document.elements.fill place ≡ cell_of_box region old document.elements.fill place
+stays path document store region chunk box old new place h t out = ⊎_elim (λ k. ap (λ cells. cell_of_box region cells document.elements.fill place) k.1) (λ k. k.kept place t out) h
 
 -- what a chunk that has no value shows where the box stays as it was
-still_shows : (path : List ℕ) (document : Document) (width : ℕ) (store : StoreMap) (region : Region) (cs : List (List ℕ)) (chunk : List ℕ) (box : Region) (old place : List ℕ) → stored_at path document store chunk ≡ None
-    → IsPlaceOf document region chunk box place → ReadSoFar path document width store region cs old
-    → ReadsCell path document store chunk box place (cell_in document width region old place)
-still_shows path document width store region cs chunk box old place none is first =
+still_shows : (path : List ℕ) (document : Document) (store : StoreMap) (region : Region) (cs : List (List ℕ)) (chunk : List ℕ) (box : Region) (old : List Cell) (place : List ℕ) → stored_at path document store chunk ≡ None
+    → IsPlaceOf document region chunk box place → ReadSoFar path document store region cs old
+    → ReadsCell path document store chunk box place (cell_of_box region old document.elements.fill place)
+still_shows path document store region cs chunk box old place none is first =
     ⊎_elim
     (λ t.
     let among = any_lies document.grid place cs t in
     let same : among.0 ≡ chunk = chunks_apart document.grid among.0 chunk place among.2 (lies_here document.grid chunk place box is.below.has_box ∙ is.of_chunk) in
     first.each chunk box place is (ap (is_listed cs) (sym same) ∙ among.1))
-    (λ t. empty_shows path document store chunk box place (cell_in document width region old place) none (first.rest place is.of_region t))
+    (λ t. empty_shows path document store chunk box place (cell_of_box region old document.elements.fill place) none (first.rest place is.of_region t))
     (told (list_any (lies_in_chunk document.grid place) cs))
 
 -- what the chunk itself shows
-shows : (path : List ℕ) (document : Document) (width : ℕ) (store : StoreMap) (region : Region) (cs : List (List ℕ)) (chunk : List ℕ) (box : Region) (old new place : List ℕ)
-    → GivesChunk path document width store region chunk box old new → IsPlaceOf document region chunk box place → ReadSoFar path document width store region cs old
-    → ReadsCell path document store chunk box place (cell_in document width region new place)
-shows path document width store region cs chunk box old new place h is first = ⊎_elim
-    (λ k. subst (λ bytes. ReadsCell path document store chunk box place (cell_in document width region bytes place)) (sym k.1) (still_shows path document width store region cs chunk box old place k.0 is first))
+shows : (path : List ℕ) (document : Document) (store : StoreMap) (region : Region) (cs : List (List ℕ)) (chunk : List ℕ) (box : Region) (old new : List Cell) (place : List ℕ)
+    → GivesChunk path document store region chunk box old new → IsPlaceOf document region chunk box place → ReadSoFar path document store region cs old
+    → ReadsCell path document store chunk box place (cell_of_box region new document.elements.fill place)
+shows path document store region cs chunk box old new place h is first = ⊎_elim
+    (λ k. subst (λ cells. ReadsCell path document store chunk box place (cell_of_box region cells document.elements.fill place)) (sym k.1) (still_shows path document store region cs chunk box old place k.0 is first))
     (λ k. k.shown place is.of_region is.of_chunk)
     h
 
-fits_stored : (path : List ℕ) (document : Document) (width : ℕ) (store : StoreMap) (region : Region) (chunk : List ℕ) (box : Region) (old new : List ℕ) → GivesChunk path document width store region chunk box old new → is_some (stored_at path document store chunk) ≡ true
+fits_stored : (path : List ℕ) (document : Document) (store : StoreMap) (region : Region) (chunk : List ℕ) (box : Region) (old new : List Cell) → GivesChunk path document store region chunk box old new → is_some (stored_at path document store chunk) ≡ true
     → fits_box document box ≡ true
-fits_stored path document width store region chunk box old new h some = ⊎_elim (λ k. absurd (false≢true (sym (ap (λ (o : Option (List ℕ)). is_some o) k.0) ∙ some))) (λ k. k.fit) h
+fits_stored path document store region chunk box old new h some = ⊎_elim (λ k. absurd (false≢true (sym (ap (λ (o : Option (List ℕ)). is_some o) k.0) ∙ some))) (λ k. k.fit) h
 
 -- of two tests, where one or the other holds
 neither : (a b : Bool) → (a || b) ≡ false → (a ≡ false) × (b ≡ false)
@@ -148,38 +144,38 @@ outside grid place c d box other h g ne t = ⊎_elim
     (λ i. i)
     (told (is_in_box box.start box.shape place))
 
-read_more : (path : List ℕ) (document : Document) (width : ℕ) (store : StoreMap) (region : Region) (cs : List (List ℕ)) (c : List ℕ) (box : Region) (old new : List ℕ) → IsInGrid document.grid c box
-    → GivesChunk path document width store region c box old new → ReadSoFar path document width store region cs old → ReadSoFar path document width store region (cs ++ c ∷ []) new
-read_more path document width store region cs c box old new below gives first = record {
+read_more : (path : List ℕ) (document : Document) (store : StoreMap) (region : Region) (cs : List (List ℕ)) (c : List ℕ) (box : Region) (old new : List Cell) → IsInGrid document.grid c box
+    → GivesChunk path document store region c box old new → ReadSoFar path document store region cs old → ReadSoFar path document store region (cs ++ c ∷ []) new
+read_more path document store region cs c box old new below gives first = record {
   each = λ d other place is l. ⊎_elim
       (λ e.
       let here : IsInGrid document.grid c other = subst (λ (k : List ℕ). IsInGrid document.grid k other) e is.below in
       let same : box ≡ other = same_box document.grid c box other below here in
-      subst (λ (k : List ℕ). ReadsCell path document store k other place (cell_in document width region new place)) (sym e)
-      (subst (λ (b : Region). ReadsCell path document store c b place (cell_in document width region new place)) same
-      (shows path document width store region cs c box old new place gives (record { below = below; of_region = is.of_region; of_chunk = ap (λ (b : Region). is_in_box b.start b.shape place) same ∙ is.of_chunk }) first)))
+      subst (λ (k : List ℕ). ReadsCell path document store k other place (cell_of_box region new document.elements.fill place)) (sym e)
+      (subst (λ (b : Region). ReadsCell path document store c b place (cell_of_box region new document.elements.fill place)) same
+      (shows path document store region cs c box old new place gives (record { below = below; of_region = is.of_region; of_chunk = ap (λ (b : Region). is_in_box b.start b.shape place) same ∙ is.of_chunk }) first)))
       (λ (ne, k).
       let out = outside document.grid place c d box other below.has_box is.below.has_box ne is.of_chunk in
-      let same = stays path document width store region c box old new place gives is.of_region out in
+      let same = stays path document store region c box old new place gives is.of_region out in
       subst (λ (cell : Cell). ReadsCell path document store d other place cell) (sym same) (first.each d other place is k))
       (listed_more cs c d l);
   rest = λ place t none.
       let apart = neither (list_any (lies_in_chunk document.grid place) cs) (lies_in_chunk document.grid place c) (sym (list_any-append (lies_in_chunk document.grid place) cs c) ∙ none) in
-      stays path document width store region c box old new place gives t (sym (lies_here document.grid c place box below.has_box) ∙ apart.1) ∙ first.rest place t apart.0;
+      stays path document store region c box old new place gives t (sym (lies_here document.grid c place box below.has_box) ∙ apart.1) ∙ first.rest place t apart.0;
   fit = λ d other over l some. ⊎_elim
       (λ e.
       let here : IsInGrid document.grid c other = subst (λ (k : List ℕ). IsInGrid document.grid k other) e over in
       let same : box ≡ other = same_box document.grid c box other below here in
-      subst (λ (b : Region). fits_box document b ≡ true) same (fits_stored path document width store region c box old new gives (ap (λ (k : List ℕ). is_some (stored_at path document store k)) (sym e) ∙ some)))
+      subst (λ (b : Region). fits_box document b ≡ true) same (fits_stored path document store region c box old new gives (ap (λ (k : List ℕ). is_some (stored_at path document store k)) (sym e) ∙ some)))
       (λ (ne, k). first.fit d other over k some)
       (listed_more cs c d l);
 }
 
 -- ---- all chunks
-pub read_all : (path : List ℕ) (document : Document) (width : ℕ) (store : StoreMap) (region : Region) (bytes : List ℕ) → 0 < width → length bytes ≡ product region.shape * width
-    → ReadSoFar path document width store region (intersecting document.grid region) bytes → IsRead path document store region (fixed_cells width bytes)
-read_all path document width store region bytes some long read = record {
-  many = length-fixed_cells width (product region.shape) bytes some long;
+pub read_all : (path : List ℕ) (document : Document) (store : StoreMap) (region : Region) (cells : List Cell) → length cells ≡ product region.shape
+    → ReadSoFar path document store region (intersecting document.grid region) cells → IsRead path document store region cells
+read_all path document store region cells many read = record {
+  many = many;
   each = λ chunk box place is. read.each chunk box place is (intersecting_listed document.grid region chunk box is.below (meets chunk box place is));
   fit = λ chunk box below shares stored. read.fit chunk box below (intersecting_listed document.grid region chunk box below shares) stored;
 } where
@@ -188,23 +184,13 @@ read_all path document width store region bytes some long read = record {
       ∙ share_place-of box.start box.shape region.start region.shape place is.of_chunk is.of_region
 
 -- ---- the chunks of a box of chunk indices
-pub read_next : (path : List ℕ) (document : Document) (width : ℕ) (store : StoreMap) (region chunks : Region) (n : ℕ) (chunk : List ℕ) (old new : List ℕ) → (found : (box : Region) × IsInGrid document.grid chunk box) → chunk ≡ place_at chunks.start chunks.shape n
-    → ((box : Region) → IsInGrid document.grid chunk box → GivesChunk path document width store region chunk box old new)
-    → ReadSoFar path document width store region (first_chunks chunks n) old → ReadSoFar path document width store region (first_chunks chunks (n + 1)) new
-read_next path document width store region chunks n chunk old new found e gives first =
-    rw (first_chunks-more chunks n, ← e) (read_more path document width store region (first_chunks chunks n) chunk found.0 old new found.1 (gives found.0 found.1) first)
+pub read_next : (path : List ℕ) (document : Document) (store : StoreMap) (region chunks : Region) (n : ℕ) (chunk : List ℕ) (old new : List Cell) → (found : (box : Region) × IsInGrid document.grid chunk box) → chunk ≡ place_at chunks.start chunks.shape n
+    → ((box : Region) → IsInGrid document.grid chunk box → GivesChunk path document store region chunk box old new)
+    → ReadSoFar path document store region (first_chunks chunks n) old → ReadSoFar path document store region (first_chunks chunks (n + 1)) new
+read_next path document store region chunks n chunk old new found e gives first =
+    rw (first_chunks-more chunks n, ← e) (read_more path document store region (first_chunks chunks n) chunk found.0 old new found.1 (gives found.0 found.1) first)
 
-pub read_end : (path : List ℕ) (document : Document) (width : ℕ) (store : StoreMap) (region chunks : Region) (n count : ℕ) (bytes : List ℕ) → length chunks.start ≡ length chunks.shape → AreIntersecting document.grid region chunks → count ≡ product chunks.shape → n ≡ count
-    → 0 < width → length bytes ≡ product region.shape * width → ReadSoFar path document width store region (first_chunks chunks n) bytes → IsRead path document store region (fixed_cells width bytes)
-read_end path document width store region chunks n count bytes l are is end some long read =
-    read_all path document width store region bytes some long (subst (λ (cs : List (List ℕ)). ReadSoFar path document width store region cs bytes) (first_chunks-all document.grid region chunks n l are (end ∙ is)) read)
-
--- ---- the whole box, in a vector whose items were all written
-written_over : (n : ℕ) (xs ys : List ℕ) → length xs ≡ n → take n (xs ++ drop (length xs) ys) ≡ xs
-written_over n xs ys h = grind (arith, common_steps)
-
-pub gives_box : (path : List ℕ) (document : Document) (width : ℕ) (store : StoreMap) (region : Region) (n count : ℕ) (bytes rest : List ℕ) → byte_width document.elements.type ≡ Some width → 0 < width → length bytes ≡ n → length bytes ≡ length rest
-    → length rest ≡ count * width → count ≡ product region.shape → IsRead path document store region (fixed_cells width bytes) → GivesBox path document store region (fixed (take n (bytes ++ drop (length bytes) rest)))
-gives_box path document width store region n count bytes rest sized some size same long total read =
-    subst (λ (given : List ℕ). GivesBox path document store region (fixed given)) (sym (written_over n bytes rest size))
-    (record { cells = fixed_cells width bytes; lists = fixed_listed document.elements.type width (product region.shape) bytes sized some (same ∙ (long ∙ ap (λ k. k * width) total)); read = read })
+pub read_end : (path : List ℕ) (document : Document) (store : StoreMap) (region chunks : Region) (n count : ℕ) (cells : List Cell) → length chunks.start ≡ length chunks.shape → AreIntersecting document.grid region chunks → count ≡ product chunks.shape → n ≡ count
+    → length cells ≡ product region.shape → ReadSoFar path document store region (first_chunks chunks n) cells → IsRead path document store region cells
+read_end path document store region chunks n count cells l are is end many read =
+    read_all path document store region cells many (subst (λ (cs : List (List ℕ)). ReadSoFar path document store region cs cells) (first_chunks-all document.grid region chunks n l are (end ∙ is)) read)

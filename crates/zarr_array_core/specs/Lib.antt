@@ -1,6 +1,5 @@
 pub mod Views
 pub mod Outcomes
 pub mod Parts
-pub mod Sizes
 pub mod ChunkValues
 pub mod PartWrites

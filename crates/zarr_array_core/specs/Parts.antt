@@ -1,11 +1,13 @@
 -- What reading one chunk of a box does.
-use Rattle.std.specs.Prelude.{◌≡◌, ◌⊎◌, ℕ, List, [], ◌∷◌, Option, Some, None, true, false, Result, Ok, Err, Vec}
-use Rattle.std.specs.declared.alloc.Global.{Global}
+use Rattle.std.specs.Prelude.{◌≡◌, ◌⊎◌, ℕ, List, [], ◌∷◌, Option, Some, None, true, false, Result, Ok, Err}
 use Rattle.zarr_grids_boxes.specs.Boxes.{Region, is_in_box}
+use Rattle.zarr_grids_boxes.specs.Cuts.{relative}
 use Rattle.zarr_codecs_meaning.specs.Chunks.{chunk_part}
 use Rattle.zarr_codecs_meaning.specs.Fits.{fits}
-use Rattle.zarr_codecs_meaning.specs.Payloads.{fixed, fixed_cells}
+use Rattle.zarr_codecs_meaning.specs.Payloads.{Payload}
 use Rattle.zarr_codecs_meaning.specs.Types.{Cell}
+use Rattle.zarr_codecs_arrays.specs.Views.{payload_of}
+use Rattle.zarr_codecs_arrays.specs.declared.array_bytes.ArrayBytes.{ArrayBytes}
 use Rattle.zarr_codecs_traits.specs.Indexers.{in_box, numbers_of}
 use Rattle.zarr_codecs_traits.specs.Outcomes.{IsPart}
 use Rattle.zarr_array_meaning.specs.Boxes.{cell_of_box}
@@ -15,29 +17,29 @@ use Rattle.zarr_array_meaning.specs.StoreMaps.{StoreMap}
 use Rattle.zarr_array_core.specs.declared.error.ChunkError.{ChunkError}
 use Rattle.zarr_array_core.specs.declared.error.ChunkError.TheVariants as error
 
--- the bytes of the elements at the places of a box of a chunk, of what is stored for it; none where it does not fit; or why they are not read
-abbrev pub DecodesBytes : Document → List ℕ → Option (List ℕ) → Region → Result (Option (Vec ℕ Global)) ChunkError → Type 0
-DecodesBytes document shape stored part (Ok (Some bytes)) = IsPart document.chain document.elements shape stored (in_box part) (fixed bytes.items)
-DecodesBytes document shape stored part (Ok None) = fits document.chain document.elements.type shape ≡ false
-DecodesBytes document shape stored part (Err error.Damage) = (fits document.chain document.elements.type shape ≡ true) × (chunk_part document.chain document.elements shape stored (numbers_of shape part) ≡ None)
-DecodesBytes document shape stored part (Err (error.Storage e)) = Unit {0}
-DecodesBytes document shape stored part (Err error.Memory) = Unit {0}
-DecodesBytes document shape stored part (Err e) = ⊥
+-- the elements at the places of a box of a chunk, of what is stored for it; none where it does not fit; or why they are not read
+abbrev pub DecodesElements : Document → List ℕ → Option (List ℕ) → Region → Result (Option ArrayBytes) ChunkError → Type 0
+DecodesElements document shape stored part (Ok (Some bytes)) = IsPart document.chain document.elements shape stored (in_box part) (payload_of bytes)
+DecodesElements document shape stored part (Ok None) = fits document.chain document.elements.type shape ≡ false
+DecodesElements document shape stored part (Err error.Damage) = (fits document.chain document.elements.type shape ≡ true) × (chunk_part document.chain document.elements shape stored (numbers_of shape part) ≡ None)
+DecodesElements document shape stored part (Err (error.Storage e)) = Unit {0}
+DecodesElements document shape stored part (Err error.Memory) = Unit {0}
+DecodesElements document shape stored part (Err e) = ⊥
 
--- the cell that the bytes of a box have at a place of it, with so many bytes to a cell
-abbrev pub cell_in : Document → ℕ → Region → List ℕ → List ℕ → Cell
-cell_in document width region bytes place = cell_of_box region (fixed_cells width bytes) document.elements.fill place
+-- the elements of what is stored for a chunk at the places of a box that it shares with another one
+pub record IsChunkPart (document : Document) (box : Region) (stored : Option (List ℕ)) (shared : Region) (payload : Payload) : Type 0 where
+  pub is : IsPart document.chain document.elements box.shape stored (in_box (relative shared box.start)) payload
 
 -- the cells of what is stored for a chunk were put over those of a box: each place of both shows the chunk's cell, and the other places of the box show what they did
-pub record IsPlaced (document : Document) (width : ℕ) (region box : Region) (stored : Option (List ℕ)) (old new : List ℕ) : Type 0 where
+pub record IsPlaced (document : Document) (region box : Region) (stored : Option (List ℕ)) (old new : List Cell) : Type 0 where
   pub fit : fits_box document box ≡ true
   pub shown : (place : List ℕ) → is_in_box region.start region.shape place ≡ true → is_in_box box.start box.shape place ≡ true
-      → chunk_part document.chain document.elements box.shape stored (number_in box place ∷ []) ≡ Some (cell_in document width region new place ∷ [])
-  pub kept : (place : List ℕ) → is_in_box region.start region.shape place ≡ true → is_in_box box.start box.shape place ≡ false → cell_in document width region new place ≡ cell_in document width region old place
+      → chunk_part document.chain document.elements box.shape stored (number_in box place ∷ []) ≡ Some (cell_of_box region new document.elements.fill place ∷ [])
+  pub kept : (place : List ℕ) → is_in_box region.start region.shape place ≡ true → is_in_box box.start box.shape place ≡ false → cell_of_box region new document.elements.fill place ≡ cell_of_box region old document.elements.fill place
 
 -- what is stored for a chunk was put over the cells of a box; where nothing is stored they may also stay
-abbrev pub GivesChunk : List ℕ → Document → ℕ → StoreMap → Region → List ℕ → Region → List ℕ → List ℕ → Type 0
-GivesChunk path document width store region chunk box old new = ((stored_at path document store chunk ≡ None) × (new ≡ old)) ⊎ IsPlaced document width region box (stored_at path document store chunk) old new
+abbrev pub GivesChunk : List ℕ → Document → StoreMap → Region → List ℕ → Region → List Cell → List Cell → Type 0
+GivesChunk path document store region chunk box old new = ((stored_at path document store chunk ≡ None) × (new ≡ old)) ⊎ IsPlaced document region box (stored_at path document store chunk) old new
 
 -- a place of a box and a chunk cannot be decoded of what is stored for the chunk
 pub record IsLost (document : Document) (region box : Region) (stored : Option (List ℕ)) : Type 0 where

@@ -2,7 +2,11 @@
 use Rattle.std.specs.Prelude.{ℕ, List}
 use Rattle.zarr_grids_chunk_grids.specs.Grids.{grid_of_chunks, sizes_of_grid}
 use Rattle.zarr_grids_keys.specs.Encodings.{keys_of}
-use Rattle.zarr_codecs_arrays.specs.Views.{elements_of}
+use Rattle.zarr_codecs_meaning.specs.Types.{Cell}
+use Rattle.zarr_codecs_arrays.specs.Outcomes.{IsCounted}
+use Rattle.zarr_codecs_arrays.specs.Views.{elements_of, payload_of}
+use Rattle.zarr_codecs_arrays.specs.declared.array_bytes.ArrayBytes.{ArrayBytes}
+use Rattle.zarr_array_elements.specs.Boxes.{cells_of}
 use Rattle.zarr_codecs_meaning.specs.Chains.{Chain}
 use Rattle.zarr_array_meaning.specs.Documents.{Document}
 use Rattle.zarr_array_core.specs.declared.array_core.ArrayCore.{ArrayCore}
@@ -15,6 +19,10 @@ document_of meaning array = record { shape = sizes_of_grid array.grid; elements 
 abbrev pub path_of : {C : Type 0} → ArrayCore C → List ℕ
 path_of array = array.path
 
--- how many bytes an element of the array takes
-abbrev pub width_of : {C : Type 0} → ArrayCore C → ℕ
-width_of array = array.width
+-- the elements that bytes are of those of an array, and none where they are none of its type's
+abbrev pub array_cells : {C : Type 0} → ArrayCore C → ArrayBytes → List Cell
+array_cells array bytes = cells_of (elements_of array.elements).type (payload_of bytes)
+
+-- bytes are so many elements of an array's type
+abbrev pub AreSoMany : {C : Type 0} → ArrayCore C → ArrayBytes → ℕ → Type 0
+AreSoMany array bytes count = IsCounted (elements_of array.elements).type (payload_of bytes) count (array_cells array bytes)

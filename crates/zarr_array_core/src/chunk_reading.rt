@@ -1,54 +1,86 @@
 //! One chunk read.
+ghost use Rattle.std.specs.Prelude.{◌≡◌, List, true, false};
+ghost use Rattle.zarr_codecs_meaning.specs.Types.{Cell};
+ghost use Rattle.zarr_codecs_arrays.specs.Outcomes.{IsCounted};
+ghost use Rattle.zarr_codecs_arrays.specs.Views.{payload_of, elements_of};
+ghost use Rattle.zarr_array_elements.specs.Boxes.{cells_of};
+
 use crate::array_core::ArrayCore;
 use crate::error::ChunkError;
 use crate::reading::ReadBox;
 use crate::store_calls::size_key;
 use crate::store_source::StoreSource;
-use std::alloc::Global;
+use zarr_array_elements::BoxElements;
 use zarr_array_storage::{ReadableStorageTraits, StorageError};
-use zarr_codecs_arrays::{ArrayBytes, CodecError};
-use zarr_codecs_options::CodecOptions;
+use zarr_codecs_arrays::{ArrayBytes, CodecError, Elements};
 use zarr_codecs_traits::{ArrayPart, ArrayToBytesCodecTraits, Indexer};
 use zarr_grids_boxes::ArraySubset;
+use zarr_grids_boxes::walk::count_places;
 use zarr_grids_keys::StoreKey;
-use zarr_grids_overlay::{Extent, overlay};
+
+/// The elements of a chunk at the places that it shares with a box.
+#[derive(Drop)]
+pub(crate) struct ChunkPart {
+    pub shared: ArraySubset,
+    pub bytes: ArrayBytes,
+}
+
+/// Whether these are so many elements.
+fn are_so_many(bytes: &ArrayBytes, elements: &Elements, count: u64) -> bool
+    ensures yes { result ≡ true → IsCounted (elements_of elements.now).type (payload_of bytes.now)
+        count (cells_of (elements_of elements.now).type (payload_of bytes.now)) }
+    ensures no { result ≡ false → (cells : List Cell)
+        → IsCounted (elements_of elements.now).type (payload_of bytes.now) count cells → ⊥ }
+{
+    match bytes.num_elements(elements.data_type()) {
+        Some(found) => found as u64 == count,
+        None => false,
+    }
+}
 
 impl<C: ArrayToBytesCodecTraits> ArrayCore<C> {
-    ghost use Rattle.std.specs.Prelude.{◌≡◌, ◌*◌, IsTrue, IfOk, OnOk, IfErr, true, false, length};
+    ghost use Rattle.std.specs.Prelude.{◌≡◌, ◌*◌, IsTrue, IfOk, OnOk, IfErr, IfSome, None, true, false, length};
     ghost use Rattle.std.specs.FinMap as map;
-    ghost use Rattle.zarr_grids_boxes.specs.Boxes.{Region, product};
+    ghost use Rattle.zarr_grids_boxes.specs.Boxes.{Region, product, share_place};
+    ghost use Rattle.zarr_grids_boxes.specs.Cuts.{overlapped, relative};
     ghost use Rattle.zarr_grids_boxes.specs.Subsets.{region_of};
     ghost use Rattle.zarr_grids_chunks.specs.Grids.{IsInGrid, intersects};
     ghost use Rattle.zarr_codecs_arrays.specs.Outcomes.{IsTooLarge};
-    ghost use Rattle.zarr_codecs_traits.specs.Indexers.{lies_in};
-    ghost use Rattle.zarr_array_meaning.specs.Chunks.{fits_box};
-    ghost use Rattle.zarr_array_core.specs.Views.{document_of, path_of, width_of};
+    ghost use Rattle.zarr_codecs_arrays.specs.Views.{payload_of};
+    ghost use Rattle.zarr_codecs_traits.specs.Indexers.{in_box, lies_in};
+    ghost use Rattle.zarr_codecs_traits.specs.Outcomes.{IsPart};
+    ghost use Rattle.zarr_array_meaning.specs.Chunks.{fits_box, stored_at};
+    ghost use Rattle.zarr_array_elements.specs.Boxes.{AreOfBox};
+    ghost use Rattle.zarr_array_elements.specs.Views.{AreShown, cells_shown};
+    ghost use Rattle.zarr_array_core.specs.Views.{document_of, path_of};
     ghost use Rattle.zarr_array_core.specs.Outcomes.{ReadStops, IsSmall, refused_after};
-    ghost use Rattle.zarr_array_core.specs.Parts.{DecodesBytes, IsPlaced, GivesChunk, ValueStops};
+    ghost use Rattle.zarr_array_core.specs.Parts.{DecodesElements, GivesChunk, IsChunkPart, ValueStops};
 
-    /// Puts the elements of a chunk that lie in a box into the box's bytes, where nothing is stored
-    /// for it fill values. These bytes stay where nothing is stored for it and it does not fit its
-    /// codecs.
+    /// The elements of a box after those of a chunk that lie in it were put over them, where
+    /// nothing is stored for the chunk fill values. They stay where nothing is stored for it and it
+    /// does not fit its codecs.
     pub(crate) fn read_chunk<S: ReadableStorageTraits>(
         &self,
-        alloc: Global,
         store: &mut S,
         chunk: &[u64],
         read: ReadBox,
-        target: &mut [u8],
-    ) -> Result<(), ChunkError>
+        shown: BoxElements,
+    ) -> Result<BoxElements, ChunkError>
         requires below { (box : Region)
             × IsInGrid (document_of C.meaning self.now).grid chunk.now box }
         requires shares { intersects (document_of C.meaning self.now).grid
             (region_of read.region.now) chunk.now ≡ true }
         requires small { IsSmall (document_of C.meaning self.now) (region_of read.region.now) }
-        requires target { length target.old ≡
-            product read.region.now.shape.items * width_of self.now }
-        ensures ok { IsTrue (S.is_honest store.old) → OnOk result ((box : Region)
+        requires shown { AreShown (document_of C.meaning self.now).elements
+            (region_of read.region.now) shown }
+        ensures shown { IfOk result (AreShown (document_of C.meaning self.now).elements
+            (region_of read.entry.region.now)) }
+        ensures ok { IsTrue (S.is_honest store.old) → IfOk result (λ made. (box : Region)
             → IsInGrid (document_of C.meaning self.now).grid chunk.now box
-            → GivesChunk (path_of self.now) (document_of C.meaning self.now) (width_of self.now)
+            → GivesChunk (path_of self.now) (document_of C.meaning self.now)
             (S.held store.old) (region_of read.entry.region.now) chunk.now box
-            target.old target.new) }
+            (cells_shown (document_of C.meaning self.now).elements shown)
+            (cells_shown (document_of C.meaning self.now).elements made)) }
         ensures err { IsTrue (S.is_honest store.old) → IfErr result
             (ReadStops (path_of self.now) (document_of C.meaning self.now) (S.held store.old)
             (region_of read.entry.region.now)) }
@@ -58,98 +90,133 @@ impl<C: ArrayToBytesCodecTraits> ArrayCore<C> {
             refused_after (S.refused_calls store.old) result }
         ensures accepted { S.accepted_writes store.new ≡ S.accepted_writes store.old }
     {
-        let key = self.key_of(alloc, chunk)?;
-        let placed = match self.place_stored(alloc, store, &key, chunk, read, target) {
-            Ok(placed) => placed,
-            Err(error) => return Err(error),
-        };
-        if placed {
-            return Ok(());
-        }
-        match size_key(store, &key)? {
-            Some(_) => Err(ChunkError::Fit),
-            None => Ok(()),
+        match self.chunk_part(store, chunk, read) {
+            Ok(Some(part)) => {
+                let (bytes, shared) = (&part.bytes, &part.shared);
+                Ok(shown.put(read.alloc, read.region, bytes, shared, &self.elements)?)
+            }
+            Ok(None) => Ok(shown),
+            Err(error) => Err(error),
         }
     }
 
-    /// Puts the elements of what a store holds for a chunk that lie in a box into the box's bytes.
-    /// `false` where the chunk does not fit its codecs; then they stay. A store that gives another
-    /// number of elements isn't honest, and what it holds is taken as damaged.
-    fn place_stored<S: ReadableStorageTraits>(
+    /// The elements of a chunk that lie in a box. `None` where nothing is stored for the chunk and
+    /// it does not fit its codecs.
+    fn chunk_part<S: ReadableStorageTraits>(
         &self,
-        alloc: Global,
         store: &mut S,
-        key: &StoreKey,
         chunk: &[u64],
         read: ReadBox,
-        target: &mut [u8],
-    ) -> Result<bool, ChunkError>
+    ) -> Result<Option<ChunkPart>, ChunkError>
         requires below { (box : Region)
             × IsInGrid (document_of C.meaning self.now).grid chunk.now box }
         requires shares { intersects (document_of C.meaning self.now).grid
             (region_of read.region.now) chunk.now ≡ true }
         requires small { IsSmall (document_of C.meaning self.now) (region_of read.region.now) }
-        requires target { length target.old ≡
-            product read.region.now.shape.items * width_of self.now }
-        ensures ok { IsTrue (S.is_honest store.old) → IfOk result (λ placed. placed ≡ true
-            → (box : Region) → IsInGrid (document_of C.meaning self.now).grid chunk.now box
-            → IsPlaced (document_of C.meaning self.now) (width_of self.now)
-            (region_of read.entry.region.now) box (map.get (S.held store.old) key.now)
-            target.old target.new) }
-        ensures err { IsTrue (S.is_honest store.old) → IfErr result (λ e. (box : Region)
-            → IsInGrid (document_of C.meaning self.now).grid chunk.now box
-            → ValueStops (document_of C.meaning self.now) (region_of read.entry.region.now)
-            box (map.get (S.held store.old) key.now) e) }
-        ensures unfit { IsTrue (S.is_honest store.old) → IfOk result (λ placed. placed ≡ false
-            → (box : Region) → IsInGrid (document_of C.meaning self.now).grid chunk.now box
-            → fits_box (document_of C.meaning self.now) box ≡ false) }
-        ensures kept { IfOk result (λ placed. placed ≡ false → target.new ≡ target.old) }
+        ensures shared { IfOk result (λ found. IfSome found (λ part. (box : Region)
+            × IsInGrid (document_of C.meaning self.now).grid chunk.now box
+            × (region_of part.shared ≡ overlapped (region_of read.entry.region.now) box))) }
+        ensures counted { IfOk result (λ found. IfSome found (λ part. AreOfBox
+            (document_of C.meaning self.now).elements.type (payload_of part.bytes)
+            (region_of part.shared))) }
+        ensures part { IsTrue (S.is_honest store.old) → IfOk result (λ found. IfSome found
+            (λ part. (box : Region) → IsInGrid (document_of C.meaning self.now).grid chunk.now box
+            → IsChunkPart (document_of C.meaning self.now) box (stored_at (path_of self.now)
+            (document_of C.meaning self.now) (S.held store.old) chunk.now)
+            (region_of part.shared) (payload_of part.bytes))) }
+        ensures absent { IsTrue (S.is_honest store.old) → IfOk result (λ found. found ≡ None
+            → stored_at (path_of self.now) (document_of C.meaning self.now) (S.held store.old)
+            chunk.now ≡ None) }
+        ensures err { IsTrue (S.is_honest store.old) → IfErr result
+            (ReadStops (path_of self.now) (document_of C.meaning self.now) (S.held store.old)
+            (region_of read.entry.region.now)) }
         ensures held { S.held store.new ≡ S.held store.old }
         ensures honest { S.is_honest store.new ≡ S.is_honest store.old }
         ensures refused { S.refused_calls store.new ≡
             refused_after (S.refused_calls store.old) result }
         ensures accepted { S.accepted_writes store.new ≡ S.accepted_writes store.old }
     {
-        let own = self.box_of(alloc, chunk)?;
-        let Ok(shared) = read.region.overlap(alloc, &own) else {
+        let key = self.key_of(read.alloc, chunk)?;
+        let own = self.box_of(read.alloc, chunk)?;
+        let Ok(shared) = read.region.overlap(read.alloc, &own) else {
             return Err(ChunkError::Memory);
         };
-        let Ok(part) = shared.relative_to(alloc, own.start()) else {
-            return Err(ChunkError::Memory);
-        };
-        let bytes = match self.decode_part(alloc, store, key, own.shape(), &part, read.options) {
-            Ok(Some(bytes)) => bytes,
-            Ok(None) => return Ok(false),
-            Err(error) => return Err(error),
-        };
-        if bytes.len() != self.count_bytes(shared.shape()) {
-            return Err(ChunkError::Damage);
+        match self.part_of(store, &key, &own, &shared, read) {
+            Ok(Some(bytes)) => Ok(Some(ChunkPart { shared, bytes })),
+            Ok(None) => match size_key(store, &key)? {
+                Some(_) => Err(ChunkError::Fit),
+                None => Ok(None),
+            },
+            Err(error) => Err(error),
         }
-        let (start, shape) = (read.region.start(), read.region.shape());
-        let from = Extent {
-            start: shared.start(),
-            shape: shared.shape(),
-        };
-        overlay(target, Extent { start, shape }, &bytes, from, self.width());
-        Ok(true)
     }
 
-    /// The bytes of the elements at the places of a box of a chunk, of what a store holds at a key.
-    /// Where the codecs can, they fetch no more of it than they need. `None` where the chunk does
-    /// not fit them.
+    /// The elements of what a store holds for a chunk, at the places that the chunk shares with a
+    /// box. `None` where the chunk does not fit its codecs. A store that gives another number of
+    /// elements isn't honest, and what it holds is taken as damaged.
+    fn part_of<S: ReadableStorageTraits>(
+        &self,
+        store: &mut S,
+        key: &StoreKey,
+        own: &ArraySubset,
+        shared: &ArraySubset,
+        read: ReadBox,
+    ) -> Result<Option<ArrayBytes>, ChunkError>
+        requires shared { region_of shared.now
+            ≡ overlapped (region_of read.region.now) (region_of own.now) }
+        requires shares { share_place own.now.start.items own.now.shape.items
+            read.region.now.start.items read.region.now.shape.items ≡ true }
+        requires small { ¬ IsTooLarge (document_of C.meaning self.now).elements.type
+            (product own.now.shape.items) }
+        ensures counted { IfOk result (λ found. IfSome found (λ part. AreOfBox
+            (document_of C.meaning self.now).elements.type (payload_of part)
+            (region_of shared.now))) }
+        ensures part { IsTrue (S.is_honest store.old) → IfOk result (λ found. IfSome found
+            (λ part. IsPart (document_of C.meaning self.now).chain
+            (document_of C.meaning self.now).elements own.now.shape.items
+            (map.get (S.held store.old) key.now)
+            (in_box (relative (region_of shared.now) own.now.start.items)) (payload_of part))) }
+        ensures unfit { IsTrue (S.is_honest store.old) → IfOk result (λ found. found ≡ None
+            → fits_box (document_of C.meaning self.now) (region_of own.now) ≡ false) }
+        ensures err { IsTrue (S.is_honest store.old) → IfErr result
+            (ValueStops (document_of C.meaning self.now) (region_of read.entry.region.now)
+            (region_of own.now) (map.get (S.held store.old) key.now)) }
+        ensures held { S.held store.new ≡ S.held store.old }
+        ensures honest { S.is_honest store.new ≡ S.is_honest store.old }
+        ensures refused { S.refused_calls store.new ≡
+            refused_after (S.refused_calls store.old) result }
+        ensures accepted { S.accepted_writes store.new ≡ S.accepted_writes store.old }
+    {
+        let Ok(part) = shared.relative_to(read.alloc, own.start()) else {
+            return Err(ChunkError::Memory);
+        };
+        let bytes = match self.decode_part(store, key, own.shape(), &part, read) {
+            Ok(Some(bytes)) => bytes,
+            Ok(None) => return Ok(None),
+            Err(error) => return Err(error),
+        };
+        let count = self.count_elements(shared.shape());
+        if !are_so_many(&bytes, &self.elements, count) {
+            return Err(ChunkError::Damage);
+        }
+        Ok(Some(bytes))
+    }
+
+    /// The elements at the places of a box of a chunk, of what a store holds at a key. Where the
+    /// codecs can, they fetch no more of it than they need. `None` where the chunk does not fit
+    /// them.
     fn decode_part<S: ReadableStorageTraits>(
         &self,
-        alloc: Global,
         store: &mut S,
         key: &StoreKey,
         shape: &[u64],
         part: &ArraySubset,
-        options: &CodecOptions,
-    ) -> Result<Option<Vec<u8>>, ChunkError>
+        read: ReadBox,
+    ) -> Result<Option<ArrayBytes>, ChunkError>
         requires inside { lies_in shape.now (region_of part.now) ≡ true }
         requires small { ¬ IsTooLarge (document_of C.meaning self.now).elements.type
             (product shape.now) }
-        ensures bytes { IsTrue (S.is_honest store.old) → DecodesBytes
+        ensures part { IsTrue (S.is_honest store.old) → DecodesElements
             (document_of C.meaning self.now) shape.now (map.get (S.held store.old) key.now)
             (region_of part.now) result }
         ensures held { S.held store.new ≡ S.held store.old }
@@ -172,9 +239,9 @@ impl<C: ArrayToBytesCodecTraits> ArrayCore<C> {
             key,
             refusal,
         };
-        match codecs.partial_decode(alloc, &mut source, asked, options) {
-            Ok(ArrayBytes::Fixed(bytes)) => Ok(Some(bytes)),
-            Ok(_) | Err(CodecError::Damage) => Err(ChunkError::Damage),
+        match codecs.partial_decode(read.alloc, &mut source, asked, read.options) {
+            Ok(bytes) => Ok(Some(bytes)),
+            Err(CodecError::Damage) => Err(ChunkError::Damage),
             Err(CodecError::Fit) => Ok(None),
             Err(CodecError::Memory) => Err(ChunkError::Memory),
             Err(CodecError::Source) => Err(ChunkError::Storage(refused.unwrap_or(
@@ -182,5 +249,14 @@ impl<C: ArrayToBytesCodecTraits> ArrayCore<C> {
             ))),
             Err(_) => Err(ChunkError::Damage),
         }
+    }
+
+    /// How many elements an array of this shape has.
+    fn count_elements(&self, shape: &[u64]) -> u64
+        requires small { ¬ IsTooLarge (document_of C.meaning self.now).elements.type
+            (product shape.now) }
+        ensures { result ≡ product shape.now }
+    {
+        count_places(shape).unwrap()
     }
 }

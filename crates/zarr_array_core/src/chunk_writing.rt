@@ -10,7 +10,9 @@ use crate::error::ChunkError;
 use crate::holding::holds_box;
 use crate::store_calls::{erase, get, set};
 use zarr_array_storage::WritableStorageTraits;
+use zarr_codecs_arrays::ArrayBytes;
 use zarr_codecs_traits::ArrayToBytesCodecTraits;
+use zarr_grids_boxes::ArraySubset;
 use zarr_grids_keys::StoreKey;
 use zarr_grids_overlay::Extent;
 
@@ -42,12 +44,12 @@ impl<C: ArrayToBytesCodecTraits> ArrayCore<C> {
     ghost use Rattle.std.specs.List.{list_all};
     ghost use Rattle.zarr_array_core.specs.ChunkValues.{CellsBecome, MergeStops, MakesValue, NewValueStops, with_value};
     ghost use Rattle.zarr_array_core.specs.Outcomes.{CountsUpTo, refused_after};
-    ghost use Rattle.zarr_array_core.specs.Views.{document_of};
+    ghost use Rattle.zarr_array_core.specs.Views.{array_cells, AreSoMany, document_of};
     ghost use Rattle.zarr_codecs_arrays.specs.Outcomes.{IsTooLarge};
     ghost use Rattle.zarr_codecs_meaning.specs.Fits.{fits};
-    ghost use Rattle.zarr_codecs_meaning.specs.Payloads.{fixed_cells};
     ghost use Rattle.zarr_codecs_meaning.specs.Types.{is_value};
-    ghost use Rattle.zarr_grids_boxes.specs.Boxes.{product};
+    ghost use Rattle.zarr_grids_boxes.specs.Boxes.{product, share_place};
+    ghost use Rattle.zarr_grids_boxes.specs.Subsets.{region_of};
     ghost use Rattle.zarr_grids_overlay.specs.Overlays.{extent_of};
 
     /// The elements of a chunk after a write. Of a chunk that lies in its box nothing is fetched.
@@ -56,38 +58,41 @@ impl<C: ArrayToBytesCodecTraits> ArrayCore<C> {
         store: &mut S,
         key: &StoreKey,
         write: &BoxWrite,
-        chunk: Extent,
-    ) -> Result<Vec<u8>, ChunkError>
+        own: &ArraySubset,
+    ) -> Result<ArrayBytes, ChunkError>
         requires small { ¬ IsTooLarge (document_of C.meaning self.now).elements.type
-            (product chunk.shape.now) }
+            (product own.now.shape.items) }
         requires fit { fits (document_of C.meaning self.now).chain
-            (document_of C.meaning self.now).elements.type chunk.shape.now ≡ true }
-        requires rank { length write.now.region.start.now ≡ length chunk.start.now }
-        requires many { length write.now.bytes.now
-            ≡ product write.now.region.shape.now * self.now.width }
+            (document_of C.meaning self.now).elements.type own.now.shape.items ≡ true }
+        requires shares { share_place own.now.start.items own.now.shape.items
+            write.now.region.start.now write.now.region.shape.now ≡ true }
+        requires rank { length write.now.region.start.now ≡ length own.now.start.items }
+        requires many { AreSoMany self.now write.now.bytes.now
+            (product write.now.region.shape.now) }
         requires values { list_all (is_value (document_of C.meaning self.now).elements.type)
-            (fixed_cells self.now.width write.now.bytes.now) ≡ true }
+            (array_cells self.now write.now.bytes.now) ≡ true }
         ensures ok { IfOk result (λ bytes. (stored : Option (List ℕ))
             × (IsTrue (S.is_honest store.old) → stored ≡ map.get (S.held store.old) key.now)
             × CellsBecome (document_of C.meaning self.now) (extent_of write.now.region)
-            (fixed_cells self.now.width write.now.bytes.now) stored
-            (extent_of chunk.entry) (fixed_cells self.now.width bytes.items)) }
-        ensures length { IfOk result
-            (λ bytes. length bytes.items ≡ product chunk.entry.shape.now * self.now.width) }
+            (array_cells self.now write.now.bytes.now) stored
+            (region_of own.now) (array_cells self.now bytes)) }
+        ensures counted { IfOk result
+            (λ bytes. AreSoMany self.now bytes (product own.now.shape.items)) }
         ensures err { IsTrue (S.is_honest store.old) → IfErr result
             (MergeStops (document_of C.meaning self.now) (extent_of write.now.region)
-            (extent_of chunk.entry) (map.get (S.held store.old) key.now)) }
+            (region_of own.now) (map.get (S.held store.old) key.now)) }
         ensures held { S.held store.new ≡ S.held store.old }
         ensures honest { S.is_honest store.new ≡ S.is_honest store.old }
         ensures refused { S.refused_calls store.new ≡
             refused_after (S.refused_calls store.old) result }
         ensures accepted { S.accepted_writes store.new ≡ S.accepted_writes store.old }
     {
-        if holds_box(write.region, chunk) {
-            return self.whole_cells(write, chunk);
+        let (start, shape) = (own.start(), own.shape());
+        if holds_box(write.region, Extent { start, shape }) {
+            return self.whole_cells(write, own);
         }
         let stored = get(store, key)?;
-        self.part_cells(write, chunk, stored)
+        self.part_cells(write, own, stored)
     }
 
     /// Writes the elements of a box that lie in a chunk.
@@ -96,25 +101,27 @@ impl<C: ArrayToBytesCodecTraits> ArrayCore<C> {
         store: &mut S,
         key: &StoreKey,
         write: &BoxWrite,
-        chunk: Extent,
+        own: &ArraySubset,
     ) -> Result<(), ChunkError>
         requires small { ¬ IsTooLarge (document_of C.meaning self.now).elements.type
-            (product chunk.shape.now) }
-        requires rank { length write.now.region.start.now ≡ length chunk.start.now }
-        requires many { length write.now.bytes.now
-            ≡ product write.now.region.shape.now * self.now.width }
+            (product own.now.shape.items) }
+        requires shares { share_place own.now.start.items own.now.shape.items
+            write.now.region.start.now write.now.region.shape.now ≡ true }
+        requires rank { length write.now.region.start.now ≡ length own.now.start.items }
+        requires many { AreSoMany self.now write.now.bytes.now
+            (product write.now.region.shape.now) }
         requires values { list_all (is_value (document_of C.meaning self.now).elements.type)
-            (fixed_cells self.now.width write.now.bytes.now) ≡ true }
+            (array_cells self.now write.now.bytes.now) ≡ true }
         ensures ok { IsTrue (S.is_honest store.old) → OnOk result ((made : Option (List ℕ))
             × MakesValue (document_of C.meaning self.now) (extent_of write.now.region)
-            (fixed_cells self.now.width write.now.bytes.now)
-            write.now.options.now.store_empty_chunks (extent_of chunk.entry)
+            (array_cells self.now write.now.bytes.now)
+            write.now.options.now.store_empty_chunks (region_of own.now)
             (map.get (S.held store.old) key.now) made
             × (S.held store.new ≡ with_value (S.held store.old) key.now made)) }
         ensures err { IsTrue (S.is_honest store.old) → IfErr result
             (NewValueStops (document_of C.meaning self.now) (extent_of write.now.region)
-            (fixed_cells self.now.width write.now.bytes.now)
-            write.now.options.now.store_empty_chunks (extent_of chunk.entry)
+            (array_cells self.now write.now.bytes.now)
+            write.now.options.now.store_empty_chunks (region_of own.now)
             (map.get (S.held store.old) key.now)) }
         ensures kept { IsTrue (S.is_honest store.old) →
             OnErr result (S.held store.new ≡ S.held store.old) }
@@ -126,12 +133,12 @@ impl<C: ArrayToBytesCodecTraits> ArrayCore<C> {
     {
         if !self
             .codecs
-            .fits(write.alloc, self.elements.data_type(), chunk.shape)?
+            .fits(write.alloc, self.elements.data_type(), own.shape())?
         {
             return Err(ChunkError::Fit);
         }
-        let bytes = self.cells_after(store, key, write, chunk)?;
-        let value = self.encode_chunk(write, chunk.shape, bytes)?;
+        let bytes = self.cells_after(store, key, write, own)?;
+        let value = self.encode_chunk(write, own.shape(), bytes)?;
         put_value(store, key, value)
     }
 }

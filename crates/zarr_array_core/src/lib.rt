@@ -13,7 +13,6 @@ mod part_writing;
 pub mod reading;
 pub mod store_calls;
 mod store_source;
-mod texts;
 pub mod writing;
 
 pub use array_core::ArrayCore;

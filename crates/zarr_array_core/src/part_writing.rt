@@ -11,24 +11,24 @@ use zarr_codecs_arrays::{ArrayBytes, CodecError};
 use zarr_codecs_options::CodecOptions;
 use zarr_codecs_traits::{ArrayPart, ArrayToBytesCodecTraits, Indexer};
 use zarr_grids_boxes::ArraySubset;
+use zarr_grids_boxes::walk::count_places;
 use zarr_grids_keys::StoreKey;
 use zarr_grids_overlay::Extent;
 
 impl<C: ArrayToBytesCodecTraits> ArrayCore<C> {
-    ghost use Rattle.std.specs.Prelude.{◌≡◌, ◌*◌, ℕ, List, Option, None, true, false, length, IsTrue, IfOk, OnOk, OnErr, IfErr, IfSome};
+    ghost use Rattle.std.specs.Prelude.{◌≡◌, ◌*◌, ℕ, List, Option, Some, None, true, false, length, IsTrue, IfOk, OnOk, OnErr, IfErr, IfSome};
     ghost use Rattle.std.specs.FinMap as map;
     ghost use Rattle.std.specs.List.{list_all};
     ghost use Rattle.zarr_array_core.specs.ChunkValues.{MakesValue, NewValueStops, with_value};
     ghost use Rattle.zarr_array_core.specs.Outcomes.{CountsUpTo, refused_after};
     ghost use Rattle.zarr_array_core.specs.PartWrites.{PatchesChunk};
-    ghost use Rattle.zarr_array_core.specs.Views.{document_of};
+    ghost use Rattle.zarr_array_core.specs.Views.{array_cells, AreSoMany, document_of};
     ghost use Rattle.zarr_array_core.specs.declared.error.ChunkError.TheVariants.{Memory};
     ghost use Rattle.zarr_array_meaning.specs.Chunks.{holds_box};
     ghost use Rattle.zarr_codecs_arrays.specs.Outcomes.{IsTooLarge};
     ghost use Rattle.zarr_codecs_arrays.specs.Views.{payload_of};
     ghost use Rattle.zarr_codecs_meaning.specs.Fits.{fits};
-    ghost use Rattle.zarr_codecs_meaning.specs.Payloads.{fixed_cells};
-    ghost use Rattle.zarr_codecs_meaning.specs.Types.{is_value};
+    ghost use Rattle.zarr_codecs_meaning.specs.Types.{byte_width, is_value};
     ghost use Rattle.zarr_codecs_traits.specs.PartEncoding.{EncodesPart, takes_patches};
     ghost use Rattle.zarr_grids_boxes.specs.Boxes.{product, share_place};
     ghost use Rattle.zarr_grids_boxes.specs.Subsets.{region_of};
@@ -70,13 +70,13 @@ impl<C: ArrayToBytesCodecTraits> ArrayCore<C> {
         requires shares { share_place own.now.start.items own.now.shape.items
             write.now.region.start.now write.now.region.shape.now ≡ true }
         requires rank { length write.now.region.start.now ≡ length own.now.start.items }
-        requires many { length write.now.bytes.now
-            ≡ product write.now.region.shape.now * self.now.width }
+        requires many { AreSoMany self.now write.now.bytes.now
+            (product write.now.region.shape.now) }
         requires values { list_all (is_value (document_of C.meaning self.now).elements.type)
-            (fixed_cells self.now.width write.now.bytes.now) ≡ true }
+            (array_cells self.now write.now.bytes.now) ≡ true }
         ensures ok { IfOk result (λ found. IfSome found (λ patches.
             PatchesChunk (document_of C.meaning self.now) (extent_of write.now.region)
-            (fixed_cells self.now.width write.now.bytes.now)
+            (array_cells self.now write.now.bytes.now)
             write.now.options.now.store_empty_chunks (region_of own.now) patches.items)) }
         ensures err { IfErr result (λ e. e ≡ Memory) }
     {
@@ -86,13 +86,11 @@ impl<C: ArrayToBytesCodecTraits> ArrayCore<C> {
         let Ok(part) = shared.relative_to(write.alloc, own.start()) else {
             return Err(ChunkError::Memory);
         };
-        let (start, shape) = (shared.start(), shared.shape());
-        let bytes = self.whole_cells(write, Extent { start, shape })?;
+        let bytes = self.whole_cells(write, &shared)?;
         if !write.options.store_empty_chunks && self.is_all_fill(&bytes) {
             return Ok(None);
         }
-        let (given, own_shape) = (ArrayBytes::Fixed(bytes), own.shape());
-        match self.encode_part(write.alloc, given, own_shape, &part, write.options) {
+        match self.encode_part(write.alloc, bytes, own.shape(), &part, write.options) {
             Ok(patches) => Ok(patches),
             Err(_) => Err(ChunkError::Memory),
         }
@@ -128,30 +126,32 @@ impl<C: ArrayToBytesCodecTraits> ArrayCore<C> {
         store: &mut S,
         key: &StoreKey,
         write: &BoxWrite,
-        chunk: Extent,
+        own: &ArraySubset,
     ) -> Result<(), ChunkError>
         requires small { ¬ IsTooLarge (document_of C.meaning self.now).elements.type
-            (product chunk.shape.now) }
+            (product own.now.shape.items) }
         requires fit { fits (document_of C.meaning self.now).chain
-            (document_of C.meaning self.now).elements.type chunk.shape.now ≡ true }
-        requires rank { length write.now.region.start.now ≡ length chunk.start.now }
-        requires many { length write.now.bytes.now
-            ≡ product write.now.region.shape.now * self.now.width }
+            (document_of C.meaning self.now).elements.type own.now.shape.items ≡ true }
+        requires shares { share_place own.now.start.items own.now.shape.items
+            write.now.region.start.now write.now.region.shape.now ≡ true }
+        requires rank { length write.now.region.start.now ≡ length own.now.start.items }
+        requires many { AreSoMany self.now write.now.bytes.now
+            (product write.now.region.shape.now) }
         requires values { list_all (is_value (document_of C.meaning self.now).elements.type)
-            (fixed_cells self.now.width write.now.bytes.now) ≡ true }
-        requires part { holds_box (extent_of write.now.region) (extent_of chunk) ≡ false }
+            (array_cells self.now write.now.bytes.now) ≡ true }
+        requires part { holds_box (extent_of write.now.region) (region_of own.now) ≡ false }
         requires absent { IsTrue (S.is_honest store.old) →
             map.get (S.held store.old) key.now ≡ None }
         ensures ok { IsTrue (S.is_honest store.old) → OnOk result ((made : Option (List ℕ))
             × MakesValue (document_of C.meaning self.now) (extent_of write.now.region)
-            (fixed_cells self.now.width write.now.bytes.now)
-            write.now.options.now.store_empty_chunks (extent_of chunk.entry)
+            (array_cells self.now write.now.bytes.now)
+            write.now.options.now.store_empty_chunks (region_of own.now)
             (map.get (S.held store.old) key.now) made
             × (S.held store.new ≡ with_value (S.held store.old) key.now made)) }
         ensures err { IsTrue (S.is_honest store.old) → IfErr result
             (NewValueStops (document_of C.meaning self.now) (extent_of write.now.region)
-            (fixed_cells self.now.width write.now.bytes.now)
-            write.now.options.now.store_empty_chunks (extent_of chunk.entry)
+            (array_cells self.now write.now.bytes.now)
+            write.now.options.now.store_empty_chunks (region_of own.now)
             (map.get (S.held store.old) key.now)) }
         ensures kept { IsTrue (S.is_honest store.old) →
             OnErr result (S.held store.new ≡ S.held store.old) }
@@ -161,8 +161,8 @@ impl<C: ArrayToBytesCodecTraits> ArrayCore<C> {
         ensures counts { CountsUpTo 1 (S.accepted_writes store.old)
             (S.accepted_writes store.new) }
     {
-        let bytes = self.part_cells(write, chunk, None)?;
-        let value = self.encode_chunk(write, chunk.shape, bytes)?;
+        let bytes = self.part_cells(write, own, None)?;
+        let value = self.encode_chunk(write, own.shape(), bytes)?;
         put_value(store, key, value)
     }
 
@@ -180,14 +180,14 @@ impl<C: ArrayToBytesCodecTraits> ArrayCore<C> {
         requires shares { share_place own.now.start.items own.now.shape.items
             write.now.region.start.now write.now.region.shape.now ≡ true }
         requires rank { length write.now.region.start.now ≡ length own.now.start.items }
-        requires many { length write.now.bytes.now
-            ≡ product write.now.region.shape.now * self.now.width }
+        requires many { AreSoMany self.now write.now.bytes.now
+            (product write.now.region.shape.now) }
         requires values { list_all (is_value (document_of C.meaning self.now).elements.type)
-            (fixed_cells self.now.width write.now.bytes.now) ≡ true }
+            (array_cells self.now write.now.bytes.now) ≡ true }
         ensures ok { IsTrue (S.is_honest store.old) → IfOk result (λ done. done ≡ true →
             (made : Option (List ℕ))
             × MakesValue (document_of C.meaning self.now) (extent_of write.now.region)
-            (fixed_cells self.now.width write.now.bytes.now)
+            (array_cells self.now write.now.bytes.now)
             write.now.options.now.store_empty_chunks (region_of own.now)
             (map.get (S.held store.old) key.now) made
             × (S.held store.new ≡ with_value (S.held store.old) key.now made)) }
@@ -195,7 +195,7 @@ impl<C: ArrayToBytesCodecTraits> ArrayCore<C> {
             S.held store.new ≡ S.held store.old) }
         ensures err { IsTrue (S.is_honest store.old) → IfErr result
             (NewValueStops (document_of C.meaning self.now) (extent_of write.now.region)
-            (fixed_cells self.now.width write.now.bytes.now)
+            (array_cells self.now write.now.bytes.now)
             write.now.options.now.store_empty_chunks (region_of own.now)
             (map.get (S.held store.old) key.now)) }
         ensures kept { IsTrue (S.is_honest store.old) →
@@ -208,6 +208,9 @@ impl<C: ArrayToBytesCodecTraits> ArrayCore<C> {
         ensures uncounted { IfOk result (λ done. done ≡ false →
             S.accepted_writes store.new ≡ S.accepted_writes store.old) }
     {
+        let Some(width) = self.element_width() else {
+            return Ok(false);
+        };
         let (start, shape) = (own.start(), own.shape());
         if !self.takes_part(store, write, Extent { start, shape }) {
             return Ok(false);
@@ -222,13 +225,24 @@ impl<C: ArrayToBytesCodecTraits> ArrayCore<C> {
             return Ok(false);
         };
         let Some(size) = size_key(store, key)? else {
-            self.write_new(store, key, write, Extent { start, shape })?;
+            self.write_new(store, key, write, own)?;
             return Ok(true);
         };
-        if size != self.count_bytes(shape) as u64 {
+        if size != count_places(shape).unwrap() * width as u64 {
             return Err(ChunkError::Damage);
         }
         set_partial(store, key, patches.as_slice())?;
         Ok(true)
+    }
+
+    /// How many bytes each element takes, where all take as many, and more than none.
+    fn element_width(&self) -> Option<usize>
+        ensures { IfSome result (λ width. byte_width
+            (document_of C.meaning self.now).elements.type ≡ Some width) }
+    {
+        match self.elements.data_type().byte_width() {
+            Some(0) | None => None,
+            Some(width) => Some(width),
+        }
     }
 }

@@ -2,16 +2,19 @@
 use crate::array_core::ArrayCore;
 use crate::error::ChunkError;
 use std::alloc::Global;
+use zarr_array_elements::BoxElements;
 use zarr_array_storage::ReadableStorageTraits;
-use zarr_codecs_arrays::{ArrayBytes, CodecError};
+use zarr_codecs_arrays::ArrayBytes;
 use zarr_codecs_options::CodecOptions;
 use zarr_codecs_traits::ArrayToBytesCodecTraits;
 use zarr_grids_boxes::ArraySubset;
 use zarr_grids_boxes::walk::{count_places, place_into};
 
-/// What is read: a box of places, of the chunks that it intersects.
+/// What is read: a box of places, of the chunks that it intersects. What is made takes memory of
+/// `alloc`.
 #[derive(Clone, Copy)]
 pub(crate) struct ReadBox<'a> {
+    pub alloc: Global,
     pub region: &'a ArraySubset,
     pub chunks: &'a ArraySubset,
     pub options: &'a CodecOptions,
@@ -27,7 +30,8 @@ impl<C: ArrayToBytesCodecTraits> ArrayCore<C> {
     ghost use Rattle.zarr_codecs_arrays.specs.Outcomes.{IsTooLarge};
     ghost use Rattle.zarr_codecs_arrays.specs.Views.{payload_of};
     ghost use Rattle.zarr_array_meaning.specs.Boxes.{IsRead};
-    ghost use Rattle.zarr_array_core.specs.Views.{document_of, path_of, width_of};
+    ghost use Rattle.zarr_array_elements.specs.Views.{AreShown, cells_shown};
+    ghost use Rattle.zarr_array_core.specs.Views.{document_of, path_of};
     ghost use Rattle.zarr_array_core.specs.Outcomes.{GivesBox, ReadStops, IsSmall, refused_after};
 
     /// The elements of a region that is not empty, row-major. `chunks` is the box of the chunks
@@ -58,39 +62,44 @@ impl<C: ArrayToBytesCodecTraits> ArrayCore<C> {
             refused_after (S.refused_calls store.old) result }
         ensures accepted { S.accepted_writes store.new ≡ S.accepted_writes store.old }
     {
-        let count = count_places(region.shape()).unwrap();
-        let mut bytes = self.fill_bytes(alloc, count)?;
+        let shown = BoxElements::new_fill_value(alloc, region, &self.elements)?;
         let read = ReadBox {
+            alloc,
             region,
             chunks,
             options,
         };
-        match self.read_chunks(alloc, store, read, &mut bytes) {
-            Ok(()) => Ok(ArrayBytes::Fixed(bytes)),
+        match self.read_chunks(store, read, shown) {
+            Ok(shown) => match shown.into_bytes(alloc, region, &self.elements) {
+                Ok(bytes) => Ok(bytes),
+                Err(_) => Err(ChunkError::Memory),
+            },
             Err(error) => Err(error),
         }
     }
 
-    /// Puts the elements of each chunk that a box intersects into the box's bytes, which are fill
-    /// values.
+    /// The elements of a box, which begin as fill values, after those of each chunk that the box
+    /// intersects were put over them.
     fn read_chunks<S: ReadableStorageTraits>(
         &self,
-        alloc: Global,
         store: &mut S,
         read: ReadBox,
-        target: &mut [u8],
-    ) -> Result<(), ChunkError>
+        shown: BoxElements,
+    ) -> Result<BoxElements, ChunkError>
         requires small { IsSmall (document_of C.meaning self.now) (region_of read.region.now) }
         requires intersecting { AreIntersecting (document_of C.meaning self.now).grid
             (region_of read.region.now) (region_of read.chunks.now) }
-        requires target { length target.old ≡
-            product read.region.now.shape.items * width_of self.now }
-        requires fill { fixed_cells (width_of self.now) target.old
+        requires shown { AreShown (document_of C.meaning self.now).elements
+            (region_of read.region.now) shown }
+        requires fill { cells_shown (document_of C.meaning self.now).elements shown
             ≡ replicate (product read.region.now.shape.items)
             (document_of C.meaning self.now).elements.fill }
-        ensures ok { IsTrue (S.is_honest store.old) → OnOk result (IsRead (path_of self.now)
-            (document_of C.meaning self.now) (S.held store.old) (region_of read.entry.region.now)
-            (fixed_cells (width_of self.now) target.new)) }
+        ensures shown { IfOk result (AreShown (document_of C.meaning self.now).elements
+            (region_of read.entry.region.now)) }
+        ensures ok { IsTrue (S.is_honest store.old) → IfOk result (λ made. IsRead
+            (path_of self.now) (document_of C.meaning self.now) (S.held store.old)
+            (region_of read.entry.region.now)
+            (cells_shown (document_of C.meaning self.now).elements made)) }
         ensures err { IsTrue (S.is_honest store.old) → IfErr result
             (ReadStops (path_of self.now) (document_of C.meaning self.now) (S.held store.old)
             (region_of read.entry.region.now)) }
@@ -103,30 +112,16 @@ impl<C: ArrayToBytesCodecTraits> ArrayCore<C> {
         let first = read.chunks.start();
         let shape = read.chunks.shape();
         let count = count_places(shape).unwrap();
-        let mut room = vec![in alloc; 0; first.len()]?;
+        let mut room = vec![in read.alloc; 0; first.len()]?;
         let chunk = room.as_mut_slice();
+        let mut target = shown;
         for n in 0..count {
             place_into(first, shape, count, n, chunk);
-            match self.read_chunk(alloc, store, chunk, read, target) {
-                Ok(()) => {}
+            match self.read_chunk(store, chunk, read, target) {
+                Ok(next) => target = next,
                 Err(error) => return Err(error),
             }
         }
-        Ok(())
-    }
-
-    /// The bytes of as many elements as asked for that nobody wrote.
-    pub(crate) fn fill_bytes(&self, alloc: Global, count: u64) -> Result<Vec<u8>, ChunkError>
-        requires { ¬ IsTooLarge (document_of C.meaning self.now).elements.type count }
-        ensures len { IfOk result (λ bytes. length bytes.items ≡ count * width_of self.now) }
-        ensures fill { IfOk result (λ bytes. fixed_cells (width_of self.now) bytes.items
-            ≡ replicate count (document_of C.meaning self.now).elements.fill) }
-        ensures err { IfErr result (λ e. e ≡ ChunkError.Memory) }
-    {
-        match ArrayBytes::new_fill_value(alloc, self.elements(), count) {
-            Ok(ArrayBytes::Fixed(bytes)) => Ok(bytes),
-            Err(CodecError::Memory) => Err(ChunkError::Memory),
-            _ => unreachable!(),
-        }
+        Ok(target)
     }
 }

@@ -20,13 +20,12 @@ impl<C: ArrayToBytesCodecTraits> ArrayCore<C> {
     ghost use Rattle.zarr_grids_cover.specs.Intersecting.{AreIntersecting};
     ghost use Rattle.zarr_grids_keys.specs.Keys.{chunk_key};
     ghost use Rattle.zarr_grids_overlay.specs.Overlays.{extent_of};
-    ghost use Rattle.zarr_codecs_meaning.specs.Payloads.{fixed, fixed_cells};
     ghost use Rattle.zarr_codecs_meaning.specs.Types.{Cell, is_value};
     ghost use Rattle.zarr_codecs_arrays.specs.Outcomes.{IsValid};
     ghost use Rattle.zarr_codecs_arrays.specs.Views.{payload_of};
     ghost use Rattle.zarr_array_meaning.specs.Chunks.{stored_at};
     ghost use Rattle.zarr_array_meaning.specs.Writing.{WroteChunks};
-    ghost use Rattle.zarr_array_core.specs.Views.{document_of, path_of};
+    ghost use Rattle.zarr_array_core.specs.Views.{array_cells, AreSoMany, document_of, path_of};
     ghost use Rattle.zarr_array_core.specs.ChunkValues.{MakesValue, NewValueStops, with_value};
     ghost use Rattle.zarr_array_core.specs.Outcomes.{WritesBox, WriteStops, CountsWrites, CountsUpTo, IsSmall, refused_after, refused_by_many};
 
@@ -69,15 +68,12 @@ impl<C: ArrayToBytesCodecTraits> ArrayCore<C> {
         ensures counts { CountsWrites (document_of C.meaning self.now) (region_of region.now)
             (S.accepted_writes store.old) (S.accepted_writes store.new) }
     {
-        let ArrayBytes::Fixed(given) = bytes else {
-            unreachable!();
-        };
         let (start, shape) = (region.start(), region.shape());
         let write = BoxWrite {
             alloc,
             subset: region,
             region: Extent { start, shape },
-            bytes: given.as_slice(),
+            bytes,
             options,
         };
         self.write_chunks(store, &write, chunks)
@@ -96,18 +92,18 @@ impl<C: ArrayToBytesCodecTraits> ArrayCore<C> {
         requires small { IsSmall (document_of C.meaning self.now) (extent_of write.now.region) }
         requires intersecting { AreIntersecting (document_of C.meaning self.now).grid
             (extent_of write.now.region) (region_of chunks.now) }
-        requires many { length write.now.bytes.now
-            ≡ product write.now.region.shape.now * self.now.width }
+        requires many { AreSoMany self.now write.now.bytes.now
+            (product write.now.region.shape.now) }
         requires values { list_all (is_value (document_of C.meaning self.now).elements.type)
-            (fixed_cells self.now.width write.now.bytes.now) ≡ true }
+            (array_cells self.now write.now.bytes.now) ≡ true }
         ensures ok { IsTrue (S.is_honest store.old) → OnOk result (WroteChunks (path_of self.now)
             (document_of C.meaning self.now) (extent_of write.now.region)
-            (fixed_cells self.now.width write.now.bytes.now) write.now.options.now
+            (array_cells self.now write.now.bytes.now) write.now.options.now
             (intersecting (document_of C.meaning self.now).grid (extent_of write.now.region))
             (S.held store.old) (S.held store.new)) }
         ensures err { IsTrue (S.is_honest store.old) → IfErr result (WriteStops (path_of self.now)
             (document_of C.meaning self.now) (extent_of write.now.region)
-            (fixed write.now.bytes.now) write.now.options.now
+            (payload_of write.now.bytes.now) write.now.options.now
             (S.held store.old) (S.held store.new)) }
         ensures honest { S.is_honest store.new ≡ S.is_honest store.old }
         ensures refused { S.refused_calls store.new ≡
@@ -145,15 +141,15 @@ impl<C: ArrayToBytesCodecTraits> ArrayCore<C> {
         requires small { IsSmall (document_of C.meaning self.now) (extent_of write.now.region) }
         requires rank { length write.now.region.start.now
             ≡ length (document_of C.meaning self.now).grid }
-        requires many { length write.now.bytes.now
-            ≡ product write.now.region.shape.now * self.now.width }
+        requires many { AreSoMany self.now write.now.bytes.now
+            (product write.now.region.shape.now) }
         requires values { list_all (is_value (document_of C.meaning self.now).elements.type)
-            (fixed_cells self.now.width write.now.bytes.now) ≡ true }
+            (array_cells self.now write.now.bytes.now) ≡ true }
         ensures ok { IsTrue (S.is_honest store.old) → OnOk result
             ((box : Region) × (made : Option (List ℕ))
             × IsInGrid (document_of C.meaning self.now).grid chunk.now box
             × MakesValue (document_of C.meaning self.now) (extent_of write.now.region)
-            (fixed_cells self.now.width write.now.bytes.now)
+            (array_cells self.now write.now.bytes.now)
             write.now.options.now.store_empty_chunks box (stored_at (path_of self.now)
             (document_of C.meaning self.now) (S.held store.old) chunk.now) made
             × (S.held store.new ≡ with_value (S.held store.old) (chunk_key (path_of self.now)
@@ -161,7 +157,7 @@ impl<C: ArrayToBytesCodecTraits> ArrayCore<C> {
         ensures err { IsTrue (S.is_honest store.old) → IfErr result (λ e. (box : Region)
             × IsInGrid (document_of C.meaning self.now).grid chunk.now box
             × NewValueStops (document_of C.meaning self.now) (extent_of write.now.region)
-            (fixed_cells self.now.width write.now.bytes.now)
+            (array_cells self.now write.now.bytes.now)
             write.now.options.now.store_empty_chunks box (stored_at (path_of self.now)
             (document_of C.meaning self.now) (S.held store.old) chunk.now) e) }
         ensures kept { IsTrue (S.is_honest store.old) →
@@ -176,7 +172,6 @@ impl<C: ArrayToBytesCodecTraits> ArrayCore<C> {
         if self.patch_chunk(store, &key, write, &own)? {
             return Ok(());
         }
-        let (start, shape) = (own.start(), own.shape());
-        self.write_chunk(store, &key, write, Extent { start, shape })
+        self.write_chunk(store, &key, write, &own)
     }
 }

@@ -1,32 +1,30 @@
 -- Places that array codecs move, and the elements there.
-use Rattle.std.proofs.Common.{◌≡◌, ℕ, zero, suc, ◌+◌, ◌<◌, ◌≤◌, List, [], ◌∷◌, ◌++◌, length, map, take, get_or, slice_index, ap, ◌∙◌, sym, subst, refl, arith, Some, Result, Ok, Err, Bool, true, ◌&&◌, ◌==◌}
+use Rattle.std.proofs.Common.{◌≡◌, ℕ, zero, suc, ◌+◌, ◌<◌, List, [], ◌∷◌, ◌++◌, length, map, take, get_or, slice_index, ap, ◌∙◌, sym, subst, refl, arith, Result, Ok, Err, Bool, true, ◌&&◌, ◌==◌}
 use Rattle.std.specs.Prelude.{nat_lt}
-use Rattle.std.specs.List.{list_all, range_with_len}
+use Rattle.std.specs.List.{range_with_len}
 use Rattle.std.proofs.lemmas.Bool.{and_parts, ltb-true, lt-ltb}
 use Rattle.std.proofs.lemmas.List.{length-map}
 use Rattle.std.proofs.lemmas.List.FromFn.{length-range_with_len, get_or-range_with_len, get_or-map-range_with_len, fill_by_all}
 use Rattle.std.proofs.lemmas.Simd.{map-map}
 use Rattle.std.proofs.lemmas.Map.Views.{exact_unsigned_eq}
-use Rattle.zarr_grids_boxes.specs.Boxes.{product, place_at, ravel, IsIndex}
-use Rattle.zarr_grids_boxes.proofs.Dimensions.{ravel_below}
+use Rattle.zarr_grids_boxes.specs.Boxes.{product, place_at, ravel}
 use Rattle.zarr_grids_boxes.proofs.Places.{places_by_number, range_with_len-append}
 use Rattle.zarr_codecs_meaning.specs.Chains.{ArrayCodec}
 use Rattle.zarr_codecs_meaning.specs.Chains.ArrayCodec.{transpose}
 use Rattle.zarr_codecs_meaning.specs.Fits.{array_codec_fits, is_permutation}
-use Rattle.zarr_codecs_meaning.specs.Payloads.{Payload, cells_in}
-use Rattle.zarr_codecs_meaning.specs.Places.{gather, place_numbers, places_of, position_of, untransposed, encoded_shape, source_places, undone_places}
+use Rattle.zarr_codecs_meaning.specs.Payloads.{Payload}
+use Rattle.zarr_codecs_meaning.specs.Places.{gather, place_numbers, position_of, untransposed, encoded_shape, source_places, undone_places}
 use Rattle.zarr_codecs_meaning.specs.Types.{Cell, Elements, DataType}
 use Rattle.zarr_codecs_meaning.proofs.ArrayCodecs.{array_codec_count}
 use Rattle.zarr_codecs_meaning.proofs.Covers.{zeros, length-zeros, place_is_index, ravel_place, places_at, is_order, transposed_index, untransposed_back, array_codec_covers}
 use Rattle.zarr_codecs_meaning.proofs.Once.{array_codec_once, covering_long}
-use Rattle.zarr_codecs_meaning.proofs.Positions.{IsAmong, among_at, among_range, position_found, position_read}
-use Rattle.zarr_codecs_arrays.specs.Outcomes.{IsValid, Validates}
-use Rattle.zarr_codecs_arrays.specs.Views.{payload_of}
+use Rattle.zarr_codecs_meaning.proofs.Positions.{among_at, among_range, position_found, position_read}
+use Rattle.zarr_codecs_arrays.specs.Outcomes.{Validates}
 use Rattle.zarr_codecs_arrays.specs.declared.array_bytes.ArrayBytes.{ArrayBytes}
 use Rattle.zarr_codecs_arrays.specs.declared.error.CodecError.{CodecError}
 use Rattle.zarr_codecs_arrays.specs.declared.error.CodecError.TheVariants as error
-use Rattle.zarr_codecs_traits.specs.Outcomes.{Moves, IsMoved}
-use Rattle.zarr_codecs_array_to_array.specs.Moving.{are_below, picked_number, Checks, IsGathered, Gathers}
+use Rattle.zarr_codecs_traits.specs.Outcomes.{Moves}
+use Rattle.zarr_codecs_array_to_array.specs.Moving.{are_below, moved_numbers, picked_number, Checks, Gathers}
 
 -- ---- lists of numbers
 
@@ -101,6 +99,14 @@ pub undone_below : (codec : ArrayCodec) (shape : List ℕ) → array_codec_fits 
 undone_below codec shape fit = map_all_below (λ n. position_of n (source_places codec shape)) (product shape) (product (encoded_shape codec shape)) (place_numbers shape) (range_below (product shape)) (position_below codec shape fit)
 
 -- ---- elements that stay where they are
+
+-- numbers are the same after a codec that moves no element
+pub kept_moved : (codec : ArrayCodec) (shape numbers made : List ℕ) → source_places codec shape ≡ place_numbers shape → are_below (product shape) numbers ≡ true → made ≡ numbers → made ≡ moved_numbers codec shape numbers
+kept_moved codec shape numbers made stay inside e =
+    e ∙ sym (ap (λ ns. map (λ n. position_of n ns) numbers) stay ∙ map_id (λ n. position_of n (place_numbers shape)) numbers (product shape) inside (range_position (product shape)))
+
+pub kept_within : (codec : ArrayCodec) (shape numbers made : List ℕ) → array_codec_fits codec shape ≡ true → are_below (product shape) numbers ≡ true → made ≡ numbers → are_below (product (encoded_shape codec shape)) made ≡ true
+kept_within codec shape numbers made fit inside e = ap (are_below (product (encoded_shape codec shape))) e ∙ (ap (λ k. are_below k numbers) (sym (product_moved codec shape fit)) ∙ inside)
 
 pub gathered_all : (fill : Cell) (cells : List Cell) (count : ℕ) → length cells ≡ count → gather fill cells (range_with_len 0 count) ≡ cells
 gathered_all fill cells count whole = sym (fill_by_all (λ k. get_or cells k fill) cells count fill whole (λ k h. refl))

@@ -1,3 +1,5 @@
+pub mod Entries
 pub mod Views
 pub mod Moving
 pub mod Written
+pub mod Sizes

@@ -1,5 +1,5 @@
 -- The metadata that is written for array to array codecs.
-use Rattle.std.specs.Prelude.{ℕ, ℤ, negsuc, List, [], ◌∷◌, map, codes, bytes_eq, if◌then◌else◌, Option, None}
+use Rattle.std.specs.Prelude.{ℕ, negsuc, List, map, codes, bytes_eq, if◌then◌else◌, Option, None}
 use Rattle.serde_json.specs.Data.{Data, number, unsigned, negative, array, no_members, put}
 use Rattle.serde_json.specs.View.{items_of}
 use Rattle.zarr_grids_metadata.specs.ExtensionPoints.{ExtensionPoint, named, configured, configuration_members}
@@ -31,6 +31,10 @@ array_codec_point squeeze = named (codes "squeeze")
 -- `transpose`, where an extension point is that
 abbrev pub transpose_in : ExtensionPoint → Option ArrayCodec
 transpose_in point = if bytes_eq point.name (codes "transpose") then metadata.transpose_of (configuration_members point.configuration) else None
+
+-- `reshape`, where an extension point is that
+abbrev pub reshape_in : ExtensionPoint → Option ArrayCodec
+reshape_in point = if bytes_eq point.name (codes "reshape") then metadata.reshape_of (configuration_members point.configuration) else None
 
 -- `squeeze`, where an extension point is that
 abbrev pub squeeze_in : ExtensionPoint → Option ArrayCodec

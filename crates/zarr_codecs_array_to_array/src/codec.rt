@@ -1,4 +1,5 @@
 //! Any codec between arrays.
+use crate::reshape::ReshapeCodec;
 use crate::squeeze::SqueezeCodec;
 use crate::transpose::TransposeCodec;
 use std::alloc::{AllocError, Global};
@@ -10,6 +11,7 @@ use zarr_grids_metadata::{MetadataV3, PluginCreateError};
 #[derive(Debug, Drop)]
 pub enum ArrayToArrayCodec {
     Transpose(TransposeCodec),
+    Reshape(ReshapeCodec),
     Squeeze(SqueezeCodec),
 }
 
@@ -42,6 +44,7 @@ impl ArrayToArrayCodec {
     {
         match self {
             ArrayToArrayCodec::Transpose(codec) => codec.encoded_numbers(alloc, shape, numbers),
+            ArrayToArrayCodec::Reshape(codec) => codec.encoded_numbers(alloc, shape, numbers),
             ArrayToArrayCodec::Squeeze(codec) => codec.encoded_numbers(alloc, shape, numbers),
         }
     }
@@ -63,6 +66,10 @@ impl ArrayToArrayCodec {
                 Ok(codec) => Ok(ArrayToArrayCodec::Transpose(codec)),
                 Err(error) => Err(error),
             },
+            "reshape" => match ReshapeCodec::from_metadata(alloc, metadata) {
+                Ok(codec) => Ok(ArrayToArrayCodec::Reshape(codec)),
+                Err(error) => Err(error),
+            },
             "squeeze" | "zarrs.squeeze" => match SqueezeCodec::from_metadata(metadata) {
                 Ok(codec) => Ok(ArrayToArrayCodec::Squeeze(codec)),
                 Err(error) => Err(error),
@@ -81,6 +88,7 @@ impl ArrayToArrayCodec {
     {
         match self {
             ArrayToArrayCodec::Transpose(codec) => codec.metadata(alloc),
+            ArrayToArrayCodec::Reshape(codec) => codec.metadata(alloc),
             ArrayToArrayCodec::Squeeze(codec) => codec.metadata(alloc),
         }
     }
@@ -93,6 +101,10 @@ impl ArrayToArrayCodec {
             ArrayToArrayCodec::Transpose(codec) => {
                 let codec = codec.try_clone(alloc)?;
                 Ok(ArrayToArrayCodec::Transpose(codec))
+            }
+            ArrayToArrayCodec::Reshape(codec) => {
+                let codec = codec.try_clone(alloc)?;
+                Ok(ArrayToArrayCodec::Reshape(codec))
             }
             ArrayToArrayCodec::Squeeze(codec) => {
                 let codec = codec.try_clone(alloc)?;
@@ -110,6 +122,7 @@ impl ArrayToArrayCodecTraits for ArrayToArrayCodec {
     fn fits(&self, shape: &[u64]) -> bool {
         match self {
             ArrayToArrayCodec::Transpose(codec) => codec.fits(shape),
+            ArrayToArrayCodec::Reshape(codec) => codec.fits(shape),
             ArrayToArrayCodec::Squeeze(codec) => codec.fits(shape),
         }
     }
@@ -117,6 +130,7 @@ impl ArrayToArrayCodecTraits for ArrayToArrayCodec {
     fn encoded_shape(&self, alloc: Global, decoded_shape: &[u64]) -> Result<Vec<u64>, CodecError> {
         match self {
             ArrayToArrayCodec::Transpose(codec) => codec.encoded_shape(alloc, decoded_shape),
+            ArrayToArrayCodec::Reshape(codec) => codec.encoded_shape(alloc, decoded_shape),
             ArrayToArrayCodec::Squeeze(codec) => codec.encoded_shape(alloc, decoded_shape),
         }
     }
@@ -130,6 +144,7 @@ impl ArrayToArrayCodecTraits for ArrayToArrayCodec {
     ) -> Result<ArrayBytes, CodecError> {
         match self {
             ArrayToArrayCodec::Transpose(codec) => codec.encode(alloc, bytes, elements, shape),
+            ArrayToArrayCodec::Reshape(codec) => codec.encode(alloc, bytes, elements, shape),
             ArrayToArrayCodec::Squeeze(codec) => codec.encode(alloc, bytes, elements, shape),
         }
     }
@@ -143,6 +158,7 @@ impl ArrayToArrayCodecTraits for ArrayToArrayCodec {
     ) -> Result<ArrayBytes, CodecError> {
         match self {
             ArrayToArrayCodec::Transpose(codec) => codec.decode(alloc, bytes, elements, shape),
+            ArrayToArrayCodec::Reshape(codec) => codec.decode(alloc, bytes, elements, shape),
             ArrayToArrayCodec::Squeeze(codec) => codec.decode(alloc, bytes, elements, shape),
         }
     }

@@ -1,9 +1,10 @@
 //! Orders of dimensions.
-ghost use Rattle.std.specs.Prelude.{◌≡◌, ◌==◌, nat_lt, true};
+ghost use Rattle.std.specs.Prelude.{◌≡◌, ◌==◌, true};
 ghost use Rattle.std.specs.List.{list_all, list_any, range_with_len};
 ghost use Rattle.zarr_codecs_meaning.specs.Fits.{is_permutation};
 
 use std::alloc::{AllocError, Global};
+use zarr_codecs_regions::are_below;
 
 /// An order of dimensions: each number below its length, once.
 #[derive(Debug, Drop)]
@@ -50,17 +51,6 @@ fn is_permutation(order: &[u64]) -> bool
 {
     let count = order.len() as u64;
     are_below(order, count) && each_is_among(order, count)
-}
-
-fn are_below(order: &[u64], count: u64) -> bool
-    ensures { result ≡ list_all (λ d. nat_lt d count) order.now }
-{
-    for dimension in order {
-        if *dimension >= count {
-            return false;
-        }
-    }
-    true
 }
 
 fn each_is_among(order: &[u64], count: u64) -> bool

@@ -4,7 +4,7 @@ ghost use Rattle.std.specs.List.{filter};
 ghost use Rattle.zarr_codecs_meaning.specs.Places.{squeezed};
 
 use crate::metadata::is_empty;
-use crate::walks::kept;
+use crate::walks::{copied, kept};
 use std::alloc::{AllocError, Global};
 use zarr_codecs_arrays::{ArrayBytes, CodecError, Elements};
 use zarr_codecs_traits::ArrayToArrayCodecTraits;
@@ -14,6 +14,10 @@ use zarr_grids_metadata::{MetadataV3, PluginCreateError};
 /// without its dimensions of size one, or [1] where there are no others. It suits each shape.
 #[derive(Clone, Copy, Debug, PartialEq, Eq)]
 pub struct SqueezeCodec {}
+
+/// What `squeeze` is configured by: nothing.
+#[derive(Clone, Copy, Debug, PartialEq, Eq)]
+pub struct SqueezeCodecConfiguration {}
 
 impl SqueezeCodec {
     ghost use Rattle.std.specs.Prelude.{◌≡◌, ◌≢◌, ◌<◌, ◌^◌, true, Some, None, IfOk, IfErr};
@@ -27,8 +31,24 @@ impl SqueezeCodec {
     ghost use Rattle.zarr_codecs_meaning.specs.Chains.ArrayCodec.{squeeze};
 
     /// `squeeze`.
-    pub fn new() -> SqueezeCodec {
+    pub fn new() -> SqueezeCodec
+        ensures { squeeze_of result ≡ squeeze }
+    {
         SqueezeCodec {}
+    }
+
+    /// `squeeze` as a configuration gives it.
+    pub fn new_with_configuration(_: &SqueezeCodecConfiguration) -> SqueezeCodec
+        ensures { squeeze_of result ≡ squeeze }
+    {
+        SqueezeCodec::new()
+    }
+
+    /// The codec's configuration, of which `new_with_configuration` makes an equal codec.
+    pub fn configuration(&self) -> SqueezeCodecConfiguration
+        ensures { squeeze_of self.now ≡ squeeze }
+    {
+        SqueezeCodecConfiguration {}
     }
 
     /// The numbers that places have after the codec, of the numbers that they have before it.
@@ -89,6 +109,12 @@ impl SqueezeCodec {
 }
 
 impl Default for SqueezeCodec {
+    ghost use Rattle.std.specs.Prelude.{◌≡◌};
+    ghost use Rattle.zarr_codecs_meaning.specs.Chains.ArrayCodec.{squeeze};
+    ghost use Rattle.zarr_codecs_array_to_array.specs.Views.{squeeze_of};
+
+    ghost is_default = { λ codec. squeeze_of codec ≡ squeeze };
+
     fn default() -> SqueezeCodec {
         SqueezeCodec::new()
     }
@@ -150,12 +176,4 @@ fn without_ones(alloc: Global, shape: &[u64]) -> Result<Vec<u64>, AllocError>
         }
     }
     Ok(sizes)
-}
-
-/// The same numbers, in memory of their own.
-fn copied(alloc: Global, numbers: &[u64]) -> Result<Vec<u64>, AllocError>
-    ensures { IfOk result (λ v. v.items ≡ numbers.now) }
-{
-    let copy = numbers.to_vec(alloc)?;
-    Ok(copy)
 }

@@ -15,6 +15,12 @@ pub struct TransposeCodec {
     order: TransposeOrder,
 }
 
+/// What `transpose` is configured by: the order of dimensions.
+#[derive(Debug, Drop)]
+pub struct TransposeCodecConfiguration {
+    pub order: TransposeOrder,
+}
+
 impl TransposeCodec {
     ghost use Rattle.std.specs.Prelude.{◌≡◌, ◌≢◌, ◌<◌, ◌^◌, true, Some, None, IfOk, IfErr};
     ghost use Rattle.zarr_grids_boxes.specs.Boxes.{product};
@@ -31,6 +37,28 @@ impl TransposeCodec {
         ensures { transpose_of result ≡ transpose (order_of order) }
     {
         TransposeCodec { order }
+    }
+
+    /// `transpose` as a configuration gives it. `Err` only where an allocation failed.
+    pub fn new_with_configuration(
+        alloc: Global,
+        configuration: &TransposeCodecConfiguration,
+    ) -> Result<TransposeCodec, AllocError>
+        ensures { IfOk result
+            (λ codec. transpose_of codec ≡ transpose (order_of configuration.now.order)) }
+    {
+        let order = configuration.order.try_clone(alloc)?;
+        Ok(TransposeCodec { order })
+    }
+
+    /// The codec's configuration, of which `new_with_configuration` makes an equal codec. `Err`
+    /// only where an allocation failed.
+    pub fn configuration(&self, alloc: Global) -> Result<TransposeCodecConfiguration, AllocError>
+        ensures { IfOk result (λ configuration.
+            transpose (order_of configuration.order) ≡ transpose_of self.now) }
+    {
+        let order = self.order.try_clone(alloc)?;
+        Ok(TransposeCodecConfiguration { order })
     }
 
     /// The numbers that places have after the codec, of the numbers that they have before it.

@@ -178,3 +178,11 @@ fn position(order: &[u64], dimension: u64) -> u64
     }
     position
 }
+
+/// The same numbers, in memory of their own.
+pub(crate) fn copied(alloc: Global, numbers: &[u64]) -> Result<Vec<u64>, AllocError>
+    ensures { IfOk result (λ v. v.items ≡ numbers.now) }
+{
+    let copy = numbers.to_vec(alloc)?;
+    Ok(copy)
+}

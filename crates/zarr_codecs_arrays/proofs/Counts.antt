@@ -13,7 +13,7 @@ use Rattle.zarr_codecs_types.specs.Parts.{word_sized}
 use Rattle.zarr_codecs_arrays.specs.Offsets.{are_rising}
 use Rattle.zarr_codecs_arrays.specs.Views.{numbers_of}
 use Rattle.zarr_codecs_arrays.specs.declared.offsets.ArrayBytesOffsets.{ArrayBytesOffsets}
-use Rattle.zarr_codecs_arrays.specs.Outcomes.{IsInvalid, Validates}
+use Rattle.zarr_codecs_arrays.specs.Outcomes.{IsMiscounted, Validates}
 use Rattle.zarr_codecs_arrays.specs.declared.error.CodecError.{CodecError}
 use Rattle.zarr_codecs_arrays.specs.declared.error.CodecError.TheVariants as error
 use Rattle.zarr_codecs_arrays.proofs.FixedCells.{fixed_in-some, length-fixed_cells}
@@ -151,14 +151,14 @@ pub none_counted : (type : DataType) (payload : Payload) → None ≡ option_map
 none_counted type payload h = no_length (cells_in type payload) h
 
 -- an error of the form of the elements below a mask is one of those with the mask
-pub form_above : (e : CodecError) (type outer : DataType) (payload whole : Payload) (count : ℕ) → cells_in type payload ≡ None → cells_in outer whole ≡ None → IsInvalid type payload count e → IsInvalid outer whole count e
+pub form_above : (e : CodecError) (type outer : DataType) (payload whole : Payload) (count : ℕ) → cells_in type payload ≡ None → cells_in outer whole ≡ None → IsMiscounted type payload count e → IsMiscounted outer whole count e
 form_above error.ExpectedFixedLengthBytes type outer payload whole count inside here h = here
 form_above error.ExpectedVariableLengthBytes type outer payload whole count inside here h = here
 form_above error.ExpectedOptionalBytes type outer payload whole count inside here h = here
 form_above error.InvalidNumberOfElements type outer payload whole count inside here h = λ cells is. let lists = is.lists in cc
-form_above error.CellOutOfRange type outer payload whole count inside here h = let lists = h.1.lists in cc
 form_above _ type outer payload whole count inside here h = h
 
-pub form_refused : (A : Type 0) (e : CodecError) (type : DataType) (payload : Payload) (count : ℕ) → None ≡ option_map length (cells_in type payload) → (cells_in type payload ≡ None → (n : ℕ) → IsInvalid type payload n e) → Validates {A = A} type payload count (Err e)
-form_refused A error.Memory type payload count none law = law (none_counted type payload none) count
-form_refused A e type payload count none law = law (none_counted type payload none) count
+-- what are not so many elements are not so many values
+pub count_refused : (A : Type 0) (e : CodecError) (type : DataType) (payload : Payload) (count : ℕ) → IsMiscounted type payload count e → Validates {A = A} type payload count (Err e)
+count_refused A error.CellOutOfRange type payload count h = absurd h
+count_refused A e type payload count h = h

@@ -7,3 +7,4 @@ pub mod ElementValues
 pub mod Masks
 pub mod Filled
 pub mod Fillings
+pub mod Joined

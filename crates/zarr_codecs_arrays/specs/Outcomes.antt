@@ -15,14 +15,23 @@ pub record IsCounted (type : DataType) (payload : Payload) (count : ℕ) (cells 
   pub lists : cells_in type payload ≡ Some cells
   pub many : length cells ≡ count
 
--- why a payload is not so many values of a type: its form is another type's, there are more or fewer, or one is no value
+-- why a payload is not so many elements of a type: its form is another type's, or there are more or fewer
+abbrev pub IsMiscounted : DataType → Payload → ℕ → CodecError → Type 0
+IsMiscounted type payload count error.ExpectedFixedLengthBytes = cells_in type payload ≡ None
+IsMiscounted type payload count error.ExpectedVariableLengthBytes = cells_in type payload ≡ None
+IsMiscounted type payload count error.ExpectedOptionalBytes = cells_in type payload ≡ None
+IsMiscounted type payload count error.InvalidNumberOfElements = (cells : List Cell) → ¬ IsCounted type payload count cells
+IsMiscounted type payload count e = ⊥
+
+-- whether a payload is so many elements of a type
+abbrev pub TestsCount : {A : Type 0} → DataType → Payload → ℕ → Result A CodecError → Type 0
+TestsCount type payload count (Ok value) = (cells : List Cell) × IsCounted type payload count cells
+TestsCount type payload count (Err e) = IsMiscounted type payload count e
+
+-- why a payload is not so many values of a type: it is not so many elements, or one is no value
 abbrev pub IsInvalid : DataType → Payload → ℕ → CodecError → Type 0
-IsInvalid type payload count error.ExpectedFixedLengthBytes = cells_in type payload ≡ None
-IsInvalid type payload count error.ExpectedVariableLengthBytes = cells_in type payload ≡ None
-IsInvalid type payload count error.ExpectedOptionalBytes = cells_in type payload ≡ None
-IsInvalid type payload count error.InvalidNumberOfElements = (cells : List Cell) → ¬ IsCounted type payload count cells
 IsInvalid type payload count error.CellOutOfRange = (cells : List Cell) × IsCounted type payload count cells × (list_all (is_value type) cells ≡ false)
-IsInvalid type payload count e = ⊥
+IsInvalid type payload count e = IsMiscounted type payload count e
 
 -- a payload is so many values of a type
 pub record IsValid (type : DataType) (payload : Payload) (count : ℕ) (cells : List Cell) : Type 0 where

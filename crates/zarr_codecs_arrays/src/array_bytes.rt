@@ -29,7 +29,7 @@ impl ArrayBytes {
     ghost use Rattle.zarr_codecs_meaning.specs.Types as types;
     ghost use Rattle.zarr_codecs_types.specs.Views.{type_of};
     ghost use Rattle.zarr_codecs_arrays.specs.Views.{payload_of, elements_of};
-    ghost use Rattle.zarr_codecs_arrays.specs.Outcomes.{Validates, IsTooLarge};
+    ghost use Rattle.zarr_codecs_arrays.specs.Outcomes.{TestsCount, Validates, IsTooLarge};
 
     /// As many elements as asked for, each the fill value. `Size` where they would have 2^63 bytes
     /// or more. Of a type whose elements have no bytes it makes none, and answers `Memory`.
@@ -60,11 +60,11 @@ impl ArrayBytes {
         counted(self, data_type)
     }
 
-    /// Whether these are so many values of a data type: `InvalidNumberOfElements` where there are
-    /// more or fewer, `Expected..` where their form is another type's, `CellOutOfRange` where one
-    /// is no value. The form is tested first, the values last.
-    pub fn validate(&self, data_type: &DataType, count: u64) -> Result<(), CodecError>
-        ensures { Validates (type_of data_type.now) (payload_of self.now) count result }
+    /// Whether these are so many elements of a data type, of which none is tested for being a
+    /// value: `InvalidNumberOfElements` where there are more or fewer, `Expected..` where their
+    /// form is another type's.
+    pub fn test_count(&self, data_type: &DataType, count: u64) -> Result<(), CodecError>
+        ensures { TestsCount (type_of data_type.now) (payload_of self.now) count result }
     {
         let Some(found) = counted(self, data_type) else {
             return Err(form_error(self, data_type));
@@ -72,6 +72,16 @@ impl ArrayBytes {
         if found as u64 != count {
             return Err(CodecError::InvalidNumberOfElements);
         }
+        Ok(())
+    }
+
+    /// Whether these are so many values of a data type: `InvalidNumberOfElements` where there are
+    /// more or fewer, `Expected..` where their form is another type's, `CellOutOfRange` where one
+    /// is no value. The form is tested first, the values last.
+    pub fn validate(&self, data_type: &DataType, count: u64) -> Result<(), CodecError>
+        ensures { Validates (type_of data_type.now) (payload_of self.now) count result }
+    {
+        self.test_count(data_type, count)?;
         if !are_values(self, data_type) {
             return Err(CodecError::CellOutOfRange);
         }

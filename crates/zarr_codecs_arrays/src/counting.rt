@@ -4,7 +4,7 @@ ghost use Rattle.zarr_codecs_meaning.specs.Payloads as payloads;
 ghost use Rattle.zarr_codecs_meaning.specs.Types.{Cell};
 ghost use Rattle.zarr_codecs_types.specs.Views.{type_of};
 ghost use Rattle.zarr_codecs_arrays.specs.Views.{payload_of, numbers_of};
-ghost use Rattle.zarr_codecs_arrays.specs.Outcomes.{IsInvalid};
+ghost use Rattle.zarr_codecs_arrays.specs.Outcomes.{IsMiscounted};
 
 use crate::array_bytes::ArrayBytes;
 use crate::error::CodecError;
@@ -67,7 +67,7 @@ fn masked_count(count: Option<usize>, mask: &[u8]) -> Option<usize>
 /// Why elements are none of a data type's, where they are not.
 pub(crate) fn form_error(elements: &ArrayBytes, data_type: &DataType) -> CodecError
     ensures { payloads.cells_in (type_of data_type.now) (payload_of elements.now) ≡ None
-        → (count : ℕ) → IsInvalid (type_of data_type.now) (payload_of elements.now) count result }
+        → (count : ℕ) → IsMiscounted (type_of data_type.now) (payload_of elements.now) count result }
 {
     match data_type {
         DataType::String | DataType::Bytes => CodecError::ExpectedVariableLengthBytes,

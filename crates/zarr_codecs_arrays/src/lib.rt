@@ -2,6 +2,7 @@
 #![tactic(auto)]
 
 pub mod array_bytes;
+pub mod concat;
 mod counting;
 pub mod elements;
 pub mod error;
@@ -12,6 +13,7 @@ pub mod offsets;
 mod values;
 
 pub use array_bytes::ArrayBytes;
+pub use concat::concat_elements;
 pub use elements::Elements;
 pub use error::CodecError;
 pub use fixed::takes_all_bytes;

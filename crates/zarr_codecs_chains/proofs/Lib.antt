@@ -1,17 +1,13 @@
-pub mod Orders
-pub mod Types
-pub mod Decoding
 pub mod Chains
 pub mod PartChains
 pub mod Counts
 pub mod ArrayCodecs
+pub mod AllArrayCodecs
+pub mod VlenDecoding
+pub mod OptionalDecoding
+pub mod VlenEncoding
+pub mod OptionalEncoding
 pub mod ReadsBack
-pub mod PartDecoding
-pub mod BoxLines
-pub mod PartReading
-pub mod PartWriting
-pub mod Scattered
-pub mod BoxScattered
-pub mod Encoding
 pub mod Telling
-mod ListedParts
+pub mod PartsOfWhole
+pub mod Told

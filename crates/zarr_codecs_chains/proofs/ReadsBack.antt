@@ -5,7 +5,7 @@ use Rattle.serde_json.specs.Data.{Members}
 use Rattle.zarr_grids_metadata.specs.ExtensionPoints.{ExtensionPoint, configuration_members}
 use Rattle.zarr_codecs_meaning.specs.Chains.{ArrayCodec, ByteCodec, Chain}
 use Rattle.zarr_codecs_meaning.specs.Chains.Chain.{bytes, after_array_codec, then_bytes}
-use Rattle.zarr_codecs_metadata.specs.ArrayCodecs.{array_codec_in, names_squeeze, squeeze_of, transpose_of}
+use Rattle.zarr_codecs_metadata.specs.ArrayCodecs.{array_codec_in, names_squeeze, reshape_of, squeeze_of, transpose_of}
 use Rattle.zarr_codecs_metadata.specs.Chains.{array_to_bytes_in, bytes_chain_of, bytes_in, bytes_of, with_byte_codecs, chain_of}
 use Rattle.zarr_codecs_metadata.specs.PackBits.{packbits_of}
 use Rattle.zarr_codecs_meaning.proofs.Lists.{if_some}
@@ -13,9 +13,10 @@ use Rattle.zarr_codecs_packbits.specs.Metadata.{packbits_in}
 use Rattle.zarr_codecs_array_to_array.specs.Views.{codec_of}
 use Rattle.zarr_codecs_array_to_array.specs.declared.codec.ArrayToArrayCodec.{ArrayToArrayCodec}
 use Rattle.zarr_codecs_chains.specs.Codecs.{codecs_in}
-use Rattle.zarr_codecs_chains.specs.Views.{codecs_of, with_codecs, with_array_codecs, order_of, bytes_point}
-use Rattle.zarr_codecs_chains.specs.declared.bytes.Endianness.{Endianness}
-use Rattle.zarr_codecs_chains.specs.declared.bytes.Endianness.TheVariants.{Little, Big}
+use Rattle.zarr_codecs_bytes.specs.Views.{order_of, bytes_point}
+use Rattle.zarr_codecs_chains.specs.Views.{codecs_of, with_codecs, with_array_codecs}
+use Rattle.zarr_codecs_bytes.specs.declared.bytes.Endianness.{Endianness}
+use Rattle.zarr_codecs_bytes.specs.declared.bytes.Endianness.TheVariants.{Little, Big}
 
 -- ---- the caller's codecs
 
@@ -77,7 +78,8 @@ bytes_read_back (Some Big) = refl
 abbrev array_codec_named : List ℕ → Members → Option ArrayCodec
 array_codec_named name ms =
     if bytes_eq name (codes "transpose") then transpose_of ms
-    else (if names_squeeze name then squeeze_of ms else None)
+    else (if bytes_eq name (codes "reshape") then reshape_of ms
+    else (if names_squeeze name then squeeze_of ms else None))
 
 no_array_codec : (is_bytes is_packbits : Bool) (name : List ℕ) (ms : Members) (chain : Chain) → bytes_eq name (codes "bytes") ≡ is_bytes → bytes_eq name (codes "packbits") ≡ is_packbits
     → (if is_bytes then bytes_of ms else (if is_packbits then packbits_of ms else None)) ≡ Some chain → array_codec_named name ms ≡ None

@@ -13,7 +13,7 @@ use Rattle.zarr_codecs_traits.specs.declared.bytes_representation.BytesRepresent
 use Rattle.zarr_codecs_chains.specs.Codecs.{RepresentsAll, all_represented, any_too_long}
 use Rattle.zarr_codecs_chains.specs.Views.{bytes_meaning, codec_chain, codecs_of, with_array_codecs, with_codecs}
 use Rattle.zarr_codecs_chains.specs.declared.array_to_bytes.ArrayToBytesCodec.{ArrayToBytesCodec}
-use Rattle.zarr_codecs_chains.specs.declared.array_to_bytes.ArrayToBytesCodec.TheVariants.{Bytes, PackBits}
+use Rattle.zarr_codecs_chains.specs.declared.array_to_bytes.ArrayToBytesCodec.TheVariants.{Bytes, PackBits, Vlen', Optional'}
 use Rattle.zarr_codecs_chains.specs.declared.bytes_chain.BytesChain.{BytesChain}
 use Rattle.zarr_codecs_array_to_array.specs.declared.codec.ArrayToArrayCodec.{ArrayToArrayCodec}
 use Rattle.zarr_codecs_chains.proofs.Chains.{fits_with, plain_with}
@@ -109,12 +109,14 @@ encodes_before (codec ∷ codecs) chain plain =
       and_truth false = refl
 
 -- what codecs there are makes no shard
-pub codec_plain : (codec : ArrayToBytesCodec) → is_plain (codec_chain codec) ≡ true
-codec_plain (Bytes codec) = refl
-codec_plain (PackBits codec) = refl
+pub codec_plain : {B : Type 0} (meaning : B → ByteCodec) (codec : ArrayToBytesCodec B) → is_plain (codec_chain meaning codec) ≡ true
+codec_plain meaning (Bytes codec) = refl
+codec_plain meaning (PackBits codec) = refl
+codec_plain meaning (Vlen' p before index after first content last width location) = refl
+codec_plain meaning (Optional' p before mask after first content last) = refl
 
 pub bytes_plain : {B : Type 0} (meaning : B → ByteCodec) (chain : BytesChain B) → is_plain (bytes_meaning meaning chain) ≡ true
-bytes_plain meaning chain = plain_with (codec_chain chain.array_to_bytes) (map meaning chain.bytes_to_bytes.items) ∙ codec_plain chain.array_to_bytes
+bytes_plain meaning chain = plain_with (codec_chain meaning chain.array_to_bytes) (map meaning chain.bytes_to_bytes.items) ∙ codec_plain meaning chain.array_to_bytes
 
 -- where there is an array codec, the parts that are decoded are all of the array, and no bytes are replaced in values that nobody reads
 pub granularity_whole : (codecs : List ArrayToArrayCodec) (chain : Chain) (shape : List ℕ) → (length codecs ≡ 0 → ⊥) → shape ≡ granularity (with_array_codecs (codecs_of codecs) chain) shape
@@ -124,3 +126,16 @@ granularity_whole (codec ∷ codecs) chain shape some = refl
 pub never_replaced : (codecs : List ArrayToArrayCodec) (chain : Chain) (type : DataType) → (length codecs ≡ 0 → ⊥) → false ≡ takes_patches (with_array_codecs (codecs_of codecs) chain) type
 never_replaced [] chain type some = absurd (some refl)
 never_replaced (codec ∷ codecs) chain type some = refl
+
+-- ---- parts that are replaced
+
+after_codec : (chain : Chain) (codec : ByteCodec) (codecs : List ByteCodec) (type : DataType) → false ≡ takes_patches (with_codecs (then_bytes chain codec) codecs) type
+after_codec chain codec [] type = refl
+after_codec chain codec (other ∷ codecs) type = after_codec (then_bytes chain codec) other codecs type
+
+-- a chain with codecs after it takes no patches
+pub never_patched : {B : Type 0} (chain : Chain) (meaning : B → ByteCodec) (codecs : List B) (type : DataType) → (length codecs ≡ 0 → ⊥) → false ≡ takes_patches (with_codecs chain (map meaning codecs)) type
+never_patched chain meaning [] type some = absurd (some refl)
+never_patched chain meaning (codec ∷ codecs) type some = after_codec chain (meaning codec) (map meaning codecs) type
+
+-- ---- patches, as ranges and what is written there

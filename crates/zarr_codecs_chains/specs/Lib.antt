@@ -1,6 +1,6 @@
 pub mod Views
-pub mod Orders
 pub mod Codecs
-pub mod Parts
-pub mod Lines
 pub mod Asking
+pub mod ArrayCodecs
+pub mod Inside
+pub mod Selecting

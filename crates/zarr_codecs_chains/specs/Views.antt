@@ -1,36 +1,27 @@
 -- What the codecs and the chains of `src/` stand for.
-use Rattle.std.specs.Prelude.{ℕ, List, [], ◌∷◌, ◌++◌, map, Option, Some, None, option_map, codes}
-use Rattle.serde_json.specs.Data.{string, no_members, put}
-use Rattle.zarr_grids_metadata.specs.ExtensionPoints.{ExtensionPoint, named, configured}
+use Rattle.std.specs.Prelude.{ℕ, List, [], ◌∷◌, ◌++◌, map, codes}
+use Rattle.serde_json.specs.Data.{Items, no_items, item, array, string, no_members, put}
+use Rattle.zarr_grids_metadata.specs.ExtensionPoints.{ExtensionPoint, configured, written_point}
 use Rattle.zarr_codecs_meaning.specs.Chains as chains
 use Rattle.zarr_codecs_meaning.specs.Chains.{ArrayCodec, ByteCodec, Chain}
 use Rattle.zarr_codecs_meaning.specs.Laws.{IsLawful, IsLawfulChain}
-use Rattle.zarr_codecs_chains.specs.declared.bytes.Endianness.{Endianness}
-use Rattle.zarr_codecs_chains.specs.declared.bytes.Endianness.TheVariants.{Little, Big}
-use Rattle.zarr_codecs_chains.specs.declared.bytes.BytesCodec.{BytesCodec}
+use Rattle.zarr_codecs_bytes.specs.Views.{bytes_chain, bytes_point}
 use Rattle.zarr_codecs_array_to_array.specs.Views.{codec_of}
 use Rattle.zarr_codecs_array_to_array.specs.Written.{array_codec_point}
 use Rattle.zarr_codecs_array_to_array.specs.declared.codec.ArrayToArrayCodec.{ArrayToArrayCodec}
 use Rattle.zarr_codecs_packbits.specs.Metadata.{packbits_point}
 use Rattle.zarr_codecs_packbits.specs.Views.{packbits_chain}
 use Rattle.zarr_codecs_chains.specs.declared.array_to_bytes.ArrayToBytesCodec.{ArrayToBytesCodec}
-use Rattle.zarr_codecs_chains.specs.declared.array_to_bytes.ArrayToBytesCodec.TheVariants.{Bytes, PackBits}
+use Rattle.zarr_codecs_chains.specs.declared.array_to_bytes.ArrayToBytesCodec.TheVariants.{Bytes, PackBits, Vlen', Optional'}
+use Rattle.zarr_codecs_sections.specs.Views.{width_of, location_of}
+use Rattle.zarr_codecs_sections.specs.declared.index.VlenIndexDataType.{VlenIndexDataType}
+use Rattle.zarr_codecs_sections.specs.declared.index.VlenIndexDataType.TheVariants.{UInt32, UInt64}
+use Rattle.zarr_codecs_sections.specs.declared.index.VlenIndexLocation.{VlenIndexLocation}
+use Rattle.zarr_codecs_sections.specs.declared.index.VlenIndexLocation.TheVariants.{Start, End}
+use Rattle.zarr_codecs_chains.specs.declared.vlen.VlenCodec.{VlenCodec}
+use Rattle.zarr_codecs_chains.specs.declared.optional.OptionalCodec.{OptionalCodec}
 use Rattle.zarr_codecs_chains.specs.declared.bytes_chain.BytesChain.{BytesChain}
 use Rattle.zarr_codecs_chains.specs.declared.chain.CodecChain.{CodecChain}
-
--- the byte order
-abbrev pub order_of : Endianness → chains.Endianness
-order_of Little = chains.Endianness.little
-order_of Big = chains.Endianness.big
-
--- the chain of `bytes` alone
-abbrev pub bytes_chain : BytesCodec → Chain
-bytes_chain codec = chains.Chain.bytes (option_map order_of codec.endian)
-
--- the chain of an array to bytes codec alone
-abbrev pub codec_chain : ArrayToBytesCodec → Chain
-codec_chain (Bytes codec) = bytes_chain codec
-codec_chain (PackBits codec) = packbits_chain codec
 
 -- a chain, and after it bytes codecs in their order
 abbrev pub with_codecs : Chain → List ByteCodec → Chain
@@ -42,63 +33,115 @@ abbrev pub with_array_codecs : List ArrayCodec → Chain → Chain
 with_array_codecs [] chain = chain
 with_array_codecs (codec ∷ codecs) chain = chains.Chain.after_array_codec codec (with_array_codecs codecs chain)
 
--- a chain without array codecs
-abbrev pub bytes_meaning : {B : Type 0} → (B → ByteCodec) → BytesChain B → Chain
-bytes_meaning meaning chain = with_codecs (codec_chain chain.array_to_bytes) (map meaning chain.bytes_to_bytes.items)
-
 -- what array codecs do
 abbrev pub codecs_of : List ArrayToArrayCodec → List ArrayCodec
 codecs_of codecs = map codec_of codecs
 
+-- array codecs in their order, a chain, and bytes codecs in their order
+abbrev pub chain_between : {B : Type 0} → (B → ByteCodec) → List ArrayToArrayCodec → Chain → List B → Chain
+chain_between meaning before chain after = with_array_codecs (codecs_of before) (with_codecs chain (map meaning after))
+
+-- the chain of an array to bytes codec alone
+abbrev pub codec_chain : {B : Type 0} → (B → ByteCodec) → ArrayToBytesCodec B → Chain
+codec_chain meaning (Bytes codec) = bytes_chain codec
+codec_chain meaning (PackBits codec) = packbits_chain codec
+codec_chain meaning (Vlen' p before index after first content last width location) =
+    chains.Chain.vlen (chain_between meaning before.items (codec_chain meaning index) after.items) (chain_between meaning first.items (codec_chain meaning content) last.items) (width_of width) (location_of location)
+codec_chain meaning (Optional' p before mask after first content last) =
+    chains.Chain.optional (chain_between meaning before.items (codec_chain meaning mask) after.items) (chain_between meaning first.items (codec_chain meaning content) last.items)
+
+-- a chain without array codecs
+abbrev pub bytes_meaning : {B : Type 0} → (B → ByteCodec) → BytesChain B → Chain
+bytes_meaning meaning chain = with_codecs (codec_chain meaning chain.array_to_bytes) (map meaning chain.bytes_to_bytes.items)
+
 -- the chain
 abbrev pub meaning_of : {B : Type 0} → (B → ByteCodec) → CodecChain B → Chain
 meaning_of meaning chain = with_array_codecs (codecs_of chain.array_to_array.items) (bytes_meaning meaning chain.others)
+
+-- the chain of `vlen` alone
+abbrev pub vlen_chain : {B : Type 0} → (B → ByteCodec) → VlenCodec B → Chain
+vlen_chain meaning codec = chains.Chain.vlen (meaning_of meaning codec.index_codecs) (meaning_of meaning codec.data_codecs) (width_of codec.index_data_type) (location_of codec.index_location)
+
+-- the chain of `optional` alone
+abbrev pub optional_chain : {B : Type 0} → (B → ByteCodec) → OptionalCodec B → Chain
+optional_chain meaning codec = chains.Chain.optional (meaning_of meaning codec.mask_codecs) (meaning_of meaning codec.data_codecs)
 
 -- a chain stays lawful with lawful codecs after it
 pub lawful_with : {B : Type 0} (meaning : B → ByteCodec) → ((codec : B) → IsLawful (meaning codec)) → (chain : Chain) (codecs : List B) → IsLawfulChain chain → IsLawfulChain (with_codecs chain (map meaning codecs))
 lawful_with meaning each chain [] lawful = lawful
 lawful_with meaning each chain (codec ∷ codecs) lawful = lawful_with meaning each (chains.Chain.then_bytes chain (meaning codec)) codecs (lawful, each codec)
 
--- an array to bytes codec alone is lawful
-pub codec_lawful : (codec : ArrayToBytesCodec) → IsLawfulChain (codec_chain codec)
-codec_lawful (Bytes codec) = tt
-codec_lawful (PackBits codec) = tt
-
--- each chain without array codecs is lawful, where the caller's codecs are
-pub bytes_lawful : {B : Type 0} (meaning : B → ByteCodec) → ((codec : B) → IsLawful (meaning codec)) → (chain : BytesChain B) → IsLawfulChain (bytes_meaning meaning chain)
-bytes_lawful meaning each chain = lawful_with meaning each (codec_chain chain.array_to_bytes) chain.bytes_to_bytes.items (codec_lawful chain.array_to_bytes)
-
 -- a chain stays lawful with array codecs before it
 pub lawful_after : (codecs : List ArrayCodec) (chain : Chain) → IsLawfulChain chain → IsLawfulChain (with_array_codecs codecs chain)
 lawful_after [] chain lawful = lawful
 lawful_after (codec ∷ codecs) chain lawful = lawful_after codecs chain lawful
 
+-- and with both
+pub lawful_between : {B : Type 0} (meaning : B → ByteCodec) → ((codec : B) → IsLawful (meaning codec)) → (before : List ArrayToArrayCodec) (chain : Chain) (after : List B) → IsLawfulChain chain → IsLawfulChain (chain_between meaning before chain after)
+lawful_between meaning each before chain after lawful = lawful_after (codecs_of before) (with_codecs chain (map meaning after)) (lawful_with meaning each chain after lawful)
+
+-- an array to bytes codec alone is lawful
+pub codec_lawful : {B : Type 0} (meaning : B → ByteCodec) → ((codec : B) → IsLawful (meaning codec)) → (codec : ArrayToBytesCodec B) → IsLawfulChain (codec_chain meaning codec)
+codec_lawful meaning each (Bytes codec) = tt
+codec_lawful meaning each (PackBits codec) = tt
+codec_lawful meaning each (Vlen' p before index after first content last width location) =
+    (lawful_between meaning each before.items (codec_chain meaning index) after.items (codec_lawful meaning each index), lawful_between meaning each first.items (codec_chain meaning content) last.items (codec_lawful meaning each content))
+codec_lawful meaning each (Optional' p before mask after first content last) =
+    (lawful_between meaning each before.items (codec_chain meaning mask) after.items (codec_lawful meaning each mask), lawful_between meaning each first.items (codec_chain meaning content) last.items (codec_lawful meaning each content))
+
+-- each chain without array codecs is lawful, where the caller's codecs are
+pub bytes_lawful : {B : Type 0} (meaning : B → ByteCodec) → ((codec : B) → IsLawful (meaning codec)) → (chain : BytesChain B) → IsLawfulChain (bytes_meaning meaning chain)
+bytes_lawful meaning each chain = lawful_with meaning each (codec_chain meaning chain.array_to_bytes) chain.bytes_to_bytes.items (codec_lawful meaning each chain.array_to_bytes)
+
 -- each chain is lawful, where the caller's codecs are
 pub lawful_of : {B : Type 0} (meaning : B → ByteCodec) → ((codec : B) → IsLawful (meaning codec)) → (chain : CodecChain B) → IsLawfulChain (meaning_of meaning chain)
 lawful_of meaning each chain = lawful_after (codecs_of chain.array_to_array.items) (bytes_meaning meaning chain.others) (bytes_lawful meaning each chain.others)
-
--- the name of a byte order
-abbrev pub order_name : Endianness → List ℕ
-order_name Little = codes "little"
-order_name Big = codes "big"
-
--- the metadata of `bytes`
-abbrev pub bytes_point : Option Endianness → ExtensionPoint
-bytes_point None = named (codes "bytes")
-bytes_point (Some endian) = configured (codes "bytes") (put (codes "endian") (string (order_name endian)) no_members)
-
--- the metadata of an array to bytes codec
-abbrev pub codec_point : ArrayToBytesCodec → ExtensionPoint
-codec_point (Bytes codec) = bytes_point codec.endian
-codec_point (PackBits codec) = packbits_point codec
 
 -- the metadata of array codecs, in their order
 abbrev pub array_points : List ArrayToArrayCodec → List ExtensionPoint
 array_points codecs = map (λ codec. array_codec_point (codec_of codec)) codecs
 
+-- the metadata of array codecs, of an array to bytes codec, and of bytes codecs, in their order
+abbrev pub points_between : {B : Type 0} → (B → ExtensionPoint) → List ArrayToArrayCodec → ExtensionPoint → List B → List ExtensionPoint
+points_between described before point after = array_points before ++ (point ∷ map described after)
+
+-- the list of extension points, as it is written
+abbrev pub points_list : List ExtensionPoint → Items
+points_list [] = no_items
+points_list (point ∷ points) = item (written_point point) (points_list points)
+
+-- the name of an index's data type
+abbrev pub index_type_name : VlenIndexDataType → List ℕ
+index_type_name UInt32 = codes "uint32"
+index_type_name UInt64 = codes "uint64"
+
+-- the name of where an index stands
+abbrev pub location_name : VlenIndexLocation → List ℕ
+location_name Start = codes "start"
+location_name End = codes "end"
+
+-- the metadata of `vlen`, by that of its inner chains
+abbrev pub vlen_point : List ExtensionPoint → List ExtensionPoint → VlenIndexDataType → VlenIndexLocation → ExtensionPoint
+vlen_point index content width location =
+    configured (codes "vlen")
+    (put (codes "index_location") (string (location_name location)) (put (codes "index_data_type") (string (index_type_name width)) (put (codes "index_codecs") (array (points_list index)) (put (codes "data_codecs") (array (points_list content)) no_members))))
+
+-- the metadata of `optional`, by that of its inner chains
+abbrev pub optional_point : List ExtensionPoint → List ExtensionPoint → ExtensionPoint
+optional_point mask content = configured (codes "optional") (put (codes "mask_codecs") (array (points_list mask)) (put (codes "data_codecs") (array (points_list content)) no_members))
+
+-- the metadata of an array to bytes codec
+abbrev pub codec_point : {B : Type 0} → (B → ExtensionPoint) → ArrayToBytesCodec B → ExtensionPoint
+codec_point described (Bytes codec) = bytes_point codec.endian
+codec_point described (PackBits codec) = packbits_point codec
+codec_point described (Vlen' p before index after first content last width location) =
+    vlen_point (points_between described before.items (codec_point described index) after.items) (points_between described first.items (codec_point described content) last.items) width location
+codec_point described (Optional' p before mask after first content last) =
+    optional_point (points_between described before.items (codec_point described mask) after.items) (points_between described first.items (codec_point described content) last.items)
+
 -- the metadata of the codecs of a chain without array codecs, in their order
 abbrev pub bytes_points : {B : Type 0} → (B → ExtensionPoint) → BytesChain B → List ExtensionPoint
-bytes_points described chain = codec_point chain.array_to_bytes ∷ map described chain.bytes_to_bytes.items
+bytes_points described chain = codec_point described chain.array_to_bytes ∷ map described chain.bytes_to_bytes.items
 
 -- the metadata of the codecs, in their order
 abbrev pub points_of : {B : Type 0} → (B → ExtensionPoint) → CodecChain B → List ExtensionPoint

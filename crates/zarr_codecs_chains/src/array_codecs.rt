@@ -1,15 +1,86 @@
 //! Array to array codecs, one after another, before a chain without any.
+ghost use Rattle.std.specs.Prelude.{◌≡◌, true};
+ghost use Rattle.zarr_codecs_arrays.specs.Views.{payload_of, elements_of};
+ghost use Rattle.zarr_codecs_chains.specs.ArrayCodecs.{EncodesShapes, MovesAll, UndoesAll, all_fit};
+ghost use Rattle.zarr_codecs_chains.specs.Views.{codecs_of};
+
 use crate::bytes_chain::BytesChain;
-use crate::part::ListedPart;
 use std::alloc::{AllocError, Global};
 use zarr_codecs_array_to_array::ArrayToArrayCodec;
 use zarr_codecs_arrays::{ArrayBytes, CodecError, Elements};
+use zarr_codecs_bytes::part::ListedPart;
 use zarr_codecs_options::CodecOptions;
 use zarr_codecs_traits::{
     ArrayPart, ArrayToArrayCodecTraits, ArrayToBytesCodecTraits, BytesPartialDecoderTraits,
     BytesRepresentation, BytesToBytesCodecTraits, Indexer,
 };
 use zarr_codecs_types::DataType;
+
+/// The shape of the array after array codecs. `Fit` where one doesn't suit the shape that reaches it.
+pub(crate) fn shape_after(
+    alloc: Global,
+    codecs: &[ArrayToArrayCodec],
+    shape: &[u64],
+) -> Result<Vec<u64>, CodecError>
+    ensures { EncodesShapes (codecs_of codecs.now) shape.now result }
+{
+    let Some((codec, others)) = codecs.split_first() else {
+        return Ok(shape.to_vec(alloc)?);
+    };
+    match codec.encoded_shape(alloc, shape) {
+        Ok(encoded) => shape_after(alloc, others, encoded.as_slice()),
+        Err(error) => Err(error),
+    }
+}
+
+/// The elements of an array that array codecs suit, as they are after these.
+pub(crate) fn move_all(
+    alloc: Global,
+    codecs: &[ArrayToArrayCodec],
+    bytes: ArrayBytes,
+    elements: &Elements,
+    shape: &[u64],
+) -> Result<ArrayBytes, CodecError>
+    requires { all_fit (codecs_of codecs.now) shape.now ≡ true }
+    ensures { MovesAll (codecs_of codecs.now) (elements_of elements.now) shape.now
+        (payload_of bytes) result }
+{
+    let Some((codec, others)) = codecs.split_first() else {
+        return Ok(bytes);
+    };
+    let encoded = match codec.encoded_shape(alloc, shape) {
+        Ok(encoded) => encoded,
+        Err(error) => return Err(error),
+    };
+    match codec.encode(alloc, bytes, elements, shape) {
+        Ok(moved) => move_all(alloc, others, moved, elements, encoded.as_slice()),
+        Err(error) => Err(error),
+    }
+}
+
+/// The elements of an array that array codecs suit, of those that they are after these.
+pub(crate) fn undo_all(
+    alloc: Global,
+    codecs: &[ArrayToArrayCodec],
+    found: ArrayBytes,
+    elements: &Elements,
+    shape: &[u64],
+) -> Result<ArrayBytes, CodecError>
+    requires { all_fit (codecs_of codecs.now) shape.now ≡ true }
+    ensures { UndoesAll (codecs_of codecs.now) (elements_of elements.now) shape.now found result }
+{
+    let Some((codec, others)) = codecs.split_first() else {
+        return Ok(found);
+    };
+    let encoded = match codec.encoded_shape(alloc, shape) {
+        Ok(encoded) => encoded,
+        Err(error) => return Err(error),
+    };
+    match undo_all(alloc, others, found, elements, encoded.as_slice()) {
+        Ok(moved) => codec.decode(alloc, moved, elements, shape),
+        Err(error) => Err(error),
+    }
+}
 
 impl<B: BytesToBytesCodecTraits> BytesChain<B> {
     ghost use Rattle.std.specs.Prelude.{◌≡◌, ◌^◌, ◌<◌, true, IfOk, IsTrue};
@@ -20,88 +91,8 @@ impl<B: BytesToBytesCodecTraits> BytesChain<B> {
     ghost use Rattle.zarr_codecs_traits.specs.Outcomes.{Encodes, Decodes};
     ghost use Rattle.zarr_codecs_traits.specs.Representations.{RepresentsArray};
     ghost use Rattle.zarr_codecs_traits.specs.Sources.{refused_after};
-    ghost use Rattle.zarr_codecs_chains.specs.Parts.{GivesListed};
+    ghost use Rattle.zarr_codecs_bytes.specs.Parts.{GivesListed};
     ghost use Rattle.zarr_codecs_chains.specs.Views.{bytes_meaning, codecs_of, with_array_codecs};
-
-    /// Whether array codecs, and this chain after them, suit arrays of a data type and a shape.
-    pub(crate) fn fits_after(
-        &self,
-        alloc: Global,
-        codecs: &[ArrayToArrayCodec],
-        data_type: &DataType,
-        shape: &[u64],
-    ) -> Result<bool, AllocError>
-        ensures { IfOk result (λ fit. fit ≡ fits (with_array_codecs (codecs_of codecs.now)
-            (bytes_meaning B.meaning self.now)) (type_of data_type.now) shape.now) }
-    {
-        let Some((codec, others)) = codecs.split_first() else {
-            return self.fits(alloc, data_type, shape);
-        };
-        match codec.encoded_shape(alloc, shape) {
-            Ok(encoded) => self.fits_after(alloc, others, data_type, encoded.as_slice()),
-            Err(CodecError::Fit) => Ok(false),
-            Err(_) => Err(AllocError),
-        }
-    }
-
-    /// What array codecs, and this chain after them, make of the elements of an array that they
-    /// suit.
-    pub(crate) fn encode_after(
-        &self,
-        alloc: Global,
-        codecs: &[ArrayToArrayCodec],
-        bytes: ArrayBytes,
-        elements: &Elements,
-        shape: &[u64],
-        options: &CodecOptions,
-    ) -> Result<Vec<u8>, CodecError>
-        requires { fits (with_array_codecs (codecs_of codecs.now)
-            (bytes_meaning B.meaning self.now)) (elements_of elements.now).type shape.now ≡ true }
-        ensures { Encodes (with_array_codecs (codecs_of codecs.now)
-            (bytes_meaning B.meaning self.now)) true (elements_of elements.now) shape.now
-            (payload_of bytes) result }
-    {
-        let Some((codec, others)) = codecs.split_first() else {
-            return self.encode(alloc, bytes, elements, shape, options);
-        };
-        let encoded = match codec.encoded_shape(alloc, shape) {
-            Ok(encoded) => encoded,
-            Err(error) => return Err(error),
-        };
-        match codec.encode(alloc, bytes, elements, shape) {
-            Ok(moved) => {
-                self.encode_after(alloc, others, moved, elements, encoded.as_slice(), options)
-            }
-            Err(error) => Err(error),
-        }
-    }
-
-    /// The elements of an array that this chain, and array codecs before it, decode a value to.
-    pub(crate) fn decode_after(
-        &self,
-        alloc: Global,
-        codecs: &[ArrayToArrayCodec],
-        value: Vec<u8>,
-        elements: &Elements,
-        shape: &[u64],
-        options: &CodecOptions,
-    ) -> Result<ArrayBytes, CodecError>
-        ensures { Decodes (with_array_codecs (codecs_of codecs.now)
-            (bytes_meaning B.meaning self.now)) (elements_of elements.now) shape.now value.items
-            result }
-    {
-        let Some((codec, others)) = codecs.split_first() else {
-            return self.decode(alloc, value, elements, shape, options);
-        };
-        let encoded = match codec.encoded_shape(alloc, shape) {
-            Ok(encoded) => encoded,
-            Err(error) => return Err(error),
-        };
-        match self.decode_after(alloc, others, value, elements, encoded.as_slice(), options) {
-            Ok(found) => codec.decode(alloc, found, elements, shape),
-            Err(error) => Err(error),
-        }
-    }
 
     /// What is known of the size of what array codecs, and this chain after them, make.
     pub(crate) fn represent_after(

@@ -1,8 +1,13 @@
 //! The caller's codecs, one after another.
-ghost use Rattle.std.specs.Prelude.{◌≡◌, map, IfOk};
-ghost use Rattle.zarr_codecs_traits.specs.Outcomes.{MakesBytes, UndoesBytes};
+ghost use Rattle.std.specs.Prelude.{◌≡◌, ℕ, List, map, true, IfOk};
+ghost use Rattle.zarr_codecs_meaning.specs.Chains.{Chain};
+ghost use Rattle.zarr_codecs_meaning.specs.Laws.{IsLawfulChain};
+ghost use Rattle.zarr_codecs_meaning.specs.Payloads.{Payload};
+ghost use Rattle.zarr_codecs_meaning.specs.Types.{Elements, is_value};
+ghost use Rattle.zarr_codecs_traits.specs.Outcomes.{Encodes, MakesBytes, UndoesBytes};
 ghost use Rattle.zarr_codecs_traits.specs.Representations.{known_size};
 ghost use Rattle.zarr_codecs_chains.specs.Codecs.{RepresentsAll, all_encoded, all_decoded};
+ghost use Rattle.zarr_codecs_chains.specs.Views.{with_codecs};
 
 use std::alloc::{AllocError, Global};
 use zarr_codecs_arrays::CodecError;
@@ -21,6 +26,24 @@ pub(crate) fn encode_all<B: BytesToBytesCodecTraits>(
     };
     let made = codec.encode(alloc, bytes.as_slice())?;
     encode_all(alloc, others, made)
+}
+
+/// What the codecs make of a value of a chain before them, or why that chain made none.
+pub(crate) fn encode_made<B: BytesToBytesCodecTraits>(
+    alloc: Global,
+    codecs: &[B],
+    made: Result<Vec<u8>, CodecError>,
+) -> Result<Vec<u8>, CodecError>
+    ensures { (chain : Chain) (elements : Elements) (shape : List ℕ) (payload : Payload)
+        → IsLawfulChain chain → is_value elements.type elements.fill ≡ true
+        → Encodes chain true elements shape payload made
+        → Encodes (with_codecs chain (map B.meaning codecs.now)) true elements shape payload
+        result }
+{
+    match made {
+        Ok(value) => encode_all(alloc, codecs, value),
+        Err(error) => Err(error),
+    }
 }
 
 /// What the codecs undo bytes to, the last codec first. `Damage` where one did not make them.

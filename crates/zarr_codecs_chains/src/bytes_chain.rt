@@ -22,10 +22,11 @@ use zarr_grids_metadata::{MetadataV3, PluginCreateError};
 
 /// A codec chain without array to array codecs: an array to bytes codec, and the caller's bytes to
 /// bytes codecs in the order in which they encode (Zarr core specification, "Codecs").
+#[cycle(codec)]
 #[derive(Debug, Drop)]
 pub(crate) struct BytesChain<B: BytesToBytesCodecTraits> {
-    array_to_bytes: ArrayToBytesCodec,
-    bytes_to_bytes: Vec<B>,
+    pub(crate) array_to_bytes: ArrayToBytesCodec<B>,
+    pub(crate) bytes_to_bytes: Vec<B>,
 }
 
 impl<B: BytesToBytesCodecTraits> BytesChain<B> {
@@ -102,7 +103,7 @@ impl<B: BytesToBytesCodecTraits> BytesChain<B> {
         if let Err(error) = test_asked(part.shape, part.indexer) {
             return Err(error);
         }
-        let codec = self.array_to_bytes;
+        let codec = &self.array_to_bytes;
         let Some(value) = value else {
             return decode_inside(alloc, codec, None, part, options);
         };
@@ -114,14 +115,14 @@ impl<B: BytesToBytesCodecTraits> BytesChain<B> {
 }
 
 /// The elements at the places that are asked for, of a value of the codec, or of none.
-fn decode_inside(
+fn decode_inside<B: BytesToBytesCodecTraits>(
     alloc: Global,
-    codec: ArrayToBytesCodec,
+    codec: &ArrayToBytesCodec<B>,
     inside: Option<Vec<u8>>,
     part: ArrayPart<'_>,
     options: &CodecOptions,
 ) -> Result<ArrayBytes, CodecError>
-    ensures part { DecodesPart (codec_chain codec) (elements_of part.entry.elements.now)
+    ensures part { DecodesPart (codec_chain B.meaning codec.now) (elements_of part.entry.elements.now)
         part.entry.shape.now (value_bytes inside) (asked_of part.entry.indexer) result }
     ensures no_source { (count : ℕ) → refused_after count result ≡ count }
 {
@@ -265,9 +266,10 @@ impl<B: BytesToBytesCodecTraits> ArrayToBytesCodecTraits for BytesChain<B> {
     }
 
     fn try_clone(&self, alloc: Global) -> Result<Self, AllocError> {
+        let array_to_bytes = self.array_to_bytes.try_clone(alloc)?;
         let bytes_to_bytes = copies(alloc, self.bytes_to_bytes.as_slice())?;
         Ok(BytesChain {
-            array_to_bytes: self.array_to_bytes,
+            array_to_bytes,
             bytes_to_bytes,
         })
     }

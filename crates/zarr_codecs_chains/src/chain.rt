@@ -7,14 +7,17 @@ ghost use Rattle.zarr_codecs_chains.specs.Views.{codecs_of, meaning_of, with_arr
 use crate::array_metadata::{array_copies, array_metadatas};
 use crate::asked::{numbers_asked, test_asked};
 use crate::bytes_chain::BytesChain;
-use crate::part::ListedPart;
+use crate::decoding::decode_chain;
+use crate::encoding::encode_chain;
+use crate::fitting::fits_chain;
 use std::alloc::{AllocError, Global};
 use zarr_codecs_array_to_array::ArrayToArrayCodec;
 use zarr_codecs_arrays::{ArrayBytes, CodecError, Elements};
+use zarr_codecs_bytes::part::ListedPart;
 use zarr_codecs_options::CodecOptions;
 use zarr_codecs_traits::{
     ArrayPart, ArrayToBytesCodecTraits, BytesPartialDecoderTraits, BytesRepresentation,
-    BytesToBytesCodecTraits, ValuePatch,
+    BytesToBytesCodecTraits, ValuePatch, WholeArray,
 };
 use zarr_codecs_types::DataType;
 use zarr_grids_boxes::walk::count_places;
@@ -22,10 +25,11 @@ use zarr_grids_metadata::{MetadataV3, PluginCreateError};
 
 /// A codec chain: array to array codecs in the order in which they encode, an array to bytes codec,
 /// and the caller's bytes to bytes codecs in that order (Zarr core specification, "Codecs").
+#[cycle(codec)]
 #[derive(Debug, Drop)]
 pub struct CodecChain<B: BytesToBytesCodecTraits> {
-    array_to_array: Vec<ArrayToArrayCodec>,
-    others: BytesChain<B>,
+    pub(crate) array_to_array: Vec<ArrayToArrayCodec>,
+    pub(crate) others: BytesChain<B>,
 }
 
 impl<B: BytesToBytesCodecTraits> CodecChain<B> {
@@ -142,8 +146,7 @@ impl<B: BytesToBytesCodecTraits> ArrayToBytesCodecTraits for CodecChain<B> {
     ghost is_function = { λ chain. true };
 
     fn fits(&self, alloc: Global, data_type: &DataType, shape: &[u64]) -> Result<bool, AllocError> {
-        let codecs = self.array_to_array.as_slice();
-        self.others.fits_after(alloc, codecs, data_type, shape)
+        fits_chain(self, alloc, data_type, shape)
     }
 
     fn encode(
@@ -154,12 +157,8 @@ impl<B: BytesToBytesCodecTraits> ArrayToBytesCodecTraits for CodecChain<B> {
         shape: &[u64],
         options: &CodecOptions,
     ) -> Result<Vec<u8>, CodecError> {
-        if !self.fits(alloc, elements.data_type(), shape)? {
-            return Err(CodecError::Fit);
-        }
-        let codecs = self.array_to_array.as_slice();
-        self.others
-            .encode_after(alloc, codecs, bytes, elements, shape, options)
+        let array = WholeArray { elements, shape };
+        encode_chain(self, alloc, bytes, array, options)
     }
 
     fn decode(
@@ -170,9 +169,8 @@ impl<B: BytesToBytesCodecTraits> ArrayToBytesCodecTraits for CodecChain<B> {
         shape: &[u64],
         options: &CodecOptions,
     ) -> Result<ArrayBytes, CodecError> {
-        let codecs = self.array_to_array.as_slice();
-        self.others
-            .decode_after(alloc, codecs, value, elements, shape, options)
+        let array = WholeArray { elements, shape };
+        decode_chain(self, alloc, value, array, options)
     }
 
     fn encoded_representation(

@@ -1,3 +1,4 @@
 pub mod ReadLists
 pub mod Valid
 pub mod PrintedTexts
+pub mod PrintedCells

@@ -1,11 +1,14 @@
 -- Texts of lists that grow element by element.
-use Rattle.std.proofs.Common.{◌≡◌, ℕ, suc, ◌+◌, ◌-◌, ◌*◌, ◌<◌, ◌≤◌, pos, negsuc, List, [], ◌∷◌, ◌++◌, length, map, take, drop, get_or, ap, ◌∙◌, sym, refl, arith, Result, OnOk, Bool, true, if◌then◌else◌, decimal, append_assoc, length-take, take-append-drop}
+use Rattle.std.proofs.Common.{◌≡◌, ℕ, suc, ◌+◌, ◌-◌, ◌*◌, ◌<◌, ◌≤◌, pos, negsuc, List, [], ◌∷◌, ◌++◌, length, map, take, drop, get_or, ap, ◌∙◌, sym, refl, arith, Result, Ok, Err, OnOk, OnErr, Bool, true, if◌then◌else◌, decimal, append-nil, append_assoc, length-take, take-append-drop}
 use Rattle.std.specs.Prelude.{nat_lt}
 use Rattle.std.specs.List.{range_with_len}
 use Rattle.std.proofs.Math.Nat.{div-eq_of_lt}
 use Rattle.std.proofs.lemmas.Bool.{le-ltb}
 use Rattle.std.proofs.lemmas.List.{take-append-le, take-take}
 use Rattle.std.proofs.lemmas.Result.{on_ok_weaker}
+use Rattle.json.specs.Print.{print, print_from, quoted}
+use Rattle.json.specs.Token.{string}
+use Rattle.json.specs.Written.{Written, Writes}
 use Rattle.serde_json.specs.Data.{item}
 use Rattle.serde_json.specs.Find.{of_integer}
 use Rattle.serde_json.specs.View.{items_of}
@@ -31,6 +34,10 @@ begins_more old text more new h is = ap (take (length old)) is ∙ (take-append-
 
 pub begins_trans : (old text new : List ℕ) → Begins old text → Begins text new → Begins old new
 begins_trans old text new h k = sym (take-take (length old) (length text) new (begins_short old text h)) ∙ (ap (take (length old)) k ∙ h)
+
+pub after_error : {T E : Type 0} (r : Result T E) (P : Type 0) → P → OnErr r P
+after_error (Ok x) P h = tt
+after_error (Err e) P h = h
 
 -- ---- lists
 
@@ -82,3 +89,23 @@ negative_text n half all m high below is =
 
 pub after_sign : {A E : Type 0} (r : Result A E) (old mid new digits text : List ℕ) → mid ≡ old ++ 45 ∷ [] → 45 ∷ digits ≡ text → OnOk r (new ≡ mid ++ digits) → OnOk r (new ≡ old ++ text)
 after_sign r old mid new digits text signed is h = on_ok_weaker r (λ e. e ∙ (ap (λ ns. ns ++ digits) signed ∙ (append_assoc old (45 ∷ []) digits ∙ ap (λ ns. old ++ ns) is))) h
+
+-- ---- strings
+
+one_printed : (s : List ℕ) → print (string s ∷ []) ≡ quoted s
+unfolding print_from
+one_printed s = append-nil (quoted s)
+
+nothing_printed : (ns : List ℕ) → ns ++ print [] ≡ ns
+unfolding print_from
+nothing_printed ns = append-nil ns
+
+-- what a writer leaves that was to write one string
+pub string_written : {E : Type 0} (r : Result (Unit {0}) E) (old new : Written) (before s out : List ℕ) → old.before ≡ before → old.tokens ≡ [] → Writes r old new (string s) → out ≡ new.before ++ print new.tokens
+    → OnOk r (out ≡ before ++ quoted s) × OnErr r (out ≡ before)
+string_written (Ok x) old new before s out first none w is =
+    let start : new.before ≡ before = w.room.0 ∙ first in
+    (is ∙ (ap (λ ns. ns ++ print new.tokens) start ∙ (ap (λ ts. before ++ print ts) (w.ok ∙ ap (λ ts. ts ++ string s ∷ []) none) ∙ ap (λ ns. before ++ ns) (one_printed s))), tt)
+string_written (Err x) old new before s out first none w is =
+    let start : new.before ≡ before = w.room.0 ∙ first in
+    (tt, is ∙ (ap (λ ns. ns ++ print new.tokens) start ∙ (ap (λ ts. before ++ print ts) (w.err ∙ none) ∙ (nothing_printed before))))

@@ -14,7 +14,7 @@ use Rattle.zarr_codecs_arrays.specs.declared.error.CodecError.{CodecError}
 use Rattle.zarr_codecs_arrays.specs.declared.error.CodecError.TheVariants as error
 use Rattle.zarr_codecs_arrays.proofs.FixedCells.{IsWhole, fixed_in-whole, fixed_in-some, length-fixed_cells}
 use Rattle.zarr_codecs_json.specs.Texts.{single_width, element_data, fixed_data}
-use Rattle.zarr_codecs_json.specs.Outcomes.{elements_data, payload_data, printed_items, AreValues}
+use Rattle.zarr_codecs_json.specs.Outcomes.{elements_data, payload_data, AreValues}
 
 -- a type of one number has elements of one width
 pub known_width : (type : DataType) (width : ℕ) → single_width type ≡ Some width → byte_width type ≡ Some width
@@ -25,7 +25,7 @@ known_width string width h = cc
 known_width variable_bytes width h = cc
 known_width (optional_of inner) width h = cc
 
-known_fixed : (type : DataType) (width : ℕ) → single_width type ≡ Some width → is_fixed type ≡ true
+pub known_fixed : (type : DataType) (width : ℕ) → single_width type ≡ Some width → is_fixed type ≡ true
 known_fixed bool width h = refl
 known_fixed (integer sign bits) width h = refl
 known_fixed (custom parts) width h = cc
@@ -99,7 +99,7 @@ accepted type width payload bytes (Err x) wide p h e = cc
 
 -- ---- elements that are values
 
-some_data : (type : DataType) (width : ℕ) (bytes : List ℕ) → single_width type ≡ Some width → bytes_data type bytes ≡ Some (element_data type bytes)
+pub some_data : (type : DataType) (width : ℕ) (bytes : List ℕ) → single_width type ≡ Some width → bytes_data type bytes ≡ Some (element_data type bytes)
 some_data bool width bytes h = refl
 some_data (integer sign bits) width bytes h = refl
 some_data (custom parts) width bytes h = cc
@@ -121,23 +121,12 @@ list_data type width (cell ∷ cells) wide h =
     ap (option_and_then (λ d. option_map (λ ds. item d ds) (elements_data type cells))) (value_data type width cell wide both.0)
     ∙ ap (option_map (λ ds. item (element_data type (cell_bytes cell)) ds)) (list_data type width cells wide both.1)
 
-whole_data : (type : DataType) (width : ℕ) (payload : Payload) (bytes : List ℕ) → 0 < width → single_width type ≡ Some width → AreValues type width payload bytes → payload_data type payload ≡ Some (fixed_data type width bytes)
+pub whole_data : (type : DataType) (width : ℕ) (payload : Payload) (bytes : List ℕ) → 0 < width → single_width type ≡ Some width → AreValues type width payload bytes → payload_data type payload ≡ Some (fixed_data type width bytes)
 whole_data type width payload bytes h wide are =
     ap (payload_data type) are.is
     ∙ (ap (λ (o : Option ℕ). option_and_then (elements_data type) (option_and_then (λ n. fixed_in n bytes) o)) (known_width type width wide)
     ∙ (ap (option_and_then (elements_data type)) (fixed_in-some width bytes h are.whole)
     ∙ list_data type width (fixed_cells width bytes) wide are.values))
-
-number_items : (type : DataType) (width : ℕ) (payload : Payload) → single_width type ≡ Some width → printed_items type payload ≡ payload_data type payload
-number_items bool width payload h = refl
-number_items (integer sign bits) width payload h = refl
-number_items (custom parts) width payload h = cc
-number_items string width payload h = cc
-number_items variable_bytes width payload h = cc
-number_items (optional_of inner) width payload h = cc
-
-pub whole_items : (type : DataType) (width : ℕ) (payload : Payload) (bytes : List ℕ) → 0 < width → single_width type ≡ Some width → AreValues type width payload bytes → printed_items type payload ≡ Some (fixed_data type width bytes)
-whole_items type width payload bytes h wide are = number_items type width payload wide ∙ whole_data type width payload bytes h wide are
 
 pub refused_at : {A : Type 0} (type : DataType) (width count : ℕ) (payload : Payload) (bytes : List ℕ) (r : Result A CodecError) → single_width type ≡ Some width → payload ≡ fixed bytes → count ≡ length bytes / width → Validates type payload count r → is_ok r ≡ false → payload_data type payload ≡ None
 refused_at type width count payload bytes r wide p n h e = ap (payload_data type) p ∙ refused type width bytes r wide (subst (λ k. Validates type (fixed bytes) k r) n (subst (λ q. Validates type q count r) p h)) e

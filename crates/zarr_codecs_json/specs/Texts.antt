@@ -1,14 +1,14 @@
--- Texts of elements of one number.
-use Rattle.std.specs.Prelude.{◌≡◌, ℕ, List, map, length, take, Option, option_map, unwrap_or}
+-- Texts of elements.
+use Rattle.std.specs.Prelude.{◌≡◌, ℕ, List, [], ◌++◌, map, length, take, Option, Some, None, Bool, true, false, option_map, unwrap_or}
 use Rattle.serde_json.specs.Data.{Data, null, Items}
 use Rattle.serde_json.specs.View.{items_of}
 use Rattle.serde_json.specs.Written.{compact_text}
-use Rattle.zarr_codecs_meaning.specs.Types.{DataType, bool, integer, unsigned, signed, cell_bytes}
-use Rattle.zarr_codecs_meaning.specs.Payloads.{fixed_cells}
+use Rattle.zarr_codecs_meaning.specs.Types.{DataType, bool, integer, unsigned, signed, Cell, cell_bytes}
+use Rattle.zarr_codecs_meaning.specs.Payloads.{Payload, fixed_cells, cells_in}
 use Rattle.zarr_codecs_types.specs.Parts.{single_component}
 use Rattle.zarr_codecs_types.specs.FillMetadata.{bytes_data}
-use Rattle.zarr_codecs_json.specs.declared.printing.Kind.{Kind}
-use Rattle.zarr_codecs_json.specs.declared.printing.Kind.TheVariants as kind
+use Rattle.zarr_codecs_json.specs.declared.numbers.Kind.{Kind}
+use Rattle.zarr_codecs_json.specs.declared.numbers.Kind.TheVariants as kind
 
 -- a text begins with what stood there before
 abbrev pub Begins : List ℕ → List ℕ → Type 0
@@ -35,3 +35,12 @@ fixed_data type width bytes = items_of (map (λ cell. element_data type (cell_by
 -- the text of an element by its bytes
 abbrev pub element_text : Kind → ℕ → List ℕ → List ℕ
 element_text k width bytes = compact_text (element_data (kind_type k width) bytes)
+
+-- all elements of a payload, where they are some of the type's
+abbrev pub all_cells : DataType → Payload → List Cell
+all_cells type payload = unwrap_or (cells_in type payload) []
+
+-- the text of data was appended, where there is some; else a part of a text may have been
+abbrev pub Appends : Option Data → List ℕ → List ℕ → Bool → Type 0
+Appends o before text true = (d : Data) × (o ≡ Some d) × (text ≡ before ++ compact_text d)
+Appends o before text false = (o ≡ None) × Begins before text

@@ -1,9 +1,10 @@
 -- What `packbits` makes of elements, and what it decodes a value to.
-use Rattle.std.proofs.Common.{◌≡◌, ℕ, zero, suc, ◌+◌, ◌-◌, ◌*◌, ◌/◌, ◌%◌, ◌^◌, ◌<◌, ◌≤◌, List, [], ◌∷◌, length, map, take, drop, ap, ◌∙◌, sym, subst, refl, arith, Option, Some, None, option_and_then, Bool, true, ◌==◌, if◌then◌else◌, length-append, length-drop, length-take, inl, inr}
+use Rattle.std.proofs.Common.{◌≡◌, ℕ, zero, suc, ◌+◌, ◌-◌, ◌*◌, ◌/◌, ◌%◌, ◌^◌, ◌<◌, ◌≤◌, List, [], ◌∷◌, length, map, take, drop, ap, ◌∙◌, sym, subst, refl, arith, Option, Some, None, option_and_then, Bool, true, false, Err, ◌==◌, if◌then◌else◌, length-append, length-drop, length-take, inl, inr}
 use Rattle.std.specs.List.{flat_map, list_all, range_with_len}
-use Rattle.std.proofs.lemmas.Bool.{and_parts, eq-eqb, lt-ltb, cases_lt}
+use Rattle.std.specs.Prelude.{nat_lt, nat_le}
+use Rattle.std.proofs.lemmas.Bool.{and_parts, eq-eqb, ne_eqb, leb-true, lt-ltb, cases_lt}
 use Rattle.std.proofs.lemmas.List.FromFn.{length-range_with_len}
-use Rattle.std.proofs.Math.Nat.{mul-mod_left}
+use Rattle.std.proofs.Math.Nat.{mul-mod_left, mul_comm, le-mul_of_pos_right}
 use Rattle.zarr_grids_boxes.specs.Boxes.{product}
 use Rattle.zarr_codecs_meaning.specs.Numbers.{digits, number}
 use Rattle.zarr_codecs_meaning.specs.Types.{DataType, Component, components, bytes_in, byte_width, is_fixed, is_value, extended, Cell, of_bytes, cell_bytes, Elements}
@@ -12,7 +13,7 @@ use Rattle.zarr_codecs_meaning.specs.Chains.Chain.{packbits}
 use Rattle.zarr_codecs_meaning.specs.Chains.Padding.{no_padding_byte, first_byte, last_byte}
 use Rattle.zarr_codecs_meaning.specs.Places.{place_numbers}
 use Rattle.zarr_codecs_meaning.specs.Encoding.{encoded, packed, with_padding, element_bits, element_of_bits}
-use Rattle.zarr_codecs_meaning.specs.Decoding.{without_padding, unpacked}
+use Rattle.zarr_codecs_meaning.specs.Decoding.{decoded, without_padding, unpacked}
 use Rattle.zarr_codecs_meaning.specs.Fits.{fits, bits_fit, bits_in, kept_bits, last_kept, padding_size, packed_size}
 use Rattle.zarr_codecs_meaning.specs.Laws.{AreCells}
 use Rattle.zarr_codecs_meaning.specs.Payloads.{Payload, fixed, fixed_cells, fixed_in, cells_in}
@@ -24,8 +25,10 @@ use Rattle.zarr_codecs_meaning.proofs.Representations.{encoded_size}
 use Rattle.zarr_codecs_arrays.specs.Outcomes.{IsValid}
 use Rattle.zarr_codecs_arrays.proofs.FixedCells.{fixed_in-some, fixed_in-whole, fixed_cells-cons, fixed_cells-nil, length-fixed_cells, whole_length}
 use Rattle.zarr_codecs_types.specs.Parts.{word_sized}
-use Rattle.zarr_codecs_traits.specs.Outcomes.{IsEncoded, IsDecoded}
-use Rattle.zarr_codecs_packbits.specs.Packing.{kept_of, element_in, bytes_of}
+use Rattle.zarr_codecs_arrays.specs.declared.error.CodecError.{CodecError}
+use Rattle.zarr_codecs_arrays.specs.declared.error.CodecError.TheVariants as error
+use Rattle.zarr_codecs_traits.specs.Outcomes.{Decodes, IsEncoded, IsDecoded}
+use Rattle.zarr_codecs_packbits.specs.Packing.{IsUncounted, kept_of, element_in, bytes_of}
 use Rattle.zarr_codecs_packbits.specs.Turning as turning
 use Rattle.zarr_codecs_packbits.specs.Turning.{bits_of, element_bits_read}
 use Rattle.zarr_codecs_packbits.specs.declared.turning.Turn.{Turn}
@@ -169,6 +172,40 @@ packbits_decodes padding first last elements shape value made fit some long is =
       lists = fixed_cells_in type made (fixed_where padding first last type shape fit) ∙ (fixed_in-some width made some whole ∙ ap Some found);
       is = on_true (length value == packed_size padding first last parts count) (Some cells) None (eq-eqb (length value) (packed_size padding first last parts count) long);
     }
+
+-- ---- arrays of 2^63 elements or more
+
+keeps_a_bit : (first : ℕ) (last : Option ℕ) (parts : List Component) → list_all (bits_fit first last) parts ≡ true → 0 < bytes_in parts → 0 < bits_in first last parts
+keeps_a_bit first last [] fit some = absurd (omega (arith, some))
+keeps_a_bit first last (c ∷ cs) fit some =
+    let one = and_parts (bits_fit first last c) (list_all (bits_fit first last) cs) fit in
+    let in_order = leb-true first (last_kept last c) (and_parts (nat_le first (last_kept last c)) (nat_lt (last_kept last c) c.width) one.0).0 in
+    omega (arith, in_order)
+
+packed_long : (padding bits count : ℕ) → 0 < bits → 2 ^ 63 ≤ count → 2 ^ 60 ≤ padding + (bits * count + 7) / 8
+packed_long padding bits count some many =
+    let more : count ≤ bits * count = ap-le (mul_comm count bits) (le-mul_of_pos_right count some) in
+    omega (arith, more, many) where
+      ap-le : {a b n : ℕ} → a ≡ b → n ≤ a → n ≤ b
+      ap-le e h = omega (arith, e, h)
+
+-- a value of fewer bytes than so many elements are packed to
+pub too_short : (padding : Padding) (first : ℕ) (last : Option ℕ) (elements : Elements) (shape value : List ℕ) → fits (packbits padding first last) elements.type shape ≡ true → 0 < bytes_in (components elements.type) → (product shape < 2 ^ 63 → ⊥) → length value < 2 ^ 60
+    → decoded (packbits padding first last) elements shape value ≡ None
+too_short padding first last elements shape value fit some many short =
+    let parts = components elements.type in
+    let bits = keeps_a_bit first last parts (and_parts (is_fixed elements.type) (list_all (bits_fit first last) parts) fit).1 some in
+    let count : 2 ^ 63 ≤ product shape = elim (cases_lt (product shape) (2 ^ 63)) [ inl less ↦ absurd (many less) | inr more ↦ more ] in
+    let long = packed_long (padding_size padding) (bits_in first last parts) (product shape) bits count in
+    let cells = map (unpacked first last elements.type (bits_of (without_padding padding value))) (place_numbers shape) in
+    ap (λ (b : Bool). elim b [ true ↦ Some cells | false ↦ None ]) (ne_eqb (length value) (packed_size padding first last parts (product shape)) (λ e. let f : ⊥ = omega (arith, e, long, short) in f))
+
+-- why a value is not decoded to so many
+pub uncounted : (padding : Padding) (first : ℕ) (last : Option ℕ) (elements : Elements) (shape value : List ℕ) (e : CodecError) → fits (packbits padding first last) elements.type shape ≡ true → 0 < bytes_in (components elements.type) → (product shape < 2 ^ 63 → ⊥) → IsUncounted value e
+    → Decodes (packbits padding first last) elements shape value (Err e)
+uncounted padding first last elements shape value error.Damage fit some many h = (fit, too_short padding first last elements shape value fit some many h)
+uncounted padding first last elements shape value error.Size fit some many h = elim (cases_lt (product shape) (2 ^ 63)) [ inl less ↦ absurd (many less) | inr more ↦ inl more ]
+uncounted padding first last elements shape value e fit some many h = absurd h
 
 -- ---- types without bytes
 

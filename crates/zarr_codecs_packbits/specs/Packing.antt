@@ -1,6 +1,8 @@
 -- Elements as bytes, packed and unpacked.
-use Rattle.std.specs.Prelude.{◌≡◌, ℕ, ◌*◌, List, [], take, drop, Option, unwrap_or, true}
+use Rattle.std.specs.Prelude.{◌≡◌, ℕ, ◌*◌, ◌^◌, ◌<◌, List, [], length, take, drop, Option, unwrap_or, true}
 use Rattle.std.specs.List.{flat_map, list_all, range_with_len}
+use Rattle.zarr_codecs_arrays.specs.declared.error.CodecError.{CodecError}
+use Rattle.zarr_codecs_arrays.specs.declared.error.CodecError.TheVariants as error
 use Rattle.zarr_codecs_types.specs.Views.{components_of}
 use Rattle.zarr_codecs_types.specs.declared.data_type.Component as declared
 use Rattle.zarr_codecs_packbits.specs.Views.{packbits_chain}
@@ -27,3 +29,9 @@ pub record Suits (codec : PackBitsCodec) (type : DataType) (parts : List declare
   pub are : components_of parts ≡ components type
   pub fit : fits (packbits_chain codec) type [] ≡ true
   pub keeps : list_all (bits_fit (unwrap_or codec.first_bit 0) codec.last_bit) (components_of parts) ≡ true
+
+-- why a value is not decoded to 2^63 elements or more: it is shorter than what so many are packed to, or they are too many
+abbrev pub IsUncounted : List ℕ → CodecError → Type 0
+IsUncounted value error.Damage = length value < 2 ^ 60
+IsUncounted value error.Size = Unit {0}
+IsUncounted value e = ⊥

@@ -1,13 +1,13 @@
 //! The codec `packbits`.
 
-use crate::asked::are_asked_inside;
 use crate::packing::{pack, unpack};
 use crate::partial::read_asked;
-use crate::sizes::{fit_all, has_bytes, packed_size};
+use crate::sizes::{error_of_uncounted, fit_all, has_bytes, packed_size};
 use crate::turning::{Turn, Way};
 use std::alloc::{AllocError, Global};
 use zarr_codecs_arrays::{ArrayBytes, CodecError, Elements};
 use zarr_codecs_options::CodecOptions;
+use zarr_codecs_regions::test_asked;
 use zarr_codecs_traits::{
     ArrayPart, ArrayToBytesCodecTraits, BytesPartialDecoderTraits, BytesRepresentation, ValuePatch,
 };
@@ -34,6 +34,15 @@ pub struct PackBitsCodec {
     pub last_bit: Option<u64>,
 }
 
+/// What `packbits` is configured by: where the padding is told, and the first and the last bit that
+/// are kept.
+#[derive(Clone, Copy, Debug, PartialEq, Eq)]
+pub struct PackBitsCodecConfiguration {
+    pub padding_encoding: PackBitsPaddingEncoding,
+    pub first_bit: Option<u64>,
+    pub last_bit: Option<u64>,
+}
+
 impl PackBitsCodec {
     ghost use Rattle.std.specs.Prelude.{◌≡◌, [], unwrap_or, false, IfOk, MatchOption};
     ghost use Rattle.zarr_codecs_meaning.specs.Fits.{fits};
@@ -54,6 +63,36 @@ impl PackBitsCodec {
             padding,
             first_bit,
             last_bit,
+        }
+    }
+
+    /// `packbits` as a configuration gives it.
+    pub fn new_with_configuration(configuration: PackBitsCodecConfiguration) -> PackBitsCodec
+        ensures { result ≡ record {
+          padding = configuration.padding_encoding;
+          first_bit = configuration.first_bit;
+          last_bit = configuration.last_bit;
+        } }
+    {
+        PackBitsCodec::new(
+            configuration.padding_encoding,
+            configuration.first_bit,
+            configuration.last_bit,
+        )
+    }
+
+    /// The codec's configuration, of which `new_with_configuration` makes an equal codec.
+    pub fn configuration(self) -> PackBitsCodecConfiguration
+        ensures { self ≡ record {
+          padding = result.padding_encoding;
+          first_bit = result.first_bit;
+          last_bit = result.last_bit;
+        } }
+    {
+        PackBitsCodecConfiguration {
+            padding_encoding: self.padding,
+            first_bit: self.first_bit,
+            last_bit: self.last_bit,
         }
     }
 
@@ -157,12 +196,12 @@ impl ArrayToBytesCodecTraits for PackBitsCodec {
         let Some(parts) = self.suited(alloc, data_type)? else {
             return Err(CodecError::Fit);
         };
-        let Some(count) = count_places(shape) else {
-            return Err(CodecError::Size);
-        };
         if !has_bytes(data_type) {
             return Err(CodecError::Memory);
         }
+        let Some(count) = count_places(shape) else {
+            return Err(error_of_uncounted(value.as_slice()));
+        };
         match packed_size(
             self.turn(Way::Restore),
             self.padding,
@@ -222,11 +261,11 @@ impl ArrayToBytesCodecTraits for PackBitsCodec {
         if self.suited(alloc, part.elements.data_type())?.is_none() {
             return Err(CodecError::Fit);
         }
-        let Some(count) = count_places(part.shape) else {
+        if count_places(part.shape).is_none() {
             return Err(CodecError::Size);
-        };
-        if !are_asked_inside(part.shape, count, part.indexer) {
-            return Err(CodecError::IncompatibleIndexer);
+        }
+        if let Err(error) = test_asked(part.shape, part.indexer) {
+            return Err(error);
         }
         read_asked(alloc, source, *self, part, options)
     }

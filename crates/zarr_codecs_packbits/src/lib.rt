@@ -1,7 +1,6 @@
 //! The codec `packbits`: the bits that are kept of elements of one size, one after another.
 #![tactic(auto)]
 
-mod asked;
 mod bits;
 pub mod codec;
 mod metadata;
@@ -11,4 +10,4 @@ mod partial;
 mod sizes;
 mod turning;
 
-pub use codec::{PackBitsCodec, PackBitsPaddingEncoding};
+pub use codec::{PackBitsCodec, PackBitsCodecConfiguration, PackBitsPaddingEncoding};

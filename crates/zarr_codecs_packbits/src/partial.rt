@@ -9,12 +9,11 @@ ghost use Rattle.zarr_codecs_traits.specs.Outcomes.{DecodesPart};
 ghost use Rattle.zarr_codecs_traits.specs.Sources.{refused_after};
 ghost use Rattle.zarr_codecs_packbits.specs.Views.{packbits_chain};
 
-use crate::asked::numbers_asked;
 use crate::codec::PackBitsCodec;
 use std::alloc::Global;
 use zarr_codecs_arrays::{ArrayBytes, CodecError};
 use zarr_codecs_options::CodecOptions;
-use zarr_codecs_regions::gather_elements;
+use zarr_codecs_regions::{gather_elements, numbers_asked};
 use zarr_codecs_traits::{
     ArrayPart, ArrayToBytesCodecTraits, BytesPartialDecoderTraits, read_value,
 };

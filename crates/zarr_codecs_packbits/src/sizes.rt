@@ -4,10 +4,12 @@ ghost use Rattle.std.specs.List.{list_all};
 ghost use Rattle.zarr_codecs_meaning.specs.Fits.{bits_fit, bits_in, packed_size};
 ghost use Rattle.zarr_codecs_meaning.specs.Types.{bytes_in, components, is_fixed};
 ghost use Rattle.zarr_codecs_types.specs.Views.{component_of, components_of, type_of};
+ghost use Rattle.zarr_codecs_packbits.specs.Packing.{IsUncounted};
 ghost use Rattle.zarr_codecs_packbits.specs.Views.{padding_of};
 
 use crate::codec::PackBitsPaddingEncoding;
 use crate::turning::Turn;
+use zarr_codecs_arrays::CodecError;
 use zarr_codecs_types::{Component, DataType};
 
 /// So many bits, or more, are 2^63 bytes or more.
@@ -43,6 +45,18 @@ pub(crate) fn has_bytes(data_type: &DataType) -> bool
     match data_type.byte_width() {
         Some(width) => width != 0,
         None => true,
+    }
+}
+
+/// Why a value is not decoded to 2^63 elements or more, which would be packed to 2^60 bytes or
+/// more: it has fewer, or these are too many.
+pub(crate) fn error_of_uncounted(value: &[u8]) -> CodecError
+    ensures { IsUncounted value.now result }
+{
+    if (value.len() as u64) < 1 << 60 {
+        CodecError::Damage
+    } else {
+        CodecError::Size
     }
 }
 

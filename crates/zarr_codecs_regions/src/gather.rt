@@ -8,13 +8,14 @@ ghost use Rattle.zarr_codecs_meaning.specs.Types.{Cell};
 ghost use Rattle.zarr_codecs_types.specs.Views.{type_of};
 ghost use Rattle.zarr_codecs_arrays.specs.Views.{payload_of, elements_of};
 
+use crate::variable::gather_variable;
 use std::alloc::{AllocError, Global};
 use zarr_codecs_arrays::{ArrayBytes, Elements};
 use zarr_codecs_types::DataType;
 
 /// The elements with these numbers, in this order. Each number is below the count of elements.
-/// `Err` only where an allocation failed, where these are no elements of the data type or have no
-/// such number, and always of elements of variable length, which aren't gathered yet.
+/// `Err` only where an allocation failed, or where these are no elements of the data type or have
+/// no such number.
 pub fn gather_elements(
     alloc: Global,
     bytes: &ArrayBytes,
@@ -31,7 +32,7 @@ pub fn gather_elements(
 }
 
 /// The elements of a data type with these numbers.
-fn gather(
+pub(crate) fn gather(
     alloc: Global,
     bytes: &ArrayBytes,
     data_type: &DataType,
@@ -51,7 +52,9 @@ fn gather(
             }
             None => Err(AllocError),
         },
-        ArrayBytes::Variable(_bytes, _offsets) => Err(AllocError),
+        ArrayBytes::Variable(bytes, offsets) => {
+            gather_variable(alloc, bytes.as_slice(), offsets.as_slice(), numbers)
+        }
         ArrayBytes::Optional(inner, mask) => match data_type {
             DataType::Optional(of_type) => {
                 let gathered = gather(alloc, inner, of_type, numbers)?;

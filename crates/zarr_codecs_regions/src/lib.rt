@@ -1,12 +1,19 @@
 //! Elements of an array by a box of their places or by their numbers, as bytes.
 #![tactic(auto)]
 
+pub mod asked;
 pub mod extract;
+pub mod fill;
 pub mod gather;
 pub mod inside;
 pub mod list;
+pub mod update;
+mod variable;
 
+pub use asked::{numbers_asked, test_asked};
 pub use extract::extract_box;
+pub use fill::copy_fill_value_into;
 pub use gather::gather_elements;
 pub use inside::is_inside;
 pub use list::{are_below, extract_list};
+pub use update::{extract_array_subset, update_array_bytes};

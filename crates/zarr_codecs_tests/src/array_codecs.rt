@@ -12,6 +12,8 @@ const BYTES: &str = r#""bytes""#;
 
 const TRANSPOSE: &str = r#"{"name": "transpose", "configuration": {"order": [1, 0]}}"#;
 
+const RESHAPE: &str = r#"{"name": "reshape", "configuration": {"shape": [[0, 1]]}}"#;
+
 /// The bytes of elements of one size.
 fn fixed_bytes(elements: ArrayBytes) -> Result<Vec<u8>, CodecError> {
     match elements {
@@ -62,6 +64,17 @@ fn transposed_lines_are_columns(rt: HostRuntime) -> Result<(), CodecError> {
     let value = [0, 3, 1, 4, 2, 5];
     assert!(rt; encoded(rt.alloc(), &chain)?.as_slice() == value.as_slice());
     assert!(rt; decoded(rt.alloc(), &chain, &value)?.as_slice() == [0, 1, 2, 3, 4, 5].as_slice());
+    Ok(())
+}
+
+#[test]
+fn reshaped_elements_keep_their_order(rt: HostRuntime) -> Result<(), CodecError> {
+    let chain = chain(rt.alloc(), &[TRANSPOSE, RESHAPE, BYTES])?;
+    let value = [0, 3, 1, 4, 2, 5];
+    assert!(rt; encoded(rt.alloc(), &chain)?.as_slice() == value.as_slice());
+    assert!(rt; decoded(rt.alloc(), &chain, &value)?.as_slice() == [0, 1, 2, 3, 4, 5].as_slice());
+    let found = read(rt.alloc(), &chain, &value, Indexer::List(&[3, 0]))?;
+    assert!(rt; found.as_slice() == [3, 0].as_slice());
     Ok(())
 }
 

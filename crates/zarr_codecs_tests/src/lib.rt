@@ -17,11 +17,15 @@ mod fill_values;
 #[cfg(test)]
 mod json;
 #[cfg(test)]
+mod new_shapes;
+#[cfg(test)]
 mod packed;
 #[cfg(test)]
 mod part_writing;
 #[cfg(test)]
 mod parts;
+#[cfg(test)]
+mod regions;
 #[cfg(test)]
 mod samples;
 #[cfg(test)]

@@ -1,25 +1,21 @@
 -- Boxes that commands write: what they give, and why a write is refused.
-use Rattle.std.proofs.Common.{◌≡◌, ◌∙◌, ℕ, ◌<◌, ◌^◌, ◌==◌, Bool, true, false, cond, List, [], ◌∷◌, length, Option, Some, None, option_and_then, refl, sym, ap, subst, arith, inl, inr, ◌⊎◌}
+use Rattle.std.proofs.Common.{◌≡◌, ◌∙◌, ℕ, suc, map, ◌<◌, ◌^◌, Bool, true, false, cond, List, [], ◌∷◌, length, Option, Some, None, option_and_then, refl, sym, ap, subst, arith, inl, inr, ◌⊎◌}
 use Rattle.std.specs.Prelude.{Result, Ok, Err, IfErr}
 use Rattle.std.specs.Option.{option_map_or}
 use Rattle.std.specs.List.{filter}
-use Rattle.std.proofs.lemmas.Bool.{false≢true, eq-eqb}
+use Rattle.std.proofs.lemmas.List.{length-map}
 use Rattle.std.proofs.Math.Nat.{div-le_self}
-use Rattle.serde_json.specs.Data.{Data, Items, item}
-use Rattle.serde_json.specs.Find.{as_array}
-use Rattle.serde_json.specs.View.{view, items_view}
-use Rattle.serde_json.specs.declared.value.Value.{Value}
 use Rattle.zarr_grids_boxes.specs.Boxes.{Region, product, share_place}
 use Rattle.zarr_grids_chunks.specs.Grids.{Grid, chunk_box, chunk_indices, intersects, intersecting}
-use Rattle.zarr_codecs_meaning.specs.Types.{DataType, bool, integer, custom, string, variable_bytes, optional_of, byte_width, Cell}
-use Rattle.zarr_codecs_meaning.specs.Payloads.{Payload, fixed, fixed_cells, fixed_in, cells_in, values_in, values_only}
-use Rattle.zarr_codecs_meaning.proofs.Lists.{some_same, bind_some, if_some}
+use Rattle.zarr_codecs_meaning.specs.Types.{DataType, byte_width, inner_type, is_variable, Cell, of_bytes}
+use Rattle.zarr_codecs_meaning.specs.Payloads.{Payload, fixed_cells, fixed_in, bytes_between, variable_in, masked_in, cells_in, values_in, values_only}
+use Rattle.zarr_codecs_meaning.proofs.Lists.{some_same, bind_some, map_some, if_some}
 use Rattle.zarr_codecs_options.specs.declared.codec_options.CodecOptions.{CodecOptions}
-use Rattle.zarr_codecs_types.specs.Given.{GivenCells, given_bytes, given_json, given_in, elements_in}
-use Rattle.zarr_codecs_types.specs.Parts.{single_component}
-use Rattle.zarr_codecs_arrays.specs.Views.{payload_of}
+use Rattle.zarr_codecs_types.specs.Given.{GivenCells, given_bytes, given_in}
+use Rattle.zarr_codecs_arrays.specs.Views.{payload_of, numbers_of}
 use Rattle.zarr_codecs_arrays.specs.declared.array_bytes.ArrayBytes.{ArrayBytes, Fixed, Variable, Optional'}
 use Rattle.zarr_codecs_arrays.proofs.FixedCells.{length-fixed_cells}
+use Rattle.zarr_codecs_arrays.proofs.Masks.{masked_lengths}
 use Rattle.zarr_array_core.proofs.ChunksWritten.{wrote_none}
 use Rattle.zarr_array_core.specs.Outcomes.{IsSmall, ChunkStops, WriteStops}
 use Rattle.zarr_array_core.specs.declared.error.ChunkError.{ChunkError}
@@ -52,56 +48,44 @@ few_fixed width bytes cells few h =
     let less = div-le_self (length bytes) width in
     omega arith
 
-few_of_bytes : (type : DataType) (width : ℕ) (bytes : List ℕ) (cells : List Cell) → byte_width type ≡ Some width → length bytes < 2 ^ 63 → cells_in type (fixed bytes) ≡ Some cells → length cells < 2 ^ 63
-few_of_bytes type width bytes cells sized few h = few_fixed width bytes cells few (subst (λ o. option_and_then (λ w. fixed_in w bytes) o ≡ Some cells) sized h)
+-- as many pieces as ends
+between_long : (start : ℕ) (ends bytes : List ℕ) (pieces : List (List ℕ)) → bytes_between start ends bytes ≡ Some pieces → length pieces ≡ length ends
+between_long start [] bytes pieces h = ap length (sym (some_same (if_some _ (Some []) pieces h).1))
+between_long start (end ∷ ends) bytes pieces h =
+    let rest = map_some _ (bytes_between end ends bytes) pieces (if_some _ _ pieces h).1 in
+    sym (ap length rest.2) ∙ ap suc (between_long end ends bytes rest.0 rest.1)
 
--- elements of one width are fewer than 2^63
-few_cells : (type : DataType) (width : ℕ) (elements : ArrayBytes) (cells : List Cell) → byte_width type ≡ Some width → cells_in type (payload_of elements) ≡ Some cells → length cells < 2 ^ 63
-few_cells type width (Fixed bytes) cells sized h =
+few_variable : (offsets bytes : List ℕ) (cells : List Cell) → length offsets < 2 ^ 63 → variable_in offsets bytes ≡ Some cells → length cells < 2 ^ 63
+few_variable [] bytes cells few h = cc
+few_variable (start ∷ ends) bytes cells few h =
+    let pieces = map_some (map of_bytes) (bytes_between start ends bytes) cells h in
+    let long = between_long start ends bytes pieces.0 pieces.1 in
+    omega (arith, long, ap length (sym pieces.2), length-map pieces.0 of_bytes)
+
+-- elements are fewer than 2^63
+few_cells : (type : DataType) (elements : ArrayBytes) (cells : List Cell) → cells_in type (payload_of elements) ≡ Some cells → length cells < 2 ^ 63
+few_cells type (Fixed bytes) cells h =
     let ok = bytes.ok in
     let small = bytes.small in
-    few_of_bytes type width bytes.items cells sized (omega arith) h
-few_cells bool width (Variable bytes offsets) cells sized h = cc
-few_cells (integer sign bits) width (Variable bytes offsets) cells sized h = cc
-few_cells (custom parts) width (Variable bytes offsets) cells sized h = cc
-few_cells string width (Variable bytes offsets) cells sized h = cc
-few_cells variable_bytes width (Variable bytes offsets) cells sized h = cc
-few_cells (optional_of inner) width (Variable bytes offsets) cells sized h = cc
-few_cells bool width (Optional' p inner mask) cells sized h = cc
-few_cells (integer sign bits) width (Optional' p inner mask) cells sized h = cc
-few_cells (custom parts) width (Optional' p inner mask) cells sized h = cc
-few_cells string width (Optional' p inner mask) cells sized h = cc
-few_cells variable_bytes width (Optional' p inner mask) cells sized h = cc
-few_cells (optional_of of_type) width (Optional' p inner mask) cells sized h = cc
+    let wide = bind_some (λ w. fixed_in w bytes.items) (byte_width type) cells h in
+    few_fixed wide.0 bytes.items cells (omega arith) wide.2
+few_cells type (Variable bytes offsets) cells h =
+    let ok = offsets.offsets.ok in
+    let small = offsets.offsets.small in
+    few_variable (numbers_of offsets) bytes.items cells (omega arith) (if_some (is_variable type) _ cells h).1
+few_cells type (Optional' p inner mask) cells h =
+    let ok = mask.ok in
+    let small = mask.small in
+    let of_type = bind_some (λ t. option_and_then (λ cs. masked_in cs mask.items) (cells_in t (payload_of inner))) (inner_type type) cells h in
+    let below = bind_some (λ cs. masked_in cs mask.items) (cells_in of_type.0 (payload_of inner)) cells of_type.2 in
+    let long = masked_lengths below.0 mask.items cells below.2 in
+    omega (arith, long.0)
 
 -- so no elements are the values of a box with 2^63 places or more
-pub none_so_many : (document : Document) (region : Region) (width : ℕ) (elements : ArrayBytes) (values : List Cell) → byte_width document.elements.type ≡ Some width → (product region.shape < 2 ^ 63 → ⊥)
-    → AreValuesOf document region (payload_of elements) values → ⊥
-none_so_many document region width elements values sized many are =
-    let few = few_cells document.elements.type width elements values sized (cells_of_values document.elements.type (payload_of elements) values are.lists) in
+pub none_so_many : (document : Document) (region : Region) (elements : ArrayBytes) (values : List Cell) → (product region.shape < 2 ^ 63 → ⊥) → AreValuesOf document region (payload_of elements) values → ⊥
+none_so_many document region elements values many are =
+    let few = few_cells document.elements.type elements values (cells_of_values document.elements.type (payload_of elements) values are.lists) in
     many (subst (λ n. n < 2 ^ 63) are.many few)
-
--- ---- JSON values
-
--- a value says no element of a type of fixed size that has other elements than one number
-none_said : (type : DataType) (width : ℕ) (d : Data) (ds : Items) → byte_width type ≡ Some width → single_component type ≡ None → elements_in type (item d ds) ≡ None
-none_said bool width d ds sized other = cc
-none_said (integer sign bits) width d ds sized other = cc
-none_said (custom parts) width d ds sized other = refl
-none_said string width d ds sized other = cc
-none_said variable_bytes width d ds sized other = cc
-none_said (optional_of inner) width d ds sized other = cc
-
-none_said_in : (type : DataType) (width : ℕ) (values : List Value) → byte_width type ≡ Some width → single_component type ≡ None → (length values ≡ 0 → ⊥) → elements_in type (items_view values) ≡ None
-none_said_in type width [] sized other some = absurd (some refl)
-none_said_in type width (value ∷ values) sized other some = none_said type width (view value) (items_view values) sized other
-
--- so a list of some values gives none
-pub none_given : (type : DataType) (width : ℕ) (d : Data) (values : List Value) (count : ℕ) → byte_width type ≡ Some width → single_component type ≡ None → Some (items_view values) ≡ as_array d → count ≡ length values → false ≡ (count == 0)
-    → given_in type (given_json d) ≡ None
-none_given type width d values count sized other is many some =
-    ap (λ o. option_and_then (values_only type) (option_and_then (elements_in type) o)) (sym is)
-    ∙ ap (option_and_then (values_only type)) (none_said_in type width values sized other (λ z. false≢true (some ∙ eq-eqb count 0 (many ∙ z))))
 
 -- ---- boxes with no place
 

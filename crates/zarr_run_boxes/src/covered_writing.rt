@@ -19,7 +19,7 @@ use std::alloc::Global;
 use zarr_array_core::ArrayCore;
 use zarr_array_storage::WritableStorageTraits;
 use zarr_codecs_arrays::ArrayBytes;
-use zarr_codecs_json::{GivenElements, elements_in};
+use zarr_codecs_json::elements_in;
 use zarr_codecs_options::CodecOptions;
 use zarr_codecs_traits::ArrayToBytesCodecTraits;
 use zarr_grids_boxes::ArraySubset;
@@ -58,7 +58,7 @@ pub(crate) fn write_covered<C: ArrayToBytesCodecTraits, S: WritableStorageTraits
 }
 
 /// The elements of the array's data type that a JSON list says: `Data` where it is no list, or one
-/// of its values says no element. A type without a JSON form takes only the empty list.
+/// of its values says no element.
 fn json_elements<C: ArrayToBytesCodecTraits>(
     alloc: Global,
     array: &ArrayCore<C>,
@@ -74,15 +74,8 @@ fn json_elements<C: ArrayToBytesCodecTraits>(
         return Err(Cause::Data);
     };
     match elements_in(alloc, array.elements().data_type(), values.as_slice()) {
-        Ok(GivenElements::Elements(elements)) => Ok(elements),
-        Ok(GivenElements::NotOfType) => Err(Cause::Data),
-        Ok(GivenElements::Unsupported) => {
-            if values.is_empty() {
-                Ok(ArrayBytes::Fixed(Vec::new(alloc)))
-            } else {
-                Err(Cause::Data)
-            }
-        }
+        Ok(Some(elements)) => Ok(elements),
+        Ok(None) => Err(Cause::Data),
         Err(_) => Err(Cause::Memory),
     }
 }

@@ -6,6 +6,7 @@ ghost use Rattle.zarr_grids_chunks.specs.Grids.{AreInGrid, IsCovered, IsInGrid};
 ghost use Rattle.zarr_grids_cover.specs.Intersecting.{AreIntersecting};
 ghost use Rattle.zarr_array_core.specs.Outcomes.{IsSmall};
 ghost use Rattle.zarr_array_core.specs.Views.{document_of};
+ghost use Rattle.zarr_codecs_types.specs.Views.{type_of};
 ghost use Rattle.zarr_codecs_arrays.specs.Outcomes.{IsTooLarge};
 ghost use Rattle.zarr_run_meaning.specs.Causes.{HasTooLargeChunk};
 ghost use Rattle.zarr_run_boxes.specs.Outcomes.{ChunkRefused, ChunksRefused};
@@ -13,14 +14,16 @@ ghost use Rattle.zarr_run_boxes.specs.Outcomes.{ChunkRefused, ChunksRefused};
 use std::alloc::Global;
 use zarr_array_core::ArrayCore;
 use zarr_codecs_traits::ArrayToBytesCodecTraits;
+use zarr_codecs_types::DataType;
 use zarr_grids_boxes::ArraySubset;
 use zarr_grids_boxes::walk::count_places;
 use zarr_grids_chunk_grids::ChunkGridTraits;
 use zarr_grids_cover::{chunks_intersecting, covers, has_chunk_of, is_in_grid};
 use zarr_run_meaning::Cause;
 
-/// So many chunks are too many to be erased by one command.
-const TOO_MANY_CHUNKS: u64 = 1 << 63;
+/// So many chunks are too many to be erased by one command, and so many cells or bytes to be read
+/// or written.
+const TOO_MANY: u64 = 1 << 63;
 
 /// Whether a region has the array's dimensions, and each of its places lies in a chunk in the grid.
 pub(crate) fn is_covered<C: ArrayToBytesCodecTraits>(
@@ -58,7 +61,18 @@ pub(crate) fn cell_limit<C: ArrayToBytesCodecTraits>(array: &ArrayCore<C>) -> u6
     ensures { (count : ℕ) → (result ≤ count
         ↔ IsTooLarge (document_of C.meaning array.now).elements.type count) }
 {
-    (1u64 << 63).div_ceil(array.width() as u64)
+    type_limit(array.elements().data_type())
+}
+
+/// The least number of elements of a data type that are too many.
+fn type_limit(data_type: &DataType) -> u64
+    ensures { (count : ℕ) → (result ≤ count ↔ IsTooLarge (type_of data_type.now) count) }
+{
+    match data_type.byte_width() {
+        Some(0) => TOO_MANY,
+        Some(width) => TOO_MANY.div_ceil(width as u64),
+        None => if data_type.is_fixed() { 1 } else { TOO_MANY },
+    }
 }
 
 /// Whether a box of chunk indices has 2^63 chunks or more, or one of them is too large.
@@ -72,8 +86,7 @@ pub(crate) fn has_too_large_chunk<C: ArrayToBytesCodecTraits>(
 {
     match count_places(&chunks.shape) {
         Some(count) => {
-            count >= TOO_MANY_CHUNKS
-                || has_chunk_of(array.grid().dimensions(), chunks, cell_limit(array))
+            count >= TOO_MANY || has_chunk_of(array.grid().dimensions(), chunks, cell_limit(array))
         }
         None => true,
     }

@@ -1,12 +1,11 @@
 -- The texts of answers are the compact texts of their JSON.
-use Rattle.std.proofs.Common.{◌≡◌, ◌⊎◌, inl, inr, ℕ, List, ◌++◌, codes, Option, Some, None, option_and_then, refl, ap}
+use Rattle.std.proofs.Common.{◌≡◌, ℕ, List, ◌++◌, codes, Option, Some, None, refl}
 use Rattle.serde_json.specs.Data.{Items, array}
 use Rattle.serde_json.specs.Written.{compact_text}
 use Rattle.serde_json.proofs.OnLiterals.{serde_json_on_literals}
 use Rattle.zarr_codecs_meaning.specs.Payloads.{Payload}
 use Rattle.zarr_codecs_meaning.specs.Types.{DataType}
-use Rattle.zarr_codecs_types.specs.Parts.{single_component}
-use Rattle.zarr_codecs_json.specs.Outcomes.{payload_data, printed_items, Prints, IsPrinted}
+use Rattle.zarr_codecs_json.specs.Outcomes.{payload_data, Prints, IsPrinted}
 use Rattle.zarr_codecs_json.specs.declared.printing.Printed.{Printed}
 use Rattle.zarr_codecs_json.specs.declared.printing.Printed.TheVariants as printed
 use Rattle.zarr_run_meaning.specs.Requests.{done, cells, refused}
@@ -24,13 +23,13 @@ unfolding serde_json_on_literals
 fault_answer = refl
 
 -- cells with this text are answered as they are
-pub cells_answer : (type : DataType) (payload : Payload) (items : Items) → printed_items type payload ≡ Some items
+pub cells_answer : (type : DataType) (payload : Payload) (items : Items) → payload_data type payload ≡ Some items
     → compact_text (answer_json (Some type) (cells payload)) ≡ codes "{\"cells\":" ++ (compact_text (array items) ++ codes "}")
 unfolding serde_json_on_literals
 cells_answer type payload items are = rw are refl
 
 -- cells without a text are answered with a fault
-pub no_text_answer : (type : DataType) (payload : Payload) → printed_items type payload ≡ None → compact_text (answer_json (Some type) (cells payload)) ≡ compact_text (fault_json (codes "text"))
+pub no_text_answer : (type : DataType) (payload : Payload) → payload_data type payload ≡ None → compact_text (answer_json (Some type) (cells payload)) ≡ compact_text (fault_json (codes "text"))
 no_text_answer type payload none = rw none refl
 
 -- what was printed where all was
@@ -38,18 +37,12 @@ pub whole_printed : (type : DataType) (payload : Payload) (before text : List �
 whole_printed type payload before text p prints is = rw is at prints
 
 -- where nothing was printed the text is what it was
-pub none_appended : (type : DataType) (payload : Payload) (before text : List ℕ) (p : Printed) → Prints type payload before text p → (p ≡ printed.NoText) ⊎ (p ≡ printed.Unsupported) → text ≡ before
-none_appended type payload before text p prints (inl is) = (rw is at prints).1
-none_appended type payload before text p prints (inr is) = (rw is at prints).1
-
-never_some : {A : Type 0} (given : Option Items) (o : Option A) → given ≡ None → option_and_then (λ a. given) o ≡ None
-never_some given None none = refl
-never_some given (Some a) none = none
+pub none_appended : (type : DataType) (payload : Payload) (before text : List ℕ) (p : Printed) → Prints type payload before text p → p ≡ printed.NoText → text ≡ before
+none_appended type payload before text p prints is = (rw is at prints).1
 
 -- where nothing was printed, there was nothing to be printed
-pub none_printed : (type : DataType) (payload : Payload) (before text : List ℕ) (p : Printed) → Prints type payload before text p → (p ≡ printed.NoText) ⊎ (p ≡ printed.Unsupported) → printed_items type payload ≡ None
-none_printed type payload before text p prints (inl is) = never_some (payload_data type payload) (single_component type) (rw is at prints).0
-none_printed type payload before text p prints (inr is) = ap (option_and_then (λ number. payload_data type payload)) (rw is at prints).0
+pub none_printed : (type : DataType) (payload : Payload) (before text : List ℕ) (p : Printed) → Prints type payload before text p → p ≡ printed.NoText → payload_data type payload ≡ None
+none_printed type payload before text p prints is = (rw is at prints).0
 
 pub refused_answer : (type : Option DataType) (c : Cause) (applied : ℕ) → compact_text (answer_json type (refused c applied)) ≡ refusal_text c applied
 unfolding serde_json_on_literals

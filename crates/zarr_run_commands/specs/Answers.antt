@@ -1,7 +1,7 @@
 -- Answers as JSON (this project's profile).
 use Rattle.std.specs.Prelude.{ℕ, List, codes, true, Option, option_map, option_and_then, unwrap_or}
 use Rattle.serde_json.specs.Data.{Data, boolean, number, unsigned, string, array, object, no_members, member}
-use Rattle.zarr_codecs_json.specs.Outcomes.{printed_items}
+use Rattle.zarr_codecs_json.specs.Outcomes.{payload_data}
 use Rattle.zarr_codecs_meaning.specs.Payloads.{Payload}
 use Rattle.zarr_codecs_meaning.specs.Types.{DataType}
 use Rattle.zarr_run_meaning.specs.Requests.{Answer, done, cells, refused}
@@ -28,9 +28,9 @@ cause_name cause.DocumentChanged = codes "DocumentChanged"
 abbrev pub fault_json : List ℕ → Data
 fault_json name = object (member (codes "fault") (string name) no_members)
 
--- the cells of an array of this type as JSON; None where they are not printed, or where no type is known
+-- the cells of an array of this type as JSON; None where one of them is no value or has no text, or where no type is known
 abbrev pub cells_json : Option DataType → Payload → Option Data
-cells_json type payload = option_map (λ items. object (member (codes "cells") (array items) no_members)) (option_and_then (λ known. printed_items known payload) type)
+cells_json type payload = option_map (λ items. object (member (codes "cells") (array items) no_members)) (option_and_then (λ known. payload_data known payload) type)
 
 -- an answer as JSON, where cells have this type
 abbrev pub answer_json : Option DataType → Answer → Data

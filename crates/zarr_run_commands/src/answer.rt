@@ -18,8 +18,9 @@ use zarr_codecs_types::DataType;
 use zarr_run_meaning::Cause;
 
 /// Appends the compact JSON text of a reply. `data_type` is that of the array at the command's
-/// path, if one is held there. Cells that are all booleans or integers of that type become their
-/// list, and any others `{"fault":"text"}`. After an error a part of the text may stand there.
+/// path, if one is held there. Cells that are values of that type become their list, strings in
+/// quotes; where one has no text, as a string that is not UTF-8, the answer is `{"fault":"text"}`.
+/// After an error a part of the text may stand there.
 pub fn push_answer(
     text: &mut Vec<u8>,
     data_type: Option<&DataType>,
@@ -54,7 +55,7 @@ fn push_cells(
     text.extend_from_slice(b"{\"cells\":")?;
     match push_elements(text, data_type, cells)? {
         Printed::Whole => text.extend_from_slice(b"}"),
-        Printed::NoText | Printed::Unsupported => {
+        Printed::NoText => {
             text.truncate(before);
             push_fault(text)
         }

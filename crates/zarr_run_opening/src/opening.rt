@@ -43,10 +43,7 @@ pub(crate) fn open_tree<B: BytesToBytesCodecTraits>(
         elements,
         codecs,
     } = document;
-    match ArrayCore::new(at, grid, keys, elements, codecs) {
-        Some(array) => Ok(array),
-        None => unreachable!(),
-    }
+    Ok(ArrayCore::new(at, grid, keys, elements, codecs))
 }
 
 /// A node path, in memory of its own.

@@ -1,4 +1,4 @@
-use Rattle.std.proofs.Common.{◌∙◌, ap, sym, Some, ◌≡◌}
+use Rattle.std.proofs.Common.{◌∙◌, ap, sym, Some}
 use Rattle.zarr_grids_boxes.specs.Boxes.{product}
 use Rattle.zarr_codecs_arrays.specs.Views.{elements_of}
 use Rattle.zarr_codecs_array_to_array.proofs.Routes.{gathered_all}

@@ -1,5 +1,5 @@
-use Rattle.std.proofs.Common.{◌≡◌, ◌+◌, ◌<◌, ◌++◌, ◌∷◌, [], suc, length, map, take, get_or, slice_index, ap, ◌∙◌, sym, arith, rules}
-use Rattle.zarr_grids_boxes.specs.Boxes.{ravel, place_at}
+use Rattle.std.proofs.Common.{◌≡◌, ◌+◌, ◌++◌, ◌∷◌, [], suc, length, map, take, get_or, slice_index, ap, ◌∙◌, sym, arith, rules}
+use Rattle.zarr_grids_boxes.specs.Boxes.{ravel}
 use Rattle.zarr_grids_boxes.proofs.Places.{length-place_at}
 use Rattle.zarr_codecs_meaning.proofs.Covers.{zeros, length-zeros}
 use Rattle.zarr_codecs_regions.proofs.Extracts.{written_over, zeros_are}

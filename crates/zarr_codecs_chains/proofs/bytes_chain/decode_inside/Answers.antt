@@ -7,8 +7,8 @@ use Rattle.zarr_codecs_chains.proofs.PartChains.{never_refused}
 use Rattle.zarr_codecs_chains.proofs.bytes_chain.decode_inside.Goals as goal
 
 pub returns-clause-part : goal.returns-clause-part
-returns-clause-part c =
-    subst (λ stored. DecodesPart (codec_chain c.args.codec) (elements_of c.args.part.elements.now) c.args.part.shape.now stored (asked_of c.args.part.indexer) c.partial_decode.result) c.new-source.ensures.contents (c.partial_decode.ensures.part refl)
+returns-clause-part g c =
+    subst (λ stored. DecodesPart (codec_chain g.B.BytesToBytesCodecTraits.meaning c.args.codec.now) (elements_of c.args.part.elements.now) c.args.part.shape.now stored (asked_of c.args.part.indexer) c.partial_decode.result) c.new-source.ensures.contents (c.partial_decode.ensures.part refl)
 
 pub returns-clause-no_source : goal.returns-clause-no_source
-returns-clause-no_source c = λ count. never_refused c.partial_decode.result c.partial_decode.ensures.refused count
+returns-clause-no_source g c = λ count. never_refused c.partial_decode.result c.partial_decode.ensures.refused count

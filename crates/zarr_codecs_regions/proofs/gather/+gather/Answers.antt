@@ -1,11 +1,13 @@
-use Rattle.std.proofs.Common.{◌≡◌, ◌∙◌, sym, ap, Some, flat_map, map, slice_index}
+use Rattle.std.proofs.Common.{◌≡◌, ◌∙◌, sym, ap, Some, ◌∷◌, flat_map, map, slice_index}
 use Rattle.std.proofs.lemmas.Result.{IfOk-weaker}
 use Rattle.zarr_codecs_meaning.specs.Types.{optional_of}
-use Rattle.zarr_codecs_meaning.specs.Payloads.{cells_in, optional}
+use Rattle.zarr_codecs_meaning.specs.Payloads.{cells_in, variable, optional}
 use Rattle.zarr_codecs_meaning.specs.Places.{gather}
 use Rattle.zarr_codecs_types.specs.Views.{type_of}
-use Rattle.zarr_codecs_arrays.specs.Views.{payload_of}
+use Rattle.zarr_codecs_arrays.specs.Views.{payload_of, numbers_of}
+use Rattle.zarr_codecs_regions.specs.Pieces.{piece_of, ends_of}
 use Rattle.zarr_codecs_regions.proofs.Gathers.{bytes_at, fixed_payload, masked_payload}
+use Rattle.zarr_codecs_regions.proofs.Pieces.{pieces_payload}
 use Rattle.zarr_codecs_regions.proofs.gather.+gather.Goals as goal
 
 pub returns-in_ok-gathered-in-Some : goal.returns-in_ok-gathered-in-Some
@@ -33,3 +35,14 @@ returns-in_ok-mask-in-Optional-data_type t c cells other h all =
     let given = masked_payload whole type payload inner made mask marks cells other numbers t-is p-is m-is (λ below. c.in_ok-gathered-in-Optional-data_type.ensures below other) h all in
     IfOk-weaker c.masked.result (λ a. payload_of a ≡ optional made marks) (λ a. cells_in whole (payload_of a) ≡ Some (gather other cells numbers))
     (λ a e. ap (cells_in whole) e ∙ given) c.masked.ensures
+
+pub returns-in-Variable : goal.returns-in-Variable
+returns-in-Variable t c cells other h all =
+    let type = type_of c.args.data_type.now in
+    let bytes = c.as_slice-in-Variable.result.now in
+    let offsets = c.as_slice-in-Variable-2.result.now in
+    let numbers = c.args.numbers.now in
+    let is = ap payload_of c.in-Variable.is ∙ (ap (λ bs. variable bs (numbers_of c.in-Variable.offsets)) (sym c.as_slice-in-Variable.ensures.value) ∙ ap (variable bytes) (sym c.as_slice-in-Variable-2.ensures)) in
+    let given = pieces_payload type (payload_of c.args.bytes.now) offsets bytes cells other numbers is h all in
+    IfOk-weaker c.gather_variable.result (λ a. payload_of a ≡ variable (flat_map (piece_of offsets bytes) numbers) (0 ∷ ends_of 0 (map (piece_of offsets bytes) numbers))) (λ a. cells_in type (payload_of a) ≡ Some (gather other cells numbers))
+    (λ a e. ap (cells_in type) e ∙ given) c.gather_variable.ensures

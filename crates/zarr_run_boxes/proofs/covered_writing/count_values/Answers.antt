@@ -9,6 +9,6 @@ pub returns-in_default-count_places-clause-err : goal.returns-in_default-count_p
 returns-in_default-count_places-clause-err g c =
     let document = document_of g.C.ArrayToBytesCodecTraits.meaning c.args.array.now in (
       refl,
-      λ values are. none_so_many document (region_of c.args.region.now) c.args.array.now.width c.args.elements.now values c.args.array.now.sized
+      λ values are. none_so_many document (region_of c.args.region.now) c.args.elements.now values
           (subst (λ (shape : List ℕ). product shape < 2 ^ 63 → ⊥) c.deref.ensures.value c.in_default-count_places.ensures) are,
     )

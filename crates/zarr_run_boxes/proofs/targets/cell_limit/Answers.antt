@@ -1,5 +1,8 @@
-use Rattle.zarr_run_boxes.proofs.Boxes.{limit_tells}
+use Rattle.std.proofs.Common.{ℕ, ◌≤◌, ◌∙◌, ap, subst}
+use Rattle.zarr_codecs_meaning.specs.Types.{Elements}
+use Rattle.zarr_codecs_arrays.specs.Outcomes.{IsTooLarge}
 use Rattle.zarr_run_boxes.proofs.targets.cell_limit.Goals as goal
 
 pub returns : goal.returns
-returns g c = limit_tells _ c.width.result c.div_ceil.result c.width.ensures.sized c.width.ensures.some c.div_ceil.ensures
+returns g c =
+    subst (λ type. (count : ℕ) → (c.type_limit.result ≤ count → IsTooLarge type count) × (IsTooLarge type count → c.type_limit.result ≤ count)) (c.data_type.ensures ∙ ap (λ (e : Elements). e.type) c.elements.ensures) c.type_limit.ensures

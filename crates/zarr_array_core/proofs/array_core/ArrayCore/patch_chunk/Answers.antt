@@ -3,29 +3,28 @@ use Rattle.std.specs.FinMap.{get, insert}
 use Rattle.zarr_grids_boxes.specs.Boxes.{Region, product}
 use Rattle.zarr_grids_boxes.specs.Subsets.{region_of}
 use Rattle.zarr_grids_overlay.specs.Overlays.{extent_of}
-use Rattle.zarr_codecs_meaning.specs.Payloads.{fixed_cells}
 use Rattle.zarr_codecs_traits.specs.PartEncoding.{takes_patches}
 use Rattle.zarr_array_storage.specs.Ranges.{patched_at}
 use Rattle.zarr_array_core.specs.PartWrites.{PatchesChunk}
-use Rattle.zarr_array_core.specs.Views.{document_of}
+use Rattle.zarr_array_core.specs.Views.{array_cells, document_of}
 use Rattle.zarr_array_core.proofs.PartPatches.{IsSized, sized_part}
 use Rattle.zarr_array_core.proofs.array_core.ArrayCore.patch_chunk.Goals as goal
 
 pub returns-clause-ok : goal.returns-clause-ok
 returns-clause-ok g c = λ honest done.
     let document = document_of g.C.ArrayToBytesCodecTraits.meaning c.args.self.now in
-    let width = c.args.self.now.width in
+    let width = c.in-Some.width in
     let region : Region = extent_of c.args.write.now.region in
     let box : Region = region_of c.args.own.now in
-    let given = fixed_cells width c.args.write.now.bytes.now in
+    let given = array_cells c.args.self.now c.args.write.now.bytes.now in
     let empty = c.args.write.now.options.now.store_empty_chunks in
     let held = g.S.ReadableStorageTraits.held c.args.store.now in
     let key = c.args.key.now in
-    let size = c.in-Some-2.size in
-    let patches = c.in-Some.patches.items in
+    let size = c.in-Some-3.size in
+    let patches = c.in-Some-2.patches.items in
     let takes : takes_patches document.chain document.elements.type ≡ true = search rules in
     let told : Some size ≡ option_map length (get held key) = let all = c.in_ok-size.ensures.size honest in search rules in
-    let is : IsSized document width held key size = record { sized = c.args.self.now.sized; takes = takes; bytes = c.in_ok-size.ensures.bytes honest; told = told } in
+    let is : IsSized document width held key size = record { sized = c.in-Some.ensures; takes = takes; bytes = c.in_ok-size.ensures.bytes honest; told = told } in
     let right : size ≡ product box.shape * width = search rules in
     let writes : PatchesChunk document region given empty box patches = search rules in
     let still : IsTrue (g.S.ReadableStorageTraits.is_honest c.size_key.new.store) = subst IsTrue (sym c.in_ok-size.ensures.honest) honest in

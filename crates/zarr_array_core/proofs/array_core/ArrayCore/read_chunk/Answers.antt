@@ -1,28 +1,68 @@
-use Rattle.std.proofs.Common.{◌≡◌, ◌∙◌, ℕ, List, IsTrue, subst}
-use Rattle.std.specs.FinMap.{get}
-use Rattle.zarr_grids_boxes.specs.Boxes.{Region}
+use Rattle.std.proofs.Common.{◌≡◌, ◌∙◌, ℕ, List, Option, Some, refl, sym, subst, inr}
+use Rattle.std.specs.Prelude.{IfSome}
+use Rattle.zarr_grids_boxes.specs.Boxes.{Region, is_in_box}
+use Rattle.zarr_grids_boxes.specs.Cuts.{overlapped, relative}
 use Rattle.zarr_grids_boxes.specs.Subsets.{region_of}
+use Rattle.zarr_grids_boxes.proofs.Places.{both}
 use Rattle.zarr_grids_chunks.specs.Grids.{IsInGrid}
-use Rattle.zarr_grids_keys.specs.Keys.{chunk_key}
-use Rattle.zarr_array_core.specs.Parts.{ValueStops}
+use Rattle.zarr_codecs_arrays.specs.Views.{payload_of}
+use Rattle.zarr_array_meaning.specs.Chunks.{stored_at}
+use Rattle.zarr_array_elements.specs.Views.{cells_shown}
+use Rattle.zarr_array_elements.proofs.Meeting.{IsMeeting, shares_own}
+use Rattle.zarr_array_core.specs.Parts.{GivesChunk, IsChunkPart}
 use Rattle.zarr_array_core.specs.Views.{document_of, path_of}
-use Rattle.zarr_array_core.proofs.ReadSoFar.{chunk_stops, sized_value, unfit_stops}
+use Rattle.zarr_array_core.proofs.Placed.{meets, placed, ranks_alike, same_box}
 use Rattle.zarr_array_core.proofs.array_core.ArrayCore.read_chunk.Goals as goal
 
-pub returns-in-Err-clause-err : goal.returns-in-Err-clause-err
-returns-in-Err-clause-err g c = λ honest.
-    let held = g.S.ReadableStorageTraits.held c.args.store.now in
-    let document = document_of g.C.ArrayToBytesCodecTraits.meaning c.args.self.now in
-    let region : Region = region_of c.args.read.region.now in
-    chunk_stops (path_of c.args.self.now) document held region c.args.chunk.now c.requires.below c.in-Err.error
-    (subst (λ (key : List ℕ). (box : Region) → IsInGrid document.grid c.args.chunk.now box → ValueStops document region box (get held key) c.in-Err.error) c.in_ok-key.ensures (c.in-Err.ensures.err honest))
+-- what is known of a value that was found
+of_found : {A : Type 0} (fact : A → Type 0) (o : Option A) (a : A) → o ≡ Some a → IfSome o fact → fact a
+of_found fact o a e h = subst (λ p. IfSome p fact) e h
 
-pub returns-in-Some-clause-err : goal.returns-in-Some-clause-err
-returns-in-Some-clause-err g c = λ honest.
-    let held = g.S.ReadableStorageTraits.held c.args.store.now in
-    let document = document_of g.C.ArrayToBytesCodecTraits.meaning c.args.self.now in
+pub put-requires-clause-rank : goal.put-requires-clause-rank
+put-requires-clause-rank g c =
+    let grid = (document_of g.C.ArrayToBytesCodecTraits.meaning c.args.self.now).grid in
     let region : Region = region_of c.args.read.region.now in
-    let still : IsTrue (g.S.ReadableStorageTraits.is_honest c.place_stored.new.store) = rw c.in-Ok.ensures.honest honest in
-    unfit_stops (path_of c.args.self.now) document held region c.args.chunk.now c.requires.below c.requires.shares
-    (sized_value held (g.S.ReadableStorageTraits.held c.place_stored.new.store) c.in_ok-key.key (chunk_key (path_of c.args.self.now) document.keys c.args.chunk.now) c.in_ok-size_key.field-0 c.in-Some.field-0 c.in-Ok.ensures.held c.in_ok-key.ensures (c.in_ok-size_key.ensures.size still) c.in-Some.is)
-    (c.in-Ok.ensures.unfit honest c.if-placed.false)
+    let shared : Region = region_of c.in-Ok-Some.part.shared in
+    let found = of_found (λ part. (x : Region) × IsInGrid grid c.args.chunk.now x × (region_of part.shared ≡ overlapped region x)) c.in-Ok-Some.field-0 c.in-Ok-Some.part c.in-Ok-Some.field-0-is c.in-Ok-Some.ensures.shared in
+    let part = relative shared found.0.start in
+    let share = shares_own grid c.args.chunk.now region found.0 found.1.has_box c.requires.shares in
+    ranks_alike region found.0 shared part (meets region found.0 shared part share found.2 refl)
+
+pub put-requires-clause-some : goal.put-requires-clause-some
+put-requires-clause-some g c =
+    let grid = (document_of g.C.ArrayToBytesCodecTraits.meaning c.args.self.now).grid in
+    let region : Region = region_of c.args.read.region.now in
+    let shared : Region = region_of c.in-Ok-Some.part.shared in
+    let found = of_found (λ part. (x : Region) × IsInGrid grid c.args.chunk.now x × (region_of part.shared ≡ overlapped region x)) c.in-Ok-Some.field-0 c.in-Ok-Some.part c.in-Ok-Some.field-0-is c.in-Ok-Some.ensures.shared in
+    let part = relative shared found.0.start in
+    let share = shares_own grid c.args.chunk.now region found.0 found.1.has_box c.requires.shares in
+    (meets region found.0 shared part share found.2 refl).some
+
+pub put-requires-clause-inside : goal.put-requires-clause-inside
+put-requires-clause-inside g c = λ place t.
+    let grid = (document_of g.C.ArrayToBytesCodecTraits.meaning c.args.self.now).grid in
+    let region : Region = region_of c.args.read.region.now in
+    let shared : Region = region_of c.in-Ok-Some.part.shared in
+    let found = of_found (λ part. (x : Region) × IsInGrid grid c.args.chunk.now x × (region_of part.shared ≡ overlapped region x)) c.in-Ok-Some.field-0 c.in-Ok-Some.part c.in-Ok-Some.field-0-is c.in-Ok-Some.ensures.shared in
+    let part = relative shared found.0.start in
+    let share = shares_own grid c.args.chunk.now region found.0 found.1.has_box c.requires.shares in
+    let meet = meets region found.0 shared part share found.2 refl in
+    (both (is_in_box region.start region.shape place) (is_in_box found.0.start found.0.shape place) (sym (meet.both place) ∙ t)).0
+
+pub returns-in_ok-put-in-Ok-Some-clause-ok : goal.returns-in_ok-put-in-Ok-Some-clause-ok
+returns-in_ok-put-in-Ok-Some-clause-ok g c = λ honest box below.
+    let document = document_of g.C.ArrayToBytesCodecTraits.meaning c.args.self.now in
+    let held = g.S.ReadableStorageTraits.held c.args.store.now in
+    let region : Region = region_of c.args.read.region.now in
+    let shared : Region = region_of c.in-Ok-Some.part.shared in
+    let stored : Option (List ℕ) = stored_at (path_of c.args.self.now) document held c.args.chunk.now in
+    let found = of_found (λ part. (x : Region) × IsInGrid document.grid c.args.chunk.now x × (region_of part.shared ≡ overlapped region x)) c.in-Ok-Some.field-0 c.in-Ok-Some.part c.in-Ok-Some.field-0-is c.in-Ok-Some.ensures.shared in
+    let part = relative shared found.0.start in
+    let share = shares_own document.grid c.args.chunk.now region found.0 found.1.has_box c.requires.shares in
+    let meet = meets region found.0 shared part share found.2 refl in
+    let said = of_found (λ part. (x : Region) → IsInGrid document.grid c.args.chunk.now x → IsChunkPart document x stored (region_of part.shared) (payload_of part.bytes)) c.in-Ok-Some.field-0 c.in-Ok-Some.part c.in-Ok-Some.field-0-is (c.in-Ok-Some.ensures.part honest) in
+    let is = (said found.0 found.1).is in
+    let old = cells_shown document.elements c.args.shown in
+    let new = cells_shown document.elements c.in_ok-put-in-Ok-Some.field-0 in
+    subst (λ (b : Region). GivesChunk (path_of c.args.self.now) document held region c.args.chunk.now b old new) (same_box document.grid c.args.chunk.now found.0 box found.1 below)
+    (inr (placed document region found.0 shared part stored (payload_of c.in-Ok-Some.part.bytes) old new meet is c.in_ok-put-in-Ok-Some.ensures.cells))

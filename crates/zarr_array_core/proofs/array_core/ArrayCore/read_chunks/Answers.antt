@@ -1,6 +1,8 @@
 use Rattle.std.proofs.Common.{◌≡◌, ◌∙◌, ◌<◌, sym, rules, arith}
 use Rattle.zarr_grids_boxes.specs.Boxes.{Region, product}
 use Rattle.zarr_grids_boxes.specs.Subsets.{region_of}
+use Rattle.zarr_array_elements.specs.Views.{cells_shown}
+use Rattle.zarr_array_elements.proofs.Shown.{length-shown}
 use Rattle.zarr_array_core.specs.Views.{document_of, path_of}
 use Rattle.zarr_array_core.proofs.MetChunks.{met_here, shares_here}
 use Rattle.zarr_array_core.proofs.ReadSoFar.{read_next, read_end}
@@ -32,9 +34,11 @@ loop-n-preserved g c =
     let found = met_here document.grid chunks c.loop-n.n c.place_into.new.place (sym c.args.read.chunks.now.same) c.requires.intersecting.below below at_place in
     let step = c.in-Ok.ensures in
     let kept = c.loop-n.invariant in
+    let elements = document.elements in
     record {
-      read = λ honest. read_next (path_of c.args.self.now) document c.args.self.now.width (g.S.ReadableStorageTraits.held c.args.store.now) (region_of c.args.read.region.now) chunks c.loop-n.n c.place_into.new.place c.loop-n.target
-          c.read_chunk.new.target found at_place (rw kept.held at (step.ok (rw kept.honest honest))) (kept.read honest);
+      shown = step.shown;
+      read = λ honest. read_next (path_of c.args.self.now) document (g.S.ReadableStorageTraits.held c.args.store.now) (region_of c.args.read.region.now) chunks c.loop-n.n c.place_into.new.place (cells_shown elements c.loop-n.target)
+          (cells_shown elements c.in-Ok.next) found at_place (rw kept.held at (step.ok (rw kept.honest honest))) (kept.read honest);
       held = step.held ∙ kept.held;
       honest = step.honest ∙ kept.honest;
       refused = step.refused ∙ kept.refused;
@@ -43,7 +47,9 @@ loop-n-preserved g c =
 
 pub returns-clause-ok : goal.returns-clause-ok
 returns-clause-ok g c = λ honest.
+    let document = document_of g.C.ArrayToBytesCodecTraits.meaning c.args.self.now in
+    let region : Region = region_of c.args.read.region.now in
     let chunks : Region = region_of c.args.read.chunks.now in
     let total : c.unwrap-count.result ≡ product chunks.shape = search rules in
-    read_end (path_of c.args.self.now) (document_of g.C.ArrayToBytesCodecTraits.meaning c.args.self.now) c.args.self.now.width (g.S.ReadableStorageTraits.held c.args.store.now) (region_of c.args.read.region.now) chunks c.loop-n.n c.unwrap-count.result
-    c.loop-n.target (sym c.args.read.chunks.now.same) c.requires.intersecting total (omega arith) c.args.self.now.some (c.loop-n.auto.target ∙ c.requires.target) (c.loop-n.invariant.read honest)
+    read_end (path_of c.args.self.now) document (g.S.ReadableStorageTraits.held c.args.store.now) region chunks c.loop-n.n c.unwrap-count.result (cells_shown document.elements c.loop-n.target)
+    (sym c.args.read.chunks.now.same) c.requires.intersecting total (omega arith) (length-shown document.elements region c.loop-n.target c.loop-n.invariant.shown) (c.loop-n.invariant.read honest)

@@ -1,13 +1,13 @@
 use Rattle.std.proofs.Common.{◌≡◌, ◌∙◌, ◌*◌, length, ap, sym, arith, Some}
 use Rattle.zarr_codecs_arrays.specs.Views.{payload_of}
-use Rattle.zarr_codecs_arrays.specs.declared.array_bytes.ArrayBytes.{ArrayBytes}
-use Rattle.zarr_codecs_meaning.specs.Payloads.{fixed, cells_in}
+use Rattle.std.specs.List.{list_all}
+use Rattle.zarr_codecs_meaning.specs.Types.{is_value}
 use Rattle.zarr_grids_boxes.specs.Boxes.{product}
 use Rattle.zarr_grids_boxes.specs.Subsets.{region_of}
 use Rattle.zarr_array_core.specs.Views.{document_of}
 use Rattle.zarr_array_core.proofs.ChunksWritten.{some_chunk}
 use Rattle.zarr_array_core.proofs.MetChunks.{length-intersecting}
-use Rattle.zarr_array_core.proofs.Payloads.{fixed_elements}
+use Rattle.zarr_array_elements.proofs.FixedPuts.{counted, known}
 use Rattle.zarr_array_core.proofs.array_core.ArrayCore.write_region.Goals as goal
 
 pub write_chunks-requires-clause-some : goal.write_chunks-requires-clause-some
@@ -17,11 +17,14 @@ write_chunks-requires-clause-some g c =
 pub write_chunks-requires-clause-many : goal.write_chunks-requires-clause-many
 write_chunks-requires-clause-many g c =
     let type = (document_of g.C.ArrayToBytesCodecTraits.meaning c.args.self.now).elements.type in
-    let width = c.args.self.now.width in
     let valid = c.requires.valid.1 in
-    let lists : cells_in type (fixed c.in-Fixed.given.items) ≡ Some c.requires.valid.0 = ap (λ (bytes : ArrayBytes). cells_in type (payload_of bytes)) (sym c.in-Fixed.is) ∙ valid.is.lists in
-    let long = (fixed_elements type width c.in-Fixed.given.items c.requires.valid.0 c.args.self.now.sized lists).long in
-    ap length c.as_slice.ensures.value ∙ (long ∙ ap (λ n. n * width) (valid.is.many ∙ ap product (sym c.shape-shape.ensures)))
+    counted type (payload_of c.args.bytes.now) c.requires.valid.0 _ valid.is.lists (valid.is.many ∙ ap product (sym c.shape-shape.ensures))
+
+pub write_chunks-requires-clause-values : goal.write_chunks-requires-clause-values
+write_chunks-requires-clause-values g c =
+    let type = (document_of g.C.ArrayToBytesCodecTraits.meaning c.args.self.now).elements.type in
+    let valid = c.requires.valid.1 in
+    ap (list_all (is_value type)) (known type (payload_of c.args.bytes.now) c.requires.valid.0 valid.is.lists) ∙ valid.values
 
 pub returns-clause-counts : goal.returns-clause-counts
 returns-clause-counts g c =

@@ -1,8 +1,8 @@
-use Rattle.std.proofs.Common.{◌≡◌, ◌∙◌, refl, sym, ap, subst, map, slice_index, true, List, ℕ}
+use Rattle.std.proofs.Common.{◌≡◌, ◌∙◌, refl, sym, ap, map, slice_index, true}
 use Rattle.zarr_grids_boxes.specs.Boxes.{product}
 use Rattle.zarr_codecs_meaning.specs.Chains.ArrayCodec.{transpose}
 use Rattle.zarr_codecs_meaning.specs.Fits.{array_codec_fits}
-use Rattle.zarr_codecs_meaning.specs.Places.{place_numbers, position_of, source_places, undone_places}
+use Rattle.zarr_codecs_meaning.specs.Places.{place_numbers, source_places}
 use Rattle.zarr_codecs_arrays.specs.Views.{elements_of, payload_of}
 use Rattle.zarr_codecs_array_to_array.specs.Moving.{picked_number}
 use Rattle.zarr_codecs_array_to_array.specs.Views.{order_of}

@@ -7,21 +7,21 @@ use Rattle.zarr_codecs_chains.proofs.ReadsBack.{named_packbits, not_packbits}
 use Rattle.zarr_codecs_chains.proofs.array_to_bytes.ArrayToBytesCodec.from_metadata.Goals as goal
 
 pub returns-then-is_packbits-clause-ok : goal.returns-then-is_packbits-clause-ok
-returns-then-is_packbits-clause-ok c =
+returns-then-is_packbits-clause-ok g c =
     let said = named_packbits (point_of c.args.metadata.now) (sym c.is_packbits.ensures ∙ c.if-is_packbits.true) in
-    subst (λ o. IfOk c.read_packbits.result (λ codec. o ≡ Some (codec_chain codec))) (sym said) c.read_packbits.ensures.ok
+    subst (λ o. IfOk c.read_packbits.result (λ codec. o ≡ Some (codec_chain g.B.BytesToBytesCodecTraits.meaning codec))) (sym said) c.read_packbits.ensures.ok
 
 pub returns-then-is_packbits-clause-err : goal.returns-then-is_packbits-clause-err
-returns-then-is_packbits-clause-err c =
+returns-then-is_packbits-clause-err g c =
     let said = named_packbits (point_of c.args.metadata.now) (sym c.is_packbits.ensures ∙ c.if-is_packbits.true) in
     subst (λ o. IfErr c.read_packbits.result (λ e. e ≢ Memory → o ≡ None)) (sym said) c.read_packbits.ensures.err
 
 pub returns-clause-ok : goal.returns-clause-ok
-returns-clause-ok c =
+returns-clause-ok g c =
     let said = not_packbits (point_of c.args.metadata.now) (sym c.is_packbits.ensures ∙ c.if-is_packbits.false) in
-    subst (λ o. IfOk c.read_bytes.result (λ codec. o ≡ Some (codec_chain codec))) (sym said) c.read_bytes.ensures.ok
+    subst (λ o. IfOk c.read_bytes.result (λ codec. o ≡ Some (codec_chain g.B.BytesToBytesCodecTraits.meaning codec))) (sym said) c.read_bytes.ensures.ok
 
 pub returns-clause-err : goal.returns-clause-err
-returns-clause-err c =
+returns-clause-err g c =
     let said = not_packbits (point_of c.args.metadata.now) (sym c.is_packbits.ensures ∙ c.if-is_packbits.false) in
     subst (λ o. IfErr c.read_bytes.result (λ e. e ≢ Memory → o ≡ None)) (sym said) c.read_bytes.ensures.err

@@ -13,14 +13,14 @@ use Rattle.zarr_codecs_chains.proofs.bytes_chain.BytesChain.decode_read.Goals as
 pub returns-then-not-branch-clause-part : goal.returns-then-not-branch-clause-part
 returns-then-not-branch-clause-part g c =
     let codecs = map g.B.BytesToBytesCodecTraits.meaning c.args.self.now.bytes_to_bytes.items in
-    fits_as (codec_chain c.args.self.now.array_to_bytes) codecs (type_of c.data_type.result.now) (elements_of c.args.part.elements.now).type c.args.part.shape.now c.in_ok-fits.field-0 false c.data_type.ensures c.in_ok-fits.ensures c.if-not-branch.true
+    fits_as (codec_chain g.B.BytesToBytesCodecTraits.meaning c.args.self.now.array_to_bytes) codecs (type_of c.data_type.result.now) (elements_of c.args.part.elements.now).type c.args.part.shape.now c.in_ok-fits.field-0 false c.data_type.ensures c.in_ok-fits.ensures c.if-not-branch.true
 
 pub returns-in_default-value-clause-part : goal.returns-in_default-value-clause-part
 returns-in_default-value-clause-part g c =
     let codecs = map g.B.BytesToBytesCodecTraits.meaning c.args.self.now.bytes_to_bytes.items in
     let elements = elements_of c.args.part.elements.now in
     let asked = asked_of c.args.part.indexer in
-    let found = part_of_none (codec_chain c.args.self.now.array_to_bytes) codecs elements c.args.part.shape.now asked c.decode_inside.result c.decode_inside.ensures.part in
+    let found = part_of_none (codec_chain g.B.BytesToBytesCodecTraits.meaning c.args.self.now.array_to_bytes) codecs elements c.args.part.shape.now asked c.decode_inside.result c.decode_inside.ensures.part in
     subst (λ value. DecodesPart (bytes_meaning g.B.BytesToBytesCodecTraits.meaning c.args.self.now) elements c.args.part.shape.now (value_bytes value) asked c.decode_inside.result) (sym c.in_default-value.is) found
 
 pub returns-in-Ok-clause-part : goal.returns-in-Ok-clause-part
@@ -30,13 +30,13 @@ returns-in-Ok-clause-part g c =
     let elements = elements_of c.args.part.elements.now in
     let asked = asked_of c.args.part.indexer in
     let undone = ap (λ xs. all_decoded (map meaning xs) c.in-Some.value.items) (sym c.as_slice.ensures.value) ∙ c.in-Ok.ensures in
-    let found = part_undone (codec_chain c.args.self.now.array_to_bytes) codecs elements c.args.part.shape.now c.in-Some.value.items c.in-Ok.inside.items asked c.decode_inside-in-Ok.result undone c.decode_inside-in-Ok.ensures.part in
+    let found = part_undone (codec_chain g.B.BytesToBytesCodecTraits.meaning c.args.self.now.array_to_bytes) codecs elements c.args.part.shape.now c.in-Some.value.items c.in-Ok.inside.items asked c.decode_inside-in-Ok.result undone c.decode_inside-in-Ok.ensures.part in
     subst (λ value. DecodesPart (bytes_meaning meaning c.args.self.now) elements c.args.part.shape.now (value_bytes value) asked c.decode_inside-in-Ok.result) (sym c.in-Some.is) found
 
 pub returns-in-Err-decode_all-clause-part : goal.returns-in-Err-decode_all-clause-part
 returns-in-Err-decode_all-clause-part g c =
     let meaning = g.B.BytesToBytesCodecTraits.meaning in
-    let chain = codec_chain c.args.self.now.array_to_bytes in
+    let chain = codec_chain g.B.BytesToBytesCodecTraits.meaning c.args.self.now.array_to_bytes in
     let codecs = map meaning c.args.self.now.bytes_to_bytes.items in
     let elements = elements_of c.args.part.elements.now in
     let shape = c.args.part.shape.now in

@@ -9,7 +9,7 @@ returns-clause-reads_back g c =
     let b = g.B.BytesToBytesCodecTraits in
     let codecs = c.args.self.now.bytes_to_bytes.items in
     let codec = c.args.self.now.array_to_bytes in
-    let first : array_to_bytes_in (codec_point codec) ≡ Some (codec_chain codec) = ap array_to_bytes_in (sym c.in_ok-metadata.ensures.written) ∙ c.in_ok-metadata.ensures.reads_back in
-    chain_without b.reads (codec_point codec) (map b.described codecs) (array_codec_none (codec_point codec) (codec_chain codec) first)
-    ∙ (chain_read b.reads (codec_point codec) (map b.described codecs) (codec_chain codec) first
-    ∙ ap (option_map (with_codecs (codec_chain codec))) (all_read_back b.reads b.described b.meaning codecs g.met.B.BytesToBytesCodecTraits.reads_back))
+    let first : array_to_bytes_in (codec_point b.described codec) ≡ Some (codec_chain b.meaning codec) = ap array_to_bytes_in (sym c.in_ok-metadata.ensures.written) ∙ c.in_ok-metadata.ensures.reads_back in
+    chain_without b.reads (codec_point b.described codec) (map b.described codecs) (array_codec_none (codec_point b.described codec) (codec_chain b.meaning codec) first)
+    ∙ (chain_read b.reads (codec_point b.described codec) (map b.described codecs) (codec_chain b.meaning codec) first
+    ∙ ap (option_map (with_codecs (codec_chain b.meaning codec))) (all_read_back b.reads b.described b.meaning codecs g.met.B.BytesToBytesCodecTraits.reads_back))

@@ -12,17 +12,17 @@ use Rattle.zarr_codecs_chains.proofs.bytes_chain.BytesChainArrayToBytesCodecTrai
 pub returns-then-not-branch : goal.returns-then-not-branch
 returns-then-not-branch g c =
     let codecs = map g.B.BytesToBytesCodecTraits.meaning c.args.self.now.bytes_to_bytes.items in
-    fits_as (codec_chain c.args.self.now.array_to_bytes) codecs (type_of c.data_type.result.now) (elements_of c.args.elements.now).type c.args.shape.now c.in_ok-fits.field-0 false c.data_type.ensures c.in_ok-fits.ensures c.if-not-branch.true
+    fits_as (codec_chain g.B.BytesToBytesCodecTraits.meaning c.args.self.now.array_to_bytes) codecs (type_of c.data_type.result.now) (elements_of c.args.elements.now).type c.args.shape.now c.in_ok-fits.field-0 false c.data_type.ensures c.in_ok-fits.ensures c.if-not-branch.true
 
 pub returns-in-Ok : goal.returns-in-Ok
 returns-in-Ok g c =
     let codecs = map g.B.BytesToBytesCodecTraits.meaning c.args.self.now.bytes_to_bytes.items in
     let undone = ap (λ xs. all_decoded (map g.B.BytesToBytesCodecTraits.meaning xs) c.args.value.items) (sym c.as_slice.ensures.value) ∙ c.in-Ok.ensures in
-    decodes_with (codec_chain c.args.self.now.array_to_bytes) codecs (elements_of c.args.elements.now) c.args.shape.now c.args.value.items c.in-Ok.value.items c.decode.result undone c.decode.ensures
+    decodes_with (codec_chain g.B.BytesToBytesCodecTraits.meaning c.args.self.now.array_to_bytes) codecs (elements_of c.args.elements.now) c.args.shape.now c.args.value.items c.in-Ok.value.items c.decode.result undone c.decode.ensures
 
 pub returns-in-Err : goal.returns-in-Err
 returns-in-Err g c =
-    let chain = codec_chain c.args.self.now.array_to_bytes in
+    let chain = codec_chain g.B.BytesToBytesCodecTraits.meaning c.args.self.now.array_to_bytes in
     let fit : fits chain (elements_of c.args.elements.now).type c.args.shape.now ≡ true = ap (λ t. fits chain t c.args.shape.now) (sym c.data_type.ensures) ∙ (sym c.in_ok-fits.ensures ∙ c.if-not-branch.false) in
     let codecs = map g.B.BytesToBytesCodecTraits.meaning c.args.self.now.bytes_to_bytes.items in
     let undone = subst (λ xs. UndoesBytes (all_decoded (map g.B.BytesToBytesCodecTraits.meaning xs)) c.args.value.items (Err c.in-Err.error)) c.as_slice.ensures.value c.in-Err.ensures in

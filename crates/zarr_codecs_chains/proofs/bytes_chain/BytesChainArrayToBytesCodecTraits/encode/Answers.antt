@@ -10,9 +10,9 @@ pub returns-in-Ok : goal.returns-in-Ok
 returns-in-Ok g c =
     let codecs = map g.B.BytesToBytesCodecTraits.meaning c.args.self.now.bytes_to_bytes.items in
     let made = subst (λ xs. MakesBytes (all_encoded (map g.B.BytesToBytesCodecTraits.meaning xs)) c.in-Ok.made.items c.encode_all.result) c.as_slice.ensures.value c.encode_all.ensures in
-    encodes_with (codec_chain c.args.self.now.array_to_bytes) codecs (elements_of c.args.elements.now) c.args.shape.now c.in-Ok.made.items (payload_of c.args.bytes) c.encode_all.result c.in-Ok.ensures.0
+    encodes_with (codec_chain g.B.BytesToBytesCodecTraits.meaning c.args.self.now.array_to_bytes) codecs (elements_of c.args.elements.now) c.args.shape.now c.in-Ok.made.items (payload_of c.args.bytes) c.encode_all.result c.in-Ok.ensures.0
     (bytes_lawful g.B.BytesToBytesCodecTraits.meaning g.met.B.BytesToBytesCodecTraits.lawful c.args.self.now) c.args.elements.now.fills c.in-Ok.ensures.1 made
 
 pub returns-in-Err : goal.returns-in-Err
 returns-in-Err g c =
-    refused_with (codec_chain c.args.self.now.array_to_bytes) (map g.B.BytesToBytesCodecTraits.meaning c.args.self.now.bytes_to_bytes.items) (elements_of c.args.elements.now) c.args.shape.now (payload_of c.args.bytes) c.in-Err.error c.in-Err.ensures
+    refused_with (codec_chain g.B.BytesToBytesCodecTraits.meaning c.args.self.now.array_to_bytes) (map g.B.BytesToBytesCodecTraits.meaning c.args.self.now.bytes_to_bytes.items) (elements_of c.args.elements.now) c.args.shape.now (payload_of c.args.bytes) c.in-Err.error c.in-Err.ensures

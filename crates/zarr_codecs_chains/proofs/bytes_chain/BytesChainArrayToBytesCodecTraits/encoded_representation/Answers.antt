@@ -10,8 +10,8 @@ pub returns-in-Ok : goal.returns-in-Ok
 returns-in-Ok g c =
     let codecs = map g.B.BytesToBytesCodecTraits.meaning c.args.self.now.bytes_to_bytes.items in
     let told = subst (λ xs. RepresentsAll (map g.B.BytesToBytesCodecTraits.meaning xs) (known_size c.in-Ok.size) c.represent_all.result) c.as_slice.ensures.value c.represent_all.ensures in
-    represents_with (codec_chain c.args.self.now.array_to_bytes) codecs (type_of c.args.data_type.now) c.args.shape.now c.in-Ok.size c.represent_all.result c.in-Ok.ensures told
+    represents_with (codec_chain g.B.BytesToBytesCodecTraits.meaning c.args.self.now.array_to_bytes) codecs (type_of c.args.data_type.now) c.args.shape.now c.in-Ok.size c.represent_all.result c.in-Ok.ensures told
 
 pub returns-in-Err : goal.returns-in-Err
 returns-in-Err g c =
-    unrepresented_with (codec_chain c.args.self.now.array_to_bytes) (map g.B.BytesToBytesCodecTraits.meaning c.args.self.now.bytes_to_bytes.items) (type_of c.args.data_type.now) c.args.shape.now c.in-Err.error c.in-Err.ensures
+    unrepresented_with (codec_chain g.B.BytesToBytesCodecTraits.meaning c.args.self.now.array_to_bytes) (map g.B.BytesToBytesCodecTraits.meaning c.args.self.now.bytes_to_bytes.items) (type_of c.args.data_type.now) c.args.shape.now c.in-Err.error c.in-Err.ensures

@@ -8,4 +8,4 @@ use Rattle.zarr_codecs_chains.proofs.bytes_chain.BytesChainArrayToBytesCodecTrai
 pub returns : goal.returns
 returns g c =
     let codecs = map g.B.BytesToBytesCodecTraits.meaning c.args.self.now.bytes_to_bytes.items in
-    subst (λ (b : Bool). IfOk c.fits.result (λ fit. fit ≡ b)) (sym (fits_with (codec_chain c.args.self.now.array_to_bytes) codecs (type_of c.args.data_type.now) c.args.shape.now)) c.fits.ensures
+    subst (λ (b : Bool). IfOk c.fits.result (λ fit. fit ≡ b)) (sym (fits_with (codec_chain g.B.BytesToBytesCodecTraits.meaning c.args.self.now.array_to_bytes) codecs (type_of c.args.data_type.now) c.args.shape.now)) c.fits.ensures

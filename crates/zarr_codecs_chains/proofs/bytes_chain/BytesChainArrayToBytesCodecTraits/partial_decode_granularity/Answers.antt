@@ -7,4 +7,4 @@ use Rattle.zarr_codecs_chains.proofs.bytes_chain.BytesChainArrayToBytesCodecTrai
 pub returns : goal.returns
 returns g c =
     let codecs = map g.B.BytesToBytesCodecTraits.meaning c.args.self.now.bytes_to_bytes.items in
-    subst (λ sizes. IfOk c.partial_decode_granularity.result (λ part. part.items ≡ sizes)) (sym (granularity_with (codec_chain c.args.self.now.array_to_bytes) codecs c.args.shape.now)) c.partial_decode_granularity.ensures
+    subst (λ sizes. IfOk c.partial_decode_granularity.result (λ part. part.items ≡ sizes)) (sym (granularity_with (codec_chain g.B.BytesToBytesCodecTraits.meaning c.args.self.now.array_to_bytes) codecs c.args.shape.now)) c.partial_decode_granularity.ensures

@@ -9,4 +9,4 @@ returns-else-is_empty g c =
     let codecs = c.args.self.now.bytes_to_bytes in
     let some = eqb-false codecs.len 0 (sym c.is_empty.ensures ∙ c.if-is_empty.false) in
     let same : codecs.len ≡ length codecs.items = search rules in
-    c.if-is_empty.false ∙ never_encodes (codec_chain c.args.self.now.array_to_bytes) g.B.BytesToBytesCodecTraits.meaning codecs.items (λ e. some (same ∙ e))
+    c.if-is_empty.false ∙ never_encodes (codec_chain g.B.BytesToBytesCodecTraits.meaning c.args.self.now.array_to_bytes) g.B.BytesToBytesCodecTraits.meaning codecs.items (λ e. some (same ∙ e))

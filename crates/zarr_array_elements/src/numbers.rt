@@ -1,0 +1,66 @@
+//! Numbers of elements.
+ghost use Rattle.std.specs.Prelude.{◌≡◌, ◌+◌, ◌^◌, ◌<◌, ℕ, map, length, slice_index, IfOk};
+ghost use Rattle.std.specs.List.{range_with_len};
+ghost use Rattle.zarr_grids_boxes.specs.Boxes.{product, places};
+ghost use Rattle.zarr_grids_boxes.specs.Subsets.{region_of};
+ghost use Rattle.zarr_grids_boxes.specs.Walks.{linearised};
+ghost use Rattle.zarr_array_meaning.specs.Chunks.{number_in};
+ghost use Rattle.zarr_array_elements.specs.Boxes.{IsWithin};
+ghost use Rattle.zarr_array_elements.specs.Renumbering.{renumbered};
+
+use std::alloc::{AllocError, Global};
+use zarr_grids_boxes::ArraySubset;
+
+/// The numbers that the places of a box have in a box in which it lies, row-major.
+pub(crate) fn numbers_in(
+    alloc: Global,
+    from: &ArraySubset,
+    wanted: &ArraySubset,
+) -> Result<Vec<u64>, AllocError>
+    requires rank { length wanted.now.start.items ≡ length from.now.start.items }
+    requires some { 0 < product wanted.now.shape.items }
+    requires inside { IsWithin (region_of wanted.now) (region_of from.now) }
+    ensures { IfOk result (λ numbers. numbers.items ≡ map (number_in (region_of from.now))
+        (places wanted.now.start.items wanted.now.shape.items)) }
+{
+    let Ok(part) = wanted.relative_to(alloc, from.start()) else {
+        return Err(AllocError);
+    };
+    box_numbers(alloc, from.shape(), &part)
+}
+
+/// The numbers that the places of a box have in an array of this shape, row-major.
+fn box_numbers(alloc: Global, shape: &[u64], part: &ArraySubset) -> Result<Vec<u64>, AllocError>
+    ensures { IfOk result
+        (λ numbers. numbers.items ≡ linearised (region_of part.now) shape.now) }
+{
+    match part.linearised_indices(shape) {
+        Ok(numbers) => numbers.collect(alloc),
+        Err(_) => Err(AllocError),
+    }
+}
+
+/// A list of numbers after those from the first one on were written one after another at these
+/// places.
+pub(crate) fn renumber(mut numbers: Vec<u64>, places: &[u64], first: u64) -> Vec<u64>
+    requires inside { (k : ℕ) → k < length places.now
+        → slice_index places.now k < length numbers.items }
+    requires fit { first + length places.now < 2 ^ 64 }
+    ensures { result.items ≡ renumbered first places.now numbers.items }
+{
+    for k in 0..places.len() {
+        numbers[places[k] as usize] = first + k as u64;
+    }
+    numbers
+}
+
+/// So many numbers, from 0 on.
+pub(crate) fn first_numbers(alloc: Global, count: u64) -> Result<Vec<u64>, AllocError>
+    ensures { IfOk result (λ numbers. numbers.items ≡ range_with_len 0 count) }
+{
+    let mut numbers = Vec::with_capacity(alloc, count as usize)?;
+    for n in 0..count {
+        numbers.push(n)?;
+    }
+    Ok(numbers)
+}

@@ -1,0 +1,19 @@
+use Rattle.std.proofs.Common.{◌∙◌, sym, subst, ℕ}
+use Rattle.zarr_grids_boxes.specs.Boxes.{product}
+use Rattle.zarr_codecs_meaning.specs.Places.{place_numbers, encoded_shape, undone_places}
+use Rattle.zarr_codecs_arrays.specs.Views.{elements_of, payload_of}
+use Rattle.zarr_codecs_array_to_array.specs.Moving.{Gathers}
+use Rattle.zarr_codecs_array_to_array.specs.Views.{reshape_of}
+use Rattle.zarr_codecs_array_to_array.proofs.Routes.{gathers_moves, product_moved, undone_range, undone_below}
+use Rattle.zarr_codecs_array_to_array.proofs.reshape.ReshapeCodecArrayToArrayCodecTraits.decode.Goals as goal
+
+pub returns : goal.returns
+returns c =
+    let codec = reshape_of c.args.self.now in
+    let shape = c.args.shape.now in
+    let elements = elements_of c.args.elements.now in
+    let payload = payload_of c.args.bytes in
+    let fit = sym c.fits.ensures ∙ c.if-not-fits.false in
+    let same = product_moved codec shape fit in
+    gathers_moves codec elements shape (product (encoded_shape codec shape)) (undone_places codec shape) (place_numbers shape) payload c.kept.result fit same (sym (undone_range (product shape))) (undone_below codec shape fit)
+    (subst (λ (k : ℕ). Gathers elements k (place_numbers shape) payload c.kept.result) same c.kept.ensures)

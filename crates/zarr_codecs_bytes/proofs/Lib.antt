@@ -1,0 +1,11 @@
+pub mod Orders
+pub mod Types
+pub mod Decoding
+pub mod PartDecoding
+pub mod BoxLines
+pub mod PartReading
+pub mod PartWriting
+pub mod Scattered
+pub mod BoxScattered
+pub mod Encoding
+mod ListedParts

@@ -1,0 +1,4 @@
+pub mod Views
+pub mod Orders
+pub mod Parts
+pub mod Lines

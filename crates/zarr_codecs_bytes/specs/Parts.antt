@@ -1,0 +1,68 @@
+-- Parts of an array that are asked for.
+use Rattle.std.specs.Prelude.{◌≡◌, ℕ, ◌*◌, List, Option, Some, Bool, false, Result, length}
+use Rattle.zarr_grids_boxes.specs.Boxes.{Region, product}
+use Rattle.zarr_grids_boxes.specs.Subsets.{region_of}
+use Rattle.zarr_codecs_meaning.specs.Types.{Cell, components, bytes_in}
+use Rattle.zarr_codecs_meaning.specs.Chains.{Chain}
+use Rattle.zarr_codecs_meaning.specs.Decoding.{decoded}
+use Rattle.zarr_codecs_meaning.specs.Encoding.{encoded}
+use Rattle.zarr_codecs_meaning.specs.Fits.{fits}
+use Rattle.zarr_codecs_meaning.specs.Payloads.{fixed_cells}
+use Rattle.zarr_codecs_meaning.specs.Places.{gather}
+use Rattle.zarr_codecs_arrays.specs.Views.{elements_of}
+use Rattle.zarr_codecs_arrays.specs.declared.array_bytes.ArrayBytes.{ArrayBytes}
+use Rattle.zarr_codecs_arrays.specs.declared.error.CodecError.{CodecError}
+use Rattle.zarr_codecs_traits.specs.Indexers.{in_box, listed, numbers_of}
+use Rattle.zarr_codecs_traits.specs.Outcomes.{DecodesPart}
+use Rattle.zarr_codecs_traits.specs.PartEncoding.{cells_with_box}
+use Rattle.zarr_codecs_traits.specs.Patches.{any_too_far, patched}
+use Rattle.zarr_codecs_traits.specs.declared.value_patch.ValuePatch.{ValuePatch}
+use Rattle.zarr_codecs_bytes.specs.declared.part.ListedPart.{ListedPart}
+use Rattle.zarr_codecs_bytes.specs.declared.part.BoxPart.{BoxPart}
+
+-- whether a chain suits the array of a part
+abbrev pub fits_part : Chain → BoxPart → Bool
+fits_part chain part = fits chain (elements_of part.elements.now).type part.shape.now
+
+-- how many bytes an element of a part has
+abbrev pub part_width : BoxPart → ℕ
+part_width part = bytes_in (components (elements_of part.elements.now).type)
+
+-- the elements of a part, of what is stored, or why there are none
+abbrev pub GivesPart : Chain → Option (List ℕ) → BoxPart → Result ArrayBytes CodecError → Type 0
+GivesPart chain stored part result = DecodesPart chain (elements_of part.elements.now) part.shape.now stored (in_box (region_of part.region.now)) result
+
+-- the bytes of the elements at the places of a box, of the elements that a value holds, each of one width; what is past the value's end is `other`
+pub record IsExtracted (width : ℕ) (value shape : List ℕ) (region : Region) (other : Cell) (extracted : List ℕ) : Type 0 where
+  pub long : length extracted ≡ product region.shape * width
+  pub elements : fixed_cells width extracted ≡ gather other (fixed_cells width value) (numbers_of shape region)
+
+-- the bytes of a part's elements, of a value of as many bytes as the array's elements have
+pub record HasPart (part : BoxPart) (value extracted : List ℕ) : Type 0 where
+  pub whole : length value ≡ product part.shape.now * part_width part
+  pub are : (other : Cell) → IsExtracted (part_width part) value part.shape.now (region_of part.region.now) other extracted
+
+-- patches that replace the elements of a part by others, which have these bytes: of a value that is decoded they make what the elements are then encoded to
+pub record PatchesPart (chain : Chain) (part : BoxPart) (given : List ℕ) (patches : List ValuePatch) : Type 0 where
+  pub near : any_too_far patches ≡ false
+  pub encodes : (value : List ℕ) (before : List Cell) → decoded chain (elements_of part.elements.now) part.shape.now value ≡ Some before
+      → encoded chain (elements_of part.elements.now) part.shape.now (cells_with_box part.shape.now (elements_of part.elements.now).fill (region_of part.region.now) (fixed_cells (part_width part) given) before) ≡ Some (patched value patches)
+
+-- ---- elements that are asked for by their numbers
+
+-- whether a chain suits their array
+abbrev pub fits_listed : Chain → ListedPart → Bool
+fits_listed chain part = fits chain (elements_of part.elements.now).type part.shape.now
+
+-- how many bytes an element has
+abbrev pub listed_width : ListedPart → ℕ
+listed_width part = bytes_in (components (elements_of part.elements.now).type)
+
+-- the elements with these numbers, of what is stored, or why there are none
+abbrev pub GivesListed : Chain → Option (List ℕ) → ListedPart → Result ArrayBytes CodecError → Type 0
+GivesListed chain stored part result = DecodesPart chain (elements_of part.elements.now) part.shape.now stored (listed part.numbers.now) result
+
+-- the bytes of the elements with these numbers, of the elements that a value holds, each of one width
+pub record IsListed (width : ℕ) (value numbers extracted : List ℕ) : Type 0 where
+  pub long : length extracted ≡ length numbers * width
+  pub elements : (other : Cell) → fixed_cells width extracted ≡ gather other (fixed_cells width value) numbers

@@ -1,0 +1,30 @@
+use Rattle.std.proofs.Common.{◌≡◌, ◌∙◌, Bool, List, ap, sym, subst, true, false, Err}
+use Rattle.std.specs.Prelude.{IfOk}
+use Rattle.zarr_codecs_types.specs.Views.{type_of}
+use Rattle.zarr_codecs_array_to_array.specs.declared.codec.ArrayToArrayCodec.{ArrayToArrayCodec}
+use Rattle.zarr_codecs_chains.specs.ArrayCodecs.{EncodesShapes, all_fit, shape_after}
+use Rattle.zarr_codecs_chains.specs.Views.{codec_chain, codecs_of}
+use Rattle.zarr_codecs_chains.proofs.AllArrayCodecs.{fits_between, never_between}
+use Rattle.zarr_codecs_chains.proofs.fitting.+fitting.Goals as goal
+
+pub fits_chain-returns-in-Ok : goal.fits_chain-returns-in-Ok
+fits_chain-returns-in-Ok g t c =
+    let meaning = g.B.BytesToBytesCodecTraits.meaning in
+    let chain = c.args.chain.now in
+    let before = chain.array_to_array.items in
+    let shape = c.args.shape.now in
+    let all : all_fit (codecs_of before) shape ≡ true = ap (λ (codecs : List ArrayToArrayCodec). all_fit (codecs_of codecs) shape) (sym c.as_slice.ensures.value) ∙ c.in-Ok.ensures.0 in
+    let same : c.as_slice-in-Ok.result.now ≡ shape_after (codecs_of before) shape =
+    c.as_slice-in-Ok.ensures.value ∙ (c.in-Ok.ensures.1 ∙ ap (λ (codecs : List ArrayToArrayCodec). shape_after (codecs_of codecs) shape) c.as_slice.ensures.value) in
+    subst (λ (b : Bool). IfOk c.fits_codec.result (λ fit. fit ≡ b))
+    (fits_between meaning before (codec_chain meaning chain.others.array_to_bytes) chain.others.bytes_to_bytes.items (type_of c.args.data_type.now) shape c.as_slice-in-Ok.result.now all same) c.fits_codec.ensures
+
+pub fits_chain-returns-in-Err-Fit : goal.fits_chain-returns-in-Err-Fit
+fits_chain-returns-in-Err-Fit g t c =
+    let meaning = g.B.BytesToBytesCodecTraits.meaning in
+    let chain = c.args.chain.now in
+    let before = chain.array_to_array.items in
+    let shape = c.args.shape.now in
+    let none : all_fit (codecs_of c.as_slice.result.now) shape ≡ false = subst (λ e. EncodesShapes (codecs_of c.as_slice.result.now) shape (Err e)) c.in-Err-Fit.field-0-is c.in-Err-Fit.ensures in
+    never_between meaning before (codec_chain meaning chain.others.array_to_bytes) chain.others.bytes_to_bytes.items (type_of c.args.data_type.now) shape
+    (ap (λ (codecs : List ArrayToArrayCodec). all_fit (codecs_of codecs) shape) (sym c.as_slice.ensures.value) ∙ none)

@@ -1,0 +1,355 @@
+//! Elements encoded by a chain, and by the chains inside of it.
+ghost use Rattle.std.specs.Prelude.{◌≡◌, ◌+◌, ◌<◌, ◌^◌, ℕ, List, [], ◌∷◌, true, IsTrue, IsOkAnd};
+ghost use Rattle.zarr_grids_boxes.specs.Boxes.{product};
+ghost use Rattle.zarr_codecs_meaning.specs.Fits.{fits};
+ghost use Rattle.zarr_codecs_meaning.specs.Types as types;
+ghost use Rattle.zarr_codecs_meaning.specs.Types.{is_value};
+ghost use Rattle.zarr_codecs_types.specs.Views.{type_of};
+ghost use Rattle.zarr_codecs_arrays.specs.Outcomes.{IsTooLarge, IsValid};
+ghost use Rattle.zarr_codecs_arrays.specs.Views.{payload_of, elements_of};
+ghost use Rattle.zarr_codecs_traits.specs.Outcomes.{Encodes};
+ghost use Rattle.zarr_codecs_sections.specs.Outcomes.{IsContent};
+ghost use Rattle.zarr_codecs_sections.specs.Views.{width_of};
+ghost use Rattle.zarr_codecs_chains.specs.Inside.{MakesContent, MakesInner};
+ghost use Rattle.zarr_codecs_chains.specs.Views.{codec_chain, meaning_of, optional_chain, vlen_chain};
+
+use crate::array_codecs::{move_all, shape_after};
+use crate::array_to_bytes::ArrayToBytesCodec;
+use crate::byte_codecs::encode_made;
+use crate::chain::CodecChain;
+use crate::fitting::{fits_codec, fits_optional, fits_vlen};
+use crate::optional::OptionalCodec;
+use crate::vlen::VlenCodec;
+use std::alloc::Global;
+use zarr_codecs_arrays::{ArrayBytes, CodecError, Elements};
+use zarr_codecs_options::CodecOptions;
+use zarr_codecs_sections::{
+    join_index, join_mask, joined_bytes, offset_elements, split_present, zero_filled,
+};
+use zarr_codecs_traits::{ArrayToBytesCodecTraits, BytesToBytesCodecTraits, WholeArray};
+use zarr_codecs_types::DataType;
+use zarr_grids_boxes::walk::count_places;
+
+/// What a chain makes of the elements of an array.
+#[cycle(encoding)]
+pub(crate) fn encode_chain<B: BytesToBytesCodecTraits>(
+    chain: &CodecChain<B>,
+    alloc: Global,
+    bytes: ArrayBytes,
+    array: WholeArray<'_>,
+    options: &CodecOptions,
+) -> Result<Vec<u8>, CodecError>
+    ensures { Encodes (meaning_of B.meaning chain.now) true (elements_of array.entry.elements.now)
+        array.entry.shape.now (payload_of bytes) result }
+{
+    let elements = array.elements;
+    let codecs = chain.array_to_array.as_slice();
+    let codec = &chain.others.array_to_bytes;
+    let last = match shape_after(alloc, codecs, array.shape) {
+        Ok(last) => last,
+        Err(error) => return Err(error),
+    };
+    if !fits_codec(codec, alloc, elements.data_type(), last.as_slice())? {
+        return Err(CodecError::Fit);
+    }
+    let moved = match move_all(alloc, codecs, bytes, elements, array.shape) {
+        Ok(moved) => moved,
+        Err(error) => return Err(error),
+    };
+    let inner = WholeArray {
+        elements,
+        shape: last.as_slice(),
+    };
+    let made = encode_codec(codec, alloc, moved, inner, options);
+    encode_made(alloc, chain.others.bytes_to_bytes.as_slice(), made)
+}
+
+/// What an array to bytes codec makes of them.
+#[cycle(encoding)]
+pub(crate) fn encode_codec<B: BytesToBytesCodecTraits>(
+    codec: &ArrayToBytesCodec<B>,
+    alloc: Global,
+    bytes: ArrayBytes,
+    array: WholeArray<'_>,
+    options: &CodecOptions,
+) -> Result<Vec<u8>, CodecError>
+    ensures { Encodes (codec_chain B.meaning codec.now) true (elements_of array.entry.elements.now)
+        array.entry.shape.now (payload_of bytes) result }
+{
+    match codec {
+        ArrayToBytesCodec::Bytes(codec) => {
+            codec.encode(alloc, bytes, array.elements, array.shape, options)
+        }
+        ArrayToBytesCodec::PackBits(codec) => {
+            codec.encode(alloc, bytes, array.elements, array.shape, options)
+        }
+        ArrayToBytesCodec::Vlen(codec) => encode_vlen(codec, alloc, bytes, array, options),
+        ArrayToBytesCodec::Optional(codec) => encode_optional(codec, alloc, bytes, array, options),
+    }
+}
+
+/// What `vlen` makes of them.
+#[cycle(encoding)]
+fn encode_vlen<B: BytesToBytesCodecTraits>(
+    codec: &VlenCodec<B>,
+    alloc: Global,
+    bytes: ArrayBytes,
+    array: WholeArray<'_>,
+    options: &CodecOptions,
+) -> Result<Vec<u8>, CodecError>
+    ensures { Encodes (vlen_chain B.meaning codec.now) true (elements_of array.entry.elements.now)
+        array.entry.shape.now (payload_of bytes) result }
+{
+    let data_type = array.elements.data_type();
+    if !fits_vlen(codec, alloc, data_type, array.shape)? {
+        return Err(CodecError::Fit);
+    }
+    let Some(count) = count_places(array.shape) else {
+        return Err(CodecError::Size);
+    };
+    if let Err(error) = bytes.validate(data_type, count) {
+        return Err(error);
+    }
+    encode_sections(codec, alloc, bytes, count, options)
+}
+
+/// What `vlen` makes of so many elements that it suits.
+#[cycle(encoding)]
+fn encode_sections<B: BytesToBytesCodecTraits>(
+    codec: &VlenCodec<B>,
+    alloc: Global,
+    bytes: ArrayBytes,
+    count: u64,
+    options: &CodecOptions,
+) -> Result<Vec<u8>, CodecError>
+    requires { count < 2 ^ 63 }
+    ensures { (elements : types.Elements) (shape : List ℕ) (cells : List types.Cell)
+        → product shape ≡ count → is_value elements.type elements.fill ≡ true
+        → fits (vlen_chain B.meaning codec.now) elements.type shape ≡ true
+        → IsValid elements.type (payload_of bytes) count cells
+        → Encodes (vlen_chain B.meaning codec.now) true elements shape (payload_of bytes) result }
+{
+    let offsets = match offset_elements(alloc, &bytes, codec.index_data_type) {
+        Ok(offsets) => offsets,
+        Err(CodecError::Size) => return Err(CodecError::Size),
+        Err(_) => return Err(CodecError::Memory),
+    };
+    let content = joined_bytes(alloc, bytes)?;
+    let front = match encode_offsets(codec, alloc, offsets, count, options) {
+        Ok(front) => front,
+        Err(error) => return Err(error),
+    };
+    match encode_content(codec, alloc, content, options) {
+        Ok(back) => Ok(join_index(
+            alloc,
+            codec.index_location,
+            front.as_slice(),
+            back.as_slice(),
+        )?),
+        Err(error) => Err(error),
+    }
+}
+
+/// What the chain of the index makes of offsets, one more than there are elements.
+#[cycle(encoding)]
+fn encode_offsets<B: BytesToBytesCodecTraits>(
+    codec: &VlenCodec<B>,
+    alloc: Global,
+    offsets: ArrayBytes,
+    count: u64,
+    options: &CodecOptions,
+) -> Result<Vec<u8>, CodecError>
+    requires { count < 2 ^ 63 }
+    ensures { (cells : List types.Cell) → IsValid (types.integer types.unsigned
+        (width_of codec.now.index_data_type)) (payload_of offsets) (count + 1) cells
+        → MakesInner (meaning_of B.meaning codec.now.index_codecs) (types.zero_filled
+        (types.integer types.unsigned (width_of codec.now.index_data_type)))
+        ((count + 1) ∷ []) cells result }
+{
+    let elements = zero_filled(alloc, codec.index_data_type.data_type())?;
+    let shape = [count + 1];
+    let array = WholeArray {
+        elements: &elements,
+        shape: &shape,
+    };
+    encode_inner(&codec.index_codecs, alloc, offsets, array, options)
+}
+
+/// What the chain of the data makes of the elements' joined bytes; nothing where there are none.
+#[cycle(encoding)]
+fn encode_content<B: BytesToBytesCodecTraits>(
+    codec: &VlenCodec<B>,
+    alloc: Global,
+    content: Vec<u8>,
+    options: &CodecOptions,
+) -> Result<Vec<u8>, CodecError>
+    ensures { (cells : List types.Cell) → IsContent cells content.items
+        → MakesContent (meaning_of B.meaning codec.now.data_codecs) cells result }
+{
+    if content.is_empty() {
+        return Ok(Vec::new(alloc));
+    }
+    let elements = zero_filled(alloc, DataType::UInt8)?;
+    let shape = [content.len() as u64];
+    let array = WholeArray {
+        elements: &elements,
+        shape: &shape,
+    };
+    let bytes = ArrayBytes::Fixed(content);
+    encode_inner(&codec.data_codecs, alloc, bytes, array, options)
+}
+
+/// What a chain makes of the elements of an inner array.
+#[cycle(encoding)]
+fn encode_inner<B: BytesToBytesCodecTraits>(
+    chain: &CodecChain<B>,
+    alloc: Global,
+    bytes: ArrayBytes,
+    array: WholeArray<'_>,
+    options: &CodecOptions,
+) -> Result<Vec<u8>, CodecError>
+    ensures { (cells : List types.Cell) → IsValid (elements_of array.entry.elements.now).type
+        (payload_of bytes) (product array.entry.shape.now) cells
+        → MakesInner (meaning_of B.meaning chain.now) (elements_of array.entry.elements.now)
+        array.entry.shape.now cells result }
+{
+    if !is_small(array.elements.data_type(), array.shape) {
+        return Err(CodecError::Memory);
+    }
+    match encode_chain(chain, alloc, bytes, array, options) {
+        Ok(value) => Ok(value),
+        Err(CodecError::Codec) => Err(CodecError::Codec),
+        Err(CodecError::Size) => Err(CodecError::Size),
+        Err(_) => Err(CodecError::Memory),
+    }
+}
+
+/// Whether an array has fewer than 2^63 elements, and these fewer than 2^63 bytes, where they have
+/// one size. Each array that stands in memory has.
+fn is_small(data_type: &DataType, shape: &[u64]) -> bool
+    ensures { IsTrue result → IsTooLarge (type_of data_type.now) (product shape.now) → ⊥ }
+{
+    let Some(count) = count_places(shape) else {
+        return false;
+    };
+    match data_type.byte_width() {
+        Some(width) => match count.checked_mul(width as u64) {
+            Some(bytes) => bytes < 1 << 63,
+            None => false,
+        },
+        None => !data_type.is_fixed(),
+    }
+}
+
+/// What `optional` makes of them.
+#[cycle(encoding)]
+fn encode_optional<B: BytesToBytesCodecTraits>(
+    codec: &OptionalCodec<B>,
+    alloc: Global,
+    bytes: ArrayBytes,
+    array: WholeArray<'_>,
+    options: &CodecOptions,
+) -> Result<Vec<u8>, CodecError>
+    ensures { Encodes (optional_chain B.meaning codec.now) true
+        (elements_of array.entry.elements.now) array.entry.shape.now (payload_of bytes) result }
+{
+    let data_type = array.elements.data_type();
+    if !fits_optional(codec, alloc, data_type, array.shape)? {
+        return Err(CodecError::Fit);
+    }
+    let Some(count) = count_places(array.shape) else {
+        return Err(CodecError::Size);
+    };
+    if let Err(error) = bytes.validate(data_type, count) {
+        return Err(error);
+    }
+    encode_options(codec, alloc, bytes, array, options)
+}
+
+/// What `optional` makes of elements that it suits.
+#[cycle(encoding)]
+fn encode_options<B: BytesToBytesCodecTraits>(
+    codec: &OptionalCodec<B>,
+    alloc: Global,
+    bytes: ArrayBytes,
+    array: WholeArray<'_>,
+    options: &CodecOptions,
+) -> Result<Vec<u8>, CodecError>
+    ensures { (cells : List types.Cell) → fits (optional_chain B.meaning codec.now)
+        (elements_of array.entry.elements.now).type array.entry.shape.now ≡ true
+        → IsValid (elements_of array.entry.elements.now).type (payload_of bytes)
+        (product array.entry.shape.now) cells
+        → Encodes (optional_chain B.meaning codec.now) true
+        (elements_of array.entry.elements.now) array.entry.shape.now (payload_of bytes) result }
+{
+    let Some(inner) = array.elements.data_type().inner() else {
+        return Err(CodecError::Fit);
+    };
+    let inner = zero_filled(alloc, inner.try_clone(alloc)?)?;
+    let parts = split_present(alloc, bytes, &inner)?;
+    let count = parts.count;
+    let front = match encode_mask(codec, alloc, parts.mask, array.shape, options) {
+        Ok(front) => front,
+        Err(error) => return Err(error),
+    };
+    match encode_some(
+        &codec.data_codecs,
+        alloc,
+        parts.present,
+        &inner,
+        count,
+        options,
+    ) {
+        Ok(back) => Ok(join_mask(alloc, front.as_slice(), back.as_slice())?),
+        Err(error) => Err(error),
+    }
+}
+
+/// What the chain of the mask makes of a mask.
+#[cycle(encoding)]
+fn encode_mask<B: BytesToBytesCodecTraits>(
+    codec: &OptionalCodec<B>,
+    alloc: Global,
+    mask: ArrayBytes,
+    shape: &[u64],
+    options: &CodecOptions,
+) -> Result<Vec<u8>, CodecError>
+    ensures { (cells : List types.Cell)
+        → IsValid types.bool (payload_of mask) (product shape.now) cells
+        → MakesInner (meaning_of B.meaning codec.now.mask_codecs) (types.zero_filled types.bool)
+        shape.now cells result }
+{
+    let elements = zero_filled(alloc, DataType::Bool)?;
+    let array = WholeArray {
+        elements: &elements,
+        shape,
+    };
+    encode_inner(&codec.mask_codecs, alloc, mask, array, options)
+}
+
+/// What a chain makes of so many elements; nothing where there are none.
+#[cycle(encoding)]
+fn encode_some<B: BytesToBytesCodecTraits>(
+    chain: &CodecChain<B>,
+    alloc: Global,
+    bytes: ArrayBytes,
+    elements: &Elements,
+    count: u64,
+    options: &CodecOptions,
+) -> Result<Vec<u8>, CodecError>
+    ensures none { count ≡ 0 → IsOkAnd result (λ value. value.items ≡ []) }
+    ensures some { (cells : List types.Cell) → 0 < count
+        → IsValid (elements_of elements.now).type (payload_of bytes) count cells
+        → MakesInner (meaning_of B.meaning chain.now) (elements_of elements.now) (count ∷ [])
+        cells result }
+{
+    if count == 0 {
+        return Ok(Vec::new(alloc));
+    }
+    let shape = [count];
+    let array = WholeArray {
+        elements,
+        shape: &shape,
+    };
+    encode_inner(chain, alloc, bytes, array, options)
+}

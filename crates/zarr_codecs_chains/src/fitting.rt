@@ -1,0 +1,143 @@
+//! Which arrays a chain suits.
+ghost use Rattle.std.specs.Prelude.{◌≡◌, IfOk, [], ◌∷◌, ◌&&◌};
+ghost use Rattle.zarr_codecs_meaning.specs.Fits.{fits, takes_each_shape};
+ghost use Rattle.zarr_codecs_types.specs.Views.{type_of};
+ghost use Rattle.zarr_codecs_chains.specs.Views.{codec_chain, meaning_of, optional_chain, vlen_chain};
+
+use crate::array_codecs::shape_after;
+use crate::array_to_bytes::ArrayToBytesCodec;
+use crate::chain::CodecChain;
+use crate::optional::OptionalCodec;
+use crate::vlen::VlenCodec;
+use std::alloc::{AllocError, Global};
+use zarr_codecs_arrays::CodecError;
+use zarr_codecs_traits::{ArrayToBytesCodecTraits, BytesToBytesCodecTraits};
+use zarr_codecs_types::DataType;
+use zarr_grids_boxes::walk::count_places;
+
+/// Whether a chain suits arrays of a data type and a shape. `Err` only where an allocation failed.
+#[cycle(fitting)]
+pub(crate) fn fits_chain<B: BytesToBytesCodecTraits>(
+    chain: &CodecChain<B>,
+    alloc: Global,
+    data_type: &DataType,
+    shape: &[u64],
+) -> Result<bool, AllocError>
+    ensures { IfOk result (λ fit. fit ≡ fits (meaning_of B.meaning chain.now)
+        (type_of data_type.now) shape.now) }
+{
+    match shape_after(alloc, chain.array_to_array.as_slice(), shape) {
+        Ok(last) => fits_codec(
+            &chain.others.array_to_bytes,
+            alloc,
+            data_type,
+            last.as_slice(),
+        ),
+        Err(CodecError::Fit) => Ok(false),
+        Err(_) => Err(AllocError),
+    }
+}
+
+/// Whether an array to bytes codec suits them.
+#[cycle(fitting)]
+pub(crate) fn fits_codec<B: BytesToBytesCodecTraits>(
+    codec: &ArrayToBytesCodec<B>,
+    alloc: Global,
+    data_type: &DataType,
+    shape: &[u64],
+) -> Result<bool, AllocError>
+    ensures { IfOk result (λ fit. fit ≡ fits (codec_chain B.meaning codec.now)
+        (type_of data_type.now) shape.now) }
+{
+    match codec {
+        ArrayToBytesCodec::Bytes(codec) => codec.fits(alloc, data_type, shape),
+        ArrayToBytesCodec::PackBits(codec) => codec.fits(alloc, data_type, shape),
+        ArrayToBytesCodec::Vlen(codec) => fits_vlen(codec, alloc, data_type, shape),
+        ArrayToBytesCodec::Optional(codec) => fits_optional(codec, alloc, data_type, shape),
+    }
+}
+
+/// Whether `vlen` suits them.
+#[cycle(fitting)]
+pub(crate) fn fits_vlen<B: BytesToBytesCodecTraits>(
+    codec: &VlenCodec<B>,
+    alloc: Global,
+    data_type: &DataType,
+    shape: &[u64],
+) -> Result<bool, AllocError>
+    ensures { IfOk result (λ fit. fit ≡ fits (vlen_chain B.meaning codec.now)
+        (type_of data_type.now) shape.now) }
+{
+    if !data_type.is_variable() {
+        return Ok(false);
+    }
+    let Some(count) = count_places(shape) else {
+        return Err(AllocError);
+    };
+    let offsets = codec.index_data_type.data_type();
+    if !fits_chain(&codec.index_codecs, alloc, &offsets, &[count + 1])? {
+        return Ok(false);
+    }
+    fits_each_shape(&codec.data_codecs, alloc, &DataType::UInt8)
+}
+
+/// Whether `optional` suits them.
+#[cycle(fitting)]
+pub(crate) fn fits_optional<B: BytesToBytesCodecTraits>(
+    codec: &OptionalCodec<B>,
+    alloc: Global,
+    data_type: &DataType,
+    shape: &[u64],
+) -> Result<bool, AllocError>
+    ensures { IfOk result (λ fit. fit ≡ fits (optional_chain B.meaning codec.now)
+        (type_of data_type.now) shape.now) }
+{
+    let Some(inner) = data_type.inner() else {
+        return Ok(false);
+    };
+    if !fits_chain(&codec.mask_codecs, alloc, &DataType::Bool, shape)? {
+        return Ok(false);
+    }
+    fits_each_shape(&codec.data_codecs, alloc, inner)
+}
+
+/// Whether a chain does the same for each shape, and suits arrays of a data type.
+#[cycle(fitting)]
+fn fits_each_shape<B: BytesToBytesCodecTraits>(
+    chain: &CodecChain<B>,
+    alloc: Global,
+    data_type: &DataType,
+) -> Result<bool, AllocError>
+    ensures { IfOk result (λ fit. fit ≡ (takes_each_shape (meaning_of B.meaning chain.now)
+        && fits (meaning_of B.meaning chain.now) (type_of data_type.now) (0 ∷ []))) }
+{
+    if !takes_each_shape(chain) {
+        return Ok(false);
+    }
+    fits_chain(chain, alloc, data_type, &[0])
+}
+
+/// Whether a chain does the same for each shape: it holds no array to array codec, nor does a chain
+/// inside of it.
+#[cycle(taking)]
+pub(crate) fn takes_each_shape<B: BytesToBytesCodecTraits>(chain: &CodecChain<B>) -> bool
+    ensures { result ≡ takes_each_shape (meaning_of B.meaning chain.now) }
+{
+    chain.array_to_array.is_empty() && codec_takes_each_shape(&chain.others.array_to_bytes)
+}
+
+/// Whether an array to bytes codec does.
+#[cycle(taking)]
+fn codec_takes_each_shape<B: BytesToBytesCodecTraits>(codec: &ArrayToBytesCodec<B>) -> bool
+    ensures { result ≡ takes_each_shape (codec_chain B.meaning codec.now) }
+{
+    match codec {
+        ArrayToBytesCodec::Bytes(_) | ArrayToBytesCodec::PackBits(_) => true,
+        ArrayToBytesCodec::Vlen(codec) => {
+            takes_each_shape(&codec.index_codecs) && takes_each_shape(&codec.data_codecs)
+        }
+        ArrayToBytesCodec::Optional(codec) => {
+            takes_each_shape(&codec.mask_codecs) && takes_each_shape(&codec.data_codecs)
+        }
+    }
+}

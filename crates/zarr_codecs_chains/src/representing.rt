@@ -1,0 +1,146 @@
+//! What a chain, and the chains inside of it, tell of the size of what they make.
+ghost use Rattle.std.specs.Prelude.{◌≡◌, [], ◌∷◌, Some};
+ghost use Rattle.zarr_codecs_meaning.specs.Fits.{at_most, bound_of, sum_of_bounds};
+ghost use Rattle.zarr_codecs_types.specs.Views.{type_of};
+ghost use Rattle.zarr_codecs_traits.specs.Representations.{Represents, RepresentsArray, known_size};
+ghost use Rattle.zarr_codecs_chains.specs.Views.{codec_chain, meaning_of, optional_chain, vlen_chain};
+
+use crate::array_codecs::shape_after;
+use crate::array_to_bytes::ArrayToBytesCodec;
+use crate::byte_codecs::represent_all;
+use crate::chain::CodecChain;
+use crate::fitting::{fits_optional, fits_vlen};
+use crate::optional::OptionalCodec;
+use crate::vlen::VlenCodec;
+use std::alloc::Global;
+use zarr_codecs_arrays::CodecError;
+use zarr_codecs_traits::{ArrayToBytesCodecTraits, BytesRepresentation, BytesToBytesCodecTraits};
+use zarr_codecs_types::DataType;
+use zarr_grids_boxes::walk::count_places;
+
+/// What a chain tells of the size of the value of an array.
+#[cycle(representing)]
+fn represent_chain<B: BytesToBytesCodecTraits>(
+    chain: &CodecChain<B>,
+    alloc: Global,
+    data_type: &DataType,
+    shape: &[u64],
+) -> Result<BytesRepresentation, CodecError>
+    ensures { RepresentsArray (meaning_of B.meaning chain.now) (type_of data_type.now) shape.now
+        result }
+{
+    let codecs = chain.array_to_array.as_slice();
+    let others = chain.others.bytes_to_bytes.as_slice();
+    let last = match shape_after(alloc, codecs, shape) {
+        Ok(last) => last,
+        Err(error) => return Err(error),
+    };
+    let codec = &chain.others.array_to_bytes;
+    match represent_codec(codec, alloc, data_type, last.as_slice()) {
+        Ok(size) => represent_all(others, size),
+        Err(error) => Err(error),
+    }
+}
+
+/// What an array to bytes codec tells of it.
+#[cycle(representing)]
+pub(crate) fn represent_codec<B: BytesToBytesCodecTraits>(
+    codec: &ArrayToBytesCodec<B>,
+    alloc: Global,
+    data_type: &DataType,
+    shape: &[u64],
+) -> Result<BytesRepresentation, CodecError>
+    ensures { RepresentsArray (codec_chain B.meaning codec.now) (type_of data_type.now) shape.now
+        result }
+{
+    match codec {
+        ArrayToBytesCodec::Bytes(codec) => codec.encoded_representation(alloc, data_type, shape),
+        ArrayToBytesCodec::PackBits(codec) => {
+            codec.encoded_representation(alloc, data_type, shape)
+        }
+        ArrayToBytesCodec::Vlen(codec) => represent_vlen(codec, alloc, data_type, shape),
+        ArrayToBytesCodec::Optional(codec) => represent_optional(codec, alloc, data_type, shape),
+    }
+}
+
+/// What `vlen` tells of it: nothing, as the lengths of elements are not known.
+fn represent_vlen<B: BytesToBytesCodecTraits>(
+    codec: &VlenCodec<B>,
+    alloc: Global,
+    data_type: &DataType,
+    shape: &[u64],
+) -> Result<BytesRepresentation, CodecError>
+    ensures { RepresentsArray (vlen_chain B.meaning codec.now) (type_of data_type.now) shape.now
+        result }
+{
+    if !fits_vlen(codec, alloc, data_type, shape)? {
+        return Err(CodecError::Fit);
+    }
+    Ok(BytesRepresentation::UnboundedSize)
+}
+
+/// What `optional` tells of it: at most two lengths, the mask, and the data of all elements.
+#[cycle(representing)]
+fn represent_optional<B: BytesToBytesCodecTraits>(
+    codec: &OptionalCodec<B>,
+    alloc: Global,
+    data_type: &DataType,
+    shape: &[u64],
+) -> Result<BytesRepresentation, CodecError>
+    ensures { RepresentsArray (optional_chain B.meaning codec.now) (type_of data_type.now)
+        shape.now result }
+{
+    if !fits_optional(codec, alloc, data_type, shape)? {
+        return Err(CodecError::Fit);
+    }
+    let Some(count) = count_places(shape) else {
+        return Err(CodecError::Size);
+    };
+    let Some(of_type) = data_type.inner() else {
+        return Err(CodecError::Fit);
+    };
+    let mask = match represent_chain(&codec.mask_codecs, alloc, &DataType::Bool, shape) {
+        Ok(mask) => mask,
+        Err(CodecError::Size) => return Err(CodecError::Size),
+        Err(_) => return Err(CodecError::Memory),
+    };
+    let Ok(values) = represent_chain(&codec.data_codecs, alloc, of_type, &[count]) else {
+        return Err(CodecError::Memory);
+    };
+    sum_of_sections(mask, values)
+}
+
+/// Two lengths, and at most as much as is known of two sections.
+fn sum_of_sections(
+    mask: BytesRepresentation,
+    values: BytesRepresentation,
+) -> Result<BytesRepresentation, CodecError>
+    ensures { Represents (at_most (sum_of_bounds (Some 16 ∷ bound_of (known_size mask)
+        ∷ bound_of (known_size values) ∷ []))) result }
+{
+    let Some(first) = bound_of(mask) else {
+        return Ok(BytesRepresentation::UnboundedSize);
+    };
+    let Some(second) = bound_of(values) else {
+        return Ok(BytesRepresentation::UnboundedSize);
+    };
+    let Some(both) = first.checked_add(second) else {
+        return Err(CodecError::Size);
+    };
+    match both.checked_add(16) {
+        Some(all) => Ok(BytesRepresentation::BoundedSize(all)),
+        None => Err(CodecError::Size),
+    }
+}
+
+/// The most that a size can be, where there is a bound.
+fn bound_of(size: BytesRepresentation) -> Option<u64>
+    ensures { result ≡ bound_of (known_size size) }
+{
+    match size {
+        BytesRepresentation::FixedSize(bound) | BytesRepresentation::BoundedSize(bound) => {
+            Some(bound)
+        }
+        BytesRepresentation::UnboundedSize => None,
+    }
+}

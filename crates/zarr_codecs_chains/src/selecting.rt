@@ -1,0 +1,132 @@
+//! The elements at the places that are asked for, of a value that is decoded whole.
+ghost use Rattle.std.specs.Prelude.{◌≡◌, ◌^◌, ◌<◌, ℕ, None, Some, true, IsTrue};
+ghost use Rattle.zarr_grids_boxes.specs.Boxes.{product};
+ghost use Rattle.zarr_codecs_meaning.specs.Chains.{Chain};
+ghost use Rattle.zarr_codecs_meaning.specs.Fits.{fits};
+ghost use Rattle.zarr_codecs_arrays.specs.Views.{elements_of};
+ghost use Rattle.zarr_codecs_traits.specs.Indexers.{are_inside, asked_of, numbers_asked};
+ghost use Rattle.zarr_codecs_traits.specs.Outcomes.{DecodesPart};
+ghost use Rattle.zarr_codecs_traits.specs.Sources.{refused_after};
+ghost use Rattle.zarr_codecs_chains.specs.Selecting.{reads_whole};
+ghost use Rattle.zarr_codecs_chains.specs.Views.{codec_chain};
+
+use crate::array_to_bytes::ArrayToBytesCodec;
+use crate::decoding::decode_codec;
+use crate::fitting::fits_codec;
+use std::alloc::Global;
+use zarr_codecs_arrays::{ArrayBytes, CodecError};
+use zarr_codecs_options::CodecOptions;
+use zarr_codecs_regions::{gather_elements, numbers_asked, test_asked};
+use zarr_codecs_traits::{
+    ArrayPart, BytesPartialDecoderTraits, BytesToBytesCodecTraits, WholeArray, read_value,
+};
+use zarr_grids_boxes::walk::count_places;
+
+/// The elements at the places that are asked for, of the value that a source holds, which is read
+/// and decoded whole.
+pub(crate) fn decode_asked<B: BytesToBytesCodecTraits, D: BytesPartialDecoderTraits>(
+    codec: &ArrayToBytesCodec<B>,
+    alloc: Global,
+    source: &mut D,
+    part: ArrayPart<'_>,
+    options: &CodecOptions,
+) -> Result<ArrayBytes, CodecError>
+    requires { reads_whole (codec_chain B.meaning codec.now) ≡ true }
+    ensures part { IsTrue (D.is_honest source.old) → DecodesPart (codec_chain B.meaning codec.now)
+        (elements_of part.entry.elements.now) part.entry.shape.now (D.contents source.old)
+        (asked_of part.entry.indexer) result }
+    ensures refused { D.refused_calls source.new ≡
+        refused_after (D.refused_calls source.old) result }
+    ensures follows { D.follows source.old source.new }
+{
+    if !fits_codec(codec, alloc, part.elements.data_type(), part.shape)? {
+        return Err(CodecError::Fit);
+    }
+    if count_places(part.shape).is_none() {
+        return Err(CodecError::Size);
+    }
+    if let Err(error) = test_asked(part.shape, part.indexer) {
+        return Err(error);
+    }
+    read_asked(codec, alloc, source, part, options)
+}
+
+/// The elements at places of the array. Errors as those of `decode_codec`, and `Source` where the
+/// source refuses.
+fn read_asked<B: BytesToBytesCodecTraits, D: BytesPartialDecoderTraits>(
+    codec: &ArrayToBytesCodec<B>,
+    alloc: Global,
+    source: &mut D,
+    part: ArrayPart<'_>,
+    options: &CodecOptions,
+) -> Result<ArrayBytes, CodecError>
+    requires whole { reads_whole (codec_chain B.meaning codec.now) ≡ true }
+    requires inside { are_inside part.shape.now (asked_of part.indexer) ≡ true }
+    requires small { product part.shape.now < 2 ^ 63 }
+    requires fit { fits (codec_chain B.meaning codec.now)
+        (elements_of part.elements.now).type part.shape.now ≡ true }
+    ensures part { IsTrue (D.is_honest source.old) → DecodesPart (codec_chain B.meaning codec.now)
+        (elements_of part.entry.elements.now) part.entry.shape.now (D.contents source.old)
+        (asked_of part.entry.indexer) result }
+    ensures refused { D.refused_calls source.new ≡
+        refused_after (D.refused_calls source.old) result }
+    ensures follows { D.follows source.old source.new }
+{
+    let numbers = numbers_asked(alloc, part.shape, part.indexer)?;
+    match read_value(alloc, source) {
+        Ok(Some(value)) => {
+            decode_numbers(codec, alloc, value, part, numbers.as_slice(), options)
+        }
+        Ok(None) => fill_numbers(alloc, part, numbers.as_slice()),
+        Err(error) => Err(error),
+    }
+}
+
+/// The elements with these numbers, of a value, which is decoded whole. Errors as those of
+/// `decode_codec`.
+fn decode_numbers<B: BytesToBytesCodecTraits>(
+    codec: &ArrayToBytesCodec<B>,
+    alloc: Global,
+    value: Vec<u8>,
+    part: ArrayPart<'_>,
+    numbers: &[u64],
+    options: &CodecOptions,
+) -> Result<ArrayBytes, CodecError>
+    requires whole { reads_whole (codec_chain B.meaning codec.now) ≡ true }
+    requires inside { are_inside part.shape.now (asked_of part.indexer) ≡ true }
+    requires numbers { numbers.now ≡ numbers_asked part.shape.now (asked_of part.indexer) }
+    ensures part { DecodesPart (codec_chain B.meaning codec.now)
+        (elements_of part.entry.elements.now) part.entry.shape.now (Some value.items)
+        (asked_of part.entry.indexer) result }
+    ensures no_source { (count : ℕ) → refused_after count result ≡ count }
+{
+    let array = WholeArray {
+        elements: part.elements,
+        shape: part.shape,
+    };
+    match decode_codec(codec, alloc, value, array, options) {
+        Ok(bytes) => Ok(gather_elements(alloc, &bytes, part.elements, numbers)?),
+        Err(error) => Err(error),
+    }
+}
+
+/// As many fill values as there are numbers, where nothing is stored. So many that no memory holds
+/// them are answered `Memory`.
+fn fill_numbers(
+    alloc: Global,
+    part: ArrayPart<'_>,
+    numbers: &[u64],
+) -> Result<ArrayBytes, CodecError>
+    requires inside { are_inside part.shape.now (asked_of part.indexer) ≡ true }
+    requires numbers { numbers.now ≡ numbers_asked part.shape.now (asked_of part.indexer) }
+    ensures part { (chain : Chain)
+        → fits chain (elements_of part.entry.elements.now).type part.entry.shape.now ≡ true
+        → DecodesPart chain (elements_of part.entry.elements.now) part.entry.shape.now None
+        (asked_of part.entry.indexer) result }
+    ensures no_source { (count : ℕ) → refused_after count result ≡ count }
+{
+    match ArrayBytes::new_fill_value(alloc, part.elements, numbers.len() as u64) {
+        Ok(bytes) => Ok(bytes),
+        Err(_) => Err(CodecError::Memory),
+    }
+}

@@ -1,0 +1,4 @@
+pub mod Asking
+pub mod Pieces
+pub mod Updates
+pub mod Filling

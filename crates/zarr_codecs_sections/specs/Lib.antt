@@ -1,0 +1,4 @@
+pub mod Views
+pub mod Marks
+pub mod Outcomes
+pub mod Laws

@@ -1,0 +1,4 @@
+pub mod EvenParts
+pub mod StoredParts
+pub mod StoredLoop
+pub mod EncodedShard

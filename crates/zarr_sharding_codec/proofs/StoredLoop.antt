@@ -1,0 +1,141 @@
+-- What is stored of one subchunk after another.
+use Rattle.std.proofs.Common.{◌≡◌, ℕ, zero, suc, ◌+◌, ◌*◌, ◌^◌, ◌<◌, ◌≤◌, List, [], ◌∷◌, ◌++◌, length, get_or, take, map, ap, ◌∙◌, sym, arith, refl, subst, inl, inr, Option, Some, None, Bool, true, false, Result, Ok, Err, Vec, MatchOption, take_all, not, is_some, ◌&&◌}
+use Rattle.std.specs.declared.alloc.Global.{Global}
+use Rattle.std.specs.List.{list_all}
+use Rattle.std.proofs.lemmas.List.{take_more, get_or-map, map-append, length-map}
+use Rattle.std.proofs.Math.Nat.{mul-le-mul_right}
+use Rattle.zarr_grids_boxes.specs.Boxes.{product}
+use Rattle.std.proofs.lemmas.Bool.{and_parts}
+use Rattle.zarr_codecs_meaning.specs.Chains.{Chain, Location, sharded}
+use Rattle.zarr_codecs_meaning.specs.Encoding.{Piece, piece_of, pieces_of}
+use Rattle.zarr_codecs_meaning.specs.Fits.{can_cut, divides, fits}
+use Rattle.zarr_codecs_meaning.specs.Payloads.{Payload, cells_in}
+use Rattle.zarr_codecs_meaning.specs.Places.{Part, gather, grid_of, index_shape, parts_of}
+use Rattle.zarr_codecs_meaning.specs.Refusals.{CodecRefuses, PassesIndex, PieceRefused}
+use Rattle.zarr_codecs_meaning.specs.Types.{Cell, DataType, Elements, byte_width, inner_type, is_fill, is_value}
+use Rattle.zarr_codecs_meaning.proofs.ArrayCodecs.{length-gather, values_gathered}
+use Rattle.zarr_codecs_meaning.proofs.Parts.{length-parts, no_part, part_counts, same_length}
+use Rattle.zarr_codecs_meaning.proofs.Fitting.{fitted}
+use Rattle.zarr_sharding_index.specs.Stored.{index_fits}
+use Rattle.zarr_codecs_meaning.proofs.Positions.{each_at}
+use Rattle.zarr_codecs_arrays.specs.Outcomes.{IsTooLarge, IsValid}
+use Rattle.zarr_codecs_arrays.specs.declared.error.CodecError.{CodecError}
+use Rattle.zarr_codecs_arrays.specs.declared.error.CodecError.TheVariants as error
+use Rattle.zarr_sharding_codec.specs.Slices.{ArePiecesStored, IsPieceStored, StoresPiece, StoresPieces, slice_of, slices_of}
+use Rattle.zarr_sharding_codec.proofs.EvenParts.{part_at, part_fewer, parts_fit, part_number, whole_part}
+use Rattle.zarr_sharding_codec.proofs.StoredParts.{refused_at, stored_more}
+
+-- a subchunk that is to be stored: it is there, and the subchunk shape divides the shape
+pub record IsSubchunk (shape subchunk : List ℕ) (n : ℕ) : Type 0 where
+  pub cuts : can_cut shape subchunk ≡ true
+  pub even : divides shape subchunk ≡ true
+  pub below : n < product (grid_of shape subchunk)
+
+-- the subchunk's shape and cells
+abbrev pub piece_at : Cell → List Cell → List ℕ → List ℕ → ℕ → Piece
+piece_at fill cells shape subchunk n = (subchunk, gather fill cells (part_at shape subchunk n).places)
+
+length-pieces : (fill : Cell) (cells : List Cell) (shape subchunk : List ℕ) → length (pieces_of fill cells (parts_of shape subchunk)) ≡ product (grid_of shape subchunk)
+length-pieces fill cells shape subchunk = length-map (parts_of shape subchunk) (piece_of fill cells) ∙ length-parts shape subchunk
+
+-- no subchunk
+abbrev pub no_piece : Piece
+no_piece = ([], [])
+
+pub piece_number : (fill : Cell) (cells : List Cell) (shape subchunk : List ℕ) (n : ℕ) → IsSubchunk shape subchunk n → get_or (pieces_of fill cells (parts_of shape subchunk)) n no_piece ≡ piece_at fill cells shape subchunk n
+piece_number fill cells shape subchunk n is =
+    let count = length-parts shape subchunk in
+    let below = is.below in
+    get_or-map (piece_of fill cells) (parts_of shape subchunk) n no_part no_piece (omega (arith, count, below))
+    ∙ (ap (piece_of fill cells) (part_number shape subchunk n no_part is.below)
+    ∙ ap (λ (s : List ℕ). (s, gather fill cells (part_at shape subchunk n).places)) (whole_part shape subchunk n is.cuts is.even is.below))
+
+-- the cells of a subchunk are as many as it has places, and values
+pub piece_valid : (elements : Elements) (shape subchunk edges numbers : List ℕ) (n : ℕ) (cells : List Cell) (whole payload : Payload) → is_value elements.type elements.fill ≡ true → IsSubchunk shape subchunk n → IsValid elements.type whole (product shape) cells
+    → edges ≡ subchunk → numbers ≡ (part_at shape subchunk n).places → cells_in elements.type payload ≡ Some (gather elements.fill cells numbers)
+    → IsValid elements.type payload (product edges) (gather elements.fill cells (part_at shape subchunk n).places)
+piece_valid elements shape subchunk edges numbers n cells whole payload fill is valid same are lists =
+    let places = (part_at shape subchunk n).places in
+    let count = length-parts shape subchunk in
+    let below = is.below in
+    let at = each_at (λ (part : Part). length part.places ≡ product part.shape) (parts_of shape subchunk) n no_part (part_counts shape subchunk is.cuts) (omega (arith, count, below)) in
+    let many : length places ≡ product (part_at shape subchunk n).shape = subst (λ (part : Part). length part.places ≡ product part.shape) (part_number shape subchunk n no_part is.below) at in
+    record {
+      is = record {
+        lists = lists ∙ ap (λ ns. Some (gather elements.fill cells ns)) are;
+        many = length-gather elements.fill cells places ∙ (many ∙ (ap product (whole_part shape subchunk n is.cuts is.even is.below) ∙ ap product (sym same)));
+      };
+      values = values_gathered (is_value elements.type) elements.fill cells places fill valid.values;
+    }
+
+pub stored_step : (inner : Chain) (exact : Bool) (elements : Elements) (shape subchunk edges : List ℕ) (n : ℕ) (cells : List Cell) (slices made : List (Option (Vec ℕ Global))) (slice : Option (Vec ℕ Global)) → IsSubchunk shape subchunk n → edges ≡ subchunk
+    → ArePiecesStored inner exact elements (take n (pieces_of elements.fill cells (parts_of shape subchunk))) (slices_of slices) → IsPieceStored inner exact elements (edges, gather elements.fill cells (part_at shape subchunk n).places) (slice_of slice)
+    → made ≡ slices ++ slice ∷ [] → ArePiecesStored inner exact elements (take (n + 1) (pieces_of elements.fill cells (parts_of shape subchunk))) (slices_of made)
+stored_step inner exact elements shape subchunk edges n cells slices made slice is same are one more =
+    let pieces = pieces_of elements.fill cells (parts_of shape subchunk) in
+    let places = (part_at shape subchunk n).places in
+    let count = length-pieces elements.fill cells shape subchunk in
+    let below = is.below in
+    let here = subst (λ (s : List ℕ). IsPieceStored inner exact elements (s, gather elements.fill cells places) (slice_of slice)) same one in
+    let there = subst (λ (piece : Piece). IsPieceStored inner exact elements piece (slice_of slice)) (sym (piece_number elements.fill cells shape subchunk n is)) here in
+    let all = stored_more inner exact elements (take n pieces) (slices_of slices) (get_or pieces n no_piece) (slice_of slice) are there in
+    let front = take_more pieces n no_piece (omega (arith, count, below)) in
+    let back = ap slices_of more ∙ map-append slice_of slices (slice ∷ []) in
+    subst (λ (ps : List Piece). ArePiecesStored inner exact elements ps (slices_of made)) (sym front) (subst (λ (ss : List (Option (List ℕ))). ArePiecesStored inner exact elements (take n pieces ++ get_or pieces n no_piece ∷ []) ss) (sym back) all)
+
+pub stored_end : (inner : Chain) (exact : Bool) (elements : Elements) (shape subchunk : List ℕ) (n : ℕ) (cells : List Cell) (slices : List (Option (List ℕ))) → product (grid_of shape subchunk) ≤ n
+    → ArePiecesStored inner exact elements (take n (pieces_of elements.fill cells (parts_of shape subchunk))) slices → ArePiecesStored inner exact elements (pieces_of elements.fill cells (parts_of shape subchunk)) slices
+stored_end inner exact elements shape subchunk n cells slices past are =
+    let pieces = pieces_of elements.fill cells (parts_of shape subchunk) in
+    let count = length-pieces elements.fill cells shape subchunk in
+    subst (λ (ps : List Piece). ArePiecesStored inner exact elements ps slices) (take_all n pieces (omega (arith, count, past))) are
+
+-- ---- a subchunk that is refused
+
+larger : (width : Option ℕ) (a b : ℕ) → a ≤ b → MatchOption width ⊥ (λ w. 2 ^ 63 ≤ a * w) → MatchOption width ⊥ (λ w. 2 ^ 63 ≤ b * w)
+larger None a b le h = h
+larger (Some w) a b le h = let more : a * w ≤ b * w = mul-le-mul_right w le in omega (arith, more, h)
+
+pub too_large : (type : DataType) (a b : ℕ) → a ≤ b → IsTooLarge type a → IsTooLarge type b
+too_large type a b le (inl h) = inl (omega (arith, le, h))
+too_large type a b le (inr h) = inr (larger (byte_width type) a b le h)
+
+refused_piece : (refuses : List ℕ → List Cell → Type 0) (fill : Cell) (cells : List Cell) (shape subchunk edges : List ℕ) (n : ℕ) → IsSubchunk shape subchunk n → edges ≡ subchunk → is_fill fill (gather fill cells (part_at shape subchunk n).places) ≡ false
+    → refuses edges (gather fill cells (part_at shape subchunk n).places) → PieceRefused refuses fill (pieces_of fill cells (parts_of shape subchunk))
+refused_piece refuses fill cells shape subchunk edges n is same some one =
+    let pieces = pieces_of fill cells (parts_of shape subchunk) in
+    let number = sym (piece_number fill cells shape subchunk n is) in
+    let count = length-pieces fill cells shape subchunk in
+    let below = is.below in
+    refused_at refuses fill pieces n no_piece (omega (arith, count, below)) (subst (λ (piece : Piece). is_fill fill piece.1 ≡ false) number some)
+    (subst (λ (piece : Piece). refuses piece.0 piece.1) number (subst (λ (s : List ℕ). refuses s (gather fill cells (part_at shape subchunk n).places)) same one))
+
+pub refused_step : (inner : Chain) (exact : Bool) (elements : Elements) (shape subchunk edges : List ℕ) (n : ℕ) (cells : List Cell) (e : CodecError) → IsSubchunk shape subchunk n → edges ≡ subchunk
+    → StoresPiece inner exact elements (edges, gather elements.fill cells (part_at shape subchunk n).places) (Err e) → StoresPieces inner exact elements shape (pieces_of elements.fill cells (parts_of shape subchunk)) (Err e)
+refused_step inner exact elements shape subchunk edges n cells error.Codec is same h = refused_piece (CodecRefuses inner elements) elements.fill cells shape subchunk edges n is same h.0 h.1
+refused_step inner exact elements shape subchunk edges n cells error.Size is same (inl h) =
+    inl (too_large elements.type (product edges) (product shape) (subst (λ m. m ≤ product shape) (ap product (sym same)) (part_fewer shape subchunk n is.cuts is.even is.below)) h)
+refused_step inner exact elements shape subchunk edges n cells error.Size is same (inr h) = inr (refused_piece (PassesIndex inner elements) elements.fill cells shape subchunk edges n is same h.0 h.1)
+refused_step inner exact elements shape subchunk edges n cells error.Memory is same h = tt
+refused_step inner exact elements shape subchunk edges n cells error.Fit is same h = h
+refused_step inner exact elements shape subchunk edges n cells error.Damage is same h = h
+refused_step inner exact elements shape subchunk edges n cells error.Source is same h = h
+refused_step inner exact elements shape subchunk edges n cells error.IncompatibleIndexer is same h = h
+refused_step inner exact elements shape subchunk edges n cells error.Unsupported is same h = h
+refused_step inner exact elements shape subchunk edges n cells (error.Other text) is same h = h
+refused_step inner exact elements shape subchunk edges n cells error.ExpectedFixedLengthBytes is same h = h
+refused_step inner exact elements shape subchunk edges n cells error.ExpectedVariableLengthBytes is same h = h
+refused_step inner exact elements shape subchunk edges n cells error.ExpectedOptionalBytes is same h = h
+refused_step inner exact elements shape subchunk edges n cells error.InvalidNumberOfElements is same h = h
+refused_step inner exact elements shape subchunk edges n cells error.CellOutOfRange is same h = h
+
+-- a shard that fits is cut evenly
+pub is_subchunk : (subchunk : List ℕ) (inner index : Chain) (location : Location) (elements : Elements) (shape : List ℕ) (n : ℕ) → fits (sharded subchunk inner index location) elements.type shape ≡ true → n < product (grid_of shape subchunk) → IsSubchunk shape subchunk n
+is_subchunk subchunk inner index location elements shape n fit below = record {
+  cuts = (fitted subchunk inner index location elements shape fit).cuts;
+  even = (and_parts (divides shape subchunk) (not (is_some (inner_type elements.type)) && (can_cut shape subchunk && ((fits inner elements.type subchunk && parts_fit inner elements.type shape subchunk) && index_fits index (index_shape shape subchunk)))) fit).0;
+  below = below;
+}
+
+pub rank_fits : (subchunk : List ℕ) (inner index : Chain) (location : Location) (elements : Elements) (shape : List ℕ) → fits (sharded subchunk inner index location) elements.type shape ≡ true → length shape ≡ length subchunk
+rank_fits subchunk inner index location elements shape fit = same_length shape subchunk (fitted subchunk inner index location elements shape fit).cuts

@@ -1,0 +1,4 @@
+pub mod Views
+pub mod Fitting
+pub mod Slices
+pub mod Assembled

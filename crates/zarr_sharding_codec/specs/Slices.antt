@@ -1,0 +1,56 @@
+-- What is stored of the subchunks of a shard.
+use Rattle.std.specs.Prelude.{◌≡◌, ◌⊎◌, ℕ, List, [], ◌∷◌, map, length, Option, None, Some, option_map, Bool, true, false, IsTrue, Vec, Result, Ok, Err}
+use Rattle.std.specs.declared.alloc.Global.{Global}
+use Rattle.zarr_grids_boxes.specs.Boxes.{product}
+use Rattle.zarr_codecs_meaning.specs.Chains.{Chain}
+use Rattle.zarr_codecs_meaning.specs.Encoding.{Piece, encoded}
+use Rattle.zarr_codecs_meaning.specs.Fits.{is_lossless, is_size_as, representation_of}
+use Rattle.zarr_codecs_meaning.specs.Refusals.{CodecRefuses, PassesIndex, PieceRefused}
+use Rattle.zarr_codecs_meaning.specs.Standing.{Stands}
+use Rattle.zarr_codecs_meaning.specs.Types.{Elements, is_fill}
+use Rattle.zarr_codecs_arrays.specs.Outcomes.{IsTooLarge}
+use Rattle.zarr_codecs_arrays.specs.declared.error.CodecError.{CodecError}
+use Rattle.zarr_codecs_arrays.specs.declared.error.CodecError.TheVariants as error
+
+-- the bytes of a slice, if there is one
+abbrev pub slice_of : Option (Vec ℕ Global) → Option (List ℕ)
+slice_of slice = option_map (λ (bytes : Vec ℕ Global). bytes.items) slice
+
+-- the bytes of each slice that there is
+abbrev pub slices_of : List (Option (Vec ℕ Global)) → List (Option (List ℕ))
+slices_of slices = map slice_of slices
+
+-- the slice of a subchunk that isn't all fill: what encoding it means, where that is a function; it stands for the subchunk's cells, where every bit is kept
+pub record IsSlice (inner : Chain) (exact : Bool) (elements : Elements) (piece : Piece) (slice : List ℕ) : Type 0 where
+  pub some : is_fill elements.fill piece.1 ≡ false
+  pub encodes : IsTrue exact → encoded inner elements piece.0 piece.1 ≡ Some slice
+  pub stands : is_lossless inner elements.type ≡ true → Stands inner elements piece.0 slice piece.1
+  pub sized : is_size_as (representation_of inner elements.type piece.0) (length slice) ≡ true
+
+-- what is stored of a subchunk: nothing where it is all fill, else its slice
+abbrev pub IsPieceStored : Chain → Bool → Elements → Piece → Option (List ℕ) → Type 0
+IsPieceStored inner exact elements piece None = is_fill elements.fill piece.1 ≡ true
+IsPieceStored inner exact elements piece (Some slice) = IsSlice inner exact elements piece slice
+
+-- what is stored of each subchunk
+abbrev pub ArePiecesStored : Chain → Bool → Elements → List Piece → List (Option (List ℕ)) → Type 0
+ArePiecesStored inner exact elements [] [] = Unit {0}
+ArePiecesStored inner exact elements [] (slice ∷ slices) = ⊥
+ArePiecesStored inner exact elements (piece ∷ pieces) [] = ⊥
+ArePiecesStored inner exact elements (piece ∷ pieces) (slice ∷ slices) = IsPieceStored inner exact elements piece slice × ArePiecesStored inner exact elements pieces slices
+
+-- what is stored of a subchunk, or why nothing is
+abbrev pub StoresPiece : Chain → Bool → Elements → Piece → Result (Option (Vec ℕ Global)) CodecError → Type 0
+StoresPiece inner exact elements piece (Ok slice) = IsPieceStored inner exact elements piece (slice_of slice)
+StoresPiece inner exact elements piece (Err error.Codec) = (is_fill elements.fill piece.1 ≡ false) × CodecRefuses inner elements piece.0 piece.1
+StoresPiece inner exact elements piece (Err error.Size) = IsTooLarge elements.type (product piece.0) ⊎ ((is_fill elements.fill piece.1 ≡ false) × PassesIndex inner elements piece.0 piece.1)
+StoresPiece inner exact elements piece (Err error.Memory) = Unit {0}
+StoresPiece inner exact elements piece (Err e) = ⊥
+
+-- what is stored of the subchunks of a shape, or why nothing is
+abbrev pub StoresPieces : Chain → Bool → Elements → List ℕ → List Piece → Result (Vec (Option (Vec ℕ Global)) Global) CodecError → Type 0
+StoresPieces inner exact elements shape pieces (Ok slices) = ArePiecesStored inner exact elements pieces (slices_of slices.items)
+StoresPieces inner exact elements shape pieces (Err error.Codec) = PieceRefused (CodecRefuses inner elements) elements.fill pieces
+StoresPieces inner exact elements shape pieces (Err error.Size) = IsTooLarge elements.type (product shape) ⊎ PieceRefused (PassesIndex inner elements) elements.fill pieces
+StoresPieces inner exact elements shape pieces (Err error.Memory) = Unit {0}
+StoresPieces inner exact elements shape pieces (Err e) = ⊥

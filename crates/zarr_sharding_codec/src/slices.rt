@@ -1,0 +1,86 @@
+//! The slices of a shard's subchunks, and how they are laid out.
+ghost use Rattle.std.specs.Prelude.{◌≡◌, ◌^◌, ◌<◌, List, length, true, IfOk};
+ghost use Rattle.zarr_codecs_arrays.specs.Outcomes.{IsValid};
+ghost use Rattle.zarr_codecs_arrays.specs.Views.{elements_of, payload_of};
+ghost use Rattle.zarr_codecs_meaning.specs.Encoding.{joined, joined_slices, pairs_from};
+ghost use Rattle.zarr_codecs_meaning.specs.Fits.{fits};
+ghost use Rattle.zarr_codecs_meaning.specs.Types.{Cell};
+ghost use Rattle.zarr_grids_boxes.specs.Boxes.{product};
+ghost use Rattle.zarr_sharding_codec.specs.Slices.{StoresPiece, slices_of};
+ghost use Rattle.zarr_sharding_index.specs.Views.{location_of, pairs_of};
+
+use std::alloc::{AllocError, Global};
+use zarr_codecs_arrays::{ArrayBytes, CodecError, Elements};
+use zarr_codecs_options::CodecOptions;
+use zarr_codecs_traits::{ArrayToBytesCodecTraits, ByteRange};
+use zarr_sharding_index::pair::ABSENT;
+use zarr_sharding_index::{ShardIndex, ShardingIndexLocation};
+
+/// What is stored of a subchunk: nothing where all elements are the fill value, else its slice.
+pub(crate) fn store_piece<I: ArrayToBytesCodecTraits>(
+    alloc: Global,
+    inner_codecs: &I,
+    piece: ArrayBytes,
+    elements: &Elements,
+    shape: &[u64],
+    options: &CodecOptions,
+) -> Result<Option<Vec<u8>>, CodecError>
+    requires { fits (I.meaning inner_codecs.now) (elements_of elements.now).type shape.now ≡ true }
+    ensures { (cells : List Cell)
+        → IsValid (elements_of elements.now).type (payload_of piece) (product shape.now) cells
+        → StoresPiece (I.meaning inner_codecs.now) (I.is_function inner_codecs.now)
+        (elements_of elements.now) (shape.now, cells) result }
+{
+    if piece.is_fill_value(elements) {
+        return Ok(None);
+    }
+    match inner_codecs.encode(alloc, piece, elements, shape, options) {
+        Ok(slice) => Ok(Some(slice)),
+        Err(error) => Err(error),
+    }
+}
+
+/// The slices in a row without gaps, and the index of them, where the first begins at `base`.
+pub(crate) fn lay_out(
+    alloc: Global,
+    base: u64,
+    slices: &[Option<Vec<u8>>],
+) -> Result<(Vec<u8>, ShardIndex), AllocError>
+    requires { base < 2 ^ 63 }
+    ensures data { IfOk result (λ made. made.0.items ≡ joined_slices (slices_of slices.now)) }
+    ensures index { IfOk result
+        (λ made. pairs_of made.1 ≡ pairs_from base (slices_of slices.now)) }
+{
+    let mut data = Vec::new(alloc);
+    let mut index = ShardIndex::new(alloc);
+    for slice in slices {
+        match slice {
+            Some(bytes) => {
+                index.push(ByteRange {
+                    offset: base + data.len() as u64,
+                    length: bytes.len() as u64,
+                })?;
+                data.extend_from_slice(bytes)?;
+            }
+            None => index.push(ABSENT)?,
+        }
+    }
+    Ok((data, index))
+}
+
+/// The index before or behind the data.
+pub(crate) fn join(
+    location: ShardingIndexLocation,
+    index: Vec<u8>,
+    data: Vec<u8>,
+) -> Result<Vec<u8>, AllocError>
+    ensures { IfOk result
+        (λ value. value.items ≡ joined (location_of location) index.items data.items) }
+{
+    let (mut front, back) = match location {
+        ShardingIndexLocation::Start => (index, data),
+        ShardingIndexLocation::End => (data, index),
+    };
+    front.extend_from_slice(back.as_slice())?;
+    Ok(front)
+}

@@ -1,0 +1,13 @@
+use Rattle.std.proofs.Common.{subst}
+use Rattle.zarr_codecs_arrays.specs.Views.{elements_of, payload_of}
+use Rattle.zarr_codecs_traits.specs.Outcomes.{Encodes}
+use Rattle.zarr_sharding_index.specs.Views.{pairs_of}
+use Rattle.zarr_sharding_index.proofs.StoredIndex.{index_written}
+use Rattle.zarr_sharding_index.proofs.stored.write_index.Goals as goal
+
+pub returns : goal.returns
+returns g c =
+    let index = g.X.ArrayToBytesCodecTraits.meaning c.args.codec.now in
+    let exact = g.X.ArrayToBytesCodecTraits.is_function c.args.codec.now in
+    index_written index exact c.args.shape.now (pairs_of c.args.index.now) (payload_of c.in_ok-pairs.pairs) c.encode.result (g.met.X.ArrayToBytesCodecTraits.lawful c.args.codec.now) c.requires.fit c.requires.many c.in_ok-pairs.ensures.room
+    c.in_ok-pairs.ensures.cells (subst (λ e. Encodes index exact e c.args.shape.now (payload_of c.in_ok-pairs.pairs) c.encode.result) c.in_ok-elements.ensures c.encode.ensures)

@@ -1,0 +1,49 @@
+-- How the index of a shard is stored.
+use Rattle.std.specs.Prelude.{◌≡◌, ℕ, ◌+◌, ◌*◌, ◌^◌, ◌<◌, List, length, Option, None, Some, option_map, Bool, true, false, ◌&&◌, Vec, Result, Ok, Err, IsTrue}
+use Rattle.std.specs.declared.alloc.Global.{Global}
+use Rattle.zarr_grids_boxes.specs.Boxes.{product}
+use Rattle.zarr_codecs_meaning.specs.Chains.{Chain}
+use Rattle.zarr_codecs_meaning.specs.Decoding.{decoded, pairs_of_cells}
+use Rattle.zarr_codecs_meaning.specs.Encoding.{Pair, encoded, index_size, pair_cells}
+use Rattle.zarr_codecs_meaning.specs.Fits.{fits, is_lossless, is_some_below, size_of}
+use Rattle.zarr_codecs_meaning.specs.Refusals.{CodecRefuses, PassesIndex}
+use Rattle.zarr_codecs_meaning.specs.Types.{uint64, zero_filled}
+use Rattle.zarr_codecs_arrays.specs.declared.error.CodecError.{CodecError}
+use Rattle.zarr_codecs_arrays.specs.declared.error.CodecError.TheVariants as error
+use Rattle.zarr_sharding_index.specs.declared.index.ShardIndex.{ShardIndex}
+use Rattle.zarr_sharding_index.specs.Views.{pairs_of}
+
+-- whether a chain can write an index of this shape: it fits, and makes fewer than 2^63 bytes, always as many
+abbrev pub index_fits : Chain → List ℕ → Bool
+index_fits index shape = fits index uint64 shape && is_some_below (2 ^ 63) (size_of index uint64 shape)
+
+-- how many bytes a chain makes of an index, where it can write one
+abbrev pub SizesIndex : Chain → List ℕ → Option ℕ → Type 0
+SizesIndex index shape None = index_fits index shape ≡ false
+SizesIndex index shape (Some size) = (index_fits index shape ≡ true) × (size ≡ index_size index shape)
+
+-- the bytes that a chain makes of an index: what encoding its pairs means, where that is a function; and bytes of which the pairs are read again, where every bit is kept
+pub record IsIndexWritten (index : Chain) (exact : Bool) (shape : List ℕ) (pairs : List Pair) (value : List ℕ) : Type 0 where
+  pub encodes : IsTrue exact → encoded index (zero_filled uint64) shape (pair_cells pairs) ≡ Some value
+  pub reads_back : is_lossless index uint64 ≡ true → decoded index (zero_filled uint64) shape value ≡ Some (pair_cells pairs)
+  pub sized : length value ≡ index_size index shape
+
+-- what a chain makes of an index, or why it makes nothing
+abbrev pub WritesIndex : Chain → Bool → List ℕ → List Pair → Result (Vec ℕ Global) CodecError → Type 0
+WritesIndex index exact shape pairs (Ok value) = IsIndexWritten index exact shape pairs value.items
+WritesIndex index exact shape pairs (Err error.Codec) = CodecRefuses index (zero_filled uint64) shape (pair_cells pairs)
+WritesIndex index exact shape pairs (Err error.Size) = PassesIndex index (zero_filled uint64) shape (pair_cells pairs)
+WritesIndex index exact shape pairs (Err error.Memory) = Unit {0}
+WritesIndex index exact shape pairs (Err e) = ⊥
+
+-- the index that a chain reads from bytes
+pub record IsIndexRead (index : Chain) (shape bytes : List ℕ) (pairs : List Pair) : Type 0 where
+  pub is : option_map pairs_of_cells (decoded index (zero_filled uint64) shape bytes) ≡ Some pairs
+  pub many : product shape ≡ 2 * length pairs
+
+-- the index that a chain reads from bytes, or why there is none
+abbrev pub ReadsIndex : Chain → List ℕ → List ℕ → Result ShardIndex CodecError → Type 0
+ReadsIndex index shape bytes (Ok found) = IsIndexRead index shape bytes (pairs_of found)
+ReadsIndex index shape bytes (Err error.Damage) = decoded index (zero_filled uint64) shape bytes ≡ None
+ReadsIndex index shape bytes (Err error.Memory) = Unit {0}
+ReadsIndex index shape bytes (Err e) = ⊥

@@ -1,0 +1,27 @@
+-- What the values of `src/` stand for.
+use Rattle.std.specs.Prelude.{ℕ, List, map, Option, None, Some}
+use Rattle.zarr_codecs_meaning.specs.Chains as chains
+use Rattle.zarr_codecs_meaning.specs.Encoding.{Pair}
+use Rattle.zarr_codecs_traits.specs.declared.byte_range.ByteRange.{ByteRange}
+use Rattle.zarr_sharding_index.specs.declared.location.ShardingIndexLocation.{ShardingIndexLocation}
+use Rattle.zarr_sharding_index.specs.declared.location.ShardingIndexLocation.TheVariants.{Start, End}
+use Rattle.zarr_sharding_index.specs.declared.index.ShardIndex.{ShardIndex}
+use denote.Ref.{Bor}
+
+-- where an index stands
+abbrev pub location_of : ShardingIndexLocation → chains.Location
+location_of Start = chains.Location.at_start
+location_of End = chains.Location.at_end
+
+-- an offset and a length as a pair of an index
+abbrev pub pair_of : ByteRange → Pair
+pair_of range = (range.offset, range.length)
+
+-- all pairs of an index
+abbrev pub pairs_of : ShardIndex → List Pair
+pairs_of index = map pair_of index.pairs.items
+
+-- the bytes that are lent, if some are
+abbrev pub slice_lent : Option (Bor (List ℕ)) → Option (List ℕ)
+slice_lent None = None
+slice_lent (Some slice) = Some slice.now

@@ -1,0 +1,13 @@
+//! The index of a shard: where each subchunk's slice stands, how that is read and written, and
+//! which bytes of a value a slice is.
+#![tactic(auto)]
+
+pub mod index;
+pub mod location;
+mod numbers;
+pub mod pair;
+pub mod shapes;
+pub mod stored;
+
+pub use index::ShardIndex;
+pub use location::ShardingIndexLocation;

@@ -1,0 +1,89 @@
+//! The index of a shard as its codec stores it.
+ghost use Rattle.std.specs.Prelude.{◌≡◌, ◌*◌, ◌%◌, length, true, IfOk};
+ghost use Rattle.zarr_grids_boxes.specs.Boxes.{product};
+ghost use Rattle.zarr_codecs_arrays.specs.Views.{elements_of};
+ghost use Rattle.zarr_codecs_meaning.specs.Types.{uint64, zero_filled};
+ghost use Rattle.zarr_sharding_index.specs.Stored.{SizesIndex, WritesIndex, ReadsIndex, index_fits};
+ghost use Rattle.zarr_sharding_index.specs.Views.{pairs_of};
+
+use crate::index::ShardIndex;
+use std::alloc::{AllocError, Global};
+use zarr_codecs_arrays::{CodecError, Elements};
+use zarr_codecs_options::CodecOptions;
+use zarr_codecs_traits::{ArrayToBytesCodecTraits, BytesRepresentation};
+use zarr_codecs_types::FillValue;
+use zarr_codecs_types::data_type::uint64;
+
+/// How many bytes a codec makes of an index of this shape. `None` where it doesn't suit the index,
+/// or doesn't make fewer than 2^63 bytes of each, always as many. `Err` where an allocation failed,
+/// and where the codec tells only that its array, or what one of its codecs makes, is too large.
+pub fn index_size<X: ArrayToBytesCodecTraits>(
+    alloc: Global,
+    codec: &X,
+    shape: &[u64],
+) -> Result<Option<u64>, AllocError>
+    ensures { IfOk result (SizesIndex (X.meaning codec.now) shape.now) }
+{
+    match codec.encoded_representation(alloc, &uint64(), shape) {
+        Ok(BytesRepresentation::FixedSize(size)) => {
+            if size < 1 << 63 {
+                Ok(Some(size))
+            } else {
+                Ok(None)
+            }
+        }
+        Ok(_) => Ok(None),
+        Err(CodecError::Fit) => Ok(None),
+        Err(_) => Err(AllocError),
+    }
+}
+
+/// The bytes that a codec makes of an index of this shape. `Codec` where the caller's codec refuses;
+/// `Size` where an offset or a length of the index's own is too large.
+pub fn write_index<X: ArrayToBytesCodecTraits>(
+    alloc: Global,
+    codec: &X,
+    index: &ShardIndex,
+    shape: &[u64],
+    options: &CodecOptions,
+) -> Result<Vec<u8>, CodecError>
+    requires fit { index_fits (X.meaning codec.now) shape.now ≡ true }
+    requires many { product shape.now ≡ 2 * length (pairs_of index.now) }
+    ensures { WritesIndex (X.meaning codec.now) (X.is_function codec.now) shape.now
+        (pairs_of index.now) result }
+{
+    let elements = numbers(alloc)?;
+    let pairs = index.to_numbers(alloc)?;
+    codec.encode(alloc, pairs, &elements, shape, options)
+}
+
+/// The index of this shape that a codec reads from bytes. `Damage` where it reads none.
+pub fn read_index<X: ArrayToBytesCodecTraits>(
+    alloc: Global,
+    codec: &X,
+    bytes: Vec<u8>,
+    shape: &[u64],
+    options: &CodecOptions,
+) -> Result<ShardIndex, CodecError>
+    requires fit { index_fits (X.meaning codec.now) shape.now ≡ true }
+    requires even { product shape.now % 2 ≡ 0 }
+    ensures { ReadsIndex (X.meaning codec.now) shape.now bytes.items result }
+{
+    let elements = numbers(alloc)?;
+    match codec.decode(alloc, bytes, &elements, shape, options) {
+        Ok(pairs) => Ok(ShardIndex::from_numbers(alloc, &pairs)?),
+        Err(CodecError::Damage) => Err(CodecError::Damage),
+        Err(_) => Err(CodecError::Memory),
+    }
+}
+
+/// The elements of an index: numbers of 64 bits, which fill with zero.
+fn numbers(alloc: Global) -> Result<Elements, AllocError>
+    ensures { IfOk result (λ elements. elements_of elements ≡ zero_filled uint64) }
+{
+    let zero = FillValue::from_u64(alloc, 0)?;
+    match Elements::new(uint64(), zero) {
+        Some(elements) => Ok(elements),
+        None => Err(AllocError),
+    }
+}
