@@ -89,6 +89,11 @@ class CheckOutput:
         """The lines of a function and of the closures in it."""
         return [it for name, it in self.functions.items() if is_in(name, path)]
 
+    def is_proved(self, path: str) -> bool:
+        """Whether a function and the closures in it are proved."""
+        lines = self.of_function(path)
+        return bool(lines) and all(it.is_proved for it in lines)
+
     def seconds_for(self, path: str) -> float:
         """The processor seconds that the proofs of a function and of the closures in it took."""
         return sum(it for name, it in self.seconds_of.items() if is_in(name, path))
@@ -98,10 +103,13 @@ class CheckOutput:
         return {it for it in line.waits_for if it not in self.functions or not self.functions[it].is_proved}
 
     def faults_of(self, path: str) -> List[Placed]:
-        """What stands in the way of a function's proof: errors in its own proof files, then the goals that are not proved."""
+        """What stands in the way of a function's proof: errors in its own proof files, and in the lemmas that these rest on, then the
+        goals that are not proved."""
         own = "proofs/" + path.replace("::", "/") + "/"
         notes = [note for it in self.of_function(path) for note in it.notes]
-        return [it for it in self.errors if it.file.startswith(own)] + notes
+        faults = [it for it in self.errors if it.file.startswith(own)]
+        lemmas = {name for it in faults for name in re.findall(r"depends? on `([^`]*)`, which was", it.text)}
+        return faults + [it for it in self.errors if re.match(r"error: `([^`]*)`: ", it.text) and it.text.split("`")[1] in lemmas] + notes
 
 
 def is_in(name: str, path: str) -> bool:

@@ -1,8 +1,8 @@
 """Tries the must-fail edits of a crate in rounds: many edits in one check, each in a copy of its function, or else at most one a
 function. An edit counts as refused only where its own function is reported as unproved by itself; where that function only calls
 another one that is not proved, the edit waits for a round without that one's edits. What is not plainly refused in a copy is
-tried again in its place. An edit with no function of its own, as one of a definition that many contracts rest on, is tried
-alone."""
+tried again in its place. An edit of a definition that one contract names is tried beside others where no function of theirs rests
+on it. An edit with no function of its own, as one of a definition that many contracts name, is tried alone."""
 from __future__ import annotations
 
 import enum
@@ -58,6 +58,15 @@ class Trial:
         """The path of the function that is checked."""
         return self.copy.path if self.copy else self.function or ""
 
+    @property
+    def control(self) -> Optional[Copy]:
+        """The copy with no edit that must be proved beside this one."""
+        return self.copy.control if self.copy else None
+
+    @property
+    def paths(self) -> List[str]:
+        return [self.path, self.control.path] if self.control else [self.path]
+
     def leave(self) -> None:
         """Has the edit tried in its place where it was tried in a copy, and else alone."""
         self.function = self.function if self.copy else None
@@ -69,7 +78,7 @@ Check = Callable[[Dict[str, str], List[str]], CheckOutput]
 
 
 def own_function(edit: Edit, sources: Sources) -> Optional[Function]:
-    """The one function in which an edit lies, or whose contract alone is the definition that it changes."""
+    """The one function in which an edit lies, or whose contract alone names the definition that it changes."""
     found = set()
     for change in edit.changes:
         start = sources.texts[change.path].find(change.old)
@@ -98,7 +107,12 @@ def trial_of(edit: Edit, number: int, sources: Sources) -> Trial:
     function = own_function(edit, sources)
     if not function:
         return Trial(edit, None)
-    return Trial(edit, function.path, copy_of(edit, function, number, sources))
+    trial = Trial(edit, function.path, copy_of(edit, function, number, sources))
+    for change in edit.changes:
+        if change.path.startswith("specs/"):
+            definition = sources.definition_at(change.path, sources.texts[change.path].find(change.old))
+            trial.apart_from |= sources.resting_on(definition or function.name) - {function.path}
+    return trial
 
 
 class Rounds:
@@ -142,8 +156,8 @@ class Rounds:
         return batch, self._applied(batch)
 
     def _try_batch(self, batch: List[Trial], texts: Dict[str, str]) -> None:
-        output = self.check(texts, [it.path for it in batch])
-        unknown = [it for it in batch if it.path == output.unknown_function]
+        output = self.check(texts, [*dict.fromkeys(path for it in batch for path in it.paths)])
+        unknown = [it for it in batch if output.unknown_function in it.paths]
         if unknown:
             self._without_function(unknown, batch)
             return
@@ -183,7 +197,8 @@ class Rounds:
         for trial in batch:
             if not trial.copy:
                 texts.update(apply_edit(trial.edit, lambda path: texts.get(path) or text_in(self.sources, path)))
-        return with_copies(texts, [(it.copy, it.function or "") for it in batch if it.copy], self.sources)
+        copies = {copy.path: (copy, it.function or "") for it in batch for copy in (it.copy, it.control) if copy}
+        return with_copies(texts, [*copies.values()], self.sources)
 
     def _without_proof(self, trial: Trial, output: CheckOutput) -> Optional[Judgement]:
         """The judgement on an edit whose check stopped before any proof, or none where it is to be tried in another way."""
@@ -198,7 +213,9 @@ class Rounds:
     def _judge(self, trial: Trial, output: CheckOutput, edited: Set[str], is_alone: bool) -> None:
         path, lines = trial.path, output.of_function(trial.path)
         is_by_itself = is_alone or any(not it.is_proved and not output.waits(it) for it in lines)
-        if not lines:
+        if trial.control and not output.is_proved(trial.control.path):
+            self._wait(trial, trial.control.path, output, edited)
+        elif not lines:
             trial.leave()
         elif all(it.is_proved for it in lines):
             self._end(trial, Judgement(Verdict.PROVED, trial.function or ""))
@@ -206,14 +223,20 @@ class Rounds:
             said = " ".join(it.text for it in lines if not it.is_proved)
             self._end(trial, refusal(trial.function or "", output.faults_of(path), said))
         else:
-            causes = self._edited_below(lines[0].path, output) & edited - {path}
-            trial.apart_from |= causes
-            if not causes:
-                trial.leave()
+            self._wait(trial, lines[0].path, output, edited)
+
+    def _wait(self, trial: Trial, path: str, output: CheckOutput, edited: Set[str]) -> None:
+        """Puts an edit off until the edited functions below a function that is not proved stand in other batches, if there are any."""
+        causes = self._edited_below(path, output) & edited - {trial.path}
+        trial.apart_from |= causes
+        if not causes:
+            trial.leave()
 
     def _end(self, trial: Trial, judgement: Judgement) -> None:
-        """Gives a trial its judgement. One in a copy is only believed where a goal is refused."""
-        if trial.copy and judgement.verdict is not Verdict.REFUSED:
+        """Gives a trial its judgement. One in a copy is only believed where a goal is refused. One of a definition that its own function
+        takes may be refused by another."""
+        is_of_code = all(it.path.startswith("src/") for it in trial.edit.changes)
+        if trial.copy and judgement.verdict is not Verdict.REFUSED or not is_of_code and judgement.verdict is Verdict.PROVED:
             trial.leave()
         else:
             trial.judgement = judgement

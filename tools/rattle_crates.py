@@ -14,6 +14,7 @@ from dataclasses import dataclass
 from typing import Dict, Iterable, List, Set
 
 from check_output import CheckOutput, read_output
+from edit_kept import Kept
 
 KIT = os.path.dirname(os.path.dirname(os.path.realpath(shutil.which("rt") or "/opt/rattle/bin/rt")))
 PARTS = ("src", "specs", "proofs")
@@ -36,8 +37,12 @@ class Crate:
         return f"{self.folder}/out/rlib/{self.name}.rlib"
 
     @property
+    def is_program(self) -> bool:
+        return os.path.isfile(f"{self.folder}/src/main.rt")
+
+    @property
     def root(self) -> str:
-        return "src/main.rt" if os.path.isfile(f"{self.folder}/src/main.rt") else "src/lib.rt"
+        return "src/main.rt" if self.is_program else "src/lib.rt"
 
 
 def read_crates(top: str) -> Dict[str, Crate]:
@@ -95,18 +100,21 @@ def build(crate: Crate) -> str:
     return ran.stdout if ran.returncode else ""
 
 
+# A check of a crate that uses no library but std, up to the crate's name.
+CHECK = [f"{KIT}/bin/rattle", "check", "--extern", f"std={KIT}/rlibs/std.rlib", "-L", f"dependency={KIT}/rlibs"]
+CHECK += ["--antt-project", f"{KIT}/rattle/logic/antt-project.json", "--logic-built", f"{KIT}/logic_built", "--jobs", "1"]
+
+
 def check_words(crate: Crate, crates: Dict[str, Crate]) -> List[str]:
     """The command that checks the crate in a folder that holds a copy of its files."""
-    words = [f"{KIT}/bin/rattle", "check", "--crate-name", crate.name, crate.root]
-    for name in ["std", *crate.libraries]:
+    words = [*CHECK, "--crate-name", crate.name, crate.root, "--links", f"{crate.name}="]
+    for name in crate.libraries:
         words += ["--extern", f"{name}={KIT}/rlibs/{name}.rlib"]
-    words += ["-L", f"dependency={KIT}/rlibs"]
     for name in crate.crates:
         words += ["--extern", f"{name}={crates[name].rlib}"]
     for it in below(crate, crates):
         words += ["-L", f"dependency={os.path.dirname(it.rlib)}"]
-    words += ["--antt-project", f"{KIT}/rattle/logic/antt-project.json", "--logic-built", f"{KIT}/logic_built"]
-    return [*words, "--jobs", "1", "--links", f"{crate.name}="]
+    return words
 
 
 HOLE = """use Rattle.{crate}.proofs.{path}.Statement.{{statement}}
@@ -155,15 +163,17 @@ def wait_for_memory(seconds: int = 600) -> None:
 class Room:
     """A folder for checks of a crate with other texts; what they prove is kept there from one to the next.
 
-    A check of some functions takes the others by their contracts: the proof of each is a hole. So no time goes to proofs that
-    say nothing of an edit, and a function that is not proved is so by its own text."""
+    Where the crate's library is built, the first check takes from it what its build proved. Else a check of some functions takes
+    the others by their contracts: the proof of each is a hole. So no time goes to proofs that say nothing of an edit, and a
+    function that is not proved is so by its own text."""
 
     running: Set[int] = set()
     is_stopped = False
 
     def __init__(self, crate: Crate, crates: Dict[str, Crate], functions: Iterable[str], folder: str):
         self.crate, self.folder, self.words = crate, folder, check_words(crate, crates)
-        self.with_holes = set(functions)
+        is_kept = is_built(crate, crates) and Kept.fill(crate.rlib, f"{folder}/kept", CHECK)
+        self.with_holes = set() if is_kept else set(functions)
         self.seconds, self.checks = 0.0, 0
 
     def check(self, texts: Dict[str, str], functions: List[str]) -> CheckOutput:

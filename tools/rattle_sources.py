@@ -4,12 +4,14 @@ from __future__ import annotations
 import os
 import re
 from dataclasses import dataclass
-from typing import Dict, List, Optional
+from typing import Dict, Iterator, List, Optional, Set, Tuple
 
 FUNCTION = re.compile(r"(?m)^([ \t]*)(?:pub(?:\([^)]*\))?[ ]+)?(?:(?:const|unsafe|final)[ ]+)*fn[ ]+(\w+)")
 TYPE = re.compile(r"(?m)^[ ]*(?:pub(?:\([^)]*\))?[ ]+)?(?:struct|enum|union)[ ]+(\w+)")
 BLOCK = re.compile(r"(?m)^(?:pub(?:\([^)]*\))?[ ]+)?(impl|trait)\b([^{]*)")
-DEFINITION = re.compile(r"(?m)^(?:(?:pub|abbrev|unfoldable|opaque|data|record)[ ]+)*([^\s:(){},]+)[ ]*(?:\{[^}]*\}[ ]*)*:(?=\s)")
+WORDS_BEFORE = r"(?:(?:pub|abbrev|unfoldable|opaque|data|record|ruleset)[ ]+)*"
+SIGNATURE = re.compile(rf"(?m)^{WORDS_BEFORE}([^\s:(){{}},]+)(?:[ ]+[({{][^)}}\n]*[)}}])*[ ]*:(?=\s)")
+INNER = re.compile(r"(?m)^[ ]+([^\s:(){},]+)(?:[ ]+[({][^)}\n]*[)}])*[ ]*:\s")
 
 
 @dataclass(frozen=True)
@@ -82,7 +84,7 @@ class Sources:
     """The texts of a crate and its functions."""
 
     def __init__(self, texts: Dict[str, str]):
-        self.texts = texts
+        self.texts, self.shared = texts, None
         self.modules = self._modules_of_types()
         self.functions = [it for file in sorted(texts) if file.startswith("src/") and file.endswith(".rt") for it in self._functions_in(file)]
 
@@ -126,10 +128,14 @@ class Sources:
 
     def with_bodies(self) -> List[str]:
         """The functions that have a body and a proof of their own: not tests, the body of a program, and those that call themselves."""
-        bodies = [it for it in self.functions if re.search(r"[}]\s*$", self.texts[it.file][it.start : it.end]) and not self._calls_itself(it)]
-        return [it.path for it in bodies if it.path != "main" and not it.path.startswith("tests::")]
+        return [it.path for it in self.functions if self.is_proved(it) and not self.calls_itself(it)]
 
-    def _calls_itself(self, function: Function) -> bool:
+    def is_proved(self, function: Function) -> bool:
+        """Whether a function has a body that is proved, and is no test or the body of a program."""
+        has_body = re.search(r"[}]\s*$", self.texts[function.file][function.start : function.end])
+        return bool(has_body) and function.path != "main" and not function.path.startswith("tests::")
+
+    def calls_itself(self, function: Function) -> bool:
         """Whether a function calls itself: by its bare name, or a method by `self` or `Self`."""
         text = self.texts[function.file][function.start : function.end]
         before = r"\b(?:self\.|Self::)" if text.startswith((" ", "\t")) else r"(?<![\w.:])"
@@ -149,20 +155,70 @@ class Sources:
         return function.path if function else None
 
     def law_of(self, file: str, start: int) -> Optional[Function]:
-        """The function whose contract is the definition at this place of specs/, where nothing else rests on that definition."""
-        above = [it for it in DEFINITION.finditer(self.texts[file]) if it.start() <= start]
+        """The function whose contract names the definition at this place of specs/, where there is just one."""
+        name = self.definition_at(file, start)
+        stated = [it for it in self.functions if name in words_of(self.texts[it.file][it.start : it.end])]
+        return stated[0] if len(stated) == 1 else None
+
+    def definition_at(self, file: str, start: int) -> Optional[str]:
+        """The name of the definition at this place of a file, where that is plain."""
+        text = self.texts[file]
+        above = [it for it in SIGNATURE.finditer(text) if it.start() <= start]
         if not above:
             return None
-        name = above[-1][1]
-        word = re.compile(rf"(?<![\w◌-]){re.escape(name)}(?![\w◌-])")
-        stated = [it for it in self.functions if word.search(self.texts[it.file][it.start : it.end])]
-        if len(stated) != 1:
-            return None
-        own = "proofs/" + stated[0].path.replace("::", "/") + "/"
-        for other, text in self.texts.items():
-            lines = [line for line in text.split("\n") if word.search(line)]
-            if other == file:
-                lines = [line for line in lines if not re.match(rf"(?:\w+ )*{re.escape(name)}\b", line)]
-            if lines and not other.startswith(("src/", own)):
-                return None
-        return stated[0]
+        begun = re.findall(rf"(?m)^{WORDS_BEFORE}([^\s:(){{}},]+)", text[above[-1].start() : (text + "\n").index("\n", start)])
+        return above[-1][1] if {*begun} == {above[-1][1]} else None
+
+    def resting_on(self, definition: str) -> Set[str]:
+        """The functions that rest on a definition: by their contracts, by what they are proved with, or by other definitions and lemmas.
+        A name is taken for each definition that has it, and a file's path stands for what in it is in no function."""
+        found, known = {definition}, set()
+        while found != known:
+            known = {*found}
+            found |= {name for name, words in self._shared() if words & known}
+        resting = {it.path for it in self.functions if words_of(self.texts[it.file][it.start : it.end]) & found}
+        for file, text in self.texts.items():
+            if file.startswith("src/") and words_of(self._outside(file)) & found:
+                resting.add(file)
+            if is_of_function(file) and words_of(text) & found:
+                resting.add("::".join(file.split("/")[1:-1]))
+        return resting
+
+    def _shared(self) -> List[Tuple[str, Set[str]]]:
+        """The definitions and lemmas that stand in no function's own files, each with the words that it is made of."""
+        if self.shared is None:
+            files = [it for it in self.texts if it.endswith(".antt") and not is_of_function(it)]
+            self.shared = [(name, words_of(part)) for it in files for name, part in definitions_in(self.texts[it])]
+        return self.shared
+
+    def _outside(self, file: str) -> str:
+        """The text of a file that is in no function."""
+        text = self.texts[file]
+        for it in sorted((it for it in self.functions if it.file == file), key=lambda it: -it.start):
+            text = text[: it.start] + text[it.end :]
+        return text
+
+
+def is_of_function(file: str) -> bool:
+    """Whether a file is one of a function's own proof."""
+    return file.startswith("proofs/") and file.endswith(("/Answers.antt", "/Invariants.antt", "/Proof.antt"))
+
+
+def words_of(text: str) -> Set[str]:
+    """What a text names, its imports left out: each operator whole, and other words by themselves."""
+    text = re.sub(r"(?m)^[ ]*(?:pub[ ]+)?(?:ghost[ ]+)?use[ ].*$", "", text)
+    return {*re.findall(r"[^\s(){}\[\],;:.]+", text), *re.findall(r"[\w◌-]+", text), *re.findall(r"[^\s(){}\[\],;:]+", text)}
+
+
+def definitions_in(text: str) -> Iterator[Tuple[str, str]]:
+    """The parts of a file of definitions and lemmas, each with the name that it defines or proves. What is indented is a part of its own
+    too: lemmas may share what stands before them."""
+    signed = {it[1] for it in SIGNATURE.finditer(text)}
+    name = ""
+    for part in re.split(r"(?m)^(?=\S)", text):
+        begins = re.match(rf"{WORDS_BEFORE}([^\s:(){{}},]+)", part)
+        if begins and (begins[1] in signed or re.match(r"(?:pub )?ruleset ", part)):
+            name = begins[1]
+        yield name, part
+        inner = [*INNER.finditer(part)]
+        yield from ((it[1], part[it.start() : end]) for it, end in zip(inner, [*[it.start() for it in inner[1:]], len(part)]))

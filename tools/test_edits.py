@@ -13,9 +13,10 @@ sys.path.insert(0, HERE)
 from check_output import read_output  # noqa: E402
 from edit_copies import copy_of  # noqa: E402
 from edit_files import DoesNotApply, apply_edit, edit_files, parse_edit  # noqa: E402
+from edit_kept import Kept  # noqa: E402
 from edit_queue import Queue  # noqa: E402
 from edit_rounds import Rounds, Verdict, refusal  # noqa: E402
-from rattle_crates import Crate, Room  # noqa: E402
+from rattle_crates import CHECK, Crate, Room  # noqa: E402
 from rattle_sources import Sources, block_name  # noqa: E402
 
 SOURCE = """//! Small functions.
@@ -174,6 +175,18 @@ class ChoosingBatches(unittest.TestCase):
         code += "\n    fn last(&self) -> u64 {\n        self.last()\n    }\n}\n"
         self.assertEqual(Sources({"src/lib.rt": code}).with_bodies(), ["Words::len"])
 
+    def test_laws_share_a_batch_where_none_rests_on_the_other(self):
+        code = "pub fn least()\n    ensures { Least }\n{\n}\n\npub fn sum()\n    ensures { Sum }\n{\n}\n\npub fn order()\n    ensures { Order }\n{\n}\n"
+        specs = "pub Least : Type\nLeast = 1\n\npub Sum : Type\nSum = 2\n\npub Order : Type\nOrder = 3\n"
+        lemmas = "use Rattle.x.specs.Laws.{Least, Sum}\n\npub least : Least\nleast = ?\n\nadded x =\n    least x\n\npub added_all : Sum\nadded_all = ?\n"
+        texts = {"src/laws.rt": code, "specs/Laws.antt": specs, "proofs/Lemmas.antt": lemmas.replace("added x", "added : Sum\nadded x")}
+        texts["proofs/laws/sum/Answers.antt"] = "returns c = added\n"
+        sources = Sources(texts)
+        self.assertEqual(sources.resting_on("Least"), {"laws::least", "laws::sum"})
+        edits = [edit_of(name, name, "Other", "specs/Laws.antt") for name in ("Least = 1", "Sum = 2", "Order = 3")]
+        rounds = Rounds(edits, sources, lambda texts, functions: None)
+        self.assertEqual([it.path for it in rounds._next_batch()[0]], ["laws::least", "laws::order"])
+
     def test_an_edit_whose_function_the_check_does_not_know_is_tried_alone(self):
         asked = []
 
@@ -214,12 +227,60 @@ class CopyingFunctions(unittest.TestCase):
         wanted = "use Rattle.x.proofs.a.small_edit_7.Goals as goal\nuse Rattle.x.proofs.a.smaller.Met"
         self.assertEqual(copy.proofs, {"proofs/a/small_edit_7/Answers.antt": wanted})
 
-    def test_there_is_no_copy_in_a_cycle_of_calls_nor_where_a_lemma_names_the_goals(self):
+    def test_there_is_no_copy_where_a_lemma_names_the_goals(self):
         code = "fn small() {\n    3\n}\n"
-        self.assertIsNone(self.copy_in("#[cycle(numbers)]\n" + code))
-        self.assertIsNone(self.copy_in("fn small() {\n    3\n    small()\n}\n"))
         self.assertIsNone(self.copy_in(code, Lemmas="use Rattle.x.proofs.a.small.Given as given"))
         self.assertIsNotNone(self.copy_in(code, Lemmas="use Rattle.x.proofs.a.small.Met"))
+
+    def test_a_copy_of_a_function_in_a_cycle_has_its_own_part_of_the_proof_and_a_control(self):
+        answers = """use Rattle.x.proofs.a.+numbers.Goals as goal
+
+pub large-returns : goal.large-returns
+large-returns t c = refl
+
+pub small-returns : goal.small-returns
+small-returns g t c =
+    refl
+"""
+        measures = "abbrev pub decreases-small : goal.decreases-small\ndecreases-small l = l.n\n"
+        code = "/// A number.\n#[cycle(numbers)]\nfn small() {\n    3\n    large()\n}\n"
+        copy = self.copy_in(code, **{"a/+numbers/Answers": answers, "a/+numbers/Invariants": measures})
+        self.assertEqual(copy.text, "/// A number.\nfn small_edit_7() {\n    4\n    large()\n}")
+        wanted = "use Rattle.x.proofs.a.small_edit_7.Goals as goal\n\npub returns : goal.returns\nreturns g c =\n    refl\n"
+        self.assertEqual(copy.proofs, {"proofs/a/small_edit_7/Answers.antt": wanted})
+        self.assertEqual(copy.control.text, "/// A number.\nfn small_with_no_edit() {\n    3\n    large()\n}")
+
+    def test_a_copy_of_a_function_that_calls_itself_calls_the_function(self):
+        answers = "use Rattle.x.proofs.a.+small.Goals as goal\n\npub small-requires : goal.small-requires\nsmall-requires t c = refl\n"
+        copy = self.copy_in("fn small() {\n    3\n    small()\n}\n", **{"a/+small/Answers": answers})
+        self.assertEqual(copy.text, "fn small_edit_7() {\n    4\n    small()\n}")
+        wanted = answers.replace("a.+small.", "a.small_edit_7.").replace("requires t c", "requires c")
+        self.assertEqual(copy.proofs, {"proofs/a/small_edit_7/Answers.antt": wanted})
+
+    def test_a_copy_is_not_believed_where_its_control_is_not_proved(self):
+        sources = Sources({"src/a.rt": "fn small() {\n    3\n    small()\n}\n"})
+        said = "fn tiny::a::small_edit_0: not proved\nfn tiny::a::small_with_no_edit: {}\nonly=2 proved=0"
+        for control, function in ("proved", "a::small_edit_0"), ("not proved", "a::small"):
+            rounds = Rounds([edit_of("a", "    3", "    4", "src/a.rt")], sources, lambda texts, functions: read_output(1, said.format(control)))
+            rounds._try_batch(*rounds._next_batch())
+            self.assertEqual((rounds.trials[0].path, bool(rounds.trials[0].judgement)), (function, control == "proved"))
+
+
+class TakingWhatABuildProved(unittest.TestCase):
+    def test_each_module_of_a_library_is_a_file(self):
+        with tempfile.TemporaryDirectory(prefix="test-edits-") as room:
+            os.makedirs(f"{room}/low.rlib/toolchain")
+            with open(f"{room}/low.rlib/toolchain/checked.a", "wb") as it:
+                it.write(b"!<arch>\nonetwo")
+            with open(f"{room}/low.rlib/toolchain/checked.json", "w", encoding="utf-8") as it:
+                it.write('["low.first",8,3]\n["low.first.Code",11,3]\n')
+            self.assertTrue(Kept.fill(f"{room}/low.rlib", f"{room}/kept", CHECK))
+            files = [(name, os.stat(f"{at}/{name}").st_size) for at, _, names in os.walk(f"{room}/kept") for name in sorted(names)]
+            self.assertEqual(sorted(files), [("low.first.Code.oantt", 3), ("low.first.oantt", 3)])
+            self.assertFalse(Kept.fill(f"{room}/none.rlib", f"{room}/kept", CHECK))
+            with open(f"{room}/low.rlib/toolchain/checked.json", "w", encoding="utf-8") as it:
+                it.write('["low.first",8,3]\n')
+            self.assertFalse(Kept.fill(f"{room}/low.rlib", f"{room}/kept", CHECK), "a library of statements alone holds no proofs")
 
 
 class LeavingProofsOut(unittest.TestCase):

@@ -36,7 +36,7 @@ use Rattle.zarr_array_meaning.specs.Chunks.{number_in, stored_at, fits_box, deco
 use Rattle.zarr_array_meaning.specs.Documents.{Document}
 use Rattle.zarr_array_meaning.specs.Standing.{ChunkStandsAt, IsLossless, IsGood, AreValues}
 use Rattle.zarr_array_meaning.specs.StoreMaps.{StoreMap}
-use Rattle.zarr_array_meaning.specs.Writing.{HasKeys, WroteChunks}
+use Rattle.zarr_array_meaning.specs.Writing.{HasKeys, WroteChunks, stores_fill}
 use Rattle.zarr_array_core.specs.ChunkValues.{CellsBecome, MakesValue, with_value}
 use Rattle.zarr_array_core.proofs.ChunkCells.{all_in_range, held_place}
 use Rattle.zarr_array_elements.proofs.FixedCells.{cell_of_places, number_below}
@@ -122,7 +122,7 @@ pub record IsWrite (path : List ℕ) (document : Document) (region : Region) (gi
   pub region_rank : length region.start ≡ length region.shape
   pub rank : length region.start ≡ length box.start
   pub below : IsInGrid document.grid chunk box
-  pub makes : MakesValue document region given options.store_empty_chunks box (stored_at path document old chunk) made
+  pub makes : MakesValue document region given (stores_fill document options region box) box (stored_at path document old chunk) made
 
 -- a fact of the one chunk that is listed
 at_one : (grid : Grid) (P : List ℕ → Region → Type 0) (chunk d : List ℕ) (box other : Region) → IsInGrid grid chunk box → IsInGrid grid d other → is_listed (chunk ∷ []) d ≡ true → P chunk box → P d other
@@ -242,7 +242,7 @@ fill_filled fill zero h = refl
 fill_filled fill (suc n) h = ap (λ (b : Bool). b && is_fill fill (replicate n fill)) h ∙ fill_filled fill n h
 
 no_fill_value : (path : List ℕ) (document : Document) (region : Region) (given : List Cell) (options : CodecOptions) (chunk : List ℕ) (box : Region) (old : StoreMap) (made : Option (List ℕ)) (value : List ℕ) (w : IsWrite path document region given options chunk box old made) → IsLossless document
-    → options.store_empty_chunks ≡ false → stored_at path document (new_store path document old chunk made) chunk ≡ Some value → Stands document.chain document.elements box.shape value (replicate (product box.shape) document.elements.fill) → ⊥
+    → stores_fill document options region box ≡ false → stored_at path document (new_store path document old chunk made) chunk ≡ Some value → Stands document.chain document.elements box.shape value (replicate (product box.shape) document.elements.fill) → ⊥
 no_fill_value path document region given options chunk box old made value w lossless empty found stands =
     let fill = document.elements.fill in
     let filled = replicate (product box.shape) fill in
@@ -257,12 +257,12 @@ no_fill_value path document region given options chunk box old made value w loss
 keys_one : (path : List ℕ) (document : Document) (region : Region) (given : List Cell) (options : CodecOptions) (chunk : List ℕ) (box : Region) (old : StoreMap) (made : Option (List ℕ)) (w : IsWrite path document region given options chunk box old made)
     → HasKeys path document region options (chunk ∷ []) (new_store path document old chunk made)
 keys_one path document region given options chunk box old made w = record {
-  stored = λ empty d other over part l.
-      at_one document.grid (λ k r. is_some (stored_at path document (new_store path document old chunk made) k) ≡ true) chunk d box other w.below over l
-      (ap is_some (value_same old (chunk_key path document.keys chunk) made) ∙ some_or made (λ none. false≢true (sym (w.makes.is.absent none).0 ∙ empty)));
-  erased = λ lossless empty d other over part l value found.
-      at_one document.grid (λ k r. stored_at path document (new_store path document old chunk made) k ≡ Some value → Stands document.chain document.elements r.shape value (replicate (product r.shape) document.elements.fill) → ⊥) chunk d box other w.below over l
-      (λ f s. no_fill_value path document region given options chunk box old made value w lossless empty f s) found;
+  stored = λ d other over empty l.
+      at_one document.grid (λ k r. stores_fill document options region r ≡ true → is_some (stored_at path document (new_store path document old chunk made) k) ≡ true) chunk d box other w.below over l
+      (λ e. ap is_some (value_same old (chunk_key path document.keys chunk) made) ∙ some_or made (λ none. false≢true (sym (w.makes.is.absent none).0 ∙ e))) empty;
+  erased = λ lossless d other over empty l value found.
+      at_one document.grid (λ k r. stores_fill document options region r ≡ false → stored_at path document (new_store path document old chunk made) k ≡ Some value → Stands document.chain document.elements r.shape value (replicate (product r.shape) document.elements.fill) → ⊥) chunk d box other w.below over l
+      (λ e f s. no_fill_value path document region given options chunk box old made value w lossless e f s) empty found;
 }
 
 -- ---- one chunk written

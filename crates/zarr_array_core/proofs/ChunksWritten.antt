@@ -24,7 +24,7 @@ use Rattle.zarr_array_meaning.specs.Chunks.{number_in, stored_at, IsMet, is_list
 use Rattle.zarr_array_meaning.specs.Documents.{Document}
 use Rattle.zarr_array_meaning.specs.Standing.{ChunkStandsAt, IsGood, AreValues}
 use Rattle.zarr_array_meaning.specs.StoreMaps.{StoreMap}
-use Rattle.zarr_array_meaning.specs.Writing.{ChunkBecomes, HasKeys, WroteChunks}
+use Rattle.zarr_array_meaning.specs.Writing.{ChunkBecomes, HasKeys, WroteChunks, stores_fill}
 use Rattle.zarr_array_core.specs.ChunkValues.{CellsBecome, MakesValue, NewValueStops, with_value}
 use Rattle.zarr_array_core.specs.Outcomes.{ChunkStops, WriteStops}
 use Rattle.zarr_array_core.specs.declared.error.ChunkError.{ChunkError}
@@ -69,7 +69,7 @@ wrote_none path document region given options store = record {
       stands_same path document store d other cells (with_chunks document.grid region [] (cell_of_box region given document.elements.fill) cells) (λ p. sym (with_chunks-none document.grid region (cell_of_box region given document.elements.fill) cells p)) st;
   makes = λ lossless d other over l holds. absurd (false≢true l);
   others = λ key ne. refl;
-  keys = record { stored = λ e d other over part l. absurd (false≢true l); erased = λ lossless e d other over part l value found. absurd (false≢true l) };
+  keys = record { stored = λ d other over e l. absurd (false≢true l); erased = λ lossless d other over e l value found. absurd (false≢true l) };
 }
 
 -- ---- one more chunk
@@ -100,13 +100,13 @@ untouched path document region given options cs c box old mid is first =
 more_keys : (path : List ℕ) (document : Document) (region : Region) (given : List Cell) (options : CodecOptions) (cs : List (List ℕ)) (c : List ℕ) (box : Region) (old mid new : StoreMap) → IsNext path document given cs c box
     → WroteChunks path document region given options cs old mid → WroteChunks path document region given options (c ∷ []) mid new → HasKeys path document region options (cs ++ c ∷ []) new
 more_keys path document region given options cs c box old mid new is first next = record {
-  stored = λ e d other over part l. ⊎_elim
-      (λ here. next.keys.stored e d other over part (one_listed c d here))
-      (λ (ne, k). ap is_some (stays path document region given options cs c d box other mid new is next over ne) ∙ first.keys.stored e d other over part k)
+  stored = λ d other over e l. ⊎_elim
+      (λ here. next.keys.stored d other over e (one_listed c d here))
+      (λ (ne, k). ap is_some (stays path document region given options cs c d box other mid new is next over ne) ∙ first.keys.stored d other over e k)
       (listed_more cs c d l);
-  erased = λ lossless e d other over part l value found. ⊎_elim
-      (λ here. next.keys.erased lossless e d other over part (one_listed c d here) value found)
-      (λ (ne, k). first.keys.erased lossless e d other over part k value (sym (stays path document region given options cs c d box other mid new is next over ne) ∙ found))
+  erased = λ lossless d other over e l value found. ⊎_elim
+      (λ here. next.keys.erased lossless d other over e (one_listed c d here) value found)
+      (λ (ne, k). first.keys.erased lossless d other over e k value (sym (stays path document region given options cs c d box other mid new is next over ne) ∙ found))
       (listed_more cs c d l);
 }
 
@@ -186,7 +186,7 @@ next_is path document region chunks given n chunk box walk below e here = record
 }
 
 pub wrote_next : (path : List ℕ) (document : Document) (region chunks : Region) (given : List Cell) (options : CodecOptions) (n : ℕ) (chunk : List ℕ) (box : Region) (made : Option (List ℕ)) (old mid new : StoreMap) → IsWalk path document region chunks given → n < product chunks.shape
-    → chunk ≡ place_at chunks.start chunks.shape n → IsInGrid document.grid chunk box → MakesValue document region given options.store_empty_chunks box (stored_at path document mid chunk) made → new ≡ with_value mid (chunk_key path document.keys chunk) made
+    → chunk ≡ place_at chunks.start chunks.shape n → IsInGrid document.grid chunk box → MakesValue document region given (stores_fill document options region box) box (stored_at path document mid chunk) made → new ≡ with_value mid (chunk_key path document.keys chunk) made
     → WroteChunks path document region given options (first_chunks chunks n) old mid → WroteChunks path document region given options (first_chunks chunks (n + 1)) old new
 wrote_next path document region chunks given options n chunk box made old mid new walk below e here makes is wrote =
     let rank = walk.grid_rank ∙ sym (chunk_box-rank document.grid chunk box here.has_box).0 in
@@ -206,7 +206,7 @@ wrote_all path document region chunks given options n old new walk end wrote =
 becomes_at : (path : List ℕ) (document : Document) (region : Region) (given : List Cell) (chunk : List ℕ) (box : Region) (store : StoreMap) (cells : List Cell) → CellsBecome document region given (stored_at path document store chunk) box cells → ChunkBecomes path document store region given chunk box cells
 becomes_at path document region given chunk box store cells becomes = record { many = becomes.many; written = becomes.written; kept = becomes.kept }
 
-chunk_stops : (path : List ℕ) (document : Document) (region : Region) (given : List Cell) (options : CodecOptions) (chunk : List ℕ) (box : Region) (store : StoreMap) (e : ChunkError) → NewValueStops document region given options.store_empty_chunks box (stored_at path document store chunk) e
+chunk_stops : (path : List ℕ) (document : Document) (region : Region) (given : List Cell) (options : CodecOptions) (chunk : List ℕ) (box : Region) (store : StoreMap) (e : ChunkError) → NewValueStops document region given (stores_fill document options region box) box (stored_at path document store chunk) e
     → ChunkStops path document store region given options chunk box e
 chunk_stops path document region given options chunk box store error.Fit h = h
 chunk_stops path document region given options chunk box store (error.Storage e) h = h
@@ -225,7 +225,7 @@ met document region chunks n chunk box l m below e here = record {
 
 pub write_stops : (path : List ℕ) (document : Document) (region chunks : Region) (given : List Cell) (payload : Payload) (options : CodecOptions) (n : ℕ) (chunk : List ℕ) (box : Region) (e : ChunkError) (old mid new : StoreMap) → IsWalk path document region chunks given
     → cells_in document.elements.type payload ≡ Some given → n < product chunks.shape → chunk ≡ place_at chunks.start chunks.shape n → IsInGrid document.grid chunk box
-    → NewValueStops document region given options.store_empty_chunks box (stored_at path document mid chunk) e → new ≡ mid
+    → NewValueStops document region given (stores_fill document options region box) box (stored_at path document mid chunk) e → new ≡ mid
     → WroteChunks path document region given options (first_chunks chunks n) old mid → WriteStops path document region payload options old new (record { applied = n; error = e })
 write_stops path document region chunks given payload options n chunk box e old mid new walk lists below at here stops same wrote =
     let is = next_is path document region chunks given n chunk box walk below at here in
@@ -236,7 +236,7 @@ write_stops path document region chunks given payload options n chunk box e old 
       chunk = chunk;
       box = box;
       met = met document region chunks n chunk box walk.chunks_rank walk.intersecting below at here;
-      stops = chunk_stops path document region given options chunk box old e (subst (λ (o : Option (List ℕ)). NewValueStops document region given options.store_empty_chunks box o e) before stops);
+      stops = chunk_stops path document region given options chunk box old e (subst (λ (o : Option (List ℕ)). NewValueStops document region given (stores_fill document options region box) box o e) before stops);
       wrote = subst (λ (cs : List (List ℕ)). WroteChunks path document region given options cs old new) (first_chunks-take document.grid region chunks n walk.chunks_rank walk.intersecting (omega arith))
           (subst (λ (m : StoreMap). WroteChunks path document region given options (first_chunks chunks n) old m) (sym same) wrote);
     }

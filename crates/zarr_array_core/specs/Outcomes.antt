@@ -10,7 +10,7 @@ use Rattle.zarr_array_meaning.specs.Boxes.{IsRead, IsDamagedIn, IsUnfitIn}
 use Rattle.zarr_array_meaning.specs.Chunks.{IsMet, fits_box}
 use Rattle.zarr_array_meaning.specs.Documents.{Document}
 use Rattle.zarr_array_meaning.specs.StoreMaps.{StoreMap, counted}
-use Rattle.zarr_array_meaning.specs.Writing.{IsPartDamaged, IsCodecRefused, IsOversized, WroteChunks, ErasedChunks}
+use Rattle.zarr_array_meaning.specs.Writing.{IsPartDamaged, IsCodecRefused, IsOversized, WroteChunks, ErasedChunks, stores_fill}
 use Rattle.zarr_array_core.specs.declared.error.ChunkError.{ChunkError}
 use Rattle.zarr_array_core.specs.declared.error.ChunkError.TheVariants as error
 use Rattle.zarr_array_core.specs.declared.error.ManyError.{ManyError}
@@ -60,8 +60,8 @@ abbrev pub ChunkStops : List ℕ → Document → StoreMap → Region → List C
 ChunkStops path document store region cells options chunk box error.Fit = fits_box document box ≡ false
 ChunkStops path document store region cells options chunk box (error.Storage e) = fits_box document box ≡ true
 ChunkStops path document store region cells options chunk box error.Damage = IsPartDamaged path document store region chunk box
-ChunkStops path document store region cells options chunk box error.Codec = IsCodecRefused path document store region cells options.store_empty_chunks chunk box
-ChunkStops path document store region cells options chunk box error.Size = IsOversized path document store region cells options.store_empty_chunks chunk box
+ChunkStops path document store region cells options chunk box error.Codec = IsCodecRefused path document store region cells (stores_fill document options region box) chunk box
+ChunkStops path document store region cells options chunk box error.Size = IsOversized path document store region cells (stores_fill document options region box) chunk box
 ChunkStops path document store region cells options chunk box error.Memory = Unit {0}
 
 -- the cells of a box were written to the first of the chunks that it intersects, and why the next one was not written

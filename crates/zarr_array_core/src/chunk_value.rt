@@ -6,6 +6,7 @@ ghost use Rattle.zarr_grids_overlay.specs.Overlays.{extent_of};
 
 use crate::array_core::ArrayCore;
 use crate::error::ChunkError;
+use crate::holding::holds_box;
 use std::alloc::Global;
 use zarr_array_elements::{put_over, take_out};
 use zarr_codecs_arrays::{ArrayBytes, CodecError};
@@ -46,6 +47,7 @@ impl<C: ArrayToBytesCodecTraits> ArrayCore<C> {
     ghost use Rattle.zarr_array_core.specs.ChunkValues.{CellsBecome, DecodeStops, EncodeRefuses, EncodeStops, IsNewValue};
     ghost use Rattle.zarr_array_core.specs.Views.{array_cells, AreSoMany, document_of};
     ghost use Rattle.zarr_array_core.specs.declared.error.ChunkError.TheVariants.{Memory};
+    ghost use Rattle.zarr_array_meaning.specs.Writing.{stores_fill};
     ghost use Rattle.zarr_array_meaning.specs.Chunks.{holds_box};
     ghost use Rattle.zarr_array_storage.specs.Stores.{value_bytes};
     ghost use Rattle.zarr_codecs_arrays.specs.Outcomes.{IsTooLarge};
@@ -227,12 +229,28 @@ impl<C: ArrayToBytesCodecTraits> ArrayCore<C> {
         }
     }
 
-    /// The value of a chunk with these elements, or `None` where it is to have none.
+    /// Whether a chunk has a value even if all its elements are fill after a write: where empty
+    /// chunks are stored, or the write may encode it in part.
+    pub(crate) fn stores_fill(&self, write: &BoxWrite, own: &ArraySubset) -> bool
+        requires { length write.now.region.start.now ≡ length own.now.start.items }
+        ensures { result ≡ stores_fill (document_of C.meaning self.now) write.now.options.now
+            (extent_of write.now.region) (region_of own.now) }
+    {
+        let (start, shape) = (own.start(), own.shape());
+        write.options.store_empty_chunks
+            || write.options.experimental_partial_encoding
+                && !holds_box(write.region, Extent { start, shape })
+                && self.codecs.partial_encoder_capability()
+    }
+
+    /// The value of a chunk with these elements, or `None` where it is to have none: where they are
+    /// all fill, and such a chunk isn't stored.
     pub(crate) fn encode_chunk(
         &self,
         write: &BoxWrite,
         shape: &[u64],
         bytes: ArrayBytes,
+        store_empty: bool,
     ) -> Result<Option<Vec<u8>>, ChunkError>
         requires small { ¬ IsTooLarge (document_of C.meaning self.now).elements.type
             (product shape.now) }
@@ -242,13 +260,11 @@ impl<C: ArrayToBytesCodecTraits> ArrayCore<C> {
         requires values { list_all (is_value (document_of C.meaning self.now).elements.type)
             (array_cells self.now bytes) ≡ true }
         ensures ok { IfOk result (λ value. IsNewValue (document_of C.meaning self.now)
-            write.now.options.now.store_empty_chunks shape.now
-            (array_cells self.now bytes) (value_bytes value)) }
+            store_empty shape.now (array_cells self.now bytes) (value_bytes value)) }
         ensures err { IfErr result (EncodeStops (document_of C.meaning self.now)
-            write.now.options.now.store_empty_chunks shape.now
-            (array_cells self.now bytes)) }
+            store_empty shape.now (array_cells self.now bytes)) }
     {
-        if !write.options.store_empty_chunks && self.is_all_fill(&bytes) {
+        if !store_empty && self.is_all_fill(&bytes) {
             return Ok(None);
         }
         let value = self.encode_value(write, shape, bytes)?;

@@ -45,6 +45,7 @@ impl<C: ArrayToBytesCodecTraits> ArrayCore<C> {
     ghost use Rattle.zarr_array_core.specs.ChunkValues.{CellsBecome, MergeStops, MakesValue, NewValueStops, with_value};
     ghost use Rattle.zarr_array_core.specs.Outcomes.{CountsUpTo, refused_after};
     ghost use Rattle.zarr_array_core.specs.Views.{array_cells, AreSoMany, document_of};
+    ghost use Rattle.zarr_array_meaning.specs.Writing.{stores_fill};
     ghost use Rattle.zarr_codecs_arrays.specs.Outcomes.{IsTooLarge};
     ghost use Rattle.zarr_codecs_meaning.specs.Fits.{fits};
     ghost use Rattle.zarr_codecs_meaning.specs.Types.{is_value};
@@ -115,13 +116,15 @@ impl<C: ArrayToBytesCodecTraits> ArrayCore<C> {
         ensures ok { IsTrue (S.is_honest store.old) → OnOk result ((made : Option (List ℕ))
             × MakesValue (document_of C.meaning self.now) (extent_of write.now.region)
             (array_cells self.now write.now.bytes.now)
-            write.now.options.now.store_empty_chunks (region_of own.now)
+            (stores_fill (document_of C.meaning self.now) write.now.options.now
+            (extent_of write.now.region) (region_of own.now)) (region_of own.now)
             (map.get (S.held store.old) key.now) made
             × (S.held store.new ≡ with_value (S.held store.old) key.now made)) }
         ensures err { IsTrue (S.is_honest store.old) → IfErr result
             (NewValueStops (document_of C.meaning self.now) (extent_of write.now.region)
             (array_cells self.now write.now.bytes.now)
-            write.now.options.now.store_empty_chunks (region_of own.now)
+            (stores_fill (document_of C.meaning self.now) write.now.options.now
+            (extent_of write.now.region) (region_of own.now)) (region_of own.now)
             (map.get (S.held store.old) key.now)) }
         ensures kept { IsTrue (S.is_honest store.old) →
             OnErr result (S.held store.new ≡ S.held store.old) }
@@ -138,7 +141,8 @@ impl<C: ArrayToBytesCodecTraits> ArrayCore<C> {
             return Err(ChunkError::Fit);
         }
         let bytes = self.cells_after(store, key, write, own)?;
-        let value = self.encode_chunk(write, own.shape(), bytes)?;
+        let empty = self.stores_fill(write, own);
+        let value = self.encode_chunk(write, own.shape(), bytes, empty)?;
         put_value(store, key, value)
     }
 }

@@ -15,6 +15,18 @@ use zarr_grids_boxes::walk::count_places;
 use zarr_grids_keys::StoreKey;
 use zarr_grids_overlay::Extent;
 
+/// Whether a box of an array of this shape has few lines of elements that lie one after another: at
+/// most 16, or one for each 32 elements of the array. What is done is the same either way.
+fn has_few_lines(part: &ArraySubset, shape: &[u64]) -> bool {
+    let (Some(count), Some(all)) = (count_places(part.shape()), count_places(shape)) else {
+        return true;
+    };
+    match part.shape().last() {
+        Some(length) if *length > 0 => count / *length <= 16 || count / *length <= all / 32,
+        _ => true,
+    }
+}
+
 impl<C: ArrayToBytesCodecTraits> ArrayCore<C> {
     ghost use Rattle.std.specs.Prelude.{◌≡◌, ◌*◌, ℕ, List, Option, Some, None, true, false, length, IsTrue, IfOk, OnOk, OnErr, IfErr, IfSome};
     ghost use Rattle.std.specs.FinMap as map;
@@ -24,6 +36,7 @@ impl<C: ArrayToBytesCodecTraits> ArrayCore<C> {
     ghost use Rattle.zarr_array_core.specs.PartWrites.{PatchesChunk};
     ghost use Rattle.zarr_array_core.specs.Views.{array_cells, AreSoMany, document_of};
     ghost use Rattle.zarr_array_core.specs.declared.error.ChunkError.TheVariants.{Memory};
+    ghost use Rattle.zarr_array_meaning.specs.Writing.{stores_fill};
     ghost use Rattle.zarr_array_meaning.specs.Chunks.{holds_box};
     ghost use Rattle.zarr_codecs_arrays.specs.Outcomes.{IsTooLarge};
     ghost use Rattle.zarr_codecs_arrays.specs.Views.{payload_of};
@@ -56,8 +69,8 @@ impl<C: ArrayToBytesCodecTraits> ArrayCore<C> {
     }
 
     /// The ranges to be written into a chunk's value so that the elements of a box are put over its
-    /// own. `None` where the value is to be written whole, as it is where those elements are all
-    /// fill and empty chunks aren't stored.
+    /// own. `None` where the value is to be written whole: where those elements are all fill and the
+    /// chunk may lose its key, or they lie on too many lines to be worth a range each.
     fn chunk_patches(
         &self,
         write: &BoxWrite,
@@ -77,7 +90,8 @@ impl<C: ArrayToBytesCodecTraits> ArrayCore<C> {
         ensures ok { IfOk result (λ found. IfSome found (λ patches.
             PatchesChunk (document_of C.meaning self.now) (extent_of write.now.region)
             (array_cells self.now write.now.bytes.now)
-            write.now.options.now.store_empty_chunks (region_of own.now) patches.items)) }
+            (stores_fill (document_of C.meaning self.now) write.now.options.now
+            (extent_of write.now.region) (region_of own.now)) (region_of own.now) patches.items)) }
         ensures err { IfErr result (λ e. e ≡ Memory) }
     {
         let Ok(shared) = write.subset.overlap(write.alloc, own) else {
@@ -87,7 +101,11 @@ impl<C: ArrayToBytesCodecTraits> ArrayCore<C> {
             return Err(ChunkError::Memory);
         };
         let bytes = self.whole_cells(write, &shared)?;
-        if !write.options.store_empty_chunks && self.is_all_fill(&bytes) {
+        let empty = self.stores_fill(write, own);
+        if !empty && self.is_all_fill(&bytes) {
+            return Ok(None);
+        }
+        if !has_few_lines(&part, own.shape()) {
             return Ok(None);
         }
         match self.encode_part(write.alloc, bytes, own.shape(), &part, write.options) {
@@ -145,13 +163,15 @@ impl<C: ArrayToBytesCodecTraits> ArrayCore<C> {
         ensures ok { IsTrue (S.is_honest store.old) → OnOk result ((made : Option (List ℕ))
             × MakesValue (document_of C.meaning self.now) (extent_of write.now.region)
             (array_cells self.now write.now.bytes.now)
-            write.now.options.now.store_empty_chunks (region_of own.now)
+            (stores_fill (document_of C.meaning self.now) write.now.options.now
+            (extent_of write.now.region) (region_of own.now)) (region_of own.now)
             (map.get (S.held store.old) key.now) made
             × (S.held store.new ≡ with_value (S.held store.old) key.now made)) }
         ensures err { IsTrue (S.is_honest store.old) → IfErr result
             (NewValueStops (document_of C.meaning self.now) (extent_of write.now.region)
             (array_cells self.now write.now.bytes.now)
-            write.now.options.now.store_empty_chunks (region_of own.now)
+            (stores_fill (document_of C.meaning self.now) write.now.options.now
+            (extent_of write.now.region) (region_of own.now)) (region_of own.now)
             (map.get (S.held store.old) key.now)) }
         ensures kept { IsTrue (S.is_honest store.old) →
             OnErr result (S.held store.new ≡ S.held store.old) }
@@ -162,7 +182,8 @@ impl<C: ArrayToBytesCodecTraits> ArrayCore<C> {
             (S.accepted_writes store.new) }
     {
         let bytes = self.part_cells(write, own, None)?;
-        let value = self.encode_chunk(write, own.shape(), bytes)?;
+        let empty = self.stores_fill(write, own);
+        let value = self.encode_chunk(write, own.shape(), bytes, empty)?;
         put_value(store, key, value)
     }
 
@@ -188,7 +209,8 @@ impl<C: ArrayToBytesCodecTraits> ArrayCore<C> {
             (made : Option (List ℕ))
             × MakesValue (document_of C.meaning self.now) (extent_of write.now.region)
             (array_cells self.now write.now.bytes.now)
-            write.now.options.now.store_empty_chunks (region_of own.now)
+            (stores_fill (document_of C.meaning self.now) write.now.options.now
+            (extent_of write.now.region) (region_of own.now)) (region_of own.now)
             (map.get (S.held store.old) key.now) made
             × (S.held store.new ≡ with_value (S.held store.old) key.now made)) }
         ensures undone { IsTrue (S.is_honest store.old) → IfOk result (λ done. done ≡ false →
@@ -196,7 +218,8 @@ impl<C: ArrayToBytesCodecTraits> ArrayCore<C> {
         ensures err { IsTrue (S.is_honest store.old) → IfErr result
             (NewValueStops (document_of C.meaning self.now) (extent_of write.now.region)
             (array_cells self.now write.now.bytes.now)
-            write.now.options.now.store_empty_chunks (region_of own.now)
+            (stores_fill (document_of C.meaning self.now) write.now.options.now
+            (extent_of write.now.region) (region_of own.now)) (region_of own.now)
             (map.get (S.held store.old) key.now)) }
         ensures kept { IsTrue (S.is_honest store.old) →
             OnErr result (S.held store.new ≡ S.held store.old) }

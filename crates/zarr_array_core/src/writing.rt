@@ -28,6 +28,7 @@ impl<C: ArrayToBytesCodecTraits> ArrayCore<C> {
     ghost use Rattle.zarr_array_core.specs.Views.{array_cells, AreSoMany, document_of, path_of};
     ghost use Rattle.zarr_array_core.specs.ChunkValues.{MakesValue, NewValueStops, with_value};
     ghost use Rattle.zarr_array_core.specs.Outcomes.{WritesBox, WriteStops, CountsWrites, CountsUpTo, IsSmall, refused_after, refused_by_many};
+    ghost use Rattle.zarr_array_meaning.specs.Writing.{stores_fill};
 
     /// Writes the elements of a region that is not empty, row-major, chunk by chunk: `bytes` are as
     /// many values of the array's data type as the region has places, and `chunks` is the box of
@@ -150,7 +151,8 @@ impl<C: ArrayToBytesCodecTraits> ArrayCore<C> {
             × IsInGrid (document_of C.meaning self.now).grid chunk.now box
             × MakesValue (document_of C.meaning self.now) (extent_of write.now.region)
             (array_cells self.now write.now.bytes.now)
-            write.now.options.now.store_empty_chunks box (stored_at (path_of self.now)
+            (stores_fill (document_of C.meaning self.now) write.now.options.now
+            (extent_of write.now.region) box) box (stored_at (path_of self.now)
             (document_of C.meaning self.now) (S.held store.old) chunk.now) made
             × (S.held store.new ≡ with_value (S.held store.old) (chunk_key (path_of self.now)
             (document_of C.meaning self.now).keys chunk.now) made)) }
@@ -158,7 +160,8 @@ impl<C: ArrayToBytesCodecTraits> ArrayCore<C> {
             × IsInGrid (document_of C.meaning self.now).grid chunk.now box
             × NewValueStops (document_of C.meaning self.now) (extent_of write.now.region)
             (array_cells self.now write.now.bytes.now)
-            write.now.options.now.store_empty_chunks box (stored_at (path_of self.now)
+            (stores_fill (document_of C.meaning self.now) write.now.options.now
+            (extent_of write.now.region) box) box (stored_at (path_of self.now)
             (document_of C.meaning self.now) (S.held store.old) chunk.now) e) }
         ensures kept { IsTrue (S.is_honest store.old) →
             OnErr result (S.held store.new ≡ S.held store.old) }

@@ -5,7 +5,7 @@ use Rattle.serde_json.specs.Data.{Data, null, boolean, number, string, array, ob
 use Rattle.serde_json.specs.Written.{has_float, items_have_float}
 use Rattle.zarr_grids_metadata.specs.ExtensionPoints.{extension_point, written_point_in}
 use Rattle.zarr_grids_metadata.proofs.PointLemmas.{depth_written_point_in, float_written_point_in}
-use Rattle.zarr_codecs_metadata.specs.Chains.{ReadsCodecs, chain_of, points_in, chain_in}
+use Rattle.zarr_codecs_metadata.specs.Chains.{ReadsCodecs, allowed_chain, points_in, chain_in}
 use Rattle.zarr_array_meaning.specs.Written.{written_points, written_codecs}
 
 -- ---- what a written tree says
@@ -23,7 +23,7 @@ chain_in-written reads null = refl
 chain_in-written reads (boolean b) = refl
 chain_in-written reads (number n) = refl
 chain_in-written reads (string s) = refl
-chain_in-written reads (array ds) = ap (option_and_then (chain_of reads)) (points_in-written ds)
+chain_in-written reads (array ds) = ap (option_and_then (allowed_chain reads)) (points_in-written ds)
 chain_in-written reads (object ms) = refl
 
 -- ---- written again

@@ -1,5 +1,5 @@
 -- The document that is written for one that opens says what that one says, with the mark.
-use Rattle.std.proofs.Common.{◌≡◌, ℕ, suc, ◌≤◌, max, List, length, codes, Bool, true, false, not, ◌==◌, nat_le, Option, Some, None, option_map, option_and_then, unwrap_or, if◌then◌else◌, Result, Ok, Err, refl, ap, ◌∙◌, arith}
+use Rattle.std.proofs.Common.{◌≡◌, ℕ, suc, ◌≤◌, max, List, length, codes, Bool, true, false, not, ◌==◌, nat_le, Option, Some, None, option_map, option_and_then, unwrap_or, Result, Ok, Err, refl, ap, ◌∙◌, arith}
 use Rattle.std.specs.Option.{ok_or}
 use Rattle.std.specs.Result.{result_ok}
 use Rattle.std.proofs.lemmas.Bool.{leb-true, le-leb, not-true, not_from_false}
@@ -12,19 +12,20 @@ use Rattle.zarr_grids_configurations.specs.Grids.{Edges, grid_in}
 use Rattle.zarr_grids_configurations.specs.Numbers.{sizes_in}
 use Rattle.zarr_grids_keys.specs.Keys.{KeyEncoding}
 use Rattle.zarr_grids_keys.specs.EncodingMetadata.{keys_made, keys_in}
-use Rattle.zarr_codecs_meaning.specs.Types.{DataType, is_fixed, Cell}
+use Rattle.zarr_codecs_meaning.specs.Types.{DataType, Cell}
 use Rattle.zarr_codecs_meaning.specs.Chains.{Chain}
-use Rattle.zarr_codecs_types.specs.FillMetadata.{cell_in}
-use Rattle.zarr_codecs_types.specs.Metadata.{point_type}
+use Rattle.zarr_codecs_types.specs.Metadata.{point_type, data_type_in}
 use Rattle.zarr_codecs_metadata.specs.Chains.{ReadsCodecs, chain_in}
 use Rattle.zarr_grids_metadata.specs.ExtensionPoints.{written_point_in}
 use Rattle.zarr_grids_metadata.proofs.PutLemmas.{depth_put, depth_got, float_put, float_got}
-use Rattle.zarr_array_meaning.specs.Parts.{attributes_in, type_in, has_no_transformers, dimension_names_in}
+use Rattle.zarr_array_meaning.specs.Parts.{attributes_in, fill_in, has_no_transformers, dimension_names_in}
 use Rattle.zarr_array_meaning.specs.Documents.{Document, Metadata, FieldsFound, ◌>>=◌, ◌>>◌, check, additional_in, must_understand_any, is_number, is_text, depth_limit, read_metadata, read_document}
-use Rattle.zarr_array_meaning.specs.Written.{written_codecs, mark, marked, written_fields, given_attributes, written_members, written_document, with_mark}
+use Rattle.zarr_array_meaning.specs.Written.{written_codecs, written_fill, type_given, mark, marked, written_fields, given_attributes, written_members, written_document, with_mark}
 use Rattle.zarr_array_meaning.specs.declared.error.DocumentError.{DocumentError}
 use Rattle.zarr_array_meaning.specs.declared.error.DocumentError.TheVariants.{Depth, Float, Fields, AdditionalField, Codecs, DataTypes, ChunkGrid, Dimensionality, FillValue, StorageTransformers, ChunkKeyEncoding, DimensionNames}
 use Rattle.zarr_array_meaning.proofs.Points.{extension_point-written, chain_in-written}
+use Rattle.zarr_array_meaning.proofs.TypeLevels.{levels-type_given}
+use Rattle.zarr_array_meaning.proofs.WrittenFills.{fill_in-written}
 use Rattle.zarr_array_meaning.proofs.WrittenFields.{additional_in-written_fields, additional_in-put, members_depth-written_fields, members_have_float-written_fields}
 use Rattle.zarr_array_meaning.proofs.WrittenDocuments.{marked_attributes, names_given, get_names, get_attributes, get_written, get_left_out, get_plain, names-written}
 
@@ -32,7 +33,7 @@ use Rattle.zarr_array_meaning.proofs.WrittenDocuments.{marked_attributes, names_
 
 additional-written : (ms : Members) → additional_in (written_members ms) ≡ additional_in ms
 additional-written ms =
-    additional_in-put (codes "attributes") (marked_attributes ms) (written_fields (names_given ms) ms) refl ∙ additional_in-written_fields (names_given ms) ms
+    additional_in-put (codes "attributes") (marked_attributes ms) (written_fields (type_given ms) (names_given ms) ms) refl ∙ additional_in-written_fields (type_given ms) (names_given ms) ms
 
 -- ---- depth
 
@@ -56,8 +57,9 @@ attributes_depth ms =
 -- a written document is no deeper than the document and the mark
 depth-written : (ms : Members) → depth (object (written_members ms)) ≤ max (depth (object ms)) 3
 depth-written ms =
-    let fields = written_fields (names_given ms) ms in
-    let h = members_depth-written_fields (names_given ms) ms in
+    let fields = written_fields (type_given ms) (names_given ms) ms in
+    let h = members_depth-written_fields (type_given ms) (names_given ms) ms in
+    let t = levels-type_given ms in
     let g : members_depth (written_members ms) ≤ max (members_depth ms) 2 = depth_put (max (members_depth ms) 2) (codes "attributes") (marked_attributes ms) fields (attributes_depth ms) (omega arith) in
     omega arith
 
@@ -84,7 +86,7 @@ attributes_float ms h =
 
 float-written : (ms : Members) → members_have_float ms ≡ false → members_have_float (written_members ms) ≡ false
 float-written ms h =
-    float_put (codes "attributes") (marked_attributes ms) (written_fields (names_given ms) ms) (attributes_float ms h) (members_have_float-written_fields (names_given ms) ms h)
+    float_put (codes "attributes") (marked_attributes ms) (written_fields (type_given ms) (names_given ms) ms) (attributes_float ms h) (members_have_float-written_fields (type_given ms) (names_given ms) ms h)
 
 exact-written : (ms : Members) → not (has_float (object ms)) ≡ true → not (has_float (object (written_members ms))) ≡ true
 exact-written ms h = not_from_false (members_have_float (written_members ms)) (float-written ms (not-true (members_have_float ms) h))
@@ -96,6 +98,7 @@ written_found found = record found {
   data_type = written_point_in found.data_type;
   chunk_grid = written_point_in found.chunk_grid;
   chunk_key_encoding = written_point_in found.chunk_key_encoding;
+  fill_value = written_fill (data_type_in found.data_type) found.fill_value;
   codecs = written_codecs found.codecs;
   attributes = marked found.attributes;
 }
@@ -116,7 +119,7 @@ fields_from version is_array shape type grid keys fill codecs attributes = do
 fields_from-written : (version is_array : Bool) (shape : Option (List ℕ)) (type grid keys fill codecs : Option Data) (attributes new : Option Members) (found : FieldsFound)
     → ((ms : Members) → attributes ≡ Some ms → new ≡ Some (marked ms))
     → fields_from version is_array shape type grid keys fill codecs attributes ≡ Ok found
-    → fields_from version is_array shape (option_map written_point_in type) (option_map written_point_in grid) (option_map written_point_in keys) fill (option_map written_codecs codecs) new ≡ Ok (written_found found)
+    → fields_from version is_array shape (option_map written_point_in type) (option_map written_point_in grid) (option_map written_point_in keys) (option_map (written_fill (option_and_then data_type_in type)) fill) (option_map written_codecs codecs) new ≡ Ok (written_found found)
 fields_from-written false a s t g k v c m n f h is = absurd (cc)
 fields_from-written true false s t g k v c m n f h is = absurd (cc)
 fields_from-written true true None t g k v c m n f h is = absurd (cc)
@@ -144,7 +147,7 @@ fields-written : (ms : Members) (found : FieldsFound) → fields_of ms ≡ Ok fo
 fields-written ms found is =
     rw (get_plain (codes "zarr_format") ms refl refl (λ d. refl), get_plain (codes "node_type") ms refl refl (λ d. refl), get_plain (codes "shape") ms refl refl (λ d. refl))
     (rw (get_written (codes "data_type") ms refl refl, get_written (codes "chunk_grid") ms refl refl, get_written (codes "chunk_key_encoding") ms refl refl)
-    (rw (get_plain (codes "fill_value") ms refl refl (λ d. refl), get_written (codes "codecs") ms refl refl, get_attributes ms)
+    (rw (get_written (codes "fill_value") ms refl refl, get_written (codes "codecs") ms refl refl, get_attributes ms)
     (fields_from-written (is_number 3 (get_member (codes "zarr_format") ms)) (is_text (codes "array") (get_member (codes "node_type") ms)) (option_and_then sizes_in (get_member (codes "shape") ms))
     (get_member (codes "data_type") ms) (get_member (codes "chunk_grid") ms) (get_member (codes "chunk_key_encoding") ms) (get_member (codes "fill_value") ms) (get_member (codes "codecs") ms)
     (attributes_in (get_member (codes "attributes") ms)) (Some (marked (given_attributes ms))) found
@@ -152,8 +155,8 @@ fields-written ms found is =
 
 -- ---- the checks after the fields
 
-type_in-written : (d : Data) → type_in (written_point_in d) ≡ type_in d
-type_in-written d = ap (λ point. option_and_then (λ type. if is_fixed type then Some type else None) (option_and_then point_type point)) (extension_point-written d)
+data_type_in-written : (d : Data) → data_type_in (written_point_in d) ≡ data_type_in d
+data_type_in-written d = ap (option_and_then point_type) (extension_point-written d)
 
 configuration_in-written : (d : Data) → configuration_in (written_point_in d) ≡ configuration_in d
 configuration_in-written d = ap (option_and_then configuration_of_point) (extension_point-written d)
@@ -185,13 +188,13 @@ late same grid fill plain keys names shape attributes additional chain type = do
   Ok (record { document = record { shape = shape; elements = record { type = type; fill = fill }; grid = grid; keys = keys; chain = chain }; attributes = attributes; dimension_names = names; additional_fields = additional })
 
 early-written : (understood : Bool) (chain : Option Chain) (type : Option DataType) (configuration : Option (List Edges)) (rest new : Rest) (m n : Metadata)
-    → ((c : Chain) (t : DataType) (es : List Edges) → rest c t es ≡ Ok m → new c t es ≡ Ok n)
+    → ((c : Chain) (t : DataType) (es : List Edges) → type ≡ Some t → rest c t es ≡ Ok m → new c t es ≡ Ok n)
     → early understood chain type configuration rest ≡ Ok m → early understood chain type configuration new ≡ Ok n
 early-written false c t es rest new m n h is = absurd (cc)
 early-written true None t es rest new m n h is = absurd (cc)
 early-written true (Some c) None es rest new m n h is = absurd (cc)
 early-written true (Some c) (Some t) None rest new m n h is = absurd (cc)
-early-written true (Some c) (Some t) (Some es) rest new m n h is = h c t es is
+early-written true (Some c) (Some t) (Some es) rest new m n h is = h c t es refl is
 
 late-written : (same : Bool) (grid : Option Grid) (fill : Option Cell) (plain : Bool) (keys : Option KeyEncoding) (names : Option (Option (List (Option (List ℕ))))) (shape : List ℕ) (attributes additional : Members)
     → (c : Chain) (t : DataType) (m : Metadata)
@@ -206,21 +209,24 @@ late-written true (Some g) (Some f) true (Some k) (Some n) shape as' xs c t m is
     let e : record { document = record { shape = shape; elements = record { type = t; fill = f }; grid = g; keys = k; chain = c }; attributes = as'; dimension_names = n; additional_fields = xs } ≡ m = cc in
     ap (λ r. Ok (with_mark r)) e
 
+fill_at : (type : Option DataType) (t : DataType) (d : Data) → type ≡ Some t → fill_in t (written_fill type d) ≡ fill_in t d
+fill_at type t d is = ap (λ o. fill_in t (written_fill o d)) is ∙ fill_in-written t d
+
 -- what follows once the fields were found
 abbrev after_fields : ReadsCodecs → Members → Option Data → Option Data → FieldsFound → Result Metadata DocumentError
 after_fields reads additional transformers names found =
-    early (not (must_understand_any additional)) (chain_in reads found.codecs) (type_in found.data_type) (configuration_in found.chunk_grid)
-    (λ chain type configuration. late (length configuration == length found.shape) (grid_in found.shape configuration) (cell_in type found.fill_value) (has_no_transformers transformers) (keys_in found.chunk_key_encoding)
+    early (not (must_understand_any additional)) (chain_in reads found.codecs) (data_type_in found.data_type) (configuration_in found.chunk_grid)
+    (λ chain type configuration. late (length configuration == length found.shape) (grid_in found.shape configuration) (fill_in type found.fill_value) (has_no_transformers transformers) (keys_in found.chunk_key_encoding)
     (dimension_names_in (length found.shape) names) found.shape found.attributes additional chain type)
 
 after_fields-written : (reads : ReadsCodecs) (additional : Members) (transformers names new : Option Data) (found : FieldsFound) (m : Metadata) → ((n : ℕ) → dimension_names_in n new ≡ dimension_names_in n names)
     → after_fields reads additional transformers names found ≡ Ok m → after_fields reads additional None new (written_found found) ≡ Ok (with_mark m)
 after_fields-written reads additional transformers names new found m same is =
-    rw (chain_in-written reads found.codecs, type_in-written found.data_type, configuration_in-written found.chunk_grid)
-    (early-written (not (must_understand_any additional)) (chain_in reads found.codecs) (type_in found.data_type) (configuration_in found.chunk_grid) _ _ m (with_mark m)
-    (λ c t es h.
-    rw (keys_in-written found.chunk_key_encoding, same (length found.shape))
-    (late-written (length es == length found.shape) (grid_in found.shape es) (cell_in t found.fill_value) (has_no_transformers transformers) (keys_in found.chunk_key_encoding) (dimension_names_in (length found.shape) names)
+    rw (chain_in-written reads found.codecs, data_type_in-written found.data_type, configuration_in-written found.chunk_grid)
+    (early-written (not (must_understand_any additional)) (chain_in reads found.codecs) (data_type_in found.data_type) (configuration_in found.chunk_grid) _ _ m (with_mark m)
+    (λ c t es e h.
+    rw (keys_in-written found.chunk_key_encoding, same (length found.shape), fill_at (data_type_in found.data_type) t found.fill_value e)
+    (late-written (length es == length found.shape) (grid_in found.shape es) (fill_in t found.fill_value) (has_no_transformers transformers) (keys_in found.chunk_key_encoding) (dimension_names_in (length found.shape) names)
     found.shape found.attributes additional c t m h)) is)
 
 -- ---- all checks

@@ -20,7 +20,7 @@ first_value test fill (Some []) one law = one
 first_value test fill (Some (c ∷ cs)) one law = (and_parts (test c) (list_all test cs) (law (c ∷ cs) refl)).0
 
 -- where the chunk fits, or has no value
-stored_value : (chain : Chain) (elements : Elements) (shape : List ℕ) (stored : Option (List ℕ)) (n : ℕ) → is_value elements.type elements.fill ≡ true → (is_some stored ≡ true → fits chain elements.type shape ≡ true)
+pub stored_value : (chain : Chain) (elements : Elements) (shape : List ℕ) (stored : Option (List ℕ)) (n : ℕ) → is_value elements.type elements.fill ≡ true → (is_some stored ≡ true → fits chain elements.type shape ≡ true)
     → is_value elements.type (first_cell elements.fill (chunk_part chain elements shape stored (n ∷ []))) ≡ true
 stored_value chain elements shape None n fill fit = fill
 stored_value chain elements shape (Some value) n fill fit =

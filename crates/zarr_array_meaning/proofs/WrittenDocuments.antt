@@ -1,10 +1,14 @@
 -- Written documents: they open, say the same with the mark, and stay when they are written again.
-use Rattle.std.proofs.Common.{◌≡◌, ℕ, List, bytes_eq, codes, Bool, true, false, Option, Some, None, option_map, if◌then◌else◌, refl, ap, ◌∙◌}
+use Rattle.std.proofs.Common.{◌≡◌, ℕ, List, bytes_eq, codes, Bool, true, false, Option, Some, None, option_map, option_and_then, if◌then◌else◌, refl, ap, ◌∙◌}
 use Rattle.serde_json.specs.Data.{Data, null, boolean, number, string, array, object, Members, put}
 use Rattle.serde_json.specs.Find.{get_member}
 use Rattle.zarr_grids_metadata.proofs.PutLemmas.{get_put_same, get_put_other, put_put}
+use Rattle.zarr_grids_metadata.specs.ExtensionPoints.{written_point_in}
+use Rattle.zarr_codecs_meaning.specs.Types.{DataType}
+use Rattle.zarr_codecs_types.specs.Metadata.{data_type_in, point_type}
+use Rattle.zarr_array_meaning.proofs.Points.{extension_point-written}
 use Rattle.zarr_array_meaning.specs.Parts.{dimension_names_in}
-use Rattle.zarr_array_meaning.specs.Written.{mark, marked, is_given, is_left_out, written_value, written_fields, given_attributes, written_members, written_document}
+use Rattle.zarr_array_meaning.specs.Written.{mark, marked, is_given, is_left_out, type_given, written_value, written_fields, given_attributes, written_members, written_document}
 use Rattle.zarr_array_meaning.proofs.WrittenFields.{get_member-written_fields, get_member-left_out, written_fields-put}
 
 -- ---- the fields
@@ -17,24 +21,24 @@ abbrev pub names_given : Members → Bool
 names_given ms = is_given (get_member (codes "dimension_names") ms)
 
 pub get_attributes : (ms : Members) → get_member (codes "attributes") (written_members ms) ≡ Some (marked_attributes ms)
-get_attributes ms = get_put_same (codes "attributes") (marked_attributes ms) (written_fields (names_given ms) ms)
+get_attributes ms = get_put_same (codes "attributes") (marked_attributes ms) (written_fields (type_given ms) (names_given ms) ms)
 
 -- a field that stands beside the attributes, and is written
-pub get_written : (k : List ℕ) (ms : Members) → bytes_eq k (codes "attributes") ≡ false → is_left_out (names_given ms) k ≡ false → get_member k (written_members ms) ≡ option_map (written_value k) (get_member k ms)
+pub get_written : (k : List ℕ) (ms : Members) → bytes_eq k (codes "attributes") ≡ false → is_left_out (names_given ms) k ≡ false → get_member k (written_members ms) ≡ option_map (written_value (type_given ms) k) (get_member k ms)
 get_written k ms apart kept =
-    get_put_other k (codes "attributes") (marked_attributes ms) (written_fields (names_given ms) ms) apart ∙ get_member-written_fields (names_given ms) k ms kept
+    get_put_other k (codes "attributes") (marked_attributes ms) (written_fields (type_given ms) (names_given ms) ms) apart ∙ get_member-written_fields (type_given ms) (names_given ms) k ms kept
 
 pub get_left_out : (k : List ℕ) (ms : Members) → bytes_eq k (codes "attributes") ≡ false → is_left_out (names_given ms) k ≡ true → get_member k (written_members ms) ≡ None
 get_left_out k ms apart out =
-    get_put_other k (codes "attributes") (marked_attributes ms) (written_fields (names_given ms) ms) apart ∙ get_member-left_out (names_given ms) k ms out
+    get_put_other k (codes "attributes") (marked_attributes ms) (written_fields (type_given ms) (names_given ms) ms) apart ∙ get_member-left_out (type_given ms) (names_given ms) k ms out
 
-plain : (k : List ℕ) (o : Option Data) → ((d : Data) → written_value k d ≡ d) → option_map (written_value k) o ≡ o
-plain k None h = refl
-plain k (Some d) h = rw (h d)
+plain : (type : Option DataType) (k : List ℕ) (o : Option Data) → ((d : Data) → written_value type k d ≡ d) → option_map (written_value type k) o ≡ o
+plain type k None h = refl
+plain type k (Some d) h = rw (h d)
 
 -- one that is written as it is
-pub get_plain : (k : List ℕ) (ms : Members) → bytes_eq k (codes "attributes") ≡ false → is_left_out (names_given ms) k ≡ false → ((d : Data) → written_value k d ≡ d) → get_member k (written_members ms) ≡ get_member k ms
-get_plain k ms apart kept h = get_written k ms apart kept ∙ plain k (get_member k ms) h
+pub get_plain : (k : List ℕ) (ms : Members) → bytes_eq k (codes "attributes") ≡ false → is_left_out (names_given ms) k ≡ false → ((d : Data) → written_value (type_given ms) k d ≡ d) → get_member k (written_members ms) ≡ get_member k ms
+get_plain k ms apart kept h = get_written k ms apart kept ∙ plain (type_given ms) k (get_member k ms) h
 
 -- ---- the names
 
@@ -64,6 +68,15 @@ names_at (Some (object ms)) dimensions = refl
 pub names-written : (ms : Members) (dimensions : ℕ) → dimension_names_in dimensions (get_names (written_members ms)) ≡ dimension_names_in dimensions (get_names ms)
 names-written ms dimensions = ap (dimension_names_in dimensions) (get_names_at (names_given ms) ms refl) ∙ names_at (get_names ms) dimensions
 
+-- ---- the data type
+
+type_given_at : (o : Option Data) → option_and_then data_type_in (option_map written_point_in o) ≡ option_and_then data_type_in o
+type_given_at None = refl
+type_given_at (Some d) = ap (option_and_then point_type) (extension_point-written d)
+
+type_given-written : (ms : Members) → type_given (written_members ms) ≡ type_given ms
+type_given-written ms = ap (option_and_then data_type_in) (get_written (codes "data_type") ms refl refl) ∙ type_given_at (get_member (codes "data_type") ms)
+
 -- ---- written once
 
 given_attributes-written : (ms : Members) → given_attributes (written_members ms) ≡ marked (given_attributes ms)
@@ -73,11 +86,12 @@ written_members-twice : (ms : Members) → written_members (written_members ms) 
 written_members-twice ms =
     let written = written_members ms in
     let attributes = marked_attributes ms in
-    let fields = written_fields (names_given ms) ms in
+    let fields = written_fields (type_given ms) (names_given ms) ms in
     let same : marked_attributes written ≡ attributes = ap (λ as'. object (marked as')) (given_attributes-written ms) ∙ ap object (put_put (codes "_zarrs") mark mark (given_attributes ms)) in
-    ap (λ d. put (codes "attributes") d (written_fields (names_given written) written)) same
-    ∙ ap (λ given. put (codes "attributes") attributes (written_fields given written)) (names_given-written ms)
-    ∙ ap (put (codes "attributes") attributes) (written_fields-put (names_given ms) (codes "attributes") attributes ms refl refl)
+    ap (λ d. put (codes "attributes") d (written_fields (type_given written) (names_given written) written)) same
+    ∙ ap (λ type. put (codes "attributes") attributes (written_fields type (names_given written) written)) (type_given-written ms)
+    ∙ ap (λ given. put (codes "attributes") attributes (written_fields (type_given ms) given written)) (names_given-written ms)
+    ∙ ap (put (codes "attributes") attributes) (written_fields-put (type_given ms) (names_given ms) (codes "attributes") attributes ms refl refl)
     ∙ put_put (codes "attributes") attributes attributes fields
 
 pub written_document-twice : (d : Data) → written_document (written_document d) ≡ written_document d

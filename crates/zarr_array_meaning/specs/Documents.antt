@@ -13,10 +13,10 @@ use Rattle.zarr_grids_keys.specs.Keys.{KeyEncoding}
 use Rattle.zarr_grids_keys.specs.EncodingMetadata.{keys_in}
 use Rattle.zarr_codecs_meaning.specs.Types.{Elements}
 use Rattle.zarr_codecs_meaning.specs.Chains.{Chain}
-use Rattle.zarr_codecs_types.specs.FillMetadata.{cell_in}
+use Rattle.zarr_codecs_types.specs.Metadata.{data_type_in}
 use Rattle.zarr_codecs_metadata.specs.Chains.{ReadsCodecs, chain_in}
 use Rattle.zarr_grids_metadata.specs.ExtensionPoints.{must_understand_field}
-use Rattle.zarr_array_meaning.specs.Parts.{attributes_in, type_in, has_no_transformers, dimension_names_in}
+use Rattle.zarr_array_meaning.specs.Parts.{attributes_in, fill_in, has_no_transformers, dimension_names_in}
 use Rattle.zarr_array_meaning.specs.declared.error.DocumentError.{DocumentError}
 use Rattle.zarr_array_meaning.specs.declared.error.DocumentError.TheVariants.{Depth, Float, Fields, AdditionalField, Codecs, DataTypes, ChunkGrid, Dimensionality, FillValue, StorageTransformers, ChunkKeyEncoding, DimensionNames}
 
@@ -127,11 +127,11 @@ read_members reads ms = do
   found ← fields_in ms
   check (not (must_understand_any (additional_in ms))) AdditionalField
   chain ← ok_or (chain_in reads found.codecs) Codecs
-  type ← ok_or (type_in found.data_type) DataTypes
+  type ← ok_or (data_type_in found.data_type) DataTypes
   configuration ← ok_or (configuration_in found.chunk_grid) ChunkGrid
   check (length configuration == length found.shape) Dimensionality
   grid ← ok_or (grid_in found.shape configuration) ChunkGrid
-  fill ← ok_or (cell_in type found.fill_value) FillValue
+  fill ← ok_or (fill_in type found.fill_value) FillValue
   check (has_no_transformers (get_member (codes "storage_transformers") ms)) StorageTransformers
   keys ← ok_or (keys_in found.chunk_key_encoding) ChunkKeyEncoding
   names ← ok_or (dimension_names_in (length found.shape) (get_member (codes "dimension_names") ms)) DimensionNames

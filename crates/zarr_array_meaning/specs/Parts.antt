@@ -2,12 +2,12 @@
 use Rattle.std.specs.Prelude.{ℕ, List, [], ◌∷◌, length, Bool, true, false, ◌==◌, if◌then◌else◌, Option, Some, None, option_map, option_and_then}
 use Rattle.serde_json.specs.Data.{Data, null, boolean, number, string, array, object, Items, no_items, item, Members, no_members}
 use Rattle.serde_json.specs.Find.{as_object}
-use Rattle.zarr_codecs_meaning.specs.Types.{DataType, is_fixed}
-use Rattle.zarr_codecs_types.specs.Metadata.{data_type_in}
+use Rattle.zarr_codecs_meaning.specs.Types.{DataType, Cell, is_value}
+use Rattle.zarr_codecs_types.specs.FillMetadata.{cell_in}
 
--- the data type that the member `data_type` says: of the types that have a name those of elements of one size
-abbrev pub type_in : Data → Option DataType
-type_in d = option_and_then (λ type. if is_fixed type then Some type else None) (data_type_in d)
+-- the fill value that the member `fill_value` says: a value of the data type
+abbrev pub fill_in : DataType → Data → Option Cell
+fill_in type d = option_and_then (λ cell. if is_value type cell then Some cell else None) (cell_in type d)
 
 -- the attributes: an object, or none at all
 abbrev pub attributes_in : Option Data → Option Members

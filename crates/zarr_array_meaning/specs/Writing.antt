@@ -1,5 +1,5 @@
 -- What writing a box of cells makes of the chunks that it intersects.
-use Rattle.std.specs.Prelude.{◌≡◌, ◌⊎◌, ℕ, ◌^◌, ◌≤◌, List, length, replicate, Some, None, Bool, true, false, not, ◌&&◌, is_some, MatchBool}
+use Rattle.std.specs.Prelude.{◌≡◌, ◌⊎◌, ℕ, ◌^◌, ◌≤◌, List, length, replicate, Some, None, Bool, true, false, not, ◌&&◌, ◌||◌, is_some, MatchBool}
 use Rattle.zarr_grids_boxes.specs.Boxes.{Region, product, is_in_box}
 use Rattle.zarr_grids_chunks.specs.Grids.{IsInGrid}
 use Rattle.zarr_codecs_meaning.specs.Types.{Cell, is_fill}
@@ -29,7 +29,7 @@ pub record IsPartDamaged (path : List ℕ) (document : Document) (store : StoreM
   pub part : holds_box region box ≡ false
   pub lost : decoded_at path document store chunk box ≡ None
 
--- the caller's codec refuses bytes that encoding the chunk's new cells calls for; cells that are all fill are encoded only where empty chunks are stored
+-- the caller's codec refuses bytes that encoding the chunk's new cells calls for; cells that are all fill are encoded only where such a chunk is stored
 pub record IsCodecRefused (path : List ℕ) (document : Document) (store : StoreMap) (region : Region) (values : List Cell) (store_empty : Bool) (chunk : List ℕ) (box : Region) : Type 0 where
   pub fit : fits_box document box ≡ true
   pub cells : List Cell
@@ -49,11 +49,15 @@ pub record IsOversized (path : List ℕ) (document : Document) (store : StoreMap
 abbrev pub may_be_in_part : Document → CodecOptions → Region → Region → Bool
 may_be_in_part document options region box = options.experimental_partial_encoding && (not (holds_box region box) && encodes_in_part document.chain)
 
--- of these chunks each that is written whole has a key where empty chunks are stored; where they aren't, none has a value that stands for the fill value alone
+-- whether a chunk that is written has a key even if all its cells are fill: empty chunks are stored, or the write may encode it in part
+abbrev pub stores_fill : Document → CodecOptions → Region → Region → Bool
+stores_fill document options region box = options.store_empty_chunks || may_be_in_part document options region box
+
+-- of these chunks each that is stored even if all its cells are fill has a key; no other has a value that stands for the fill value alone
 pub record HasKeys (path : List ℕ) (document : Document) (region : Region) (options : CodecOptions) (chunks : List (List ℕ)) (store : StoreMap) : Type 0 where
-  pub stored : options.store_empty_chunks ≡ true → (chunk : List ℕ) (box : Region) → IsInGrid document.grid chunk box → may_be_in_part document options region box ≡ false → is_listed chunks chunk ≡ true
+  pub stored : (chunk : List ℕ) (box : Region) → IsInGrid document.grid chunk box → stores_fill document options region box ≡ true → is_listed chunks chunk ≡ true
       → is_some (stored_at path document store chunk) ≡ true
-  pub erased : IsLossless document → options.store_empty_chunks ≡ false → (chunk : List ℕ) (box : Region) → IsInGrid document.grid chunk box → may_be_in_part document options region box ≡ false → is_listed chunks chunk ≡ true
+  pub erased : IsLossless document → (chunk : List ℕ) (box : Region) → IsInGrid document.grid chunk box → stores_fill document options region box ≡ false → is_listed chunks chunk ≡ true
       → (value : List ℕ) → stored_at path document store chunk ≡ Some value → ¬ Stands document.chain document.elements box.shape value (replicate (product box.shape) document.elements.fill)
 
 -- whatever was stored, each of these chunks is read as the given cells at the places of the box, and as before at its other places

@@ -1,9 +1,12 @@
--- The documents that are written (this project's profile): the tree of a document that was read, with each extension point in its shortest form and a mark among the attributes.
+-- The documents that are written (this project's profile): the tree of a document that was read, with each extension point in its shortest form, bytes as lists in the fill value, and a mark among the attributes.
 use Rattle.std.specs.Prelude.{ℕ, List, [], ◌∷◌, bytes_eq, codes, Bool, true, false, not, ◌&&◌, ◌||◌, if◌then◌else◌, Option, Some, None, option_and_then, unwrap_or}
 use Rattle.std.specs.List.{list_any}
 use Rattle.serde_json.specs.Data.{Data, null, boolean, number, string, array, object, Items, no_items, item, Members, no_members, member, put}
 use Rattle.serde_json.specs.Find.{get_member, as_object}
 use Rattle.zarr_grids_metadata.specs.ExtensionPoints.{written_point_in}
+use Rattle.zarr_codecs_meaning.specs.Types.{DataType}
+use Rattle.zarr_codecs_types.specs.FillMetadata.{cell_in, cell_data}
+use Rattle.zarr_codecs_types.specs.Metadata.{data_type_in}
 use Rattle.zarr_array_meaning.specs.Documents.{Metadata}
 
 -- each extension point of a list, as it is written
@@ -19,6 +22,15 @@ written_codecs (number n) = number n
 written_codecs (string s) = string s
 written_codecs (array ds) = array (written_points ds)
 written_codecs (object ms) = object ms
+
+-- a fill value as it is written: what is written for its cell, so that bytes are a list and not base64; what says no cell of the data type stays
+abbrev pub written_fill : Option DataType → Data → Data
+written_fill None d = d
+written_fill (Some type) d = unwrap_or (option_and_then (cell_data type) (cell_in type d)) d
+
+-- the data type that a document's fields give
+abbrev pub type_given : Members → Option DataType
+type_given ms = option_and_then data_type_in (get_member (codes "data_type") ms)
 
 -- the mark that is put among the attributes
 abbrev pub mark : Data
@@ -49,18 +61,20 @@ is_given (Some (object ms)) = true
 abbrev pub is_left_out : Bool → List ℕ → Bool
 is_left_out has_names name = bytes_eq name (codes "storage_transformers") || (bytes_eq name (codes "dimension_names") && not has_names)
 
--- the value of a field, as it is written
-abbrev pub written_value : List ℕ → Data → Data
-written_value name d = if list_any (bytes_eq name) point_names then written_point_in d else (if bytes_eq name (codes "codecs") then written_codecs d else d)
+-- the value of a field, as it is written where the fill value is of this data type
+abbrev pub written_value : Option DataType → List ℕ → Data → Data
+written_value type name d =
+    if list_any (bytes_eq name) point_names then written_point_in d
+    else (if bytes_eq name (codes "codecs") then written_codecs d else (if bytes_eq name (codes "fill_value") then written_fill type d else d))
 
 -- the fields that are written, each with its value
-abbrev pub written_fields : Bool → Members → Members
-written_fields has_names no_members = no_members
-written_fields has_names (member name d ms) = if is_left_out has_names name then written_fields has_names ms else member name (written_value name d) (written_fields has_names ms)
+abbrev pub written_fields : Option DataType → Bool → Members → Members
+written_fields type has_names no_members = no_members
+written_fields type has_names (member name d ms) = if is_left_out has_names name then written_fields type has_names ms else member name (written_value type name d) (written_fields type has_names ms)
 
 -- members with a field that is put among them as it is written, unless it is left out
-abbrev pub with_field : Bool → List ℕ → Data → Members → Members
-with_field has_names name d ms = if is_left_out has_names name then ms else put name (written_value name d) ms
+abbrev pub with_field : Option DataType → Bool → List ℕ → Data → Members → Members
+with_field type has_names name d ms = if is_left_out has_names name then ms else put name (written_value type name d) ms
 
 -- the attributes that a document gives
 abbrev pub given_attributes : Members → Members
@@ -68,9 +82,9 @@ given_attributes ms = unwrap_or (option_and_then as_object (get_member (codes "a
 
 -- the document that is written for a document
 abbrev pub written_members : Members → Members
-written_members ms = put (codes "attributes") (object (marked (given_attributes ms))) (written_fields (is_given (get_member (codes "dimension_names") ms)) ms)
+written_members ms = put (codes "attributes") (object (marked (given_attributes ms))) (written_fields (type_given ms) (is_given (get_member (codes "dimension_names") ms)) ms)
 
--- the document that is written for a document: each extension point in its shortest form, no storage transformers, no null names, and the attribute `_zarrs` added to the given ones; a tree that is no object stays
+-- the document that is written for a document: each extension point in its shortest form, the fill value as its cell is written, no storage transformers, no null names, and the attribute `_zarrs` added to the given ones; a tree that is no object stays
 abbrev pub written_document : Data → Data
 written_document null = null
 written_document (boolean b) = boolean b

@@ -1,5 +1,5 @@
 -- Members in the order of their names: one that is put at the end stays there.
-use Rattle.std.proofs.Common.{◌≡◌, ℕ, List, [], ◌∷◌, Bool, true, false, if◌then◌else◌, String, Global, Less, Greater, string_bytes, string_cmp, nat_cmp, refl, sym, ap, ◌∙◌}
+use Rattle.std.proofs.Common.{◌≡◌, ℕ, List, [], ◌∷◌, Bool, true, false, if◌then◌else◌, Option, String, Global, Less, Greater, string_bytes, string_cmp, nat_cmp, refl, sym, ap, ◌∙◌}
 use Rattle.std.specs.Cmp.Lexicographic.{slice_cmp}
 use Rattle.std.specs.List.{AllByRecursion}
 use Rattle.std.specs.List.Sorted.{IsStrictlySortedBy}
@@ -9,6 +9,7 @@ use Rattle.std.proofs.lemmas.Cmp.{nat_list_cmp_total}
 use Rattle.serde_json.specs.Data.{Data, Members, no_members, member, put}
 use Rattle.serde_json.specs.View.{view, members_view}
 use Rattle.serde_json.proofs.Views.{Entry}
+use Rattle.zarr_codecs_meaning.specs.Types.{DataType}
 use Rattle.zarr_array_meaning.specs.Written.{is_left_out, written_value, written_fields, with_field}
 
 -- a name comes before that of each member
@@ -72,9 +73,9 @@ joined_last (member l e done) k d more = ap (member l e) (joined_last done k d m
 -- ---- a walk that writes fields
 
 -- `done` was written for the fields that were passed, and `rest` is left
-pub record Walk (given : Bool) (all done rest : Members) : Type 0 where
+pub record Walk (type : Option DataType) (given : Bool) (all done rest : Members) : Type 0 where
   pub ascends : IsAscending (joined done rest)
-  pub goes_on : written_fields given all ≡ joined done (written_fields given rest)
+  pub goes_on : written_fields type given all ≡ joined done (written_fields type given rest)
 
 ascends_at : (left_out : Bool) (k : List ℕ) (d f : Data) (done rest : Members) → IsAscending (joined done (member k d rest)) → IsAscending (joined (if left_out then done else put k f done) rest)
 ascends_at true k d f done rest h = ascending_without done k d rest h
@@ -86,20 +87,20 @@ goes_on_at true k d f done rest fields h = refl
 goes_on_at false k d f done rest fields h = rw (put_last done k d f rest h, joined_last done k f fields)
 
 -- at first all fields are left
-pub Walk-none : (given : Bool) (es left written : List Entry) → IsStrictlySortedBy string_cmp (keys_of es) → left ≡ es → written ≡ [] → Walk given (members_view es) (members_view written) (members_view left)
-Walk-none given es left written ordered is none = rw (is, none) (record { ascends = IsAscending-entries es ordered; goes_on = refl })
+pub Walk-none : (type : Option DataType) (given : Bool) (es left written : List Entry) → IsStrictlySortedBy string_cmp (keys_of es) → left ≡ es → written ≡ [] → Walk type given (members_view es) (members_view written) (members_view left)
+Walk-none type given es left written ordered is none = rw (is, none) (record { ascends = IsAscending-entries es ordered; goes_on = refl })
 
 -- one field more
-pub Walk-more : (given : Bool) (all done : Members) (left : List Entry) (e : Entry) (rest : List Entry) (name : List ℕ) (new : Members)
-    → Walk given all done (members_view left) → left ≡ e ∷ rest → name ≡ string_bytes e.0 → new ≡ with_field given name (view e.1) done → Walk given all new (members_view rest)
-Walk-more given all done left e rest name new walk is named made =
+pub Walk-more : (type : Option DataType) (given : Bool) (all done : Members) (left : List Entry) (e : Entry) (rest : List Entry) (name : List ℕ) (new : Members)
+    → Walk type given all done (members_view left) → left ≡ e ∷ rest → name ≡ string_bytes e.0 → new ≡ with_field type given name (view e.1) done → Walk type given all new (members_view rest)
+Walk-more type given all done left e rest name new walk is named made =
     let k = string_bytes e.0 in
     let d = view e.1 in
-    let here : Walk given all done (member k d (members_view rest)) = rw (ap members_view is) at walk in
-    let same : new ≡ with_field given k d done = made ∙ ap (λ n. with_field given n d done) named in
+    let here : Walk type given all done (member k d (members_view rest)) = rw (ap members_view is) at walk in
+    let same : new ≡ with_field type given k d done = made ∙ ap (λ n. with_field type given n d done) named in
     rw same (record {
-      ascends = ascends_at (is_left_out given k) k d (written_value k d) done (members_view rest) here.ascends;
-      goes_on = here.goes_on ∙ goes_on_at (is_left_out given k) k d (written_value k d) done (members_view rest) (written_fields given (members_view rest)) here.ascends;
+      ascends = ascends_at (is_left_out given k) k d (written_value type k d) done (members_view rest) here.ascends;
+      goes_on = here.goes_on ∙ goes_on_at (is_left_out given k) k d (written_value type k d) done (members_view rest) (written_fields type given (members_view rest)) here.ascends;
     })
 
 joined_none : (done : Members) → joined done no_members ≡ done
@@ -107,7 +108,7 @@ joined_none no_members = refl
 joined_none (member k d done) = ap (member k d) (joined_none done)
 
 -- at last none is left
-pub Walk-all : (given : Bool) (all done : Members) (left : List Entry) → Walk given all done (members_view left) → left ≡ [] → done ≡ written_fields given all
-Walk-all given all done left walk is =
-    let here : Walk given all done no_members = rw (ap members_view is) at walk in
+pub Walk-all : (type : Option DataType) (given : Bool) (all done : Members) (left : List Entry) → Walk type given all done (members_view left) → left ≡ [] → done ≡ written_fields type given all
+Walk-all type given all done left walk is =
+    let here : Walk type given all done no_members = rw (ap members_view is) at walk in
     sym (here.goes_on ∙ joined_none done)

@@ -1,7 +1,6 @@
 -- The chunk grid of a document, by the checks that it passes.
 use Rattle.std.proofs.Common.{◌≡◌, ℕ, suc, List, [], ◌∷◌, length, map, Bool, true, false, ◌==◌, Option, Some, None, option_map, option_and_then, Result, Ok, Err, refl, sym, ap, ◌∙◌}
 use Rattle.std.specs.Option.{ok_or}
-use Rattle.std.proofs.lemmas.Bool.{ne_eqb}
 use Rattle.serde_json.specs.Data.{Data, Members}
 use Rattle.zarr_grids_chunks.specs.Grids.{Grid, Dimension}
 use Rattle.zarr_grids_dimensions.specs.Lookups.{size_of}
@@ -12,9 +11,9 @@ use Rattle.zarr_grids_chunk_grids.specs.declared.chunk_grid.ChunkGrid.{ChunkGrid
 use Rattle.zarr_grids_chunk_grids.proofs.Made.{grid-of_configuration}
 use Rattle.zarr_codecs_meaning.specs.Types.{DataType}
 use Rattle.zarr_codecs_meaning.specs.Chains.{Chain}
+use Rattle.zarr_codecs_types.specs.Metadata.{data_type_in}
 use Rattle.zarr_codecs_metadata.specs.Chains.{ReadsCodecs, chain_in}
 use Rattle.zarr_array_meaning.specs.Documents.{FieldsFound, fields_in, additional_in, must_understand_any, ◌>>=◌, ◌>>◌, check, read_members, document_of}
-use Rattle.zarr_array_meaning.specs.Parts.{type_in}
 use Rattle.zarr_array_meaning.specs.declared.error.DocumentError.{DocumentError}
 use Rattle.zarr_array_meaning.specs.declared.error.DocumentError.TheVariants as error
 use Rattle.zarr_array_metadata.specs.Grids.{grid_for}
@@ -64,7 +63,7 @@ grid_refuses shape d rest e is = refused_by (configuration_in d) (λ c. length c
 
 -- what refuses the grid refuses the members, where the checks before it pass
 pub members_refused : (reads : ReadsCodecs) (ms : Members) (found : FieldsFound) (chain : Chain) (type : DataType) (e : DocumentError)
-    → fields_in ms ≡ Ok found → must_understand_any (additional_in ms) ≡ false → ok_or (chain_in reads found.codecs) error.Codecs ≡ Ok chain → ok_or (type_in found.data_type) error.DataTypes ≡ Ok type
+    → fields_in ms ≡ Ok found → must_understand_any (additional_in ms) ≡ false → ok_or (chain_in reads found.codecs) error.Codecs ≡ Ok chain → ok_or (data_type_in found.data_type) error.DataTypes ≡ Ok type
     → grid_for found.shape found.chunk_grid ≡ Err e → document_of (read_members reads ms) ≡ Err e
 members_refused reads ms found chain type e fields understood codecs typed refused =
     rw (fields, understood, codecs, typed) (ap document_of (grid_refuses found.shape found.chunk_grid _ e refused))

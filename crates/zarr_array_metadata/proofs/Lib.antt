@@ -1,6 +1,5 @@
 pub mod Ascending
 pub mod ChunkGrids
-pub mod DataTypes
 pub mod GridSizes
 pub mod Lists
 pub mod Rows

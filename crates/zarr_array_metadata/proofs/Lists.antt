@@ -1,5 +1,5 @@
 -- Lists of storage transformers, of names and of extension points.
-use Rattle.std.proofs.Common.{◌≡◌, ℕ, suc, ◌≤◌, List, [], ◌∷◌, length, map, true, false, ◌&&◌, ◌==◌, Option, Some, None, is_some, option_map, option_and_then, if◌then◌else◌, refl, ap, ◌∙◌, arith}
+use Rattle.std.proofs.Common.{◌≡◌, ℕ, suc, List, [], ◌∷◌, length, map, true, false, ◌&&◌, ◌==◌, Option, Some, None, is_some, option_map, option_and_then, if◌then◌else◌, refl, ap, ◌∙◌, arith}
 use Rattle.std.specs.List.{list_all}
 use Rattle.std.proofs.lemmas.Bool.{ne_eqb}
 use Rattle.serde_json.specs.Data.{Data, null, boolean, number, string, array, object, no_items, item}

@@ -1,11 +1,10 @@
 -- Worked documents: what the definitions say of them, by computation.
-use Rattle.std.proofs.Common.{◌≡◌, ℕ, List, [], ◌∷◌, codes, bytes_eq, if◌then◌else◌, Bool, true, false, Option, Some, None, Result, Ok, Err, refl}
+use Rattle.std.proofs.Common.{◌≡◌, ℕ, List, [], ◌∷◌, codes, bytes_eq, if◌then◌else◌, Bool, true, false, Some, None, Result, Ok, Err, refl}
 use Rattle.serde_json.specs.Data.{Data, null, boolean, number, unsigned, string, array, object, Items, item, no_items, Members, member, no_members, put}
 use Rattle.zarr_grids_chunks.specs.Grids.{regular, clipped, varying, Grid}
 use Rattle.zarr_grids_keys.specs.Keys.{KeyEncoding, default, v2, suffixed}
-use Rattle.zarr_grids_metadata.specs.ExtensionPoints.{ExtensionPoint}
-use Rattle.zarr_codecs_meaning.specs.Types.{DataType, uint8, integer, signed, Cell, of_bytes}
-use Rattle.zarr_codecs_meaning.specs.Chains.{ByteCodec, Chain}
+use Rattle.zarr_codecs_meaning.specs.Types.{DataType, uint8, integer, signed, string as strings, variable_bytes, optional_of, Cell, of_bytes, absent, present}
+use Rattle.zarr_codecs_meaning.specs.Chains.{ByteCodec}
 use Rattle.zarr_codecs_meaning.specs.Chains.Endianness.{big}
 use Rattle.zarr_codecs_meaning.specs.Chains.Chain.{bytes, then_bytes}
 use Rattle.zarr_codecs_metadata.specs.Chains.{ReadsCodecs}
@@ -94,8 +93,8 @@ more_codecs_read = refl
 pub codec_unknown : read_document (document_with (codes "codecs") (array (item (string (codes "bytes")) (item (string (codes "gzip")) no_items)))) ≡ Err Codecs
 codec_unknown = refl
 
-pub type_of_any_length : read_document (document_with (codes "data_type") (string (codes "string"))) ≡ Err DataTypes
-type_of_any_length = refl
+pub type_unknown : read_document (document_with (codes "data_type") (string (codes "float32"))) ≡ Err DataTypes
+type_unknown = refl
 
 pub fill_of_256 : read_document (document_with (codes "fill_value") (size 256)) ≡ Err FillValue
 fill_of_256 = refl
@@ -105,6 +104,50 @@ edge_of_0 = refl
 
 pub three_edges : read_document (document_with (codes "chunk_grid") (regular_with (2 ∷ 2 ∷ 2 ∷ []))) ≡ Err Dimensionality
 three_edges = refl
+
+-- ---- types of elements of any length, and optional ones
+
+-- the plain document with this data type and this fill value
+abbrev pub typed : Data → Data → Data
+typed type fill = object (put (codes "data_type") type (put (codes "fill_value") fill plain))
+
+abbrev pub two_by_two_of : DataType → Cell → Document
+two_by_two_of type fill = record (two_by_two 47) { elements = record { type = type; fill = fill } }
+
+pub string_reads : read_document (typed (string (codes "string")) (string (codes "none"))) ≡ Ok (two_by_two_of strings (of_bytes (codes "none")))
+string_reads = refl
+
+pub string_of_0 : read_document (document_with (codes "data_type") (string (codes "string"))) ≡ Err FillValue
+string_of_0 = refl
+
+pub bytes_read : read_document (typed (string (codes "bytes")) (array (sizes (1 ∷ 2 ∷ [])))) ≡ Ok (two_by_two_of variable_bytes (of_bytes (1 ∷ 2 ∷ [])))
+bytes_read = refl
+
+-- {"configuration": {"name": name}, "name": "optional"}
+abbrev pub optional_named : List ℕ → Data
+optional_named name = point_with (codes "optional") (codes "name") (string name)
+
+pub optional_reads : read_document (typed (optional_named (codes "uint8")) null) ≡ Ok (two_by_two_of (optional_of uint8) absent)
+optional_reads = refl
+
+pub present_reads : read_document (typed (optional_named (codes "uint8")) (array (item (size 7) no_items))) ≡ Ok (two_by_two_of (optional_of uint8) (present (of_bytes (7 ∷ []))))
+present_reads = refl
+
+pub optional_of_0 : read_document (document_with (codes "data_type") (optional_named (codes "uint8"))) ≡ Err FillValue
+optional_of_0 = refl
+
+-- {"_zarrs": {"description": .., "repository": .., "version": ..}}, and then these
+abbrev pub marked_with : Members → Data
+marked_with others = object (member (codes "_zarrs") (object (
+    member (codes "description") (string (codes "This array was created with zarrs")) (
+    member (codes "repository") (string (codes "https://github.com/zarrs/zarrs")) (
+    member (codes "version") (string (codes "0.23.13")) no_members)))) others)
+
+-- a list of bytes is written as it is
+pub list_stays : written_document (typed (string (codes "bytes")) (array (sizes (1 ∷ 2 ∷ []))))
+    ≡ object (put (codes "fill_value") (array (sizes (1 ∷ 2 ∷ []))) (put (codes "data_type") (string (codes "bytes"))
+    (put (codes "attributes") (marked_with no_members) (put (codes "chunk_key_encoding") (string (codes "default")) (put (codes "codecs") (array (item (string (codes "bytes")) no_items)) plain)))))
+list_stays = refl
 
 -- ---- the other grids and encodings of keys
 
@@ -185,13 +228,6 @@ pub null_transformers : read_document (document_with (codes "storage_transformer
 null_transformers = refl
 
 -- ---- written
-
--- {"_zarrs": {"description": .., "repository": .., "version": ..}}, and then these
-abbrev pub marked_with : Members → Data
-marked_with others = object (member (codes "_zarrs") (object (
-    member (codes "description") (string (codes "This array was created with zarrs")) (
-    member (codes "repository") (string (codes "https://github.com/zarrs/zarrs")) (
-    member (codes "version") (string (codes "0.23.13")) no_members)))) others)
 
 -- the plain document as it is written: with these attributes beside the mark, this encoding of keys, this codec, and these fields between `fill_value` and `zarr_format`
 abbrev pub written_with : Members → Data → Data → Members → Data

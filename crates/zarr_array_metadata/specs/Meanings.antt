@@ -1,9 +1,7 @@
 -- What a document that was opened says.
-use Rattle.std.specs.Prelude.{◌<◌, ◌≤◌, MatchOption}
 use Rattle.zarr_grids_chunk_grids.specs.Grids.{grid_of_chunks, sizes_of_grid}
 use Rattle.zarr_grids_keys.specs.Encodings.{keys_of}
 use Rattle.zarr_codecs_meaning.specs.Chains.{ByteCodec}
-use Rattle.zarr_codecs_meaning.specs.Types.{DataType, byte_width}
 use Rattle.zarr_codecs_arrays.specs.Views.{elements_of}
 use Rattle.zarr_codecs_chains.specs.Views as chains
 use Rattle.zarr_array_meaning.specs.Documents.{Document}
@@ -12,7 +10,3 @@ use Rattle.zarr_array_metadata.specs.declared.document.ArrayDocument.{ArrayDocum
 -- what a document that was opened says of the cells and of where they are stored, given what the caller's codecs are
 abbrev pub meaning_of : {B : Type 0} → (B → ByteCodec) → ArrayDocument B → Document
 meaning_of meaning d = record { shape = sizes_of_grid d.grid; elements = elements_of d.elements; grid = grid_of_chunks d.grid; keys = keys_of d.keys; chain = chains.meaning_of meaning d.codecs }
-
--- each element takes from one to eight bytes
-abbrev pub TakesBytes : DataType → Type 0
-TakesBytes type = MatchOption (byte_width type) ⊥ (λ width. (0 < width) × (width ≤ 8))

@@ -3,14 +3,12 @@ ghost use Rattle.std.specs.Prelude.{◌≡◌, ◌≢◌, IfOk, IfErr, Ok, Err, 
 ghost use Rattle.std.specs.Option.{ok_or};
 ghost use Rattle.serde_json.specs.View.{view, items_view};
 ghost use Rattle.zarr_grids_metadata.specs.Views.{point_of};
-ghost use Rattle.zarr_codecs_meaning.specs.Types.{is_fixed};
-ghost use Rattle.zarr_codecs_types.specs.FillMetadata.{cell_in};
+ghost use Rattle.zarr_codecs_types.specs.Metadata.{data_type_in};
 ghost use Rattle.zarr_codecs_types.specs.Views.{type_of};
 ghost use Rattle.zarr_codecs_arrays.specs.Views.{elements_of};
 ghost use Rattle.zarr_codecs_metadata.specs.Chains.{chain_in, points_in};
 ghost use Rattle.zarr_codecs_chains.specs.Views as chains;
-ghost use Rattle.zarr_array_metadata.specs.Meanings.{TakesBytes};
-ghost use Rattle.zarr_array_meaning.specs.Parts.{type_in, has_no_transformers, is_empty_list};
+ghost use Rattle.zarr_array_meaning.specs.Parts.{fill_in, has_no_transformers, is_empty_list};
 
 use serde_json::Value;
 use std::alloc::{AllocError, Global};
@@ -60,22 +58,15 @@ fn points_in(alloc: Global, values: &[Value]) -> Result<Option<Vec<MetadataV3>>,
     Ok(Some(points))
 }
 
-/// The data type, which is one of elements of one size; `DataTypes` where it is none of those.
-#[tactic(auto, using(crate::proofs::DataTypes::takes_bytes))]
+/// The data type; `DataTypes` where it is none that is known.
 pub(crate) fn type_in(alloc: Global, data_type: &Value) -> Result<DataType, DocumentError>
-    ensures ok { IfOk result (λ found. ok_or (type_in (view data_type.now))
+    ensures ok { IfOk result (λ found. ok_or (data_type_in (view data_type.now))
         DocumentError.DataTypes ≡ Ok (type_of found)) }
-    ensures fixed { IfOk result (λ found. is_fixed (type_of found) ≡ true) }
-    ensures bytes { IfOk result (λ found. TakesBytes (type_of found)) }
     ensures err { IfErr result (λ e. e ≢ DocumentError.Memory
-        → ok_or (type_in (view data_type.now)) DocumentError.DataTypes ≡ Err e) }
+        → ok_or (data_type_in (view data_type.now)) DocumentError.DataTypes ≡ Err e) }
 {
     match DataType::from_metadata(alloc, data_type) {
-        Ok(data_type) => if data_type.is_fixed() {
-            Ok(data_type)
-        } else {
-            Err(DocumentError::DataTypes)
-        },
+        Ok(data_type) => Ok(data_type),
         Err(DataTypeError::Memory) => Err(DocumentError::Memory),
         Err(DataTypeError::Unsupported) => Err(DocumentError::DataTypes),
     }
@@ -88,10 +79,10 @@ pub(crate) fn elements_in(
     fill_value: &Value,
 ) -> Result<Elements, DocumentError>
     ensures kind { IfOk result (λ found. (elements_of found).type ≡ type_of data_type) }
-    ensures fill { IfOk result (λ found. ok_or (cell_in (type_of data_type) (view fill_value.now))
+    ensures fill { IfOk result (λ found. ok_or (fill_in (type_of data_type) (view fill_value.now))
         DocumentError.FillValue ≡ Ok (elements_of found).fill) }
     ensures err { IfErr result (λ e. e ≢ DocumentError.Memory
-        → ok_or (cell_in (type_of data_type) (view fill_value.now)) DocumentError.FillValue
+        → ok_or (fill_in (type_of data_type) (view fill_value.now)) DocumentError.FillValue
         ≡ Err e) }
 {
     match FillValue::from_metadata(alloc, &data_type, fill_value) {

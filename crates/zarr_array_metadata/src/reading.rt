@@ -2,9 +2,8 @@
 ghost use Rattle.std.specs.Prelude.{◌≡◌, ◌≢◌, IfOk, IfErr, Ok, Err, true, map};
 ghost use Rattle.serde_json.specs.View.{view, members_view};
 ghost use Rattle.zarr_grids_dimensions.specs.Lookups.{size_of};
-ghost use Rattle.zarr_codecs_meaning.specs.Types.{is_fixed};
 ghost use Rattle.zarr_array_meaning.specs.Documents.{read_document, read_members, document_of};
-ghost use Rattle.zarr_array_metadata.specs.Meanings.{meaning_of, TakesBytes};
+ghost use Rattle.zarr_array_metadata.specs.Meanings.{meaning_of};
 
 use crate::document::ArrayDocument;
 use crate::fields::{RequiredFields, must_understand_any};
@@ -21,17 +20,14 @@ use zarr_grids_metadata::{has_float, is_deeper, member};
 /// How deep arrays and objects of a document may nest.
 const DEPTH_LIMIT: u64 = 127;
 
-/// Reads a document from its JSON tree (Zarr core specification, "Array metadata"). Its elements
-/// are of one size. The checks are made in the order of the errors' variants, and the first that
-/// fails is the error. Only a chunk grid of the shape's dimensionality that is no grid of the shape
-/// is `ChunkGrid` after `Dimensionality`. Beside them comes `Memory`, where an allocation failed.
+/// Reads a document of any data type from its JSON tree (Zarr core specification, "Array
+/// metadata"). The checks are made in the order of the errors' variants, and the first that fails
+/// is the error. Only a chunk grid of the shape's dimensionality that is no grid of the shape is
+/// `ChunkGrid` after `Dimensionality`. Beside them comes `Memory`, where an allocation failed.
 pub fn read_document<B: BytesToBytesCodecTraits>(
     alloc: Global,
     tree: &Value,
 ) -> Result<ArrayDocument<B>, DocumentError>
-    ensures fixed { IfOk result
-        (λ d. is_fixed (meaning_of B.meaning d).elements.type ≡ true) }
-    ensures bytes { IfOk result (λ d. TakesBytes (meaning_of B.meaning d).elements.type) }
     ensures sized { IfOk result
         (λ d. map size_of (meaning_of B.meaning d).grid ≡ (meaning_of B.meaning d).shape) }
     ensures ok { IfOk result
@@ -55,9 +51,6 @@ fn read_members<B: BytesToBytesCodecTraits>(
     alloc: Global,
     members: &Map<String, Value>,
 ) -> Result<ArrayDocument<B>, DocumentError>
-    ensures fixed { IfOk result
-        (λ d. is_fixed (meaning_of B.meaning d).elements.type ≡ true) }
-    ensures bytes { IfOk result (λ d. TakesBytes (meaning_of B.meaning d).elements.type) }
     ensures sized { IfOk result
         (λ d. map size_of (meaning_of B.meaning d).grid ≡ (meaning_of B.meaning d).shape) }
     ensures ok { IfOk result (λ d. document_of (read_members B.reads

@@ -2,15 +2,27 @@
 ghost use Rattle.std.specs.Prelude.{◌≡◌, IfOk, OnOk, codes, option_map, option_and_then};
 ghost use Rattle.serde_json.specs.Find.{get_member, as_object};
 ghost use Rattle.serde_json.specs.View.{view, items_view, members_view};
-ghost use Rattle.zarr_array_meaning.specs.Written.{mark, marked, is_given, is_left_out, written_value, with_field, written_points, written_codecs, written_fields, given_attributes, written_members, written_document};
+ghost use Rattle.zarr_codecs_types.specs.Views.{type_of};
+ghost use Rattle.zarr_array_meaning.specs.Written.{mark, marked, is_given, is_left_out, type_given, written_fill, written_value, with_field, written_points, written_codecs, written_fields, given_attributes, written_members, written_document};
 
 use serde_json::{Map, Value, json, put};
 use std::alloc::{AllocError, Global};
+use zarr_codecs_types::{DataType, DataTypeError, FillValue, FillValueError};
 use zarr_grids_metadata::{member, written_point};
 
-/// The tree that is written for a document: each extension point in its shortest form, no storage
-/// transformers, no dimension names that are null, and among the attributes the mark `_zarrs`. A
-/// value that is no object stays. `Err` only where an allocation failed.
+/// What the form of written fields depends on.
+#[derive(Drop)]
+struct Form {
+    /// The data type that the document gives, if it is one that is known.
+    data_type: Option<DataType>,
+    /// Whether dimension names are there and not null.
+    has_names: bool,
+}
+
+/// The tree that is written for a document: each extension point in its shortest form, base64 in the
+/// fill value as a list of bytes, no storage transformers, no dimension names that are null, and
+/// among the attributes the mark `_zarrs`. A value that is no object stays. `Err` only where an
+/// allocation failed.
 pub fn written_document(alloc: Global, tree: &Value) -> Result<Value, AllocError>
     ensures { IfOk result (λ written. view written ≡ written_document (view tree.now)) }
 {
@@ -27,11 +39,29 @@ fn written_members(
     ensures { IfOk result (λ written. members_view written.entries
         ≡ written_members (members_view members.now.entries)) }
 {
-    let has_names = is_given(member(members, "dimension_names"));
-    let mut written = written_fields(alloc, has_names, members)?;
+    let form = Form {
+        data_type: type_given(alloc, members)?,
+        has_names: is_given(member(members, "dimension_names")),
+    };
+    let mut written = written_fields(alloc, &form, members)?;
     let attributes = marked_attributes(alloc, members)?;
     put(&mut written, alloc, "attributes", Value::Object(attributes))?;
     Ok(written)
+}
+
+/// The data type that a document gives, or `None` where it is none that is known.
+fn type_given(alloc: Global, members: &Map<String, Value>) -> Result<Option<DataType>, AllocError>
+    ensures { IfOk result
+        (λ found. option_map type_of found ≡ type_given (members_view members.now.entries)) }
+{
+    let Some(data_type) = member(members, "data_type") else {
+        return Ok(None);
+    };
+    match DataType::from_metadata(alloc, data_type) {
+        Ok(data_type) => Ok(Some(data_type)),
+        Err(DataTypeError::Memory) => Err(AllocError),
+        Err(DataTypeError::Unsupported) => Ok(None),
+    }
 }
 
 /// Whether a field is there and not null.
@@ -47,15 +77,16 @@ fn is_given(field: Option<&Value>) -> bool
 /// The fields that are written, each with its value.
 fn written_fields(
     alloc: Global,
-    has_names: bool,
+    form: &Form,
     members: &Map<String, Value>,
 ) -> Result<Map<String, Value>, AllocError>
     ensures { IfOk result (λ written. members_view written.entries
-        ≡ written_fields has_names (members_view members.now.entries)) }
+        ≡ written_fields (option_map type_of form.now.data_type) form.now.has_names
+        (members_view members.now.entries)) }
 {
     let mut written = Map::new(alloc);
     for (name, value) in members.iter() {
-        write_field(&mut written, alloc, has_names, name.as_str(), value)?;
+        write_field(&mut written, alloc, form, name.as_str(), value)?;
     }
     Ok(written)
 }
@@ -64,17 +95,18 @@ fn written_fields(
 fn write_field(
     written: &mut Map<String, Value>,
     alloc: Global,
-    has_names: bool,
+    form: &Form,
     name: &str,
     value: &Value,
 ) -> Result<(), AllocError>
     ensures { OnOk result (members_view written.new.entries
-        ≡ with_field has_names name.now (view value.now) (members_view written.old.entries)) }
+        ≡ with_field (option_map type_of form.now.data_type) form.now.has_names name.now
+        (view value.now) (members_view written.old.entries)) }
 {
-    if is_left_out(has_names, name) {
+    if is_left_out(form.has_names, name) {
         return Ok(());
     }
-    let value = written_value(alloc, name, value)?;
+    let value = written_value(alloc, form, name, value)?;
     put(written, alloc, name, value)
 }
 
@@ -90,13 +122,33 @@ fn is_left_out(has_names: bool, name: &str) -> bool
 }
 
 /// The value of a field, as it is written.
-fn written_value(alloc: Global, name: &str, value: &Value) -> Result<Value, AllocError>
-    ensures { IfOk result (λ written. view written ≡ written_value name.now (view value.now)) }
+fn written_value(alloc: Global, form: &Form, name: &str, value: &Value) -> Result<Value, AllocError>
+    ensures { IfOk result (λ written. view written
+        ≡ written_value (option_map type_of form.now.data_type) name.now (view value.now)) }
 {
     match name {
         "data_type" | "chunk_grid" | "chunk_key_encoding" => written_point(alloc, value),
         "codecs" => written_codecs(alloc, value),
+        "fill_value" => written_fill(alloc, form, value),
         _ => value.clone(),
+    }
+}
+
+/// A fill value as it is written; one that is no value of the data type stays.
+fn written_fill(alloc: Global, form: &Form, value: &Value) -> Result<Value, AllocError>
+    ensures { IfOk result (λ written. view written
+        ≡ written_fill (option_map type_of form.now.data_type) (view value.now)) }
+{
+    let Some(data_type) = &form.data_type else {
+        return value.clone();
+    };
+    match FillValue::from_metadata(alloc, data_type, value) {
+        Ok(fill_value) => match fill_value.to_metadata(alloc, data_type)? {
+            Some(written) => Ok(written),
+            None => value.clone(),
+        },
+        Err(FillValueError::Memory) => Err(AllocError),
+        Err(FillValueError::NotOfType) => value.clone(),
     }
 }
 

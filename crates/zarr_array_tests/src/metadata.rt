@@ -39,13 +39,15 @@ Codecs {"codecs": [{"name": "bytes", "configuration": {"endian": "middle"}}]}
 Codecs {"codecs": [{"name": "bytes", "configuration": {"endian": null}}]}
 Codecs {"codecs": [{"name": "bytes", "configuration": {"order": "big"}}]}
 DataTypes {"data_type": "float32"}
-DataTypes {"data_type": "string"}
-DataTypes {"data_type": "bytes"}
 DataTypes {"data_type": null}
-DataTypes {"data_type": {"name": "zarrs.optional", "configuration": {"name": "uint8"}}}
+DataTypes {"data_type": {"name": "zarrs.optional", "configuration": {"name": "float32"}}}
 DataTypes {"data_type": {"name": "uint8", "endian": 1}}
 DataTypes {"data_type": {"name": "uint8", "configuration": {"endian": "big"}}}
 FillValue {"fill_value": 256}
+FillValue {"data_type": "string"}
+FillValue {"data_type": "bytes", "fill_value": "AQI"}
+FillValue {"data_type": "bytes", "fill_value": [256]}
+FillValue {"data_type": {"name": "zarrs.optional", "configuration": {"name": "uint8"}}}
 FillValue {"fill_value": -1}
 FillValue {"fill_value": null}
 FillValue {"fill_value": "0"}
@@ -96,7 +98,7 @@ ChunkKeyEncoding {"chunk_key_encoding": 5}"#;
 /// A document of which the checks fail one after another. It is first too deep; each field that is
 /// mended then brings the next error, before it here.
 const UNMENDED: &str =
-    r#"{"zarr_format": 2, "node_type": "array", "shape": [4], "data_type": "string",
+    r#"{"zarr_format": 2, "node_type": "array", "shape": [4], "data_type": "float32",
     "chunk_grid": "other", "chunk_key_encoding": "other", "fill_value": 256, "codecs": [],
     "attributes": 1.5, "storage_transformers": null, "dimension_names": []}"#;
 
@@ -266,8 +268,8 @@ fn is_fill(alloc: Global, name: &str, fill: &str, bytes: &[u8]) -> Result<bool, 
 }
 
 #[test]
-fn each_type_of_one_size_has_its_fill_value(rt: HostRuntime) -> Result<(), DocumentError> {
-    let rows: [(&str, &str, &[u8]); 14] = [
+fn each_type_has_its_fill_value(rt: HostRuntime) -> Result<(), DocumentError> {
+    let rows: [(&str, &str, &[u8]); 17] = [
         ("bool", "true", &[1]),
         ("bool", "false", &[0]),
         ("int2", "-2", &[254]),
@@ -282,6 +284,9 @@ fn each_type_of_one_size_has_its_fill_value(rt: HostRuntime) -> Result<(), Docum
         ("uint16", "258", &[2, 1]),
         ("uint32", "4294967295", &[255; 4]),
         ("uint64", "18446744073709551615", &[255; 8]),
+        ("string", r#""ab""#, &[97, 98]),
+        ("bytes", "[1, 2]", &[1, 2]),
+        ("bytes", r#""AQI=""#, &[1, 2]),
     ];
     for (name, fill, bytes) in rows {
         assert!(rt; is_fill(rt.alloc(), name, fill, bytes)?, "{name} {fill}");
@@ -449,5 +454,19 @@ fn a_written_document_has_the_mark_and_short_names(rt: HostRuntime) -> Result<()
         r#""data_type":"uint8","fill_value":0,"node_type":"array","shape":[],"zarr_format":3}"#
     );
     assert!(rt; found.as_str() == wanted);
+    Ok(())
+}
+
+#[test]
+fn base64_is_written_as_a_list(rt: HostRuntime) -> Result<(), DocumentError> {
+    let given = written(
+        rt.alloc(),
+        r#"{"data_type": "bytes", "fill_value": "AQI="}"#,
+    )?;
+    let wanted = written(
+        rt.alloc(),
+        r#"{"data_type": "bytes", "fill_value": [1, 2]}"#,
+    )?;
+    assert!(rt; given.as_str() == wanted.as_str());
     Ok(())
 }

@@ -1,3 +1,4 @@
 pub mod Routes
 pub mod ReadsBack
 pub mod NewSizes
+pub mod Distances

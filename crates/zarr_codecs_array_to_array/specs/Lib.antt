@@ -3,3 +3,4 @@ pub mod Views
 pub mod Moving
 pub mod Written
 pub mod Sizes
+pub mod Strided

@@ -9,6 +9,7 @@ pub mod order;
 pub mod reshape;
 mod sizes;
 pub mod squeeze;
+mod strided;
 pub mod transpose;
 mod walks;
 

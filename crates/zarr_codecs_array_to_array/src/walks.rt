@@ -1,11 +1,14 @@
 //! Elements moved to other places.
-ghost use Rattle.std.specs.Prelude.{◌≡◌, ◌<◌, map, slice_index, length, replicate, IfOk, OnOk};
+ghost use Rattle.std.specs.Prelude.{◌≡◌, ◌<◌, List, map, slice_index, length, replicate, true, Some, IfOk, OnOk};
 ghost use Rattle.std.specs.List.{range_with_len};
 ghost use Rattle.zarr_grids_boxes.specs.Boxes.{product, place_at};
-ghost use Rattle.zarr_codecs_meaning.specs.Places.{place_numbers, position_of};
+ghost use Rattle.zarr_codecs_meaning.specs.Places.{gather, place_numbers, position_of};
+ghost use Rattle.zarr_codecs_meaning.specs.Payloads.{cells_in};
+ghost use Rattle.zarr_codecs_meaning.specs.Types.{Cell};
 ghost use Rattle.zarr_codecs_arrays.specs.Views.{payload_of, elements_of};
-ghost use Rattle.zarr_codecs_array_to_array.specs.Moving.{Checks, Gathers, picked_number};
+ghost use Rattle.zarr_codecs_array_to_array.specs.Moving.{are_below, Checks, Gathers, picked_number};
 
+use crate::strided::gathered_fixed;
 use std::alloc::{AllocError, Global};
 use zarr_codecs_arrays::{ArrayBytes, CodecError, Elements};
 use zarr_codecs_regions::gather_elements;
@@ -61,9 +64,60 @@ pub(crate) fn gathered(
     if let Err(error) = check(bytes, elements, route.to) {
         return Err(error);
     }
+    Ok(gather_route(alloc, bytes, elements, route)?)
+}
+
+/// Of this many dimensions at most, elements of one size are moved along strides, by calls as deep
+/// as there are dimensions.
+const MOST_DIMENSIONS: usize = 64;
+
+/// For each place of the first shape of a route, the element of its place in the other shape.
+/// `Err` only where an allocation failed, and where there is no such place or element.
+fn gather_route(
+    alloc: Global,
+    bytes: &ArrayBytes,
+    elements: &Elements,
+    route: Route<'_>,
+) -> Result<ArrayBytes, AllocError>
+    ensures { (cells : List Cell)
+        → cells_in (elements_of elements.now).type (payload_of bytes.now) ≡ Some cells
+        → are_below (length cells) (map (picked_number route.entry.from.now
+        route.entry.picks.now route.entry.to.now) (place_numbers route.entry.from.now)) ≡ true
+        → IfOk result (λ made. cells_in (elements_of elements.now).type (payload_of made)
+        ≡ Some (gather (elements_of elements.now).fill cells (map (picked_number
+        route.entry.from.now route.entry.picks.now route.entry.to.now)
+        (place_numbers route.entry.from.now)))) }
+{
+    match bytes {
+        ArrayBytes::Fixed(fixed) => {
+            if fixed.is_empty() || route.from.len() > MOST_DIMENSIONS {
+                return gather_listed(alloc, bytes, elements, route);
+            }
+            gathered_fixed(alloc, fixed.as_slice(), elements, route)
+        }
+        _ => gather_listed(alloc, bytes, elements, route),
+    }
+}
+
+/// `gather_route` by the numbers of all places.
+fn gather_listed(
+    alloc: Global,
+    bytes: &ArrayBytes,
+    elements: &Elements,
+    route: Route<'_>,
+) -> Result<ArrayBytes, AllocError>
+    ensures { (cells : List Cell)
+        → cells_in (elements_of elements.now).type (payload_of bytes.now) ≡ Some cells
+        → are_below (length cells) (map (picked_number route.entry.from.now
+        route.entry.picks.now route.entry.to.now) (place_numbers route.entry.from.now)) ≡ true
+        → IfOk result (λ made. cells_in (elements_of elements.now).type (payload_of made)
+        ≡ Some (gather (elements_of elements.now).fill cells (map (picked_number
+        route.entry.from.now route.entry.picks.now route.entry.to.now)
+        (place_numbers route.entry.from.now)))) }
+{
     let numbers = all_numbers(alloc, route.from)?;
     let numbers = picked_numbers(alloc, route, &numbers)?;
-    Ok(gather_elements(alloc, bytes, elements, &numbers)?)
+    gather_elements(alloc, bytes, elements, &numbers)
 }
 
 /// The numbers of all places of a shape.
@@ -113,7 +167,7 @@ pub(crate) fn picked_numbers(
 }
 
 /// The first place of a shape.
-fn origin(alloc: Global, shape: &[u64]) -> Result<Vec<u64>, AllocError>
+pub(crate) fn origin(alloc: Global, shape: &[u64]) -> Result<Vec<u64>, AllocError>
     ensures { IfOk result (λ place. place.items ≡ replicate (length shape.now) 0) }
 {
     vec![in alloc; 0u64; shape.len()]

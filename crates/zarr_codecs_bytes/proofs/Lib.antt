@@ -3,6 +3,7 @@ pub mod Types
 pub mod Decoding
 pub mod PartDecoding
 pub mod BoxLines
+mod PartRanges
 pub mod PartReading
 pub mod PartWriting
 pub mod Scattered

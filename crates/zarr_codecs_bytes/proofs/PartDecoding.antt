@@ -187,6 +187,12 @@ nothing_extracted type value shape region extracted one_size h whole few l insid
       no_elements [] h = refl
       no_elements (p ∷ ps) h = absurd (omega arith)
 
+-- a part whose elements have no width has none
+pub no_width : (type : DataType) (shape : List ℕ) (region : Region) (size : ℕ) → is_fixed type ≡ true → None ≡ option_and_then word_sized (byte_width type) → size ≡ product shape * bytes_in (components type) → size < 2 ^ 63
+    → length region.shape ≡ length region.start → lies_in shape region ≡ true → product region.shape ≡ 0
+no_width type shape region size one_size h all small l inside =
+    no_places (product shape) (bytes_in (components type)) (product region.shape) (inside_product shape region l inside) (omega (arith, all, small)) (too_wide type one_size h)
+
 -- ---- where nothing is stored
 
 pub fills_part : (chain : Chain) (elements : Elements) (shape : List ℕ) (region : Region) (count : ℕ) (r : Result ArrayBytes CodecError) → length region.shape ≡ length region.start → lies_in shape region ≡ true → fits chain elements.type shape ≡ true → count ≡ product region.shape

@@ -1,6 +1,6 @@
 -- The bytes of a part, written in ranges.
 use Rattle.std.proofs.Common.{◌≡◌, ◌∙◌, ℕ, suc, ◌+◌, ◌-◌, ◌*◌, ◌/◌, ◌%◌, ◌^◌, ◌<◌, ◌≤◌, Bool, true, false, ◌||◌, if◌then◌else◌, List, [], ◌∷◌, ◌++◌, length, map, get_or, take, drop, replicate, refl, sym, ap, subst, arith, Option, Some, None, Ok, Vec, Global, length-drop}
-use Rattle.std.specs.Prelude.{IfSome, nat_lt}
+use Rattle.std.specs.Prelude.{nat_lt}
 use Rattle.std.specs.List.{range_with_len, flat_map, list_all, list_any}
 use Rattle.std.proofs.Math.Nat.{mul-mod_left, mul-div_left}
 use Rattle.std.proofs.lemmas.Bool.{and_parts, eqb-true, ltb-false, ltb-true}
@@ -327,11 +327,10 @@ given_cells type given count cells fit valid =
     let many : length given / width ≡ count = sym (ap length w.is ∙ length-fixed_cells width given) ∙ valid.is.many in
     record { are = w.is; long = whole_length width given w.whole ∙ ap (λ n. n * width) many }
 
-pub part_encodes : (order : Option Endianness) (part : BoxPart) (given : List ℕ) (cells : List Cell) (found : Option (Vec ValuePatch Global)) → fits (bytes order) (elements_of part.elements.now).type [] ≡ true
-    → IsValid (elements_of part.elements.now).type (fixed given) (product part.region.now.shape.items) cells → IfSome found (λ patches. PatchesPart (bytes order) part given patches.items)
-    → EncodesPart (bytes order) true (elements_of part.elements.now) part.shape.now (region_of part.region.now) (fixed given) (Ok found)
-part_encodes order part given cells None fit valid h = tt
-part_encodes order part given cells (Some patches) fit valid h =
+pub part_encodes : (order : Option Endianness) (part : BoxPart) (given : List ℕ) (cells : List Cell) (patches : Vec ValuePatch Global) → fits (bytes order) (elements_of part.elements.now).type [] ≡ true
+    → IsValid (elements_of part.elements.now).type (fixed given) (product part.region.now.shape.items) cells → PatchesPart (bytes order) part given patches.items
+    → EncodesPart (bytes order) true (elements_of part.elements.now) part.shape.now (region_of part.region.now) (fixed given) (Ok (Some patches))
+part_encodes order part given cells patches fit valid h =
     let elements = elements_of part.elements.now in
     let shape = part.shape.now in
     let g = given_cells elements.type given (product part.region.now.shape.items) cells (and_parts (is_fixed elements.type) (order_fits order (components elements.type)) fit).0 valid in
@@ -339,6 +338,7 @@ part_encodes order part given cells (Some patches) fit valid h =
     λ value before is. ap (λ cs. encoded (bytes order) elements shape (cells_with_box shape elements.fill (region_of part.region.now) cs before)) g.are ∙ h.encodes value before is in (
       cells,
       record {
+        ranges = refl;
         valid = valid;
         fit = fit;
         inside = part.inside;

@@ -1,8 +1,10 @@
 -- Lines of a box of an array: the elements that differ in the last dimension alone, which lie one after another in a value.
-use Rattle.std.specs.Prelude.{◌≡◌, ℕ, ◌+◌, ◌-◌, ◌*◌, ◌^◌, ◌<◌, List, [], ◌∷◌, Bool, false, length, map, take, drop, flat_map, nat_lt, slice_index, slice_set}
-use Rattle.std.specs.List.{list_any}
+use Rattle.std.specs.Prelude.{◌≡◌, ℕ, ◌+◌, ◌-◌, ◌*◌, ◌^◌, ◌<◌, List, [], ◌∷◌, Bool, false, true, length, map, take, drop, flat_map, nat_le, nat_lt, slice_index, slice_set}
+use Rattle.std.specs.List.{list_all, list_any}
 use Rattle.zarr_grids_boxes.specs.Boxes.{Region, product}
+use Rattle.zarr_grids_boxes.specs.Cuts.{IsAtMost, ends}
 use Rattle.zarr_grids_boxes.specs.Subsets.{region_of}
+use Rattle.zarr_grids_boxes.specs.Walks.{linearised}
 use Rattle.zarr_codecs_traits.specs.Sources.{bytes_at}
 use Rattle.zarr_codecs_traits.specs.declared.byte_range.ByteRange.{ByteRange}
 use Rattle.zarr_codecs_traits.specs.declared.value_patch.ValuePatch.{ValuePatch}
@@ -53,9 +55,20 @@ patch_offsets patches = map (λ (patch : ValuePatch). patch.offset) patches
 abbrev pub patch_bytes : List ValuePatch → List (List ℕ)
 patch_bytes patches = map (λ (patch : ValuePatch). patch.bytes.items) patches
 
--- how many bytes an element, a line and the value have, of a part with one dimension or more
+-- whether a line that starts at the element with this number ends in the value
+abbrev pub line_ends_within : LineSizes → ℕ → Bool
+line_ends_within sizes n = nat_le (n * sizes.width + sizes.line) sizes.value
+
+-- lines that start at these places of an array lie in it, and each in the value
+pub record AreLinesInside (starts : Region) (shape : List ℕ) (sizes : LineSizes) : Type 0 where
+  pub inside : IsAtMost (ends starts) shape
+  pub few : product shape < 2 ^ 64
+  pub within : list_all (line_ends_within sizes) (linearised starts shape) ≡ true
+
+-- how many bytes an element, a line and the value have, of a part with one dimension or more that has an element
 pub record AreLineSizes (part : BoxPart) (sizes : LineSizes) : Type 0 where
-  pub some : 0 < length part.region.now.shape.items
+  pub dimensions : 0 < length part.region.now.shape.items
+  pub some : 0 < product part.region.now.shape.items
   pub positive : 0 < part_width part
   pub width : sizes.width ≡ part_width part
   pub line : sizes.line ≡ line_length (region_of part.region.now) * part_width part

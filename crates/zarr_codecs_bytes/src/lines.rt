@@ -1,16 +1,18 @@
 //! The ranges of bytes in which the elements of a box of an array stand.
-ghost use Rattle.std.specs.Prelude.{◌≡◌, ◌*◌, ◌++◌, ◌<◌, ℕ, List, false, true, take, drop, IsTrue, IfOk, IfSome, OnOk};
+ghost use Rattle.std.specs.Prelude.{◌≡◌, ◌≢◌, ◌*◌, ◌^◌, ◌++◌, ◌<◌, ℕ, List, [], ◌∷◌, length, false, true, take, drop, IfOk, IfErr, IfNone, IfSome, OnOk};
 ghost use Rattle.std.specs.List.{list_any};
 ghost use Rattle.zarr_grids_boxes.specs.Boxes.{product};
 ghost use Rattle.zarr_grids_boxes.specs.Subsets.{region_of};
 ghost use Rattle.zarr_grids_boxes.specs.Walks.{linearised};
 ghost use Rattle.zarr_codecs_meaning.specs.Types.{is_fixed};
+ghost use Rattle.zarr_codecs_arrays.specs.Outcomes.{IsTooLarge};
 ghost use Rattle.zarr_codecs_arrays.specs.Views.{elements_of};
 ghost use Rattle.zarr_codecs_traits.specs.Sources.{bytes_at};
 
 use crate::part::BoxPart;
 use crate::sizes::byte_count;
 use std::alloc::{AllocError, Global};
+use zarr_codecs_arrays::CodecError;
 use zarr_codecs_traits::ByteRange;
 use zarr_grids_boxes::ArraySubset;
 use zarr_grids_boxes::walk::count_places;
@@ -31,116 +33,155 @@ pub(crate) struct LineSizes {
     value: u64,
 }
 
-ghost use Rattle.zarr_codecs_bytes.specs.Lines.{AreLineSizes, ArePartRanges, bytes_in_ranges, bytes_of_lines, ends_after, line_starts};
+ghost use Rattle.zarr_codecs_bytes.specs.Lines.{AreLineSizes, AreLinesInside, ArePartRanges, bytes_in_ranges, bytes_of_lines, ends_after, line_ends_within, line_starts};
+ghost use Rattle.zarr_codecs_bytes.specs.Parts.{part_width};
 
 /// The ranges in which the elements of a part of an array stand, in their order. `None` where the
-/// value is better read whole: see `is_worthwhile`.
+/// value is better read whole: where the array is too large, or `is_worthwhile` says so.
 pub(crate) fn part_ranges(alloc: Global, part: BoxPart) -> Result<Option<PartRanges>, AllocError>
     requires { is_fixed (elements_of part.elements.now).type ≡ true }
     ensures { IfOk result (λ found. IfSome found (ArePartRanges part.entry)) }
 {
-    let Some(sizes) = line_sizes(part) else {
+    let Ok(size) = value_size(part) else {
         return Ok(None);
     };
-    let Some(starts) = line_starts(alloc, part.region)? else {
-        return Ok(None);
-    };
-    if !is_worthwhile(&starts, sizes) {
+    if !is_worthwhile(part, size) {
         return Ok(None);
     }
-    match line_ranges(alloc, &starts, part.shape, sizes)? {
-        Some(ranges) => Ok(Some(PartRanges {
-            size: sizes.value,
-            ranges,
-        })),
-        None => Ok(None),
-    }
+    let ranges = box_ranges(alloc, part, size)?;
+    Ok(Some(ranges))
 }
 
-/// How many bytes an element, a line of the part and the value have. `None` where the array has no
-/// dimension, or one of them is too large.
-fn line_sizes(part: BoxPart) -> Option<LineSizes>
+/// How many bytes the value has. `Size` where the array has 2^63 elements or bytes or more; `Memory`
+/// where an element has no bytes, which no array holds.
+pub(crate) fn value_size(part: BoxPart) -> Result<u64, CodecError>
     requires { is_fixed (elements_of part.elements.now).type ≡ true }
-    ensures { IfSome result (AreLineSizes part.entry) }
+    ensures ok { IfOk result (λ n. n ≡ product part.entry.shape.now * part_width part.entry) }
+    ensures some { IfOk result (λ n. 0 < part_width part.entry) }
+    ensures small { IfOk result (λ n. n < 2 ^ 63) }
+    ensures err { IfErr result (λ e. e ≢ CodecError.Memory → (e ≡ CodecError.Size)
+        × IsTooLarge (elements_of part.entry.elements.now).type (product part.entry.shape.now)) }
 {
-    let data_type = part.elements.data_type();
-    let (Some(length), Some(width)) = (part.region.shape().last(), data_type.byte_width()) else {
-        return None;
+    let Some(count) = count_places(part.shape) else {
+        return Err(CodecError::Size);
     };
-    let (Some(line), Some(count)) = (length.checked_mul(width as u64), count_places(part.shape))
-    else {
-        return None;
-    };
-    match byte_count(data_type, count) {
-        Ok(value) => Some(LineSizes {
-            width: width as u64,
-            line,
-            value,
-        }),
-        Err(_) => None,
-    }
+    byte_count(part.elements.data_type(), count)
 }
 
-/// The first place of each line of a box. `None` where the box has no dimension, or it would end
-/// past 2^64 - 1.
-fn line_starts(alloc: Global, region: &ArraySubset) -> Result<Option<ArraySubset>, AllocError>
-    ensures { IfOk result (λ found. IfSome found
-        (λ starts. region_of starts ≡ line_starts (region_of region.now))) }
-{
-    let start = region.start().to_vec(alloc)?;
-    let mut shape = region.shape().to_vec(alloc)?;
-    let count = shape.len();
-    if count == 0 {
-        return Ok(None);
-    }
-    shape[count - 1] = 1;
-    match ArraySubset::new_with_start_shape(start, shape) {
-        Ok(starts) => Ok(Some(starts)),
-        Err(_) => Ok(None),
-    }
-}
-
-/// Whether lines are read in ranges of their own, rather than the whole value: they have fewer bytes
-/// than the value, and there are at most 16 of them, or the ranges, of 16 bytes each, take no more
-/// memory than the bytes that are not read.
-fn is_worthwhile(starts: &ArraySubset, sizes: LineSizes) -> bool
-    ensures { IsTrue result → product starts.now.shape.items * sizes.line < sizes.value }
-{
-    let Some(count) = count_places(starts.shape()) else {
+/// Whether lines are read in ranges of their own, rather than the whole value of this size: they
+/// have fewer bytes than the value, and there are at most 16 of them, or the ranges, of 16 bytes
+/// each, take no more memory than the bytes that are not read.
+fn is_worthwhile(part: BoxPart, size: u64) -> bool {
+    let (Some(count), Some(width)) = (
+        count_places(part.region.shape()),
+        part.elements.data_type().byte_width(),
+    ) else {
         return false;
     };
-    match count.checked_mul(sizes.line) {
-        Some(bytes) if bytes < sizes.value => count <= 16 || count <= (sizes.value - bytes) / 16,
+    let lines = match part.region.shape().last() {
+        Some(length) if *length > 0 => count / *length,
+        _ => 0,
+    };
+    match count.checked_mul(width as u64) {
+        Some(bytes) if bytes < size => lines <= 16 || lines <= (size - bytes) / 16,
         _ => false,
     }
 }
 
+/// The ranges in which the elements of a part of an array stand, in their order, of the value of
+/// this size: one for each line, or for several that lie one after another.
+pub(crate) fn box_ranges(alloc: Global, part: BoxPart, size: u64) -> Result<PartRanges, AllocError>
+    requires fixed { is_fixed (elements_of part.elements.now).type ≡ true }
+    requires some { 0 < part_width part }
+    requires size { size ≡ product part.shape.now * part_width part }
+    requires small { size < 2 ^ 63 }
+    ensures { IfOk result (ArePartRanges part.entry) }
+{
+    if part.region.shape().is_empty() {
+        return whole_range(alloc, size);
+    }
+    let Some(sizes) = line_sizes(part, size) else {
+        let ranges = Vec::new(alloc);
+        return Ok(PartRanges { size, ranges });
+    };
+    let starts = line_starts(alloc, part.region)?;
+    let ranges = line_ranges(alloc, &starts, part.shape, sizes)?;
+    Ok(PartRanges { size, ranges })
+}
+
+/// The one range of the whole value of this size.
+fn whole_range(alloc: Global, size: u64) -> Result<PartRanges, AllocError>
+    ensures size { IfOk result (λ found. found.size ≡ size) }
+    ensures whole { IfOk result (λ found.
+        found.ranges.items ≡ record { offset = 0; length = size } ∷ []) }
+{
+    let mut ranges = Vec::new(alloc);
+    ranges.push(ByteRange {
+        offset: 0,
+        length: size,
+    })?;
+    Ok(PartRanges { size, ranges })
+}
+
+/// How many bytes an element, a line of the part and the value have. `None` where the part has no
+/// element.
+fn line_sizes(part: BoxPart, size: u64) -> Option<LineSizes>
+    requires fixed { is_fixed (elements_of part.elements.now).type ≡ true }
+    requires some { 0 < part_width part }
+    requires size { size ≡ product part.shape.now * part_width part }
+    requires small { size < 2 ^ 63 }
+    requires dimensions { 0 < length part.region.now.shape.items }
+    ensures none { IfNone result (product part.entry.region.now.shape.items ≡ 0) }
+    ensures some { IfSome result (AreLineSizes part.entry) }
+{
+    let shape = part.region.shape();
+    if part.region.is_empty() {
+        return None;
+    }
+    let Some(width) = part.elements.data_type().byte_width() else {
+        return None;
+    };
+    Some(LineSizes {
+        width: width as u64,
+        line: shape[shape.len() - 1] * width as u64,
+        value: size,
+    })
+}
+
+/// The first place of each line of a box.
+fn line_starts(alloc: Global, region: &ArraySubset) -> Result<ArraySubset, AllocError>
+    requires dimensions { 0 < length region.now.shape.items }
+    requires some { 0 < product region.now.shape.items }
+    ensures { IfOk result (λ starts. region_of starts ≡ line_starts (region_of region.now)) }
+{
+    let start = region.start().to_vec(alloc)?;
+    let mut shape = region.shape().to_vec(alloc)?;
+    let count = shape.len();
+    shape[count - 1] = 1;
+    Ok(ArraySubset { start, shape })
+}
+
 /// The ranges of lines that start at these places of an array, of which those that lie one after
-/// another are one. `None` where one of them does not lie in the array.
+/// another are one.
 fn line_ranges(
     alloc: Global,
     starts: &ArraySubset,
     shape: &[u64],
     sizes: LineSizes,
-) -> Result<Option<Vec<ByteRange>>, AllocError>
-    ensures are { IfOk result (λ found. IfSome found (λ ranges. (value : List ℕ)
-        → bytes_in_ranges value ranges.items
-        ≡ bytes_of_lines sizes.width sizes.line value (linearised (region_of starts.now) shape.now))) }
-    ensures within { IfOk result (λ found. IfSome found
-        (λ ranges. list_any (ends_after sizes.value) ranges.items ≡ false)) }
+) -> Result<Vec<ByteRange>, AllocError>
+    requires { AreLinesInside (region_of starts.now) shape.now sizes }
+    ensures are { IfOk result (λ ranges. (value : List ℕ) → bytes_in_ranges value ranges.items
+        ≡ bytes_of_lines sizes.width sizes.line value (linearised (region_of starts.now) shape.now)) }
+    ensures within { IfOk result
+        (λ ranges. list_any (ends_after sizes.value) ranges.items ≡ false) }
 {
-    let Ok(numbers) = starts.linearised_indices(shape) else {
-        return Ok(None);
-    };
     let mut ranges = Vec::new(alloc);
     let mut open = ByteRange {
         offset: 0,
         length: 0,
     };
-    for number in numbers {
-        let Some(line) = line_range(number, sizes) else {
-            return Ok(None);
-        };
+    for number in starts.linearised_indices(shape).unwrap() {
+        let line = line_range(number, sizes);
         open = match joined(open, line) {
             Some(both) => both,
             None => {
@@ -150,25 +191,19 @@ fn line_ranges(
         };
     }
     push_range(&mut ranges, open)?;
-    Ok(Some(ranges))
+    Ok(ranges)
 }
 
-/// The range of the line that starts at the element with this number. `None` where it ends past the
-/// value's end.
-fn line_range(number: u64, sizes: LineSizes) -> Option<ByteRange>
-    ensures are { IfSome result (λ range. (value : List ℕ)
-        → bytes_at value range ≡ take sizes.line (drop (number * sizes.width) value)) }
-    ensures within { IfSome result (λ range. ends_after sizes.value range ≡ false) }
+/// The range of the line that starts at the element with this number.
+fn line_range(number: u64, sizes: LineSizes) -> ByteRange
+    requires { line_ends_within sizes number ≡ true }
+    ensures are { (value : List ℕ)
+        → bytes_at value result ≡ take sizes.line (drop (number * sizes.width) value) }
+    ensures within { ends_after sizes.value result ≡ false }
 {
-    let Some(offset) = number.checked_mul(sizes.width) else {
-        return None;
-    };
-    match offset.checked_add(sizes.line) {
-        Some(end) if end <= sizes.value => Some(ByteRange {
-            offset,
-            length: sizes.line,
-        }),
-        _ => None,
+    ByteRange {
+        offset: number * sizes.width,
+        length: sizes.line,
     }
 }
 

@@ -11,3 +11,6 @@ pub mod ReadsBack
 pub mod Telling
 pub mod PartsOfWhole
 pub mod Told
+pub mod Nested
+pub mod WrittenBack
+pub mod Allowed

@@ -1,13 +1,17 @@
 -- What chains with the caller's codecs tell of themselves.
-use Rattle.std.proofs.Common.{◌≡◌, ◌∙◌, ℕ, List, [], ◌∷◌, length, map, ap, sym, refl, Bool, true, false, ◌&&◌, ◌||◌, inl, inr, Result, Ok, Err}
-use Rattle.zarr_codecs_meaning.specs.Types.{DataType}
+use Rattle.std.proofs.Common.{◌≡◌, ◌∙◌, ℕ, List, [], ◌∷◌, length, map, ap, sym, refl, Bool, true, false, ◌&&◌, ◌||◌, inl, inr, None, Result, Ok, Err}
+use Rattle.zarr_codecs_meaning.specs.Types.{DataType, Elements}
 use Rattle.zarr_codecs_meaning.specs.Chains.{ArrayCodec, ByteCodec, Chain}
 use Rattle.zarr_codecs_meaning.specs.Chains.Chain.{then_bytes}
+use Rattle.zarr_codecs_meaning.specs.Chains.ArrayCodec.{transpose, reshape, squeeze}
 use Rattle.zarr_codecs_meaning.specs.Fits.{is_plain, representation_of}
+use Rattle.zarr_codecs_meaning.specs.Partial.{encodes_in_part}
+use Rattle.zarr_codecs_meaning.specs.Payloads.{Payload}
 use Rattle.zarr_codecs_arrays.specs.declared.error.CodecError.{CodecError}
 use Rattle.zarr_codecs_arrays.specs.declared.error.CodecError.TheVariants as error
-use Rattle.zarr_codecs_traits.specs.Capabilities.{decodes_parts, encodes_parts, granularity, keeps_boxes}
-use Rattle.zarr_codecs_traits.specs.PartEncoding.{takes_patches}
+use Rattle.zarr_codecs_traits.specs.Capabilities.{decodes_parts, granularity}
+use Rattle.zarr_codecs_traits.specs.Indexers.{Asked, in_box, listed}
+use Rattle.zarr_codecs_traits.specs.PartEncoding.{EncodesAsked, encodes_ranges, takes_patches}
 use Rattle.zarr_codecs_traits.specs.Representations.{IsRepresented, RepresentsArray, is_too_long, known_size, tells_too_long}
 use Rattle.zarr_codecs_traits.specs.declared.bytes_representation.BytesRepresentation.{BytesRepresentation}
 use Rattle.zarr_codecs_chains.specs.Codecs.{RepresentsAll, all_represented, any_too_long}
@@ -69,7 +73,7 @@ decodes_after : (chain : Chain) (codec : ByteCodec) (codecs : List ByteCodec) �
 decodes_after chain codec [] = refl
 decodes_after chain codec (other ∷ codecs) = decodes_after (then_bytes chain codec) other codecs
 
-encodes_after : (chain : Chain) (codec : ByteCodec) (codecs : List ByteCodec) → false ≡ encodes_parts (with_codecs (then_bytes chain codec) codecs)
+encodes_after : (chain : Chain) (codec : ByteCodec) (codecs : List ByteCodec) → false ≡ encodes_in_part (with_codecs (then_bytes chain codec) codecs)
 encodes_after chain codec [] = refl
 encodes_after chain codec (other ∷ codecs) = encodes_after (then_bytes chain codec) other codecs
 
@@ -78,9 +82,27 @@ pub never_decodes : {B : Type 0} (chain : Chain) (meaning : B → ByteCodec) (co
 never_decodes chain meaning [] some = absurd (some refl)
 never_decodes chain meaning (codec ∷ codecs) some = decodes_after chain (meaning codec) (map meaning codecs)
 
-pub never_encodes : {B : Type 0} (chain : Chain) (meaning : B → ByteCodec) (codecs : List B) → (length codecs ≡ 0 → ⊥) → false ≡ encodes_parts (with_codecs chain (map meaning codecs))
+pub never_encodes : {B : Type 0} (chain : Chain) (meaning : B → ByteCodec) (codecs : List B) → (length codecs ≡ 0 → ⊥) → false ≡ encodes_in_part (with_codecs chain (map meaning codecs))
 never_encodes chain meaning [] some = absurd (some refl)
 never_encodes chain meaning (codec ∷ codecs) some = encodes_after chain (meaning codec) (map meaning codecs)
+
+-- a chain that encodes no ranges answers that there are none
+pub none_asked : (chain : Chain) (exact : Bool) (elements : Elements) (shape : List ℕ) (asked : Asked) (payload : Payload) → encodes_ranges chain ≡ false → EncodesAsked chain exact elements shape asked payload (Ok None)
+none_asked chain exact elements shape (in_box region) payload h = h
+none_asked chain exact elements shape (listed numbers) payload h = tt
+
+ranges_after : (chain : Chain) (codec : ByteCodec) (codecs : List ByteCodec) → encodes_ranges (with_codecs (then_bytes chain codec) codecs) ≡ false
+ranges_after chain codec [] = refl
+ranges_after chain codec (other ∷ codecs) = ranges_after (then_bytes chain codec) other codecs
+
+-- a chain with codecs after it, or array codecs before it, encodes no ranges
+pub no_ranges_with : {B : Type 0} (chain : Chain) (meaning : B → ByteCodec) (codecs : List B) → (length codecs ≡ 0 → ⊥) → encodes_ranges (with_codecs chain (map meaning codecs)) ≡ false
+no_ranges_with chain meaning [] some = absurd (some refl)
+no_ranges_with chain meaning (codec ∷ codecs) some = ranges_after chain (meaning codec) (map meaning codecs)
+
+pub no_ranges_before : (codecs : List ArrayToArrayCodec) (chain : Chain) → (length codecs ≡ 0 → ⊥) → encodes_ranges (with_array_codecs (codecs_of codecs) chain) ≡ false
+no_ranges_before [] chain some = absurd (some refl)
+no_ranges_before (codec ∷ codecs) chain some = refl
 
 -- codecs after a chain leave the parts that are decoded as they are
 pub granularity_with : (chain : Chain) (codecs : List ByteCodec) (shape : List ℕ) → granularity (with_codecs chain codecs) shape ≡ granularity chain shape
@@ -99,14 +121,11 @@ plain_before [] chain = refl
 plain_before (codec ∷ codecs) chain = plain_before codecs chain
 
 -- whether parts are encoded by parts too, where there is no shard
-pub encodes_before : (codecs : List ArrayCodec) (chain : Chain) → is_plain chain ≡ true → encodes_parts (with_array_codecs codecs chain) ≡ encodes_parts chain
+pub encodes_before : (codecs : List ArrayCodec) (chain : Chain) → is_plain chain ≡ true → encodes_in_part (with_array_codecs codecs chain) ≡ encodes_in_part chain
 encodes_before [] chain plain = refl
-encodes_before (codec ∷ codecs) chain plain =
-    let whole = with_array_codecs codecs chain in
-    ap (λ (b : Bool). encodes_parts whole && b) (or_second (keeps_boxes codec) (is_plain whole) (plain_before codecs chain ∙ plain)) ∙ (and_truth (encodes_parts whole) ∙ encodes_before codecs chain plain) where
-      and_truth : (b : Bool) → (b && true) ≡ b
-      and_truth true = refl
-      and_truth false = refl
+encodes_before (transpose order ∷ codecs) chain plain = encodes_before codecs chain plain
+encodes_before (reshape entries ∷ codecs) chain plain = ap (λ (b : Bool). b && encodes_in_part (with_array_codecs codecs chain)) (plain_before codecs chain ∙ plain) ∙ encodes_before codecs chain plain
+encodes_before (squeeze ∷ codecs) chain plain = encodes_before codecs chain plain
 
 -- what codecs there are makes no shard
 pub codec_plain : {B : Type 0} (meaning : B → ByteCodec) (codec : ArrayToBytesCodec B) → is_plain (codec_chain meaning codec) ≡ true

@@ -4,3 +4,5 @@ pub mod Asking
 pub mod ArrayCodecs
 pub mod Inside
 pub mod Selecting
+pub mod Reading
+pub mod Parts

@@ -1,7 +1,6 @@
 -- What the codecs and the chains of `src/` stand for.
 use Rattle.std.specs.Prelude.{ℕ, List, [], ◌∷◌, ◌++◌, map, codes}
-use Rattle.serde_json.specs.Data.{Items, no_items, item, array, string, no_members, put}
-use Rattle.zarr_grids_metadata.specs.ExtensionPoints.{ExtensionPoint, configured, written_point}
+use Rattle.zarr_grids_metadata.specs.ExtensionPoints.{ExtensionPoint}
 use Rattle.zarr_codecs_meaning.specs.Chains as chains
 use Rattle.zarr_codecs_meaning.specs.Chains.{ArrayCodec, ByteCodec, Chain}
 use Rattle.zarr_codecs_meaning.specs.Laws.{IsLawful, IsLawfulChain}
@@ -14,10 +13,8 @@ use Rattle.zarr_codecs_packbits.specs.Views.{packbits_chain}
 use Rattle.zarr_codecs_chains.specs.declared.array_to_bytes.ArrayToBytesCodec.{ArrayToBytesCodec}
 use Rattle.zarr_codecs_chains.specs.declared.array_to_bytes.ArrayToBytesCodec.TheVariants.{Bytes, PackBits, Vlen', Optional'}
 use Rattle.zarr_codecs_sections.specs.Views.{width_of, location_of}
-use Rattle.zarr_codecs_sections.specs.declared.index.VlenIndexDataType.{VlenIndexDataType}
-use Rattle.zarr_codecs_sections.specs.declared.index.VlenIndexDataType.TheVariants.{UInt32, UInt64}
-use Rattle.zarr_codecs_sections.specs.declared.index.VlenIndexLocation.{VlenIndexLocation}
-use Rattle.zarr_codecs_sections.specs.declared.index.VlenIndexLocation.TheVariants.{Start, End}
+use Rattle.zarr_codecs_configurations.specs.Reading.{VlenPoints, OptionalPoints}
+use Rattle.zarr_codecs_configurations.specs.Written.{vlen_point, optional_point}
 use Rattle.zarr_codecs_chains.specs.declared.vlen.VlenCodec.{VlenCodec}
 use Rattle.zarr_codecs_chains.specs.declared.optional.OptionalCodec.{OptionalCodec}
 use Rattle.zarr_codecs_chains.specs.declared.bytes_chain.BytesChain.{BytesChain}
@@ -105,39 +102,16 @@ array_points codecs = map (λ codec. array_codec_point (codec_of codec)) codecs
 abbrev pub points_between : {B : Type 0} → (B → ExtensionPoint) → List ArrayToArrayCodec → ExtensionPoint → List B → List ExtensionPoint
 points_between described before point after = array_points before ++ (point ∷ map described after)
 
--- the list of extension points, as it is written
-abbrev pub points_list : List ExtensionPoint → Items
-points_list [] = no_items
-points_list (point ∷ points) = item (written_point point) (points_list points)
-
--- the name of an index's data type
-abbrev pub index_type_name : VlenIndexDataType → List ℕ
-index_type_name UInt32 = codes "uint32"
-index_type_name UInt64 = codes "uint64"
-
--- the name of where an index stands
-abbrev pub location_name : VlenIndexLocation → List ℕ
-location_name Start = codes "start"
-location_name End = codes "end"
-
--- the metadata of `vlen`, by that of its inner chains
-abbrev pub vlen_point : List ExtensionPoint → List ExtensionPoint → VlenIndexDataType → VlenIndexLocation → ExtensionPoint
-vlen_point index content width location =
-    configured (codes "vlen")
-    (put (codes "index_location") (string (location_name location)) (put (codes "index_data_type") (string (index_type_name width)) (put (codes "index_codecs") (array (points_list index)) (put (codes "data_codecs") (array (points_list content)) no_members))))
-
--- the metadata of `optional`, by that of its inner chains
-abbrev pub optional_point : List ExtensionPoint → List ExtensionPoint → ExtensionPoint
-optional_point mask content = configured (codes "optional") (put (codes "mask_codecs") (array (points_list mask)) (put (codes "data_codecs") (array (points_list content)) no_members))
-
 -- the metadata of an array to bytes codec
 abbrev pub codec_point : {B : Type 0} → (B → ExtensionPoint) → ArrayToBytesCodec B → ExtensionPoint
 codec_point described (Bytes codec) = bytes_point codec.endian
 codec_point described (PackBits codec) = packbits_point codec
 codec_point described (Vlen' p before index after first content last width location) =
-    vlen_point (points_between described before.items (codec_point described index) after.items) (points_between described first.items (codec_point described content) last.items) width location
+    vlen_point (codes "vlen")
+    (record { index = points_between described before.items (codec_point described index) after.items; content = points_between described first.items (codec_point described content) last.items; width = width_of width; location = location_of location })
 codec_point described (Optional' p before mask after first content last) =
-    optional_point (points_between described before.items (codec_point described mask) after.items) (points_between described first.items (codec_point described content) last.items)
+    optional_point (codes "optional")
+    (record { mask = points_between described before.items (codec_point described mask) after.items; content = points_between described first.items (codec_point described content) last.items })
 
 -- the metadata of the codecs of a chain without array codecs, in their order
 abbrev pub bytes_points : {B : Type 0} → (B → ExtensionPoint) → BytesChain B → List ExtensionPoint
@@ -146,3 +120,11 @@ bytes_points described chain = codec_point described chain.array_to_bytes ∷ ma
 -- the metadata of the codecs, in their order
 abbrev pub points_of : {B : Type 0} → (B → ExtensionPoint) → CodecChain B → List ExtensionPoint
 points_of described chain = array_points chain.array_to_array.items ++ bytes_points described chain.others
+
+-- what `vlen` is configured by
+abbrev pub given_to_vlen : {B : Type 0} → (B → ExtensionPoint) → VlenCodec B → VlenPoints
+given_to_vlen described codec = record { index = points_of described codec.index_codecs; content = points_of described codec.data_codecs; width = width_of codec.index_data_type; location = location_of codec.index_location }
+
+-- what `optional` is configured by
+abbrev pub given_to_optional : {B : Type 0} → (B → ExtensionPoint) → OptionalCodec B → OptionalPoints
+given_to_optional described codec = record { mask = points_of described codec.mask_codecs; content = points_of described codec.data_codecs }

@@ -1,19 +1,15 @@
 //! Any codec between arrays and bytes.
-ghost use Rattle.std.specs.Prelude.{◌≡◌, ◌≢◌, bytes_eq, codes, Some, None, IfOk, IfErr};
-ghost use Rattle.zarr_grids_metadata.specs.Views.{point_of};
-ghost use Rattle.zarr_codecs_metadata.specs.Chains.{array_to_bytes_in, bytes_in};
-ghost use Rattle.zarr_codecs_packbits.specs.Metadata.{packbits_in, packbits_point};
-ghost use Rattle.zarr_codecs_packbits.specs.Views.{packbits_chain};
-ghost use Rattle.zarr_codecs_chains.specs.Views.{codec_chain};
-
+use crate::allowing::codec_is_allowed;
 use crate::copying::copy_codec;
 use crate::decoding::decode_codec;
 use crate::encoding::encode_codec;
 use crate::fitting::fits_codec;
 use crate::optional::OptionalCodec;
+use crate::reading::read_codec;
 use crate::representing::represent_codec;
 use crate::selecting::decode_asked;
 use crate::vlen::VlenCodec;
+use crate::writing::codec_metadata;
 use std::alloc::{AllocError, Global};
 use zarr_codecs_arrays::{ArrayBytes, CodecError, Elements};
 use zarr_codecs_bytes::BytesCodec;
@@ -37,87 +33,48 @@ pub enum ArrayToBytesCodec<B: BytesToBytesCodecTraits> {
 }
 
 impl<B: BytesToBytesCodecTraits> ArrayToBytesCodec<B> {
-    ghost use Rattle.std.specs.Prelude.{◌≡◌, ◌≢◌, Some, None, IfOk, IfErr};
+    ghost use Rattle.std.specs.Prelude.{◌≡◌, ◌≢◌, Some, None, option_and_then, IfOk, IfErr};
     ghost use Rattle.zarr_grids_metadata.specs.Views.{point_of};
+    ghost use Rattle.zarr_codecs_metadata.specs.Allowed.{allowed};
     ghost use Rattle.zarr_codecs_metadata.specs.Chains.{array_to_bytes_in};
     ghost use Rattle.zarr_codecs_chains.specs.Views.{codec_chain, codec_point};
 
-    /// The codec that metadata describes. `NameUnsupported` where its name is that of none,
-    /// `MetadataInvalid` where its configuration is not one of the name's; `Memory` where an
-    /// allocation failed.
-    pub fn from_metadata(metadata: &MetadataV3) -> Result<ArrayToBytesCodec<B>, PluginCreateError>
-        ensures ok { IfOk result
-            (λ codec. array_to_bytes_in (point_of metadata.now) ≡ Some (codec_chain B.meaning codec)) }
-        ensures err { IfErr result (λ e. e ≢ PluginCreateError.Memory
-            → array_to_bytes_in (point_of metadata.now) ≡ None) }
+    /// The codec that metadata describes, with all chains inside of it. `NameUnsupported` where its
+    /// name is that of none, `MetadataInvalid` where its configuration is not one of the name's, or
+    /// where an array to array codec stands in it where none may: in the data chain of `vlen` or
+    /// `optional`, or in any chain inside that of `optional` (this project's profile). Codecs inside
+    /// of it are refused as they are elsewhere. `Memory` where an allocation failed. It goes as deep
+    /// as chains nest.
+    pub fn from_metadata(
+        alloc: Global,
+        metadata: &MetadataV3,
+    ) -> Result<ArrayToBytesCodec<B>, PluginCreateError>
+        ensures ok { IfOk result (λ codec.
+            option_and_then allowed (array_to_bytes_in B.reads (point_of metadata.now))
+            ≡ Some (codec_chain B.meaning codec)) }
+        ensures err { IfErr result (λ e. e ≢ PluginCreateError.Memory →
+            option_and_then allowed (array_to_bytes_in B.reads (point_of metadata.now))
+            ≡ None) }
     {
-        if is_packbits(metadata) {
-            return read_packbits(metadata);
+        match read_codec(alloc, metadata) {
+            Ok(codec) => if codec_is_allowed(&codec) {
+                Ok(codec)
+            } else {
+                Err(PluginCreateError::MetadataInvalid)
+            },
+            Err(error) => Err(error),
         }
-        read_bytes(metadata)
     }
 
-    /// The codec's metadata, of which `from_metadata` makes an equal codec. `Err` where an
-    /// allocation failed, and always of `vlen` and `optional`, whose metadata isn't built yet: no
-    /// call makes such a codec.
+    /// The codec's metadata, which says an equal codec. `Err` only where an allocation failed.
     pub fn metadata(&self, alloc: Global) -> Result<MetadataV3, AllocError>
         ensures written { IfOk result
             (λ metadata. point_of metadata ≡ codec_point B.described self.now) }
-        ensures reads_back { IfOk result (λ metadata.
-            array_to_bytes_in (point_of metadata) ≡ Some (codec_chain B.meaning self.now)) }
+        ensures reads_back { IfOk result (λ metadata. array_to_bytes_in B.reads (point_of metadata)
+            ≡ Some (codec_chain B.meaning self.now)) }
     {
-        match self {
-            ArrayToBytesCodec::Bytes(codec) => codec.metadata(alloc),
-            ArrayToBytesCodec::PackBits(codec) => write_packbits(alloc, *codec),
-            ArrayToBytesCodec::Vlen(_) | ArrayToBytesCodec::Optional(_) => Err(AllocError),
-        }
+        codec_metadata(self, alloc)
     }
-}
-
-/// Whether metadata names the codec `packbits`.
-fn is_packbits(metadata: &MetadataV3) -> bool
-    ensures { result ≡ bytes_eq (point_of metadata.now).name (codes "packbits") }
-{
-    metadata.name() == "packbits"
-}
-
-/// The codec `packbits` that metadata describes.
-fn read_packbits<B: BytesToBytesCodecTraits>(
-    metadata: &MetadataV3,
-) -> Result<ArrayToBytesCodec<B>, PluginCreateError>
-    ensures ok { IfOk result
-        (λ codec. packbits_in (point_of metadata.now) ≡ Some (codec_chain B.meaning codec)) }
-    ensures err { IfErr result (λ e. e ≢ PluginCreateError.Memory
-        → packbits_in (point_of metadata.now) ≡ None) }
-{
-    match PackBitsCodec::from_metadata(metadata) {
-        Ok(codec) => Ok(ArrayToBytesCodec::PackBits(codec)),
-        Err(error) => Err(error),
-    }
-}
-
-/// The codec `bytes` that metadata describes.
-fn read_bytes<B: BytesToBytesCodecTraits>(
-    metadata: &MetadataV3,
-) -> Result<ArrayToBytesCodec<B>, PluginCreateError>
-    ensures ok { IfOk result
-        (λ codec. bytes_in (point_of metadata.now) ≡ Some (codec_chain B.meaning codec)) }
-    ensures err { IfErr result (λ e. e ≢ PluginCreateError.Memory
-        → bytes_in (point_of metadata.now) ≡ None) }
-{
-    match BytesCodec::from_metadata(metadata) {
-        Ok(codec) => Ok(ArrayToBytesCodec::Bytes(codec)),
-        Err(error) => Err(error),
-    }
-}
-
-/// The metadata of `packbits`.
-fn write_packbits(alloc: Global, codec: PackBitsCodec) -> Result<MetadataV3, AllocError>
-    ensures written { IfOk result (λ metadata. point_of metadata ≡ packbits_point codec) }
-    ensures reads_back { IfOk result
-        (λ metadata. array_to_bytes_in (point_of metadata) ≡ Some (packbits_chain codec)) }
-{
-    codec.metadata(alloc)
 }
 
 impl<B: BytesToBytesCodecTraits> ArrayToBytesCodecTraits for ArrayToBytesCodec<B> {

@@ -9,7 +9,6 @@ ghost use Rattle.zarr_codecs_chains.specs.Views.{codec_chain};
 use crate::array_to_bytes::ArrayToBytesCodec;
 use crate::asked::test_asked;
 use crate::byte_codecs::{copies, decode_all, encode_all, represent_all};
-use crate::metadata::{push_metadatas, read_codecs};
 use std::alloc::{AllocError, Global};
 use zarr_codecs_arrays::{ArrayBytes, CodecError, Elements};
 use zarr_codecs_options::CodecOptions;
@@ -18,7 +17,6 @@ use zarr_codecs_traits::{
     BytesToBytesCodecTraits, MemorySource, ValuePatch, read_value,
 };
 use zarr_codecs_types::DataType;
-use zarr_grids_metadata::{MetadataV3, PluginCreateError};
 
 /// A codec chain without array to array codecs: an array to bytes codec, and the caller's bytes to
 /// bytes codecs in the order in which they encode (Zarr core specification, "Codecs").
@@ -30,56 +28,12 @@ pub(crate) struct BytesChain<B: BytesToBytesCodecTraits> {
 }
 
 impl<B: BytesToBytesCodecTraits> BytesChain<B> {
-    ghost use Rattle.std.specs.Prelude.{◌≡◌, ◌≢◌, ◌++◌, ℕ, Some, None, map, IfOk, IfErr, OnOk};
+    ghost use Rattle.std.specs.Prelude.{◌≡◌, ℕ};
     ghost use Rattle.zarr_codecs_arrays.specs.Views.{elements_of};
     ghost use Rattle.zarr_codecs_traits.specs.Indexers.{asked_of};
     ghost use Rattle.zarr_codecs_traits.specs.Outcomes.{DecodesPart};
     ghost use Rattle.zarr_codecs_traits.specs.Sources.{refused_after, value_bytes};
-    ghost use Rattle.zarr_codecs_chains.specs.Views.{bytes_meaning, bytes_points};
-    ghost use Rattle.zarr_codecs_metadata.specs.Chains.{bytes_chain_of, chain_of};
-    ghost use Rattle.zarr_grids_metadata.specs.Views.{point_of};
-
-    /// The chain that the metadata of its codecs names and describes, in their order.
-    pub(crate) fn from_metadata(
-        alloc: Global,
-        codecs: &[MetadataV3],
-    ) -> Result<BytesChain<B>, PluginCreateError>
-        ensures ok { IfOk result (λ chain. bytes_chain_of B.reads (map point_of codecs.now)
-            ≡ Some (bytes_meaning B.meaning chain)) }
-        ensures err { IfErr result (λ e. e ≢ PluginCreateError.Memory →
-            bytes_chain_of B.reads (map point_of codecs.now) ≡ None) }
-    {
-        let Some((first, others)) = codecs.split_first() else {
-            return Err(PluginCreateError::MetadataInvalid);
-        };
-        let array_to_bytes = match ArrayToBytesCodec::from_metadata(first) {
-            Ok(codec) => codec,
-            Err(error) => return Err(error),
-        };
-        match read_codecs(alloc, others) {
-            Ok(bytes_to_bytes) => Ok(BytesChain {
-                array_to_bytes,
-                bytes_to_bytes,
-            }),
-            Err(error) => Err(error),
-        }
-    }
-
-    /// Appends the metadata of the codecs, of which `from_metadata` makes an equal chain.
-    pub(crate) fn push_metadatas(
-        &self,
-        metadatas: &mut Vec<MetadataV3>,
-        alloc: Global,
-    ) -> Result<(), AllocError>
-        ensures written { OnOk result (map point_of metadatas.new.items
-            ≡ map point_of metadatas.old.items ++ bytes_points B.described self.now) }
-        ensures reads_back { OnOk result (chain_of B.reads (bytes_points B.described self.now)
-            ≡ Some (bytes_meaning B.meaning self.now)) }
-    {
-        metadatas.push(self.array_to_bytes.metadata(alloc)?)?;
-        push_metadatas(metadatas, alloc, self.bytes_to_bytes.as_slice())?;
-        Ok(())
-    }
+    ghost use Rattle.zarr_codecs_chains.specs.Views.{bytes_meaning};
 
     /// The elements at the places that are asked for, of a value that was read, or of none.
     fn decode_read(

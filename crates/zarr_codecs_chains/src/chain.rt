@@ -1,15 +1,14 @@
 //! Codec chains.
-ghost use Rattle.std.specs.Prelude.{◌≡◌, ◌≢◌, Some, None, map, option_map, IfOk, IfErr};
-ghost use Rattle.zarr_grids_metadata.specs.Views.{point_of};
-ghost use Rattle.zarr_codecs_metadata.specs.Chains.{chain_of};
-ghost use Rattle.zarr_codecs_chains.specs.Views.{codecs_of, meaning_of, with_array_codecs};
-
-use crate::array_metadata::{array_copies, array_metadatas};
+use crate::allowing::is_allowed;
+use crate::array_metadata::array_copies;
+use crate::array_to_bytes::ArrayToBytesCodec;
 use crate::asked::{numbers_asked, test_asked};
 use crate::bytes_chain::BytesChain;
 use crate::decoding::decode_chain;
 use crate::encoding::encode_chain;
 use crate::fitting::fits_chain;
+use crate::reading::read_chain;
+use crate::writing::chain_metadatas;
 use std::alloc::{AllocError, Global};
 use zarr_codecs_array_to_array::ArrayToArrayCodec;
 use zarr_codecs_arrays::{ArrayBytes, CodecError, Elements};
@@ -33,41 +32,90 @@ pub struct CodecChain<B: BytesToBytesCodecTraits> {
 }
 
 impl<B: BytesToBytesCodecTraits> CodecChain<B> {
-    ghost use Rattle.std.specs.Prelude.{◌≡◌, ◌≢◌, Some, None, map, option_map, IfOk, IfErr, IsTrue};
+    ghost use Rattle.std.specs.Prelude.{◌≡◌, ◌≢◌, Some, None, map, IfOk, IfErr, IsTrue};
     ghost use Rattle.zarr_codecs_arrays.specs.Views.{elements_of};
     ghost use Rattle.zarr_codecs_traits.specs.Indexers.{asked_of};
     ghost use Rattle.zarr_codecs_traits.specs.Outcomes.{DecodesPart};
     ghost use Rattle.zarr_codecs_traits.specs.Sources.{refused_after};
-    ghost use Rattle.zarr_codecs_chains.specs.Views.{codecs_of, meaning_of, points_of, with_array_codecs};
-    ghost use Rattle.zarr_codecs_metadata.specs.Chains.{chain_of};
+    ghost use Rattle.zarr_codecs_chains.specs.Parts.{arrays_of, bytes_of, codec_of};
+    ghost use Rattle.zarr_codecs_chains.specs.Views.{meaning_of, points_of};
+    ghost use Rattle.zarr_codecs_metadata.specs.Chains.{allowed_chain, chain_of};
     ghost use Rattle.zarr_grids_metadata.specs.Views.{point_of};
 
-    /// The chain that the metadata of its codecs names and describes, in their order.
-    /// `NameUnsupported` or `MetadataInvalid` where there is none; `Memory` where an allocation
-    /// failed.
+    /// The chain of array to array codecs, of an array to bytes codec, and of bytes to bytes codecs,
+    /// in the order in which they encode.
+    pub fn new(
+        array_to_array: Vec<ArrayToArrayCodec>,
+        array_to_bytes: ArrayToBytesCodec<B>,
+        bytes_to_bytes: Vec<B>,
+    ) -> CodecChain<B>
+        ensures arrays { arrays_of result ≡ array_to_array.items }
+        ensures codec { codec_of result ≡ array_to_bytes }
+        ensures bytes { bytes_of result ≡ bytes_to_bytes.items }
+    {
+        let others = BytesChain {
+            array_to_bytes,
+            bytes_to_bytes,
+        };
+        CodecChain {
+            array_to_array,
+            others,
+        }
+    }
+
+    /// The array to array codecs in the order in which they encode.
+    pub fn array_to_array_codecs(&self) -> &[ArrayToArrayCodec]
+        ensures { result.now ≡ arrays_of self.now }
+    {
+        self.array_to_array.as_slice()
+    }
+
+    /// The codec between arrays and bytes.
+    pub fn array_to_bytes_codec(&self) -> &ArrayToBytesCodec<B>
+        ensures { result.now ≡ codec_of self.now }
+    {
+        &self.others.array_to_bytes
+    }
+
+    /// The bytes to bytes codecs in the order in which they encode.
+    pub fn bytes_to_bytes_codecs(&self) -> &[B]
+        ensures { result.now ≡ bytes_of self.now }
+    {
+        self.others.bytes_to_bytes.as_slice()
+    }
+
+    /// The chain that the metadata of its codecs names and describes, in their order, with all
+    /// chains inside of them. `NameUnsupported` or `MetadataInvalid` where there is none;
+    /// `MetadataInvalid` where an array to array codec stands where none may: in the data chain of
+    /// `vlen` or `optional`, or in any chain inside that of `optional` (this project's profile).
+    /// `Memory` where an allocation failed. It goes as deep as chains nest.
     pub fn from_metadata(
         alloc: Global,
         codecs: &[MetadataV3],
     ) -> Result<CodecChain<B>, PluginCreateError>
         ensures ok { IfOk result (λ chain.
-            chain_of B.reads (map point_of codecs.now) ≡ Some (meaning_of B.meaning chain)) }
+            allowed_chain B.reads (map point_of codecs.now) ≡ Some (meaning_of B.meaning chain)) }
         ensures err { IfErr result (λ e. e ≢ PluginCreateError.Memory →
-            chain_of B.reads (map point_of codecs.now) ≡ None) }
+            allowed_chain B.reads (map point_of codecs.now) ≡ None) }
     {
-        read_chain(alloc, Vec::new(alloc), codecs)
+        match read_chain(alloc, codecs) {
+            Ok(chain) => if is_allowed(&chain) {
+                Ok(chain)
+            } else {
+                Err(PluginCreateError::MetadataInvalid)
+            },
+            Err(error) => Err(error),
+        }
     }
 
-    /// The metadata of the codecs, of which `from_metadata` makes an equal chain. `Err` only where
-    /// an allocation failed.
+    /// The metadata of the codecs, which says an equal chain. `Err` only where an allocation failed.
     pub fn create_metadatas(&self, alloc: Global) -> Result<Vec<MetadataV3>, AllocError>
         ensures written { IfOk result
             (λ codecs. map point_of codecs.items ≡ points_of B.described self.now) }
         ensures reads_back { IfOk result (λ codecs.
             chain_of B.reads (map point_of codecs.items) ≡ Some (meaning_of B.meaning self.now)) }
     {
-        let mut metadatas = array_metadatas(alloc, self.array_to_array.as_slice())?;
-        self.others.push_metadatas(&mut metadatas, alloc)?;
-        Ok(metadatas)
+        chain_metadatas(self, alloc)
     }
 
     /// The elements at the places that are asked for, each of which goes through the array codecs.
@@ -101,39 +149,6 @@ impl<B: BytesToBytesCodecTraits> CodecChain<B> {
         };
         self.others
             .decode_listed_after(alloc, codecs, source, listed, options)
-    }
-}
-
-/// The chain of array codecs that were read already, and of what the metadata that is left names and
-/// describes.
-fn read_chain<B: BytesToBytesCodecTraits>(
-    alloc: Global,
-    array_to_array: Vec<ArrayToArrayCodec>,
-    codecs: &[MetadataV3],
-) -> Result<CodecChain<B>, PluginCreateError>
-    ensures ok { IfOk result (λ chain. option_map (with_array_codecs
-        (codecs_of array_to_array.items)) (chain_of B.reads (map point_of codecs.now))
-        ≡ Some (meaning_of B.meaning chain)) }
-    ensures err { IfErr result (λ e. e ≢ PluginCreateError.Memory →
-        chain_of B.reads (map point_of codecs.now) ≡ None) }
-{
-    let mut array_to_array = array_to_array;
-    let Some((first, rest)) = codecs.split_first() else {
-        return Err(PluginCreateError::MetadataInvalid);
-    };
-    match ArrayToArrayCodec::from_metadata(alloc, first) {
-        Ok(codec) => match array_to_array.push(codec) {
-            Ok(()) => read_chain(alloc, array_to_array, rest),
-            Err(_failed) => Err(PluginCreateError::Memory),
-        },
-        Err(PluginCreateError::Memory) => Err(PluginCreateError::Memory),
-        Err(_) => match BytesChain::from_metadata(alloc, codecs) {
-            Ok(others) => Ok(CodecChain {
-                array_to_array,
-                others,
-            }),
-            Err(error) => Err(error),
-        },
     }
 }
 

@@ -1,6 +1,7 @@
 //! Codec chains: array to array codecs, an array to bytes codec, and the caller's bytes to bytes codecs.
 #![tactic(auto)]
 
+mod allowing;
 mod array_codecs;
 mod array_metadata;
 pub mod array_to_bytes;
@@ -14,13 +15,16 @@ mod encoding;
 mod fitting;
 mod metadata;
 pub mod optional;
+mod reading;
 mod representing;
 mod selecting;
 pub mod vlen;
+mod writing;
 
 pub use array_to_bytes::ArrayToBytesCodec;
 pub use chain::CodecChain;
 pub use optional::OptionalCodec;
 pub use vlen::VlenCodec;
 pub use zarr_codecs_bytes::{BytesCodec, Endianness};
+pub use zarr_codecs_configurations::{OptionalCodecConfiguration, VlenCodecConfiguration};
 pub use zarr_codecs_sections::{VlenIndexDataType, VlenIndexLocation};

@@ -1,2 +1,4 @@
-//! What the metadata of codecs says: definitions.
+//! What the metadata of codecs says: definitions, and a law of chains inside of chains.
 #![tactic(auto)]
+
+pub mod laws;

@@ -3,7 +3,8 @@
 /// Options of a call; all are false by default.
 #[derive(Clone, Copy, Debug, PartialEq, Eq)]
 pub struct CodecOptions {
-    /// Whether a chunk of fill values alone is stored; else its key is erased.
+    /// Whether a chunk of fill values alone is stored; else its key is erased, unless the write may
+    /// encode in part.
     pub store_empty_chunks: bool,
     /// Whether a write may encode in part.
     pub experimental_partial_encoding: bool,

@@ -1,10 +1,11 @@
 //! What `packbits` makes of elements, with values typed in by hand.
-use crate::samples::elements_of;
+use crate::samples::{elements_of, fixed_bytes, is};
 use std::alloc::Global;
 use zarr_codecs_arrays::{ArrayBytes, CodecError};
 use zarr_codecs_options::CodecOptions;
 use zarr_codecs_packbits::{PackBitsCodec, PackBitsPaddingEncoding};
 use zarr_codecs_traits::{ArrayToBytesCodecTraits, BytesRepresentation};
+use zarr_codecs_types::DataType;
 
 const INT4: (&str, &str) = (r#""int4""#, "0");
 
@@ -41,92 +42,85 @@ fn decode(
 ) -> Result<Vec<u8>, CodecError> {
     let elements = elements_of(alloc, name, fill)?;
     let value = value.to_vec(alloc)?;
-    match codec.decode(alloc, value, &elements, &[count], &CodecOptions::default())? {
-        ArrayBytes::Fixed(bytes) => Ok(bytes),
-        ArrayBytes::Variable(_bytes, _offsets) => Err(CodecError::Unsupported),
-        ArrayBytes::Optional(_inner, _mask) => Err(CodecError::Unsupported),
-    }
+    fixed_bytes(codec.decode(alloc, value, &elements, &[count], &CodecOptions::default())?)
 }
 
 #[test]
-fn integers_of_4_bits_are_packed_lowest_first(rt: HostRuntime) -> Result<(), CodecError> {
+fn integers_of_4_bits_are_packed_lowest_first(rt: HostRuntime) {
     let codec = PackBitsCodec::default();
-    let value = encode(rt.alloc(), codec, INT4, &[0x01, 0xFF, 0x07, 0xF8])?;
-    assert!(rt; value.as_slice() == [0xF1, 0x87].as_slice());
-    Ok(())
+    let value = encode(rt.alloc(), codec, INT4, &[0x01, 0xFF, 0x07, 0xF8]);
+    assert!(rt; is(value, &[0xF1, 0x87]));
 }
 
 #[test]
-fn integers_of_4_bits_get_their_sign_back(rt: HostRuntime) -> Result<(), CodecError> {
+fn integers_of_4_bits_get_their_sign_back(rt: HostRuntime) {
     let codec = PackBitsCodec::default();
-    let bytes = decode(rt.alloc(), codec, INT4, 4, &[0xF1, 0x87])?;
-    assert!(rt; bytes.as_slice() == [0x01, 0xFF, 0x07, 0xF8].as_slice());
-    Ok(())
+    let bytes = decode(rt.alloc(), codec, INT4, 4, &[0xF1, 0x87]);
+    assert!(rt; is(bytes, &[0x01, 0xFF, 0x07, 0xF8]));
 }
 
 #[test]
-fn booleans_take_a_bit_each(rt: HostRuntime) -> Result<(), CodecError> {
+fn booleans_take_a_bit_each(rt: HostRuntime) {
     let codec = keeps_all(PackBitsPaddingEncoding::None);
-    let value = encode(rt.alloc(), codec, BOOL, &FLAGS)?;
-    assert!(rt; value.as_slice() == [0x0D, 0x01].as_slice());
-    Ok(())
+    let value = encode(rt.alloc(), codec, BOOL, &FLAGS);
+    assert!(rt; is(value, &[0x0D, 0x01]));
 }
 
 #[test]
-fn the_first_byte_tells_the_padding(rt: HostRuntime) -> Result<(), CodecError> {
+fn the_first_byte_tells_the_padding(rt: HostRuntime) {
     let codec = keeps_all(PackBitsPaddingEncoding::FirstByte);
-    let value = encode(rt.alloc(), codec, BOOL, &FLAGS)?;
-    assert!(rt; value.as_slice() == [0x07, 0x0D, 0x01].as_slice());
-    Ok(())
+    let value = encode(rt.alloc(), codec, BOOL, &FLAGS);
+    assert!(rt; is(value, &[0x07, 0x0D, 0x01]));
 }
 
 #[test]
-fn the_last_byte_tells_the_padding(rt: HostRuntime) -> Result<(), CodecError> {
+fn the_last_byte_tells_the_padding(rt: HostRuntime) {
     let codec = keeps_all(PackBitsPaddingEncoding::LastByte);
-    let value = encode(rt.alloc(), codec, BOOL, &FLAGS)?;
-    assert!(rt; value.as_slice() == [0x0D, 0x01, 0x07].as_slice());
-    Ok(())
+    let value = encode(rt.alloc(), codec, BOOL, &FLAGS);
+    assert!(rt; is(value, &[0x0D, 0x01, 0x07]));
 }
 
 #[test]
-fn the_padding_byte_is_not_tested(rt: HostRuntime) -> Result<(), CodecError> {
+fn the_padding_byte_is_not_tested(rt: HostRuntime) {
     let codec = keeps_all(PackBitsPaddingEncoding::FirstByte);
-    let bytes = decode(rt.alloc(), codec, BOOL, 9, &[0xFF, 0x0D, 0x01])?;
-    assert!(rt; bytes.as_slice() == FLAGS.as_slice());
-    Ok(())
+    let bytes = decode(rt.alloc(), codec, BOOL, 9, &[0xFF, 0x0D, 0x01]);
+    assert!(rt; is(bytes, &FLAGS));
 }
 
 #[test]
-fn bits_in_the_middle_are_kept_alone(rt: HostRuntime) -> Result<(), CodecError> {
+fn bits_in_the_middle_are_kept_alone(rt: HostRuntime) {
     let codec = PackBitsCodec::new(PackBitsPaddingEncoding::None, Some(1), Some(2));
-    let value = encode(rt.alloc(), codec, UINT4, &[0x0F, 0x02, 0x09])?;
-    assert!(rt; value.as_slice() == [0x07].as_slice());
-    let bytes = decode(rt.alloc(), codec, UINT4, 3, &[0x07])?;
-    assert!(rt; bytes.as_slice() == [0x06, 0x02, 0x00].as_slice());
-    Ok(())
+    assert!(rt;
+        is(
+            encode(rt.alloc(), codec, UINT4, &[0x0F, 0x02, 0x09]),
+            &[0x07]
+        )
+    );
+    assert!(rt;
+        is(
+            decode(rt.alloc(), codec, UINT4, 3, &[0x07]),
+            &[0x06, 0x02, 0x00]
+        )
+    );
 }
 
 #[test]
-fn a_value_of_another_length_is_damaged(rt: HostRuntime) -> Result<(), CodecError> {
+fn a_value_of_another_length_is_damaged(rt: HostRuntime) {
     let codec = PackBitsCodec::default();
     let read = decode(rt.alloc(), codec, INT4, 4, &[0xF1]);
     assert!(rt; matches!(read, Err(CodecError::Damage)));
-    Ok(())
 }
 
 #[test]
-fn a_bit_past_the_width_does_not_fit(rt: HostRuntime) -> Result<(), CodecError> {
+fn a_bit_past_the_width_does_not_fit(rt: HostRuntime) {
     let codec = PackBitsCodec::new(PackBitsPaddingEncoding::None, None, Some(4));
     let read = decode(rt.alloc(), codec, INT4, 1, &[0x01]);
     assert!(rt; matches!(read, Err(CodecError::Fit)));
-    Ok(())
 }
 
 #[test]
-fn the_size_is_told_with_the_padding_byte(rt: HostRuntime) -> Result<(), CodecError> {
+fn the_size_is_told_with_the_padding_byte(rt: HostRuntime) {
     let codec = keeps_all(PackBitsPaddingEncoding::LastByte);
-    let elements = elements_of(rt.alloc(), r#""bool""#, "false")?;
-    let told = codec.encoded_representation(rt.alloc(), elements.data_type(), &[9])?;
-    assert!(rt; told == BytesRepresentation::FixedSize(3));
-    Ok(())
+    let told = codec.encoded_representation(rt.alloc(), &DataType::Bool, &[9]);
+    assert!(rt; matches!(told, Ok(BytesRepresentation::FixedSize(3))));
 }

@@ -1,8 +1,8 @@
 //! Boxes that are read of values, with values typed in by hand.
-use crate::samples::box_part;
+use crate::samples::{box_part, fixed_bytes, is};
 use std::alloc::Global;
 use std::ops::Range;
-use zarr_codecs_arrays::{ArrayBytes, CodecError, Elements};
+use zarr_codecs_arrays::{CodecError, Elements};
 use zarr_codecs_chains::BytesCodec;
 use zarr_codecs_options::CodecOptions;
 use zarr_codecs_traits::{ArrayToBytesCodecTraits, MemorySource};
@@ -22,15 +22,6 @@ fn source(alloc: Global, value: Option<&[u8]>) -> Result<MemorySource, CodecErro
     match value {
         Some(value) => Ok(MemorySource::new(Some(value.to_vec(alloc)?))),
         None => Ok(MemorySource::new(None)),
-    }
-}
-
-/// The bytes of elements of one size.
-fn fixed_bytes(elements: ArrayBytes) -> Result<Vec<u8>, CodecError> {
-    match elements {
-        ArrayBytes::Fixed(bytes) => Ok(bytes),
-        ArrayBytes::Variable(_bytes, _offsets) => Err(CodecError::Unsupported),
-        ArrayBytes::Optional(_inner, _mask) => Err(CodecError::Unsupported),
     }
 }
 
@@ -55,17 +46,17 @@ fn part(
     )?)
 }
 
+const SIXTEEN: [u8; 16] = [0, 1, 2, 3, 4, 5, 6, 7, 8, 9, 10, 11, 12, 13, 14, 15];
+
 #[test]
-fn a_box_has_the_elements_at_its_places(rt: HostRuntime) -> Result<(), CodecError> {
-    let value = [0, 1, 2, 3, 4, 5, 6, 7, 8, 9, 10, 11, 12, 13, 14, 15];
+fn a_box_has_the_elements_at_its_places(rt: HostRuntime) {
     let bytes = (DataType::UInt8, [0].as_slice());
-    let found = part(rt.alloc(), bytes, Some(&value), &[4, 4], &[1..3, 0..1])?;
-    assert!(rt; found.as_slice() == [4, 8].as_slice());
-    Ok(())
+    let found = part(rt.alloc(), bytes, Some(&SIXTEEN), &[4, 4], &[1..3, 0..1]);
+    assert!(rt; is(found, &[4, 8]));
 }
 
 #[test]
-fn the_numbers_of_a_box_are_in_their_order(rt: HostRuntime) -> Result<(), CodecError> {
+fn the_numbers_of_a_box_are_in_their_order(rt: HostRuntime) {
     let numbers = (DataType::UInt16, [0, 0].as_slice());
     let found = part(
         rt.alloc(),
@@ -73,19 +64,17 @@ fn the_numbers_of_a_box_are_in_their_order(rt: HostRuntime) -> Result<(), CodecE
         Some(&[0, 1, 0, 2, 0, 3]),
         &[3],
         &[1..3],
-    )?;
-    assert!(rt; found.as_slice() == [2, 0, 3, 0].as_slice());
-    Ok(())
+    );
+    assert!(rt; is(found, &[2, 0, 3, 0]));
 }
 
 #[test]
-fn only_the_elements_of_a_box_have_to_be_values(rt: HostRuntime) -> Result<(), CodecError> {
+fn only_the_elements_of_a_box_have_to_be_values(rt: HostRuntime) {
     let value = Some([0, 2, 1].as_slice());
-    let found = part(rt.alloc(), (DataType::Bool, &[0]), value, &[3], &[0..1])?;
-    assert!(rt; found.as_slice() == [0].as_slice());
+    let found = part(rt.alloc(), (DataType::Bool, &[0]), value, &[3], &[0..1]);
+    assert!(rt; is(found, &[0]));
     let damaged = part(rt.alloc(), (DataType::Bool, &[0]), value, &[3], &[1..2]);
     assert!(rt; matches!(damaged, Err(CodecError::Damage)));
-    Ok(())
 }
 
 #[test]
@@ -96,11 +85,10 @@ fn a_value_of_a_wrong_length_has_no_part(rt: HostRuntime) {
 }
 
 #[test]
-fn a_box_of_no_value_is_fill_values(rt: HostRuntime) -> Result<(), CodecError> {
+fn a_box_of_no_value_is_fill_values(rt: HostRuntime) {
     let sevens = (DataType::UInt8, [7].as_slice());
-    let found = part(rt.alloc(), sevens, None, &[4, 4], &[1..3, 0..1])?;
-    assert!(rt; found.as_slice() == [7, 7].as_slice());
-    Ok(())
+    let found = part(rt.alloc(), sevens, None, &[4, 4], &[1..3, 0..1]);
+    assert!(rt; is(found, &[7, 7]));
 }
 
 #[test]

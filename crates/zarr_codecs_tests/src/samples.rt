@@ -80,6 +80,23 @@ pub(crate) fn fixed(alloc: Global, bytes: &[u8]) -> Result<ArrayBytes, AllocErro
     Ok(ArrayBytes::Fixed(bytes.to_vec(alloc)?))
 }
 
+/// The bytes of elements of one size.
+pub(crate) fn fixed_bytes(elements: ArrayBytes) -> Result<Vec<u8>, CodecError> {
+    match elements {
+        ArrayBytes::Fixed(bytes) => Ok(bytes),
+        ArrayBytes::Variable(_bytes, _offsets) => Err(CodecError::Unsupported),
+        ArrayBytes::Optional(_inner, _mask) => Err(CodecError::Unsupported),
+    }
+}
+
+/// Whether these bytes were made.
+pub(crate) fn is(made: Result<Vec<u8>, CodecError>, want: &[u8]) -> bool {
+    match made {
+        Ok(bytes) => bytes.as_slice() == want,
+        Err(_) => false,
+    }
+}
+
 /// A 16-bit number without a sign and a 4-bit one with a sign, in three bytes.
 pub(crate) fn two_numbers(alloc: Global) -> Result<DataType, AllocError> {
     let parts = [

@@ -1,6 +1,7 @@
 //! Values that are decoded into boxes of other elements, with bytes typed in by hand.
 use crate::samples::{elements_of, fixed};
 use std::alloc::Global;
+use std::ops::Range;
 use zarr_codecs_arrays::{ArrayBytes, CodecError};
 use zarr_codecs_chains::BytesCodec;
 use zarr_codecs_options::CodecOptions;
@@ -14,9 +15,10 @@ fn decode_two(
     alloc: Global,
     value: &[u8],
     bytes: &mut [u8],
-    region: &ArraySubset,
+    ranges: &[Range<u64>],
 ) -> Result<(), CodecError> {
     let elements = elements_of(alloc, r#""uint16""#, "0")?;
+    let region = ArraySubset::new_with_ranges(alloc, ranges)?;
     let array = WholeArray {
         elements: &elements,
         shape: &[2],
@@ -24,40 +26,36 @@ fn decode_two(
     let mut target = TargetBytes {
         bytes,
         shape: &[2, 3],
-        region,
+        region: &region,
         width: 2,
     };
     let value = value.to_vec(alloc)?;
     BytesCodec::big().decode_into(alloc, value, array, &mut target, &CodecOptions::default())
 }
 
+const NINES: [u8; 12] = [9, 9, 9, 9, 9, 9, 9, 9, 9, 9, 9, 9];
+
 #[test]
-fn elements_stand_in_the_box_and_others_stay(rt: HostRuntime) -> Result<(), CodecError> {
-    let mut bytes = [9, 9, 9, 9, 9, 9, 9, 9, 9, 9, 9, 9];
-    let region = ArraySubset::new_with_ranges(rt.alloc(), &[0..2, 1..2])?;
-    decode_two(rt.alloc(), &[0, 1, 0, 2], &mut bytes, &region)?;
-    let want = [9, 9, 1, 0, 9, 9, 9, 9, 2, 0, 9, 9];
-    assert!(rt; bytes.as_slice() == want.as_slice());
-    Ok(())
+fn elements_stand_in_the_box_and_others_stay(rt: HostRuntime) {
+    let mut bytes = NINES;
+    let done = decode_two(rt.alloc(), &[0, 1, 0, 2], &mut bytes, &[0..2, 1..2]);
+    assert!(rt; done.is_ok());
+    assert!(rt; bytes == [9, 9, 1, 0, 9, 9, 9, 9, 2, 0, 9, 9]);
 }
 
 #[test]
-fn a_box_of_three_takes_no_two_elements(rt: HostRuntime) -> Result<(), CodecError> {
-    let mut bytes = [9, 9, 9, 9, 9, 9, 9, 9, 9, 9, 9, 9];
-    let region = ArraySubset::new_with_ranges(rt.alloc(), &[0..1, 0..3])?;
-    let refused = decode_two(rt.alloc(), &[0, 1, 0, 2], &mut bytes, &region);
+fn a_box_of_three_takes_no_two_elements(rt: HostRuntime) {
+    let mut bytes = NINES;
+    let refused = decode_two(rt.alloc(), &[0, 1, 0, 2], &mut bytes, &[0..1, 0..3]);
     assert!(rt; matches!(refused, Err(CodecError::InvalidNumberOfElements)));
-    Ok(())
 }
 
 #[test]
-fn a_damaged_value_leaves_the_target(rt: HostRuntime) -> Result<(), CodecError> {
-    let mut bytes = [9, 9, 9, 9, 9, 9, 9, 9, 9, 9, 9, 9];
-    let region = ArraySubset::new_with_ranges(rt.alloc(), &[0..2, 1..2])?;
-    let refused = decode_two(rt.alloc(), &[0, 1, 0], &mut bytes, &region);
+fn a_damaged_value_leaves_the_target(rt: HostRuntime) {
+    let mut bytes = NINES;
+    let refused = decode_two(rt.alloc(), &[0, 1, 0], &mut bytes, &[0..2, 1..2]);
     assert!(rt; matches!(refused, Err(CodecError::Damage)));
-    assert!(rt; bytes.as_slice() == [9, 9, 9, 9, 9, 9, 9, 9, 9, 9, 9, 9].as_slice());
-    Ok(())
+    assert!(rt; bytes == NINES);
 }
 
 /// Three optional elements of one byte: 5, none, 7.
@@ -95,21 +93,29 @@ fn put_three(
     }
 }
 
-#[test]
-fn optional_elements_have_a_mask(rt: HostRuntime) -> Result<(), CodecError> {
+/// Whether a box of four bytes is this, and its mask that, once five, none and seven are put into it.
+fn are_put(alloc: Global, want: &[u8], present: &[u8]) -> Result<bool, CodecError> {
     let (mut bytes, mut mask) = ([9, 9, 9, 9], [1, 1, 1, 1]);
-    let elements = five_none_seven(rt.alloc())?;
-    assert!(rt; put_three(rt.alloc(), &elements, &mut bytes, &mut mask)?);
-    assert!(rt; bytes.as_slice() == [9, 5, 0, 7].as_slice());
-    assert!(rt; mask.as_slice() == [1, 1, 0, 1].as_slice());
-    Ok(())
+    let elements = five_none_seven(alloc)?;
+    let is_done = put_three(alloc, &elements, &mut bytes, &mut mask)?;
+    Ok(is_done && bytes.as_slice() == want && mask.as_slice() == present)
 }
 
 #[test]
-fn elements_without_a_mask_are_refused(rt: HostRuntime) -> Result<(), CodecError> {
+fn optional_elements_have_a_mask(rt: HostRuntime) {
+    let made = are_put(rt.alloc(), &[9, 5, 0, 7], &[1, 1, 0, 1]);
+    assert!(rt; matches!(made, Ok(true)));
+}
+
+/// Whether three elements without a mask are refused by a box of optional ones, and its bytes are still these.
+fn are_refused(alloc: Global, want: &[u8]) -> Result<bool, CodecError> {
     let (mut bytes, mut mask) = ([9, 9, 9, 9], [1, 1, 1, 1]);
-    let elements = fixed(rt.alloc(), &[5, 6, 7])?;
-    assert!(rt; !put_three(rt.alloc(), &elements, &mut bytes, &mut mask)?);
-    assert!(rt; bytes.as_slice() == [9, 9, 9, 9].as_slice());
-    Ok(())
+    let elements = fixed(alloc, &[5, 6, 7])?;
+    let is_done = put_three(alloc, &elements, &mut bytes, &mut mask)?;
+    Ok(!is_done && bytes.as_slice() == want)
+}
+
+#[test]
+fn elements_without_a_mask_are_refused(rt: HostRuntime) {
+    assert!(rt; matches!(are_refused(rt.alloc(), &[9, 9, 9, 9]), Ok(true)));
 }

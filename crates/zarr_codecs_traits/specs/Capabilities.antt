@@ -1,10 +1,8 @@
--- Which chains code parts of an array by parts of its value (this project's profile).
-use Rattle.std.specs.Prelude.{ℕ, List, Bool, true, false, ◌&&◌, ◌||◌}
-use Rattle.zarr_codecs_meaning.specs.Chains.{Chain, Padding, ArrayCodec}
-use Rattle.zarr_codecs_meaning.specs.Chains.ArrayCodec.{transpose, reshape, squeeze}
+-- Which chains decode parts of an array from parts of its value (this project's profile); which encode them so, zarr_codecs_meaning says.
+use Rattle.std.specs.Prelude.{ℕ, List, Bool, true, false}
+use Rattle.zarr_codecs_meaning.specs.Chains.{Chain, Padding}
 use Rattle.zarr_codecs_meaning.specs.Chains.Chain.{bytes, packbits, vlen, optional, after_array_codec, then_bytes, sharded}
 use Rattle.zarr_codecs_meaning.specs.Chains.Padding.{no_padding_byte, first_byte, last_byte}
-use Rattle.zarr_codecs_meaning.specs.Fits.{is_plain}
 
 -- whether `packbits` tells no padding
 abbrev pub is_unpadded : Padding → Bool
@@ -21,22 +19,6 @@ decodes_parts (optional mask values) = false
 decodes_parts (after_array_codec codec chain) = decodes_parts chain
 decodes_parts (then_bytes chain codec) = false
 decodes_parts (sharded subchunk inner index location) = true
-
--- whether an array codec keeps boxes of an array boxes
-abbrev pub keeps_boxes : ArrayCodec → Bool
-keeps_boxes (transpose order) = true
-keeps_boxes (reshape entries) = false
-keeps_boxes squeeze = true
-
--- whether a chain encodes a part of an array as a part of its value: no bytes codec follows, and the array to bytes codec is `bytes`, or a shard that no `reshape` precedes
-abbrev pub encodes_parts : Chain → Bool
-encodes_parts (bytes order) = true
-encodes_parts (packbits padding first last) = false
-encodes_parts (vlen index «data» width location) = false
-encodes_parts (optional mask values) = false
-encodes_parts (after_array_codec codec chain) = encodes_parts chain && (keeps_boxes codec || is_plain chain)
-encodes_parts (then_bytes chain codec) = false
-encodes_parts (sharded subchunk inner index location) = true
 
 -- the shape of the parts of an array that are decoded one by one: the subchunks of a shard that no array codec precedes, else the whole array
 abbrev pub granularity : Chain → List ℕ → List ℕ

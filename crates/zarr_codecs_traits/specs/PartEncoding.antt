@@ -20,6 +20,16 @@ use Rattle.zarr_codecs_traits.specs.Indexers.{Asked, in_box, listed, lies_in}
 use Rattle.zarr_codecs_traits.specs.Patches.{patched, any_too_far}
 use Rattle.zarr_codecs_traits.specs.declared.value_patch.ValuePatch.{ValuePatch}
 
+-- whether a chain encodes the elements of a box as ranges of bytes, which are the same whatever value they are written into: it is `bytes` alone
+abbrev pub encodes_ranges : Chain → Bool
+encodes_ranges (bytes order) = true
+encodes_ranges (packbits padding first last) = false
+encodes_ranges (vlen index «data» width location) = false
+encodes_ranges (optional mask values) = false
+encodes_ranges (after_array_codec codec chain) = false
+encodes_ranges (then_bytes chain codec) = false
+encodes_ranges (sharded subchunk inner index location) = false
+
 -- whether some elements can be replaced in a value that nobody reads: the chain is `bytes` alone, it suits the type, and any bytes of the right number are elements
 abbrev pub takes_patches : Chain → DataType → Bool
 takes_patches (bytes order) type = fits (bytes order) type [] && takes_all_bytes type
@@ -47,6 +57,7 @@ cells_with_box shape other region given before =
 
 -- ranges to be written into a value: it is then one of the elements of the array after those of a box were replaced
 pub record IsEncodedPart (chain : Chain) (exact : Bool) (elements : Elements) (shape : List ℕ) (region : Region) (payload : Payload) (cells : List Cell) (patches : List ValuePatch) : Type 0 where
+  pub ranges : encodes_ranges chain ≡ true
   pub valid : IsValid elements.type payload (product region.shape) cells
   pub fit : fits chain elements.type shape ≡ true
   pub inside : lies_in shape region ≡ true
@@ -54,10 +65,10 @@ pub record IsEncodedPart (chain : Chain) (exact : Bool) (elements : Elements) (s
   pub encodes : IsTrue exact → (value : List ℕ) (before : List Cell) → decoded chain elements shape value ≡ Some before → encoded chain elements shape (cells_with_box shape elements.fill region cells before) ≡ Some (patched value patches)
   pub stands : is_lossless chain elements.type ≡ true → (value : List ℕ) (before : List Cell) → decoded chain elements shape value ≡ Some before → Stands chain elements shape (patched value patches) (cells_with_box shape elements.fill region cells before)
 
--- the ranges to be written where the elements at the places of a box are replaced, or that the value is better written whole, or why there are none
+-- the ranges to be written where the elements at the places of a box are replaced, or why there are none; the value is written whole exactly where the chain encodes no ranges
 abbrev pub EncodesPart : Chain → Bool → Elements → List ℕ → Region → Payload → Result (Option (Vec ValuePatch Global)) CodecError → Type 0
 EncodesPart chain exact elements shape region payload (Ok (Some patches)) = (cells : List Cell) × IsEncodedPart chain exact elements shape region payload cells patches.items
-EncodesPart chain exact elements shape region payload (Ok None) = Unit {0}
+EncodesPart chain exact elements shape region payload (Ok None) = encodes_ranges chain ≡ false
 EncodesPart chain exact elements shape region payload (Err error.Fit) = fits chain elements.type shape ≡ false
 EncodesPart chain exact elements shape region payload (Err error.IncompatibleIndexer) = lies_in shape region ≡ false
 EncodesPart chain exact elements shape region payload (Err error.Size) = IsTooLarge elements.type (product shape)

@@ -3,9 +3,10 @@ ghost use Rattle.std.specs.Prelude.{◌≡◌, Bool, IfErr, IfOk, IsTrue, OnErr,
 ghost use Rattle.zarr_codecs_meaning.specs.Chains.{Chain};
 ghost use Rattle.zarr_codecs_meaning.specs.Fits.{fits};
 ghost use Rattle.zarr_codecs_meaning.specs.Laws.{IsLawfulChain};
+ghost use Rattle.zarr_codecs_meaning.specs.Partial.{encodes_in_part};
 ghost use Rattle.zarr_codecs_types.specs.Views.{type_of};
 ghost use Rattle.zarr_codecs_arrays.specs.Views.{payload_of, elements_of};
-ghost use Rattle.zarr_codecs_traits.specs.Capabilities.{decodes_parts, encodes_parts, granularity};
+ghost use Rattle.zarr_codecs_traits.specs.Capabilities.{decodes_parts, granularity};
 ghost use Rattle.zarr_codecs_traits.specs.Compactions.{Compacts};
 ghost use Rattle.zarr_codecs_traits.specs.Indexers.{asked_of};
 ghost use Rattle.zarr_codecs_traits.specs.Outcomes.{Encodes, Decodes, DecodesPart};
@@ -113,7 +114,7 @@ pub trait ArrayToBytesCodecTraits: Sized + Drop {
     /// Whether a part of an array can be encoded as a part of its value (this project's profile). The
     /// values of other codecs are written whole.
     fn partial_encoder_capability(&self) -> bool
-        ensures { result ≡ encodes_parts (meaning self.now) };
+        ensures { result ≡ encodes_in_part (meaning self.now) };
 
     /// The shape of the parts of an array that `partial_decode` decodes one by one: that of a shard's
     /// subchunks, where no array codec precedes the shard, else that of the array. `Err` only where
@@ -150,9 +151,9 @@ pub trait ArrayToBytesCodecTraits: Sized + Drop {
         ensures { result ≡ takes_patches (meaning self.now) (type_of data_type.now) };
 
     /// The ranges to be written into a value of an array, so that the elements at the places of a
-    /// box are replaced by others, row-major. `None` where the value is better written whole, as it
-    /// is where the codec can write no part of it, or where the places are asked for by their
-    /// numbers. `Fit` where the codec doesn't suit the array; `IncompatibleIndexer` where the box
+    /// box are replaced by others, row-major. `None` exactly where the codec tells no such ranges:
+    /// where it isn't `bytes` alone, or the places are asked for by their numbers. Then write the
+    /// value whole. `Fit` where the codec doesn't suit the array; `IncompatibleIndexer` where the box
     /// doesn't lie in the shape; `InvalidNumberOfElements`, `Expected..` or `CellOutOfRange` where
     /// these are not elements of the box; `Size` where the array has 2^63 elements or bytes or more.
     fn partial_encode(

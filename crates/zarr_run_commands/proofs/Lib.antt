@@ -2,3 +2,4 @@ pub mod Taken
 pub mod Pairs
 pub mod Printed
 pub mod Appended
+pub mod Listed

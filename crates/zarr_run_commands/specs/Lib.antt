@@ -2,3 +2,4 @@ pub mod Commands
 pub mod Lines
 pub mod Answers
 pub mod Texts
+pub mod Laws

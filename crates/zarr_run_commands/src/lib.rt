@@ -4,6 +4,7 @@
 pub mod answer;
 pub mod command;
 mod field;
+pub mod laws;
 pub mod line;
 mod members;
 mod operation;

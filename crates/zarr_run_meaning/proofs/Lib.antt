@@ -10,7 +10,7 @@ pub mod Effects
 pub mod Reading
 pub mod Beginning
 pub mod Frames
-pub mod PrintedTypes
+pub mod Printing
 pub mod Standing
 pub mod Owning
 pub mod Begun

@@ -12,7 +12,6 @@ use Rattle.zarr_codecs_metadata.specs.Chains.{ReadsCodecs}
 use Rattle.zarr_codecs_options.specs.declared.subchunk_write_order.SubchunkWriteOrder.{SubchunkWriteOrder}
 use Rattle.zarr_array_meaning.specs.Chunks.{KeepsOtherKeys}
 use Rattle.zarr_array_meaning.specs.StoreMaps.{StoreMap}
-use Rattle.zarr_array_meaning.proofs.ReadsBack.{read_document-written_document}
 use Rattle.zarr_run_meaning.specs.Changes.{Creates, Reopens, Opens}
 use Rattle.zarr_run_meaning.specs.Laws.{StepsSound, RunsSound, OwnedBegins, OwnedRunsSound}
 use Rattle.zarr_run_meaning.specs.Requests.{Request, create, reopen, Answer, done}
@@ -23,7 +22,7 @@ use Rattle.zarr_run_meaning.specs.Worlds.{Held, World, held_at, is_taken, with_o
 use Rattle.zarr_run_meaning.proofs.Arrays.{Stayed, at_path, near, apart, held_at-path, held_once, held_at-more, held_at-ordered, held_before, apart_more, apart_ordered, apart_after, free_of, free_none, unrelated_paths}
 use Rattle.zarr_run_meaning.proofs.Begun.{no_chunks_are_fill, created_array, created_there, opened_array, opened_there}
 use Rattle.zarr_run_meaning.proofs.Effects.{Effect, kept, created, reordered, opened, wrote, erased, Wrote, Erased, step_effect}
-use Rattle.zarr_run_meaning.proofs.Keys.{others_kept, put_here, put_kept, put_chunk}
+use Rattle.zarr_run_meaning.proofs.Keys.{others_kept, put_kept}
 use Rattle.zarr_run_meaning.proofs.Owning.{steps_own, owned_has_no_chunks, opens_none}
 use Rattle.zarr_run_meaning.proofs.Standing.{sound_under, written_sound, erased_sound}
 

@@ -7,8 +7,8 @@ use Rattle.zarr_grids_chunks.specs.Grids.{IsInGrid}
 use Rattle.zarr_grids_keys.specs.Documents.{document_key}
 use Rattle.zarr_grids_keys.specs.Paths.{is_node_path}
 use Rattle.zarr_grids_keys.specs.declared.document_name.DocumentName.TheVariants.{ZarrJson}
-use Rattle.zarr_codecs_meaning.specs.Types.{Cell, Component}
-use Rattle.zarr_codecs_types.specs.Parts.{single_component}
+use Rattle.zarr_codecs_meaning.specs.Payloads.{Payload}
+use Rattle.zarr_codecs_meaning.specs.Types.{Cell}
 use Rattle.zarr_codecs_metadata.specs.Chains.{ReadsCodecs}
 use Rattle.zarr_codecs_options.specs.declared.codec_options.CodecOptions.{CodecOptions}
 use Rattle.zarr_codecs_options.specs.declared.subchunk_write_order.SubchunkWriteOrder.{SubchunkWriteOrder}
@@ -19,7 +19,8 @@ use Rattle.zarr_array_meaning.specs.StoreMaps.{StoreMap}
 use Rattle.zarr_array_meaning.specs.Texts.{HasDocument}
 use Rattle.zarr_run_meaning.specs.declared.cause.Cause.TheVariants as cause
 use Rattle.zarr_run_meaning.specs.Causes.{IsChunkKeyIn}
-use Rattle.zarr_run_meaning.specs.Requests.{Target, Request, create, reopen, read, path_of, Answer, done, refused}
+use Rattle.zarr_run_meaning.specs.Printing.{PrintsValues, IsFormed, GivesValues}
+use Rattle.zarr_run_meaning.specs.Requests.{Target, Request, create, reopen, read, path_of, Answer, done, cells as gives, refused}
 use Rattle.zarr_run_meaning.specs.Runs.{Run, world_over}
 use Rattle.zarr_run_meaning.specs.Sound.{AreApart, IsSound, IsSoundAlone, OpensApart, IsOwned, OwnsAllKeys, OwnsKeysUnder, HasNoChunks, IsStoredAs, BeginsSound, SoundRun, AsksLossless, AllAskLossless, AsksOwned, ReadsLawful, ReadsGood}
 use Rattle.zarr_run_meaning.specs.Steps.{Step}
@@ -217,14 +218,12 @@ TableFound = (path : List ℕ) (document : Document) (store : StoreMap)
 
 -- ---- cells that are printed
 
--- the cells of a document are booleans or integers, as the cells are that are printed
-abbrev pub HasNumberCells : Document → Type 0
-HasNumberCells document = (number : Component) × (single_component document.elements.type ≡ Some number)
+-- after any run from a world without arrays, whatever was stored, the values of each array that is held are printed, save those whose text is none
+abbrev pub RunsPrint : Type 0
+RunsPrint = (reads : ReadsCodecs) (store : StoreMap) (count : ℕ) (requests : List Request) (answers : List Answer) (new : World) → Run reads (world_over store count) requests answers new
+    → (path : List ℕ) (h : Held) → held_at path new.arrays ≡ Some h → PrintsValues h.document.elements.type
 
--- the cells of each array are booleans or integers
-abbrev pub AreNumbers : World → Type 0
-AreNumbers world = (path : List ℕ) (h : Held) → held_at path world.arrays ≡ Some h → HasNumberCells h.document
-
--- after any run from a world without arrays, whatever was stored, no array is held whose cells can't be printed
-abbrev pub RunsOfNumbers : Type 0
-RunsOfNumbers = (reads : ReadsCodecs) (store : StoreMap) (count : ℕ) (requests : List Request) (answers : List Answer) (new : World) → Run reads (world_over store count) requests answers new → AreNumbers new
+-- a read is answered with values of its array's type, which are printed, save those whose text is none
+abbrev pub ReadsPrint : Type 0
+ReadsPrint = (reads : ReadsCodecs) (old new : World) (path : List ℕ) (target : Target) (options : CodecOptions) (payload : Payload) → ReadsGood reads → HasTables reads old
+    → IsFormed target → Step reads old (read path target options) (gives payload) new → GivesValues path payload old

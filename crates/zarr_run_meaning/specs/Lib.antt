@@ -6,4 +6,5 @@ pub mod Changes
 pub mod Steps
 pub mod Runs
 pub mod Sound
+pub mod Printing
 pub mod Laws

@@ -2,7 +2,7 @@
 ghost use Rattle.zarr_run_meaning.specs.Laws.{LawfulGood, TableFound, NoArraysSound, OpensNone, ReadsFit, BeginsAsFill, NeverDamaged, StepsShow, StepsSound};
 ghost use Rattle.zarr_run_meaning.specs.Laws.{EmptyOwned, StepsOwn, RunsOwn, OwnedHasNoChunks, NoChunksAreFill, CreatesCells, CreatesFill, OpensCells};
 ghost use Rattle.zarr_run_meaning.specs.Laws.{RunsSound, OwnedBegins, OwnedRunsSound, ReopensAlike, ReopenedSound, ReopenedOwned, RunsReopen, RunsGoOn};
-ghost use Rattle.zarr_run_meaning.specs.Laws.{SoundAlone, BeginsAlone, StepsKeepSound, AloneUndamaged, RunsOfNumbers};
+ghost use Rattle.zarr_run_meaning.specs.Laws.{SoundAlone, BeginsAlone, StepsKeepSound, AloneUndamaged, RunsPrint, ReadsPrint};
 
 /// Whatever is stored, there is a table of the cells that it shows.
 pub fn table_found()
@@ -161,7 +161,14 @@ pub fn alone_undamaged()
     ensures { AloneUndamaged }
 {}
 
-/// After any run no array is held whose cells can't be printed.
-pub fn runs_of_numbers()
-    ensures { RunsOfNumbers }
+/// After any run, whatever was stored, the values of each array that is held are printed, strings that
+/// are not UTF-8 aside.
+pub fn runs_print()
+    ensures { RunsPrint }
+{}
+
+/// A read is answered with values of its array's type, which are printed, strings that are not UTF-8
+/// aside.
+pub fn reads_print()
+    ensures { ReadsPrint }
 {}

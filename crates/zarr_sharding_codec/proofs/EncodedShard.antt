@@ -1,28 +1,26 @@
 -- A shard made of an array's elements is what encoding them means, and stands for them.
-use Rattle.std.proofs.Common.{◌≡◌, ℕ, zero, suc, ◌+◌, ◌-◌, ◌*◌, ◌^◌, ◌<◌, ◌≤◌, List, [], ◌∷◌, ◌++◌, length, map, ap, ◌∙◌, sym, arith, refl, subst, inl, inr, Option, Some, None, option_map, option_and_then, if◌then◌else◌, Bool, true, false, ◌&&◌, Result, Ok, Err, Vec, IsTrue, rules}
-use Rattle.std.specs.Prelude.{nat_lt}
+use Rattle.std.proofs.Common.{◌≡◌, ℕ, ◌+◌, ◌-◌, ◌^◌, ◌<◌, ◌≤◌, List, [], ◌∷◌, length, map, ap, ◌∙◌, sym, arith, refl, subst, inl, inr, Option, Some, None, option_map, option_and_then, if◌then◌else◌, Bool, true, ◌&&◌, Result, Ok, Err, Vec, rules}
 use Rattle.std.specs.declared.alloc.Global.{Global}
 use Rattle.std.proofs.lemmas.Bool.{and_parts, eq-eqb, lt-ltb}
 use Rattle.std.proofs.lemmas.List.{length-map}
 use Rattle.zarr_grids_boxes.specs.Boxes.{product}
 use Rattle.zarr_codecs_meaning.specs.Chains.{BytesRepresentation, Chain, Location, sharded, at_start, at_end, fixed_size, bounded_size, unbounded_size}
-use Rattle.zarr_codecs_meaning.specs.Encoding.{Pair, Piece, base_of, encoded, index_size, joined, joined_slices, pair_cells, pairs_from, piece_of, pieces_of, shard_of, stored_of, stored_pieces}
+use Rattle.zarr_codecs_meaning.specs.Encoding.{Piece, base_of, encoded, index_size, joined, joined_slices, pair_cells, pairs_from, piece_of, pieces_of, shard_of, stored_pieces}
 use Rattle.zarr_codecs_meaning.specs.Fits.{bound_of, can_cut, divides, fits, fixed_of, is_bound_within, is_lossless, is_size_as, representation_of, sum_of_bounds}
-use Rattle.zarr_codecs_meaning.specs.Laws.{AreCells, IsLawfulChain}
+use Rattle.zarr_codecs_meaning.specs.Laws.{IsLawfulChain}
 use Rattle.zarr_codecs_meaning.specs.Payloads.{Payload}
 use Rattle.zarr_codecs_meaning.specs.Places.{Part, index_shape, parts_of}
-use Rattle.zarr_codecs_meaning.specs.Standing.{SliceStands, Stands}
-use Rattle.zarr_codecs_meaning.specs.Types.{Cell, Elements, is_fill, is_value, uint64, zero_filled}
+use Rattle.zarr_codecs_meaning.specs.Standing.{Stands}
+use Rattle.zarr_codecs_meaning.specs.Types.{Cell, Elements, uint64, zero_filled}
 use Rattle.zarr_codecs_meaning.proofs.Bounds.{plus, plus_within, size_at_most, size_within, slices_within}
 use Rattle.zarr_codecs_meaning.proofs.Lists.{some_same}
-use Rattle.zarr_codecs_meaning.proofs.Fitting.{fitted, length-joined}
-use Rattle.zarr_codecs_meaning.proofs.Parts.{index_product}
+use Rattle.zarr_codecs_meaning.proofs.Fitting.{length-joined}
 use Rattle.zarr_codecs_meaning.proofs.Shards.{SlicesStand, length-pairs_from, length-slices, put}
-use Rattle.zarr_codecs_arrays.specs.Outcomes.{IsTooLarge, IsValid}
+use Rattle.zarr_codecs_arrays.specs.Outcomes.{IsValid}
 use Rattle.zarr_codecs_arrays.specs.declared.error.CodecError.{CodecError}
 use Rattle.zarr_codecs_arrays.specs.declared.error.CodecError.TheVariants as error
 use Rattle.zarr_codecs_traits.specs.Outcomes.{Encodes, IsEncoded}
-use Rattle.zarr_sharding_index.specs.Stored.{IsIndexWritten, index_fits}
+use Rattle.zarr_sharding_index.specs.Stored.{index_fits}
 use Rattle.zarr_sharding_index.proofs.StoredIndex.{index_below}
 use Rattle.zarr_sharding_codec.proofs.EvenParts.{is_plain_type, parts_fit}
 use Rattle.zarr_sharding_codec.specs.Assembled.{Assembles, IsAssembled}

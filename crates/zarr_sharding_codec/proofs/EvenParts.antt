@@ -1,5 +1,5 @@
 -- The subchunks of a shape that they divide.
-use Rattle.std.proofs.Common.{◌≡◌, ℕ, zero, suc, ◌+◌, ◌-◌, ◌*◌, ◌/◌, ◌%◌, ◌<◌, ◌≤◌, min, List, [], ◌∷◌, length, get_or, map, replicate, ap, ◌∙◌, sym, arith, refl, subst, Option, Some, None, is_some, not, Bool, true, false, ◌&&◌, ◌==◌}
+use Rattle.std.proofs.Common.{◌≡◌, ℕ, suc, ◌+◌, ◌-◌, ◌*◌, ◌/◌, ◌%◌, ◌<◌, ◌≤◌, min, List, [], ◌∷◌, length, get_or, map, replicate, ap, ◌∙◌, sym, arith, refl, Option, Some, None, is_some, not, Bool, true, false, ◌&&◌, ◌==◌}
 use Rattle.std.specs.Prelude.{nat_lt}
 use Rattle.std.specs.List.{list_all}
 use Rattle.std.proofs.lemmas.Bool.{and_parts, lt-ltb, ltb-true, eqb-true}
@@ -9,7 +9,7 @@ use Rattle.zarr_grids_boxes.specs.Boxes.{product, place_at, places, ravel, each2
 use Rattle.zarr_grids_boxes.proofs.Dimensions.{IsIndex-tail}
 use Rattle.zarr_codecs_meaning.specs.Chains.{Chain, Location, sharded}
 use Rattle.zarr_codecs_meaning.specs.Fits.{can_cut, divides, fits}
-use Rattle.zarr_codecs_meaning.specs.Places.{Part, grid_of, box_of, part_of, parts_of, places_of, index_shape}
+use Rattle.zarr_codecs_meaning.specs.Places.{Part, grid_of, box_of, part_of, parts_of, index_shape}
 use Rattle.zarr_codecs_meaning.specs.Types.{DataType, inner_type}
 use Rattle.zarr_codecs_meaning.proofs.Covers.{zeros, place_is_index, places_at, ravel_place}
 use Rattle.zarr_codecs_meaning.proofs.Lists.{Each, all_pass, each_weaker}

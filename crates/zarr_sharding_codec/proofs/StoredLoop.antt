@@ -1,7 +1,6 @@
 -- What is stored of one subchunk after another.
-use Rattle.std.proofs.Common.{◌≡◌, ℕ, zero, suc, ◌+◌, ◌*◌, ◌^◌, ◌<◌, ◌≤◌, List, [], ◌∷◌, ◌++◌, length, get_or, take, map, ap, ◌∙◌, sym, arith, refl, subst, inl, inr, Option, Some, None, Bool, true, false, Result, Ok, Err, Vec, MatchOption, take_all, not, is_some, ◌&&◌}
+use Rattle.std.proofs.Common.{◌≡◌, ℕ, ◌+◌, ◌*◌, ◌^◌, ◌<◌, ◌≤◌, List, [], ◌∷◌, ◌++◌, length, get_or, take, ap, ◌∙◌, sym, arith, subst, inl, inr, Option, Some, None, Bool, true, false, Err, Vec, MatchOption, take_all, not, is_some, ◌&&◌}
 use Rattle.std.specs.declared.alloc.Global.{Global}
-use Rattle.std.specs.List.{list_all}
 use Rattle.std.proofs.lemmas.List.{take_more, get_or-map, map-append, length-map}
 use Rattle.std.proofs.Math.Nat.{mul-le-mul_right}
 use Rattle.zarr_grids_boxes.specs.Boxes.{product}

@@ -1,20 +1,18 @@
 -- What is stored of a shard's subchunks.
-use Rattle.std.proofs.Common.{◌≡◌, ℕ, zero, suc, ◌+◌, ◌*◌, ◌<◌, ◌≤◌, List, [], ◌∷◌, ◌++◌, length, get_or, take, drop, map, ap, ◌∙◌, sym, arith, refl, subst, inl, inr, Option, Some, None, option_and_then, ◌%◌, Bool, true, false, Result, Ok, Err, Vec}
-use Rattle.std.specs.declared.alloc.Global.{Global}
+use Rattle.std.proofs.Common.{◌≡◌, ℕ, zero, suc, ◌+◌, ◌*◌, ◌<◌, List, [], ◌∷◌, ◌++◌, length, get_or, ap, ◌∙◌, sym, arith, subst, inl, inr, Option, Some, option_and_then, ◌%◌, Bool, true, false, Err}
 use Rattle.std.specs.List.{list_all}
 use Rattle.zarr_grids_boxes.specs.Boxes.{product}
 use Rattle.zarr_codecs_meaning.specs.Chains.{Chain}
-use Rattle.zarr_codecs_meaning.specs.Encoding.{Piece, encoded}
+use Rattle.zarr_codecs_meaning.specs.Encoding.{Piece}
 use Rattle.zarr_codecs_meaning.specs.Fits.{fits}
 use Rattle.std.proofs.lemmas.Nat.{mod-mul-add}
 use Rattle.zarr_codecs_meaning.specs.Payloads.{Payload, cells_in, fixed, fixed_cells, fixed_in}
 use Rattle.zarr_codecs_meaning.specs.Places.{gather}
 use Rattle.zarr_codecs_arrays.proofs.FixedCells.{fixed_in-some, fixed_in-whole}
 use Rattle.zarr_codecs_meaning.specs.Refusals.{CodecRefuses, PassesIndex, PieceRefused}
-use Rattle.zarr_codecs_meaning.specs.Standing.{Stands}
 use Rattle.zarr_codecs_meaning.specs.Types.{Cell, DataType, Elements, byte_width, is_fill, is_value}
 use Rattle.zarr_codecs_meaning.proofs.Lists.{some_same}
-use Rattle.zarr_codecs_arrays.specs.Outcomes.{IsTooLarge, IsValid}
+use Rattle.zarr_codecs_arrays.specs.Outcomes.{IsValid}
 use Rattle.zarr_codecs_arrays.specs.declared.error.CodecError.{CodecError}
 use Rattle.zarr_codecs_arrays.specs.declared.error.CodecError.TheVariants as error
 use Rattle.zarr_codecs_traits.specs.Outcomes.{Encodes}

@@ -1,9 +1,8 @@
 -- A shard put together from its slices.
 use Rattle.std.specs.Prelude.{◌≡◌, ℕ, List, Option, Bool, Vec, Result, Ok, Err}
 use Rattle.std.specs.declared.alloc.Global.{Global}
-use Rattle.zarr_codecs_meaning.specs.Chains.{Chain, Location, bytes, packbits, vlen, optional, after_array_codec, then_bytes, sharded}
+use Rattle.zarr_codecs_meaning.specs.Chains.{Chain, Location}
 use Rattle.zarr_codecs_meaning.specs.Encoding.{base_of, index_size, joined, joined_slices, pair_cells, pairs_from}
-use Rattle.zarr_codecs_meaning.specs.Places.{index_shape}
 use Rattle.zarr_codecs_meaning.specs.Refusals.{CodecRefuses, PassesIndex}
 use Rattle.zarr_codecs_meaning.specs.Types.{uint64, zero_filled}
 use Rattle.zarr_codecs_arrays.specs.declared.error.CodecError.{CodecError}

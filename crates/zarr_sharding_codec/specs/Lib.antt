@@ -2,3 +2,5 @@ pub mod Views
 pub mod Fitting
 pub mod Slices
 pub mod Assembled
+pub mod Reading
+pub mod Compacted

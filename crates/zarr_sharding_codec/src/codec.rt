@@ -15,7 +15,7 @@ use zarr_sharding_index::ShardingIndexLocation;
 /// stands. A subchunk of the fill value alone isn't stored. It suits arrays whose size is a multiple
 /// of the subchunk's in each dimension, of types that aren't optional, where its codecs suit the
 /// subchunks and the index, and the index always has the same number of bytes, fewer than 2^63.
-/// It makes shards; what reads them, whole or in parts, isn't built yet.
+/// It makes shards, decodes them whole and compacts them; what reads parts of them isn't built yet.
 #[derive(Debug, Drop)]
 pub struct ShardingCodec<I: ArrayToBytesCodecTraits, X: ArrayToBytesCodecTraits> {
     pub(crate) subchunk_shape: ChunkShape,

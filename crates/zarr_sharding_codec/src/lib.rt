@@ -4,6 +4,8 @@
 
 mod assembling;
 pub mod codec;
+mod compacting;
+mod decoding;
 mod encoding;
 mod fitting;
 mod slices;

@@ -1,3 +1,4 @@
 pub mod Grids
 pub mod PairBytes
 pub mod StoredIndex
+pub mod HeldIndex

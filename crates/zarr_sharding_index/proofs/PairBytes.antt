@@ -1,11 +1,10 @@
 -- Pairs as bytes, and bytes as pairs.
-use Rattle.std.proofs.Common.{◌≡◌, ℕ, zero, suc, ◌+◌, ◌*◌, ◌/◌, ◌%◌, ◌^◌, ◌<◌, ◌≤◌, List, [], ◌∷◌, ◌++◌, length, get_or, map, take, drop, ap, ◌∙◌, sym, arith, refl, Some, true, append_assoc, length-append, length-take, length-drop, take-append-drop}
-use Rattle.std.specs.List.{flat_map}
+use Rattle.std.proofs.Common.{◌≡◌, ℕ, ◌+◌, ◌*◌, ◌%◌, ◌<◌, ◌≤◌, List, [], ◌∷◌, ◌++◌, length, get_or, map, take, drop, ap, ◌∙◌, sym, arith, refl, Some, append_assoc, length-append, length-take, length-drop, take-append-drop}
 use Rattle.zarr_codecs_meaning.specs.Numbers.{number, word}
 use Rattle.zarr_codecs_meaning.specs.Types.{Cell, of_bytes, uint64}
 use Rattle.zarr_codecs_meaning.specs.Encoding.{Pair, pair_cells}
 use Rattle.zarr_codecs_meaning.specs.Decoding.{pairs_of_cells}
-use Rattle.zarr_codecs_meaning.specs.Payloads.{cells_in, fixed, fixed_cells, fixed_in}
+use Rattle.zarr_codecs_meaning.specs.Payloads.{cells_in, fixed, fixed_cells}
 use Rattle.std.proofs.lemmas.List.{drop_more, drop_all, append-nil, map-append}
 use Rattle.zarr_codecs_meaning.proofs.Values.{length-digits}
 use Rattle.zarr_codecs_traits.specs.declared.byte_range.ByteRange.{ByteRange}

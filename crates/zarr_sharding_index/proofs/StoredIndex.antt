@@ -1,5 +1,5 @@
 -- The index of a shard as a chain writes and reads it.
-use Rattle.std.proofs.Common.{◌≡◌, ◌≢◌, ℕ, zero, suc, ◌+◌, ◌*◌, ◌/◌, ◌%◌, ◌^◌, ◌<◌, ◌≤◌, List, [], ◌∷◌, length, map, ap, ◌∙◌, sym, arith, refl, subst, inl, inr, Option, Some, None, option_map, unwrap_or, Bool, true, false, ◌&&◌, Result, Ok, Err, Vec, IsTrue}
+use Rattle.std.proofs.Common.{◌≡◌, ℕ, ◌*◌, ◌%◌, ◌^◌, ◌<◌, List, [], ◌∷◌, length, ap, ◌∙◌, sym, arith, refl, subst, inl, inr, Option, Some, None, option_map, unwrap_or, Bool, true, ◌&&◌, Result, Ok, Err, Vec}
 use Rattle.std.specs.declared.alloc.Global.{Global}
 use Rattle.std.specs.List.{list_all}
 use Rattle.std.proofs.lemmas.Bool.{and_parts, ltb-true, eqb-true}
@@ -7,9 +7,9 @@ use Rattle.std.proofs.lemmas.Nat.{mod_below}
 use Rattle.zarr_grids_boxes.specs.Boxes.{product}
 use Rattle.zarr_codecs_meaning.specs.Chains as chains
 use Rattle.zarr_codecs_meaning.specs.Chains.{Chain}
-use Rattle.zarr_codecs_meaning.specs.Decoding.{decoded, pairs_of_cells}
+use Rattle.zarr_codecs_meaning.specs.Decoding.{pairs_of_cells}
 use Rattle.zarr_codecs_meaning.specs.Encoding.{Pair, encoded, index_size, pair_cells}
-use Rattle.zarr_codecs_meaning.specs.Fits.{fits, fixed_of, is_lossless, is_some_below, is_size_as, representation_of, size_of}
+use Rattle.zarr_codecs_meaning.specs.Fits.{fits, fixed_of, is_some_below, is_size_as, representation_of, size_of}
 use Rattle.zarr_codecs_meaning.specs.Laws.{AreCells, IsLawfulChain}
 use Rattle.zarr_codecs_meaning.specs.Numbers.{digits, number, word}
 use Rattle.zarr_codecs_meaning.specs.Payloads.{Payload, cells_in}
@@ -23,13 +23,10 @@ use Rattle.zarr_codecs_meaning.proofs.Meaning.{stands_decoded}
 use Rattle.zarr_codecs_meaning.proofs.Shards.{length-pair_cells}
 use Rattle.zarr_codecs_meaning.proofs.Values.{length-digits}
 use Rattle.zarr_codecs_meaning.proofs.Words.{number_is_value}
-use Rattle.zarr_codecs_arrays.specs.Outcomes.{IsTooLarge}
-use Rattle.zarr_codecs_arrays.specs.Views.{payload_of}
-use Rattle.zarr_codecs_arrays.specs.declared.array_bytes.ArrayBytes.{ArrayBytes}
 use Rattle.zarr_codecs_arrays.specs.declared.error.CodecError.{CodecError}
 use Rattle.zarr_codecs_arrays.specs.declared.error.CodecError.TheVariants as error
 use Rattle.zarr_codecs_traits.specs.Outcomes.{Encodes, IsDecoded}
-use Rattle.zarr_sharding_index.specs.Stored.{IsIndexRead, IsIndexWritten, WritesIndex, index_fits}
+use Rattle.zarr_sharding_index.specs.Stored.{IsIndexRead, WritesIndex, index_fits}
 
 -- ---- the numbers of pairs are values
 

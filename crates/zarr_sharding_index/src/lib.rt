@@ -2,6 +2,7 @@
 //! which bytes of a value a slice is.
 #![tactic(auto)]
 
+pub mod held;
 pub mod index;
 pub mod location;
 mod numbers;
@@ -9,5 +10,6 @@ pub mod pair;
 pub mod shapes;
 pub mod stored;
 
+pub use held::{FetchedIndex, IndexLayout};
 pub use index::ShardIndex;
 pub use location::ShardingIndexLocation;

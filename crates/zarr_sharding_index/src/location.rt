@@ -1,5 +1,5 @@
 //! Where the index of a shard stands.
-ghost use Rattle.std.specs.Prelude.{◌≡◌, ◌≤◌, ℕ, List, length};
+ghost use Rattle.std.specs.Prelude.{◌≡◌, ◌≤◌, ◌+◌, ℕ, List, length};
 ghost use Rattle.zarr_codecs_meaning.specs.Decoding.{index_bytes};
 ghost use Rattle.zarr_codecs_meaning.specs.Encoding.{base_of};
 ghost use Rattle.zarr_codecs_traits.specs.Sources.{bytes_at};
@@ -29,8 +29,9 @@ impl ShardingIndexLocation {
     /// The bytes of the index among those of a value, which has at least as many.
     pub fn index_range(self, size: u64, total: u64) -> ByteRange
         requires { size ≤ total }
-        ensures { (value : List ℕ) → length value ≡ total
+        ensures bytes { (value : List ℕ) → length value ≡ total
             → bytes_at value result ≡ index_bytes (location_of self) size value }
+        ensures within { result.offset + result.length ≤ total }
     {
         let offset = match self {
             ShardingIndexLocation::Start => 0,

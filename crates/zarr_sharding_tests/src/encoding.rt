@@ -1,50 +1,13 @@
 //! Shards that are encoded, with bytes typed in by hand.
+use crate::shards::{NONE, elements, shards, with_numbers};
 use std::alloc::Global;
-use zarr_codecs_arrays::{ArrayBytes, CodecError, Elements};
+use zarr_codecs_arrays::{ArrayBytes, CodecError};
 use zarr_codecs_chains::BytesCodec;
-use zarr_codecs_options::{CodecOptions, SubchunkWriteOrder};
+use zarr_codecs_options::CodecOptions;
+use zarr_codecs_types::FillValue;
 use zarr_codecs_types::data_type::{uint8, uint16};
-use zarr_codecs_types::{DataType, FillValue};
-use zarr_grids_boxes::ChunkShape;
 use zarr_sharding_codec::ShardingCodec;
 use zarr_sharding_index::ShardingIndexLocation;
-
-/// Elements that fill with a value.
-fn elements(data_type: DataType, fill_value: FillValue) -> Result<Elements, CodecError> {
-    match Elements::new(data_type, fill_value) {
-        Some(elements) => Ok(elements),
-        None => Err(CodecError::Fit),
-    }
-}
-
-/// Shards of subchunks of this shape, written row-major; subchunks and index by `bytes`.
-fn shards(
-    alloc: Global,
-    edges: &[u64],
-    location: ShardingIndexLocation,
-) -> Result<ShardingCodec<BytesCodec, BytesCodec>, CodecError> {
-    match ChunkShape::new(edges.to_vec(alloc)?) {
-        Ok(shape) => {
-            let codec = ShardingCodec::new(
-                shape,
-                BytesCodec::little(),
-                BytesCodec::little(),
-                location,
-            );
-            Ok(codec.with_subchunk_write_order(SubchunkWriteOrder::C))
-        }
-        Err(_) => Err(CodecError::Fit),
-    }
-}
-
-/// Bytes, and behind them numbers of eight bytes.
-fn with_numbers(alloc: Global, bytes: &[u8], numbers: &[u64]) -> Result<Vec<u8>, CodecError> {
-    let mut all = bytes.to_vec(alloc)?;
-    for number in numbers {
-        all.extend_from_slice(&number.to_le_bytes())?;
-    }
-    Ok(all)
-}
 
 /// What a codec makes of bytes of the type uint8.
 fn encoded(
@@ -57,8 +20,6 @@ fn encoded(
     let given = ArrayBytes::Fixed(bytes.to_vec(alloc)?);
     codec.encode(alloc, given, &elements, shape, &CodecOptions::default())
 }
-
-const NONE: u64 = u64::MAX;
 
 #[test]
 fn one_subchunk_of_four_is_stored(rt: HostRuntime) -> Result<(), CodecError> {

@@ -2,4 +2,10 @@
 #![tactic(auto)]
 
 #[cfg(test)]
+mod compaction;
+#[cfg(test)]
+mod decoding;
+#[cfg(test)]
 mod encoding;
+#[cfg(test)]
+mod shards;

@@ -1,4 +1,4 @@
-use Rattle.std.proofs.Common.{◌∙◌, ◌<◌, ◌^◌, ap, sym, subst, inl, option_map, Ok, true}
+use Rattle.std.proofs.Common.{◌∙◌, ◌<◌, ◌^◌, ap, sym, subst, inl, option_map, Ok, Some, true}
 use Rattle.std.proofs.lemmas.Bool.{and_parts}
 use Rattle.zarr_grids_boxes.specs.Boxes.{product}
 use Rattle.zarr_grids_boxes.specs.Subsets.{region_of}
@@ -24,7 +24,7 @@ part_patches-requires-clause-long c =
     let type = (elements_of c.args.part.elements.now).type in
     let count = product c.args.part.region.now.shape.items in
     let found = c.in_default-validate.ensures in
-    let valid = IsValid-at c.data_type-data_type.ensures (c.in-Some.ensures.1 ∙ ap product c.shape.ensures) found.1 in
+    let valid = IsValid-at c.data_type.ensures (c.in-Some.ensures.1 ∙ ap product c.shape.ensures) found.1 in
     let same : IsValid type (fixed c.in-Fixed.bytes.items) count found.0 = subst (λ b. IsValid type (payload_of b) count found.0) c.in-Fixed.is valid in
     (given_cells type c.in-Fixed.bytes.items count found.0 (and_parts (is_fixed type) (order_fits (option_map order_of c.args.codec.endian) (components type)) c.requires).0 same).long
 
@@ -33,8 +33,8 @@ returns-in_ok-part_patches-in-Fixed c =
     let elements = elements_of c.args.part.elements.now in
     let count = product c.args.part.region.now.shape.items in
     let found = c.in_default-validate.ensures in
-    let valid = IsValid-at c.data_type-data_type.ensures (c.in-Some.ensures.1 ∙ ap product c.shape.ensures) found.1 in
+    let valid = IsValid-at c.data_type.ensures (c.in-Some.ensures.1 ∙ ap product c.shape.ensures) found.1 in
     let same : IsValid elements.type (fixed c.in-Fixed.bytes.items) count found.0 = subst (λ b. IsValid elements.type (payload_of b) count found.0) c.in-Fixed.is valid in
     let patches = c.in_ok-part_patches-in-Fixed.field-0 in
-    subst (λ b. EncodesPart (bytes_chain c.args.codec) true elements c.args.part.shape.now (region_of c.args.part.region.now) (payload_of b) (Ok patches)) (sym c.in-Fixed.is)
+    subst (λ b. EncodesPart (bytes_chain c.args.codec) true elements c.args.part.shape.now (region_of c.args.part.region.now) (payload_of b) (Ok (Some patches))) (sym c.in-Fixed.is)
     (part_encodes (option_map order_of c.args.codec.endian) c.args.part c.in-Fixed.bytes.items found.0 patches c.requires same c.in_ok-part_patches-in-Fixed.ensures)

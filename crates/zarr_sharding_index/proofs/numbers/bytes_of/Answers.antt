@@ -1,4 +1,4 @@
-use Rattle.std.proofs.Common.{arith, map, ap, ◌∙◌}
+use Rattle.std.proofs.Common.{arith, map}
 use Rattle.zarr_sharding_index.specs.Views.{pair_of}
 use Rattle.zarr_sharding_index.proofs.PairBytes.{pairs_bytes, bytes_step, bytes_end, pairs_are_numbers}
 use Rattle.zarr_sharding_index.proofs.numbers.bytes_of.Goals as goal

@@ -1,4 +1,4 @@
-use Rattle.std.proofs.Common.{arith, ap, ◌∙◌, refl}
+use Rattle.std.proofs.Common.{arith}
 use Rattle.zarr_codecs_meaning.specs.Decoding.{pairs_of_cells}
 use Rattle.zarr_codecs_meaning.specs.Payloads.{fixed_cells}
 use Rattle.zarr_sharding_index.proofs.PairBytes.{ranges_step, ranges_end, pair_is}

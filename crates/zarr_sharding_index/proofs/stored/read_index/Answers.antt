@@ -1,4 +1,3 @@
-use Rattle.std.proofs.Common.{◌≡◌, List, Some, IfOk}
 use Rattle.zarr_codecs_arrays.specs.Views.{elements_of, payload_of}
 use Rattle.zarr_sharding_index.specs.Views.{pairs_of}
 use Rattle.zarr_sharding_index.proofs.StoredIndex.{index_read}

@@ -10,13 +10,14 @@ use Rattle.zarr_codecs_meaning.specs.Types.{is_fill}
 use Rattle.zarr_codecs_traits.specs.PartEncoding.{EncodesPart}
 use Rattle.zarr_array_meaning.specs.Chunks.{holds_box}
 use Rattle.zarr_array_core.specs.ChunkValues.{CellsBecome}
+use Rattle.zarr_array_meaning.specs.Writing.{stores_fill}
 use Rattle.zarr_array_core.specs.Views.{array_cells, document_of}
 use Rattle.zarr_array_elements.proofs.Meeting.{meeting, starts_alike}
 use Rattle.zarr_array_core.proofs.ChunkPayloads.{AreArrayElements}
 use Rattle.zarr_array_elements.proofs.Shared.{large_grows, shared_held, shared_smaller}
 use Rattle.zarr_array_core.proofs.PartPatches.{AreShared, found_patches}
 use Rattle.zarr_array_core.proofs.array_core.ArrayCore.chunk_patches.Goals as goal
-use Rattle.zarr_array_core.proofs.array_core.ArrayCore.chunk_patches.Goals.{else-not-write-via-then-not-write+else-is_all_fill, else-not-write-via-else-not-write}
+use Rattle.zarr_array_core.proofs.array_core.ArrayCore.chunk_patches.Goals.{else-not-empty-via-then-not-empty+else-is_all_fill, else-not-empty-via-else-not-empty}
 
 shared_is : (subset region own shared : Region) → subset ≡ region → shared ≡ overlapped subset own → shared ≡ overlapped region own
 shared_is subset region own shared e f = f ∙ ap (λ (r : Region). overlapped r own) e
@@ -60,7 +61,7 @@ returns-in-Ok-encode_part-clause-ok g c =
     let payload = payload_of c.in_ok-bytes.bytes in
     let sub = array_cells c.args.self.now c.in_ok-bytes.bytes in
     let fill = document.elements.fill in
-    let empty = c.args.write.now.options.now.store_empty_chunks in
+    let empty = stores_fill document c.args.write.now.options.now region box in
     let shared : region_of c.in-Ok.shared ≡ overlapped region box = shared_is (region_of c.args.write.now.subset.now) region box (region_of c.in-Ok.shared) c.args.write.now.same_box c.in-Ok.ensures.made in
     let part : region_of c.in-Ok-relative_to.part ≡ relative (overlapped region box) box.start =
     c.in-Ok-relative_to.ensures.made ∙ (ap (λ (r : Region). relative r c.start.result.now) shared ∙ ap (relative (overlapped region box)) c.start.ensures) in
@@ -69,11 +70,11 @@ returns-in-Ok-encode_part-clause-ok g c =
     let small : ¬ IsTooLarge document.elements.type (product (overlapped region box).shape) = λ large. c.requires.small (large_grows document.elements.type (product (overlapped region box).shape) (product box.shape) (shared_smaller region box c.requires.shares) large) in
     let elements : AreArrayElements document.elements (overlapped region box).shape payload sub = record { valid = record { is = counted; values = becomes.values }; small = small } in
     let some : empty ≡ false → is_fill fill sub ≡ false =
-    elim c.else-not-write.branch [
-      | else-not-write-via-then-not-write+else-is_all_fill w ↦ (λ e. sym w.is_all_fill.ensures ∙ w.if-is_all_fill.false)
-      | else-not-write-via-else-not-write w ↦ (λ e. absurd (false≢true (sym e ∙ w.if-not-write.false)))
+    elim c.else-not-empty.branch [
+      | else-not-empty-via-then-not-empty+else-is_all_fill w ↦ (λ e. sym w.is_all_fill.ensures ∙ w.if-is_all_fill.false)
+      | else-not-empty-via-else-not-empty w ↦ (λ e. absurd (false≢true (sym e ∙ (sym c.stores_fill-empty.ensures ∙ w.if-not-empty.false))))
     ] in
     let are : AreShared document region box given payload sub empty = record { share = c.requires.shares; rank = c.requires.rank; fit = c.requires.fit; fine = c.args.self.now.elements.fills; are = elements; becomes = becomes; some = some } in
-    let encodes = subst (λ (s : List ℕ). EncodesPart document.chain exact document.elements s (relative (overlapped region box) box.start) payload (Ok c.in-Ok-encode_part.patches)) c.shape.ensures
-    (subst (λ (p : Region). EncodesPart document.chain exact document.elements c.shape.result.now p payload (Ok c.in-Ok-encode_part.patches)) part c.in-Ok-encode_part.ensures) in
+    let encodes = subst (λ (s : List ℕ). EncodesPart document.chain exact document.elements s (relative (overlapped region box) box.start) payload (Ok c.in-Ok-encode_part.patches)) c.shape-2.ensures
+    (subst (λ (p : Region). EncodesPart document.chain exact document.elements c.shape-2.result.now p payload (Ok c.in-Ok-encode_part.patches)) part c.in-Ok-encode_part.ensures) in
     found_patches document exact region box given payload sub empty c.in-Ok-encode_part.patches are encodes

@@ -6,6 +6,7 @@ use Rattle.zarr_grids_overlay.specs.Overlays.{extent_of}
 use Rattle.zarr_codecs_traits.specs.PartEncoding.{takes_patches}
 use Rattle.zarr_array_storage.specs.Ranges.{patched_at}
 use Rattle.zarr_array_core.specs.PartWrites.{PatchesChunk}
+use Rattle.zarr_array_meaning.specs.Writing.{stores_fill}
 use Rattle.zarr_array_core.specs.Views.{array_cells, document_of}
 use Rattle.zarr_array_core.proofs.PartPatches.{IsSized, sized_part}
 use Rattle.zarr_array_core.proofs.array_core.ArrayCore.patch_chunk.Goals as goal
@@ -17,7 +18,7 @@ returns-clause-ok g c = λ honest done.
     let region : Region = extent_of c.args.write.now.region in
     let box : Region = region_of c.args.own.now in
     let given = array_cells c.args.self.now c.args.write.now.bytes.now in
-    let empty = c.args.write.now.options.now.store_empty_chunks in
+    let empty = stores_fill document c.args.write.now.options.now region box in
     let held = g.S.ReadableStorageTraits.held c.args.store.now in
     let key = c.args.key.now in
     let size = c.in-Some-3.size in

@@ -1,4 +1,4 @@
-use Rattle.std.proofs.Common.{◌≡◌, ◌*◌, ap, sym, ◌∙◌, length}
+use Rattle.std.proofs.Common.{◌*◌, ap, sym, ◌∙◌, length}
 use Rattle.std.proofs.lemmas.List.{length-map}
 use Rattle.zarr_codecs_meaning.proofs.Shards.{length-pairs_from}
 use Rattle.zarr_sharding_codec.specs.Slices.{slice_of, slices_of}

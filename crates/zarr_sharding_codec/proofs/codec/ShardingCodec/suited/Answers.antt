@@ -1,11 +1,10 @@
-use Rattle.std.proofs.Common.{◌≡◌, ap, sym, ◌∙◌, subst, not, arith, true, false, List, Bool, length}
+use Rattle.std.proofs.Common.{◌≡◌, ap, sym, ◌∙◌, subst, not, true, length}
 use Rattle.std.proofs.lemmas.Result.{IfOk-weaker}
 use Rattle.zarr_codecs_types.specs.Views.{type_of}
 use Rattle.zarr_codecs_meaning.specs.Fits.{divides, fits}
 use Rattle.zarr_codecs_meaning.specs.Places.{index_shape}
 use Rattle.zarr_sharding_index.specs.Stored.{SizesIndex}
 use Rattle.zarr_sharding_index.specs.Views.{location_of}
-use Rattle.zarr_sharding_codec.specs.Fitting.{Suits}
 use Rattle.zarr_sharding_codec.proofs.EvenParts.{cuts_when, suits_when, fails, no_dimensions, is_plain_type}
 use Rattle.zarr_sharding_codec.proofs.codec.ShardingCodec.suited.Goals as goal
 

@@ -1,0 +1,180 @@
+use Rattle.std.proofs.Common.{rules, ◌≡◌, ◌≢◌, ◌∙◌, ℕ, ◌+◌, ◌*◌, ◌<◌, ◌≤◌, List, length, drop, map, ap, refl, sym, subst, arith, true, false, Option, Some, None}
+use Rattle.std.specs.Prelude.{IfOk, IfErr}
+use Rattle.zarr_grids_metadata.specs.ExtensionPoints.{configuration_members}
+use Rattle.zarr_grids_metadata.specs.Views.{point_of}
+use Rattle.zarr_grids_metadata.specs.declared.error.PluginCreateError.TheVariants.{Memory}
+use Rattle.zarr_grids_metadata.specs.declared.metadata.MetadataV3.{MetadataV3}
+use Rattle.zarr_codecs_metadata.specs.Chains.{array_to_bytes_in, chain_of, point_depth}
+use Rattle.zarr_codecs_metadata.specs.Sections.{names_optional, names_vlen}
+use Rattle.zarr_codecs_array_to_array.specs.declared.codec.ArrayToArrayCodec.{ArrayToArrayCodec}
+use Rattle.zarr_codecs_configurations.specs.Views.{optional_points, vlen_points}
+use Rattle.zarr_codecs_chains.specs.Views.{bytes_meaning, codec_chain, meaning_of, optional_chain, vlen_chain}
+use Rattle.zarr_codecs_chains.proofs.Nested.{first_less, optional_done, optional_less, optional_none, points_depth, rest_less, vlen_done, vlen_less, vlen_none}
+use Rattle.zarr_codecs_chains.proofs.ReadsBack.{bytes_none, bytes_split, chain_split, said_leaf, said_optional, said_vlen}
+use Rattle.zarr_codecs_chains.proofs.reading.+reading.Goals as goal
+
+pub read_chain-read_bytes_chain-requires : goal.read_chain-read_bytes_chain-requires
+read_chain-read_bytes_chain-requires g t c =
+    let less : points_depth (map point_of c.rest_after.result.now) ≤ points_depth (map point_of c.args.codecs.now) = rest_less c.args.codecs.now c.rest_after.result.now (length c.as_slice.result.now) c.rest_after.ensures in
+    let fact : 4 * points_depth (map point_of c.rest_after.result.now) + 2 < 4 * points_depth (map point_of c.args.codecs.now) + 3 = omega (arith, less) in
+    search (rules, fact)
+
+pub read_chain-returns-in-Ok-read_bytes_chain-clause-ok : goal.read_chain-returns-in-Ok-read_bytes_chain-clause-ok
+read_chain-returns-in-Ok-read_bytes_chain-clause-ok g t c =
+    let b = g.B.BytesToBytesCodecTraits in
+    let arrays = c.in-Ok.array_to_array.items in
+    let rest = c.rest_after.ensures ∙ ap (λ (xs : List ArrayToArrayCodec). drop (length xs) c.args.codecs.now) c.as_slice.ensures.value in
+    chain_split b.reads c.args.codecs.now c.rest_after.result.now arrays (Some (bytes_meaning b.meaning c.in-Ok-read_bytes_chain.others)) c.in-Ok.ensures.first rest c.in-Ok-read_bytes_chain.ensures.ok
+
+pub read_chain-returns-in-Err-read_bytes_chain-clause-err : goal.read_chain-returns-in-Err-read_bytes_chain-clause-err
+read_chain-returns-in-Err-read_bytes_chain-clause-err g t c = λ other.
+    let b = g.B.BytesToBytesCodecTraits in
+    let arrays = c.in-Ok.array_to_array.items in
+    let rest = c.rest_after.ensures ∙ ap (λ (xs : List ArrayToArrayCodec). drop (length xs) c.args.codecs.now) c.as_slice.ensures.value in
+    chain_split b.reads c.args.codecs.now c.rest_after.result.now arrays None c.in-Ok.ensures.first rest (c.in-Err-read_bytes_chain.ensures.err other)
+
+pub read_bytes_chain-read_codec-requires : goal.read_bytes_chain-read_codec-requires
+read_bytes_chain-read_codec-requires g t c =
+    let less : point_depth (point_of c.in-Some.first.now) ≤ points_depth (map point_of c.args.codecs.now) = first_less c.args.codecs.now c.in-Some.others.now c.in-Some.first.now c.in-Some.ensures.cases.0 in
+    let fact : 4 * point_depth (point_of c.in-Some.first.now) + 1 < 4 * points_depth (map point_of c.args.codecs.now) + 2 = omega (arith, less) in
+    search (rules, fact)
+
+pub read_bytes_chain-returns-in-Ok-read_codecs-clause-ok : goal.read_bytes_chain-returns-in-Ok-read_codecs-clause-ok
+read_bytes_chain-returns-in-Ok-read_codecs-clause-ok g t c =
+    let b = g.B.BytesToBytesCodecTraits in
+    bytes_split b.reads b.meaning c.args.codecs.now c.in-Some.others.now c.in-Some.first.now (codec_chain b.meaning c.in-Ok.codec) (Some (map b.meaning c.in-Ok-read_codecs.bytes_to_bytes.items)) c.in-Some.ensures.cases.0 c.in-Ok.ensures.ok c.in-Ok-read_codecs.ensures.ok
+
+pub read_bytes_chain-returns-in-Err-read_codecs-clause-err : goal.read_bytes_chain-returns-in-Err-read_codecs-clause-err
+read_bytes_chain-returns-in-Err-read_codecs-clause-err g t c = λ other.
+    let b = g.B.BytesToBytesCodecTraits in
+    bytes_split b.reads b.meaning c.args.codecs.now c.in-Some.others.now c.in-Some.first.now (codec_chain b.meaning c.in-Ok.codec) None c.in-Some.ensures.cases.0 c.in-Ok.ensures.ok (c.in-Err-read_codecs.ensures.err other)
+
+pub read_codec-returns-then-names_vlen-clause-ok : goal.read_codec-returns-then-names_vlen-clause-ok
+read_codec-returns-then-names_vlen-clause-ok g t c =
+    let b = g.B.BytesToBytesCodecTraits in
+    let point = point_of c.args.metadata.now in
+    let named = ap names_vlen (sym c.name.ensures) ∙ (sym c.names_vlen.ensures ∙ c.if-names_vlen.true) in
+    c.boxed_vlen.ensures.ok (array_to_bytes_in b.reads point) (subst (λ o. IfOk c.read_vlen.result (λ codec. o ≡ Some (vlen_chain b.meaning codec))) (sym (said_vlen b.reads point named)) c.read_vlen.ensures.ok)
+
+pub read_codec-returns-then-names_vlen-clause-err : goal.read_codec-returns-then-names_vlen-clause-err
+read_codec-returns-then-names_vlen-clause-err g t c =
+    let b = g.B.BytesToBytesCodecTraits in
+    let point = point_of c.args.metadata.now in
+    let named = ap names_vlen (sym c.name.ensures) ∙ (sym c.names_vlen.ensures ∙ c.if-names_vlen.true) in
+    c.boxed_vlen.ensures.err (array_to_bytes_in b.reads point) (subst (λ o. IfErr c.read_vlen.result (λ e. e ≢ Memory → o ≡ None)) (sym (said_vlen b.reads point named)) c.read_vlen.ensures.err)
+
+pub read_codec-returns-then-names_optional-clause-ok : goal.read_codec-returns-then-names_optional-clause-ok
+read_codec-returns-then-names_optional-clause-ok g t c =
+    let b = g.B.BytesToBytesCodecTraits in
+    let point = point_of c.args.metadata.now in
+    let named = ap names_optional (sym c.name-2.ensures) ∙ (sym c.names_optional.ensures ∙ c.if-names_optional.true) in
+    c.boxed_optional.ensures.ok (array_to_bytes_in b.reads point) (subst (λ o. IfOk c.read_optional.result (λ codec. o ≡ Some (optional_chain b.meaning codec))) (sym (said_optional b.reads point named)) c.read_optional.ensures.ok)
+
+pub read_codec-returns-then-names_optional-clause-err : goal.read_codec-returns-then-names_optional-clause-err
+read_codec-returns-then-names_optional-clause-err g t c =
+    let b = g.B.BytesToBytesCodecTraits in
+    let point = point_of c.args.metadata.now in
+    let named = ap names_optional (sym c.name-2.ensures) ∙ (sym c.names_optional.ensures ∙ c.if-names_optional.true) in
+    c.boxed_optional.ensures.err (array_to_bytes_in b.reads point) (subst (λ o. IfErr c.read_optional.result (λ e. e ≢ Memory → o ≡ None)) (sym (said_optional b.reads point named)) c.read_optional.ensures.err)
+
+pub read_codec-returns-clause-ok : goal.read_codec-returns-clause-ok
+read_codec-returns-clause-ok g t c =
+    let b = g.B.BytesToBytesCodecTraits in
+    let point = point_of c.args.metadata.now in
+    let no_vlen = ap names_vlen (sym c.name.ensures) ∙ (sym c.names_vlen.ensures ∙ c.if-names_vlen.false) in
+    let no_optional = ap names_optional (sym c.name-2.ensures) ∙ (sym c.names_optional.ensures ∙ c.if-names_optional.false) in
+    subst (λ o. IfOk c.read_leaf.result (λ codec. o ≡ Some (codec_chain b.meaning codec))) (sym (said_leaf b.reads point no_vlen no_optional)) c.read_leaf.ensures.ok
+
+pub read_codec-returns-clause-err : goal.read_codec-returns-clause-err
+read_codec-returns-clause-err g t c =
+    let b = g.B.BytesToBytesCodecTraits in
+    let point = point_of c.args.metadata.now in
+    let no_vlen = ap names_vlen (sym c.name.ensures) ∙ (sym c.names_vlen.ensures ∙ c.if-names_vlen.false) in
+    let no_optional = ap names_optional (sym c.name-2.ensures) ∙ (sym c.names_optional.ensures ∙ c.if-names_optional.false) in
+    subst (λ o. IfErr c.read_leaf.result (λ e. e ≢ Memory → o ≡ None)) (sym (said_leaf b.reads point no_vlen no_optional)) c.read_leaf.ensures.err
+
+pub read_vlen-read_chain-requires : goal.read_vlen-read_chain-requires
+read_vlen-read_chain-requires g t c =
+    let point = point_of c.args.metadata.now in
+    let less = vlen_less (configuration_members point.configuration) (vlen_points c.in-Ok.configuration) c.in-Ok.ensures.ok in
+    let one : points_depth (map point_of c.as_slice.result.now) < point_depth point = subst (λ (ms : List MetadataV3). points_depth (map point_of ms) < point_depth point) (sym c.as_slice.ensures.value) less.0 in
+    let fact : 4 * points_depth (map point_of c.as_slice.result.now) + 3 < 4 * point_depth point = omega (arith, one) in
+    search (rules, fact)
+
+pub read_vlen-read_chain-requires-2 : goal.read_vlen-read_chain-requires-2
+read_vlen-read_chain-requires-2 g t c =
+    let point = point_of c.args.metadata.now in
+    let less = vlen_less (configuration_members point.configuration) (vlen_points c.in-Ok.configuration) c.in-Ok.ensures.ok in
+    let one : points_depth (map point_of c.as_slice-2.result.now) < point_depth point = subst (λ (ms : List MetadataV3). points_depth (map point_of ms) < point_depth point) (sym c.as_slice-2.ensures.value) less.1 in
+    let fact : 4 * points_depth (map point_of c.as_slice-2.result.now) + 3 < 4 * point_depth point = omega (arith, one) in
+    search (rules, fact)
+
+pub read_vlen-returns-in-Err-clause-err : goal.read_vlen-returns-in-Err-clause-err
+read_vlen-returns-in-Err-clause-err g t c = λ other.
+    vlen_none g.B.BytesToBytesCodecTraits.reads (configuration_members (point_of c.args.metadata.now).configuration) (c.in-Err.ensures.err other)
+
+pub read_vlen-returns-in-Err-read_chain-clause-err : goal.read_vlen-returns-in-Err-read_chain-clause-err
+read_vlen-returns-in-Err-read_chain-clause-err g t c = λ other.
+    let b = g.B.BytesToBytesCodecTraits in
+    let v = vlen_points c.in-Ok.configuration in
+    let one : chain_of b.reads v.index ≡ None = ap (λ (ms : List MetadataV3). chain_of b.reads (map point_of ms)) (sym c.as_slice.ensures.value) ∙ c.in-Err-read_chain.ensures.err other in
+    vlen_done b.reads (configuration_members (point_of c.args.metadata.now).configuration) v None (chain_of b.reads v.content) c.in-Ok.ensures.ok one refl
+
+pub read_vlen-returns-in-Ok-read_chain-2-clause-ok : goal.read_vlen-returns-in-Ok-read_chain-2-clause-ok
+read_vlen-returns-in-Ok-read_chain-2-clause-ok g t c =
+    let b = g.B.BytesToBytesCodecTraits in
+    let v = vlen_points c.in-Ok.configuration in
+    let one : chain_of b.reads v.index ≡ Some (meaning_of b.meaning c.in-Ok-read_chain.chain) = ap (λ (ms : List MetadataV3). chain_of b.reads (map point_of ms)) (sym c.as_slice.ensures.value) ∙ c.in-Ok-read_chain.ensures.ok in
+    let two : chain_of b.reads v.content ≡ Some (meaning_of b.meaning c.in-Ok-read_chain-2.data_codecs) = ap (λ (ms : List MetadataV3). chain_of b.reads (map point_of ms)) (sym c.as_slice-2.ensures.value) ∙ c.in-Ok-read_chain-2.ensures.ok in
+    vlen_done b.reads (configuration_members (point_of c.args.metadata.now).configuration) v (Some (meaning_of b.meaning c.in-Ok-read_chain.chain)) (Some (meaning_of b.meaning c.in-Ok-read_chain-2.data_codecs)) c.in-Ok.ensures.ok one two
+
+pub read_vlen-returns-clause-err : goal.read_vlen-returns-clause-err
+read_vlen-returns-clause-err g t c = λ other.
+    let b = g.B.BytesToBytesCodecTraits in
+    let v = vlen_points c.in-Ok.configuration in
+    let one : chain_of b.reads v.index ≡ Some (meaning_of b.meaning c.in-Ok-read_chain.chain) = ap (λ (ms : List MetadataV3). chain_of b.reads (map point_of ms)) (sym c.as_slice.ensures.value) ∙ c.in-Ok-read_chain.ensures.ok in
+    let two : chain_of b.reads v.content ≡ None = ap (λ (ms : List MetadataV3). chain_of b.reads (map point_of ms)) (sym c.as_slice-2.ensures.value) ∙ c.in-Err-read_chain-2.ensures.err other in
+    vlen_done b.reads (configuration_members (point_of c.args.metadata.now).configuration) v (Some (meaning_of b.meaning c.in-Ok-read_chain.chain)) None c.in-Ok.ensures.ok one two
+
+pub read_optional-read_chain-requires : goal.read_optional-read_chain-requires
+read_optional-read_chain-requires g t c =
+    let point = point_of c.args.metadata.now in
+    let less = optional_less (configuration_members point.configuration) (optional_points c.in-Ok.configuration) c.in-Ok.ensures.ok in
+    let one : points_depth (map point_of c.as_slice.result.now) < point_depth point = subst (λ (ms : List MetadataV3). points_depth (map point_of ms) < point_depth point) (sym c.as_slice.ensures.value) less.0 in
+    let fact : 4 * points_depth (map point_of c.as_slice.result.now) + 3 < 4 * point_depth point = omega (arith, one) in
+    search (rules, fact)
+
+pub read_optional-read_chain-requires-2 : goal.read_optional-read_chain-requires-2
+read_optional-read_chain-requires-2 g t c =
+    let point = point_of c.args.metadata.now in
+    let less = optional_less (configuration_members point.configuration) (optional_points c.in-Ok.configuration) c.in-Ok.ensures.ok in
+    let one : points_depth (map point_of c.as_slice-2.result.now) < point_depth point = subst (λ (ms : List MetadataV3). points_depth (map point_of ms) < point_depth point) (sym c.as_slice-2.ensures.value) less.1 in
+    let fact : 4 * points_depth (map point_of c.as_slice-2.result.now) + 3 < 4 * point_depth point = omega (arith, one) in
+    search (rules, fact)
+
+pub read_optional-returns-in-Err-clause-err : goal.read_optional-returns-in-Err-clause-err
+read_optional-returns-in-Err-clause-err g t c = λ other.
+    optional_none g.B.BytesToBytesCodecTraits.reads (configuration_members (point_of c.args.metadata.now).configuration) (c.in-Err.ensures.err other)
+
+pub read_optional-returns-in-Err-read_chain-clause-err : goal.read_optional-returns-in-Err-read_chain-clause-err
+read_optional-returns-in-Err-read_chain-clause-err g t c = λ other.
+    let b = g.B.BytesToBytesCodecTraits in
+    let v = optional_points c.in-Ok.configuration in
+    let one : chain_of b.reads v.mask ≡ None = ap (λ (ms : List MetadataV3). chain_of b.reads (map point_of ms)) (sym c.as_slice.ensures.value) ∙ c.in-Err-read_chain.ensures.err other in
+    optional_done b.reads (configuration_members (point_of c.args.metadata.now).configuration) v None (chain_of b.reads v.content) c.in-Ok.ensures.ok one refl
+
+pub read_optional-returns-in-Ok-read_chain-2-clause-ok : goal.read_optional-returns-in-Ok-read_chain-2-clause-ok
+read_optional-returns-in-Ok-read_chain-2-clause-ok g t c =
+    let b = g.B.BytesToBytesCodecTraits in
+    let v = optional_points c.in-Ok.configuration in
+    let one : chain_of b.reads v.mask ≡ Some (meaning_of b.meaning c.in-Ok-read_chain.chain) = ap (λ (ms : List MetadataV3). chain_of b.reads (map point_of ms)) (sym c.as_slice.ensures.value) ∙ c.in-Ok-read_chain.ensures.ok in
+    let two : chain_of b.reads v.content ≡ Some (meaning_of b.meaning c.in-Ok-read_chain-2.data_codecs) = ap (λ (ms : List MetadataV3). chain_of b.reads (map point_of ms)) (sym c.as_slice-2.ensures.value) ∙ c.in-Ok-read_chain-2.ensures.ok in
+    optional_done b.reads (configuration_members (point_of c.args.metadata.now).configuration) v (Some (meaning_of b.meaning c.in-Ok-read_chain.chain)) (Some (meaning_of b.meaning c.in-Ok-read_chain-2.data_codecs)) c.in-Ok.ensures.ok one two
+
+pub read_optional-returns-clause-err : goal.read_optional-returns-clause-err
+read_optional-returns-clause-err g t c = λ other.
+    let b = g.B.BytesToBytesCodecTraits in
+    let v = optional_points c.in-Ok.configuration in
+    let one : chain_of b.reads v.mask ≡ Some (meaning_of b.meaning c.in-Ok-read_chain.chain) = ap (λ (ms : List MetadataV3). chain_of b.reads (map point_of ms)) (sym c.as_slice.ensures.value) ∙ c.in-Ok-read_chain.ensures.ok in
+    let two : chain_of b.reads v.content ≡ None = ap (λ (ms : List MetadataV3). chain_of b.reads (map point_of ms)) (sym c.as_slice-2.ensures.value) ∙ c.in-Err-read_chain-2.ensures.err other in
+    optional_done b.reads (configuration_members (point_of c.args.metadata.now).configuration) v (Some (meaning_of b.meaning c.in-Ok-read_chain.chain)) None c.in-Ok.ensures.ok one two

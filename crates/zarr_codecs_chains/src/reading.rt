@@ -1,0 +1,289 @@
+//! Chains read from the metadata of their codecs.
+ghost use Rattle.std.specs.Prelude.{◌≡◌, ◌≢◌, ◌≤◌, bytes_eq, codes, drop, length, map, Option, Some, None, IfOk, IfErr};
+ghost use Rattle.zarr_grids_metadata.specs.ExtensionPoints.{configuration_members};
+ghost use Rattle.zarr_grids_metadata.specs.Views.{point_of};
+ghost use Rattle.zarr_codecs_meaning.specs.Chains.{Chain};
+ghost use Rattle.zarr_codecs_metadata.specs.Chains.{array_to_bytes_in, bytes_chain_of, bytes_in, chain_of, listed_chain};
+ghost use Rattle.zarr_codecs_metadata.specs.Sections.{names_optional, names_vlen, optional_of, vlen_of};
+ghost use Rattle.zarr_codecs_packbits.specs.Metadata.{packbits_in};
+ghost use Rattle.zarr_codecs_chains.specs.Reading.{array_codecs_of, leaf_in};
+ghost use Rattle.zarr_codecs_chains.specs.Views.{bytes_meaning, codec_chain, codecs_of, meaning_of, optional_chain, vlen_chain};
+
+use crate::array_to_bytes::ArrayToBytesCodec;
+use crate::bytes_chain::BytesChain;
+use crate::chain::CodecChain;
+use crate::metadata::read_codecs;
+use crate::optional::OptionalCodec;
+use crate::vlen::VlenCodec;
+use std::alloc::{AllocError, Global};
+use zarr_codecs_array_to_array::ArrayToArrayCodec;
+use zarr_codecs_bytes::BytesCodec;
+use zarr_codecs_configurations::{OptionalCodecConfiguration, VlenCodecConfiguration};
+use zarr_codecs_packbits::PackBitsCodec;
+use zarr_codecs_traits::BytesToBytesCodecTraits;
+use zarr_grids_metadata::{MetadataV3, PluginCreateError};
+
+/// The chain that metadata says. Whether its array to array codecs may stand there isn't asked.
+#[cycle(reading)]
+pub(crate) fn read_chain<B: BytesToBytesCodecTraits>(
+    alloc: Global,
+    codecs: &[MetadataV3],
+) -> Result<CodecChain<B>, PluginCreateError>
+    ensures ok { IfOk result (λ chain.
+        chain_of B.reads (map point_of codecs.now) ≡ Some (meaning_of B.meaning chain)) }
+    ensures err { IfErr result (λ e. e ≢ PluginCreateError.Memory →
+        chain_of B.reads (map point_of codecs.now) ≡ None) }
+{
+    let array_to_array = match first_array_codecs(alloc, codecs) {
+        Ok(array_to_array) => array_to_array,
+        Err(_failed) => return Err(PluginCreateError::Memory),
+    };
+    match read_bytes_chain(alloc, rest_after(codecs, array_to_array.as_slice())) {
+        Ok(others) => Ok(CodecChain {
+            array_to_array,
+            others,
+        }),
+        Err(error) => Err(error),
+    }
+}
+
+/// The chain that metadata without array to array codecs says.
+#[cycle(reading)]
+fn read_bytes_chain<B: BytesToBytesCodecTraits>(
+    alloc: Global,
+    codecs: &[MetadataV3],
+) -> Result<BytesChain<B>, PluginCreateError>
+    ensures ok { IfOk result (λ chain.
+        bytes_chain_of B.reads (map point_of codecs.now) ≡ Some (bytes_meaning B.meaning chain)) }
+    ensures err { IfErr result (λ e. e ≢ PluginCreateError.Memory →
+        bytes_chain_of B.reads (map point_of codecs.now) ≡ None) }
+{
+    let Some((first, others)) = codecs.split_first() else {
+        return Err(PluginCreateError::MetadataInvalid);
+    };
+    let array_to_bytes = match read_codec(alloc, first) {
+        Ok(codec) => codec,
+        Err(error) => return Err(error),
+    };
+    match read_codecs(alloc, others) {
+        Ok(bytes_to_bytes) => Ok(BytesChain {
+            array_to_bytes,
+            bytes_to_bytes,
+        }),
+        Err(error) => Err(error),
+    }
+}
+
+/// The array to bytes codec that metadata describes, with all chains inside of it.
+#[cycle(reading)]
+pub(crate) fn read_codec<B: BytesToBytesCodecTraits>(
+    alloc: Global,
+    metadata: &MetadataV3,
+) -> Result<ArrayToBytesCodec<B>, PluginCreateError>
+    ensures ok { IfOk result (λ codec. array_to_bytes_in B.reads (point_of metadata.now)
+        ≡ Some (codec_chain B.meaning codec)) }
+    ensures err { IfErr result (λ e. e ≢ PluginCreateError.Memory →
+        array_to_bytes_in B.reads (point_of metadata.now) ≡ None) }
+{
+    if names_vlen(metadata.name()) {
+        return boxed_vlen(alloc, read_vlen(alloc, metadata));
+    }
+    if names_optional(metadata.name()) {
+        return boxed_optional(alloc, read_optional(alloc, metadata));
+    }
+    read_leaf(metadata)
+}
+
+/// The codec `vlen` that the configuration in metadata gives.
+#[cycle(reading)]
+fn read_vlen<B: BytesToBytesCodecTraits>(
+    alloc: Global,
+    metadata: &MetadataV3,
+) -> Result<VlenCodec<B>, PluginCreateError>
+    ensures ok { IfOk result (λ codec. vlen_of (listed_chain B.reads)
+        (configuration_members (point_of metadata.now).configuration)
+        ≡ Some (vlen_chain B.meaning codec)) }
+    ensures err { IfErr result (λ e. e ≢ PluginCreateError.Memory →
+        vlen_of (listed_chain B.reads)
+        (configuration_members (point_of metadata.now).configuration) ≡ None) }
+{
+    let configuration = match VlenCodecConfiguration::from_metadata(alloc, metadata) {
+        Ok(configuration) => configuration,
+        Err(error) => return Err(error),
+    };
+    let index_codecs = match read_chain(alloc, configuration.index_codecs.as_slice()) {
+        Ok(chain) => chain,
+        Err(error) => return Err(error),
+    };
+    match read_chain(alloc, configuration.data_codecs.as_slice()) {
+        Ok(data_codecs) => Ok(VlenCodec {
+            index_codecs,
+            data_codecs,
+            index_data_type: configuration.index_data_type,
+            index_location: configuration.index_location,
+        }),
+        Err(error) => Err(error),
+    }
+}
+
+/// The codec `optional` that the configuration in metadata gives.
+#[cycle(reading)]
+fn read_optional<B: BytesToBytesCodecTraits>(
+    alloc: Global,
+    metadata: &MetadataV3,
+) -> Result<OptionalCodec<B>, PluginCreateError>
+    ensures ok { IfOk result (λ codec. optional_of (listed_chain B.reads)
+        (configuration_members (point_of metadata.now).configuration)
+        ≡ Some (optional_chain B.meaning codec)) }
+    ensures err { IfErr result (λ e. e ≢ PluginCreateError.Memory →
+        optional_of (listed_chain B.reads)
+        (configuration_members (point_of metadata.now).configuration) ≡ None) }
+{
+    let configuration = match OptionalCodecConfiguration::from_metadata(alloc, metadata) {
+        Ok(configuration) => configuration,
+        Err(error) => return Err(error),
+    };
+    let mask_codecs = match read_chain(alloc, configuration.mask_codecs.as_slice()) {
+        Ok(chain) => chain,
+        Err(error) => return Err(error),
+    };
+    match read_chain(alloc, configuration.data_codecs.as_slice()) {
+        Ok(data_codecs) => Ok(OptionalCodec {
+            mask_codecs,
+            data_codecs,
+        }),
+        Err(error) => Err(error),
+    }
+}
+
+/// The array to array codecs that metadata begins with.
+fn first_array_codecs(
+    alloc: Global,
+    codecs: &[MetadataV3],
+) -> Result<Vec<ArrayToArrayCodec>, AllocError>
+    ensures first { IfOk result
+        (λ found. codecs_of found.items ≡ array_codecs_of (map point_of codecs.now)) }
+    ensures few { IfOk result (λ found. length found.items ≤ length codecs.now) }
+{
+    let mut array_to_array = Vec::new(alloc);
+    for metadata in codecs {
+        match ArrayToArrayCodec::from_metadata(alloc, metadata) {
+            Ok(codec) => array_to_array.push(codec)?,
+            Err(PluginCreateError::Memory) => return Err(AllocError),
+            Err(_) => return Ok(array_to_array),
+        }
+    }
+    Ok(array_to_array)
+}
+
+/// What metadata says after array to array codecs.
+fn rest_after<'m>(codecs: &'m [MetadataV3], read: &[ArrayToArrayCodec]) -> &'m [MetadataV3]
+    requires { length read.now ≤ length codecs.now }
+    ensures { result.now ≡ drop (length read.now) codecs.now }
+{
+    &codecs[read.len()..]
+}
+
+/// Any array to bytes codec, of `vlen` as it was read.
+fn boxed_vlen<B: BytesToBytesCodecTraits>(
+    alloc: Global,
+    read: Result<VlenCodec<B>, PluginCreateError>,
+) -> Result<ArrayToBytesCodec<B>, PluginCreateError>
+    ensures ok { (said : Option Chain) → IfOk read (λ codec. said ≡ Some (vlen_chain B.meaning codec))
+        → IfOk result (λ codec. said ≡ Some (codec_chain B.meaning codec)) }
+    ensures err { (said : Option Chain) →
+        IfErr read (λ e. e ≢ PluginCreateError.Memory → said ≡ None)
+        → IfErr result (λ e. e ≢ PluginCreateError.Memory → said ≡ None) }
+{
+    match read {
+        Ok(codec) => match Box::new(alloc, codec) {
+            Ok(codec) => Ok(ArrayToBytesCodec::Vlen(codec)),
+            Err(_failed) => Err(PluginCreateError::Memory),
+        },
+        Err(error) => Err(error),
+    }
+}
+
+/// Any array to bytes codec, of `optional` as it was read.
+fn boxed_optional<B: BytesToBytesCodecTraits>(
+    alloc: Global,
+    read: Result<OptionalCodec<B>, PluginCreateError>,
+) -> Result<ArrayToBytesCodec<B>, PluginCreateError>
+    ensures ok { (said : Option Chain) →
+        IfOk read (λ codec. said ≡ Some (optional_chain B.meaning codec))
+        → IfOk result (λ codec. said ≡ Some (codec_chain B.meaning codec)) }
+    ensures err { (said : Option Chain) →
+        IfErr read (λ e. e ≢ PluginCreateError.Memory → said ≡ None)
+        → IfErr result (λ e. e ≢ PluginCreateError.Memory → said ≡ None) }
+{
+    match read {
+        Ok(codec) => match Box::new(alloc, codec) {
+            Ok(codec) => Ok(ArrayToBytesCodec::Optional(codec)),
+            Err(_failed) => Err(PluginCreateError::Memory),
+        },
+        Err(error) => Err(error),
+    }
+}
+
+/// The codec without chains inside of it that metadata describes: `bytes` or `packbits`.
+fn read_leaf<B: BytesToBytesCodecTraits>(
+    metadata: &MetadataV3,
+) -> Result<ArrayToBytesCodec<B>, PluginCreateError>
+    ensures ok { IfOk result
+        (λ codec. leaf_in (point_of metadata.now) ≡ Some (codec_chain B.meaning codec)) }
+    ensures err { IfErr result (λ e. e ≢ PluginCreateError.Memory
+        → leaf_in (point_of metadata.now) ≡ None) }
+{
+    if names_packbits(metadata.name()) {
+        return read_packbits(metadata);
+    }
+    read_bytes(metadata)
+}
+
+/// The codec `packbits` that metadata describes.
+fn read_packbits<B: BytesToBytesCodecTraits>(
+    metadata: &MetadataV3,
+) -> Result<ArrayToBytesCodec<B>, PluginCreateError>
+    ensures ok { IfOk result
+        (λ codec. packbits_in (point_of metadata.now) ≡ Some (codec_chain B.meaning codec)) }
+    ensures err { IfErr result (λ e. e ≢ PluginCreateError.Memory
+        → packbits_in (point_of metadata.now) ≡ None) }
+{
+    match PackBitsCodec::from_metadata(metadata) {
+        Ok(codec) => Ok(ArrayToBytesCodec::PackBits(codec)),
+        Err(error) => Err(error),
+    }
+}
+
+/// The codec `bytes` that metadata describes.
+fn read_bytes<B: BytesToBytesCodecTraits>(
+    metadata: &MetadataV3,
+) -> Result<ArrayToBytesCodec<B>, PluginCreateError>
+    ensures ok { IfOk result
+        (λ codec. bytes_in (point_of metadata.now) ≡ Some (codec_chain B.meaning codec)) }
+    ensures err { IfErr result (λ e. e ≢ PluginCreateError.Memory
+        → bytes_in (point_of metadata.now) ≡ None) }
+{
+    match BytesCodec::from_metadata(metadata) {
+        Ok(codec) => Ok(ArrayToBytesCodec::Bytes(codec)),
+        Err(error) => Err(error),
+    }
+}
+
+fn names_vlen(name: &str) -> bool
+    ensures { result ≡ names_vlen name.now }
+{
+    name == "vlen" || name == "zarrs.vlen"
+}
+
+fn names_optional(name: &str) -> bool
+    ensures { result ≡ names_optional name.now }
+{
+    name == "optional" || name == "zarrs.optional"
+}
+
+fn names_packbits(name: &str) -> bool
+    ensures { result ≡ bytes_eq name.now (codes "packbits") }
+{
+    name == "packbits"
+}

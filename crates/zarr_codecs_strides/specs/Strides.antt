@@ -1,0 +1,35 @@
+-- Elements that a walk comes by.
+use Rattle.std.specs.Prelude.{ℕ, ◌+◌, ◌-◌, ◌*◌, List, [], ◌∷◌, take, drop, flat_map}
+use Rattle.std.specs.List.{range_with_len}
+
+-- the numbers that a walk over sizes comes by, where a step in a dimension goes on by its stride
+abbrev pub strided : ℕ → List ℕ → List ℕ → List ℕ
+strided base [] strides = base ∷ []
+strided base (size ∷ sizes) [] = []
+strided base (size ∷ sizes) (stride ∷ strides) = flat_map (λ i. strided (base + i * stride) sizes strides) (range_with_len 0 size)
+
+-- how far the last number of a walk lies from its first one
+abbrev pub reach : List ℕ → List ℕ → ℕ
+reach [] strides = 0
+reach (size ∷ sizes) [] = 0
+reach (size ∷ sizes) (stride ∷ strides) = (size - 1) * stride + reach sizes strides
+
+-- so many bytes from the element with a number on, where each element has a width
+abbrev pub run_at : ℕ → ℕ → List ℕ → ℕ → List ℕ
+run_at width count bytes n = take count (drop (n * width) bytes)
+
+-- the bytes of the element with a number
+abbrev pub element_at : ℕ → List ℕ → ℕ → List ℕ
+element_at width bytes n = run_at width width bytes n
+
+-- the elements that a walk from a place on comes by
+abbrev pub walked : ℕ → List ℕ → ℕ → List ℕ → List ℕ → List ℕ
+walked width bytes base sizes strides = flat_map (element_at width bytes) (strided base sizes strides)
+
+-- the element in a line and a column of lines that have so many elements each
+abbrev pub element_in : ℕ → List ℕ → ℕ → ℕ → ℕ → List ℕ
+element_in width lines edge column line = element_at width lines (line * edge + column)
+
+-- the elements of a column of so many lines
+abbrev pub column_of : ℕ → List ℕ → ℕ → ℕ → ℕ → List ℕ
+column_of width lines edge count column = flat_map (element_in width lines edge column) (range_with_len 0 count)

@@ -1,0 +1,12 @@
+//! Elements of one size, gathered along strides.
+#![tactic(auto)]
+
+mod columns;
+pub mod gathering;
+mod lines;
+mod panels;
+mod runs;
+pub mod walk;
+
+pub use gathering::gather_walk;
+pub use walk::Walk;

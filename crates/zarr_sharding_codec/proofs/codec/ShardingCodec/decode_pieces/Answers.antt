@@ -1,0 +1,79 @@
+use Rattle.std.proofs.Common.{◌≡◌, ◌≤◌, ap, ◌∙◌, arith, length}
+use Rattle.zarr_grids_boxes.specs.Boxes.{product}
+use Rattle.zarr_codecs_arrays.specs.Views.{elements_of}
+use Rattle.zarr_codecs_meaning.specs.Places.{grid_of, parts_of}
+use Rattle.zarr_codecs_meaning.proofs.Fitting.{fitted}
+use Rattle.zarr_codecs_meaning.proofs.Parts.{length-parts}
+use Rattle.zarr_codecs_regions.specs.Updates.{put}
+use Rattle.zarr_sharding_index.specs.Views.{location_of, pairs_of}
+use Rattle.zarr_sharding_places.proofs.ReadPieces.{shown_all}
+use Rattle.zarr_sharding_codec.proofs.DecodedShard.{decode_lost, decode_step}
+use Rattle.zarr_sharding_codec.proofs.EvenParts.{region_numbers}
+use Rattle.zarr_sharding_codec.proofs.StoredLoop.{is_subchunk, rank_fits}
+use Rattle.zarr_sharding_codec.proofs.codec.ShardingCodec.decode_pieces.Goals as goal
+
+pub grid_of-requires : goal.grid_of-requires
+grid_of-requires g c =
+    let self = c.args.self.now in
+    rank_fits self.subchunk_shape (g.I.ArrayToBytesCodecTraits.meaning self.inner_codecs) (g.X.ArrayToBytesCodecTraits.meaning self.index_codecs) (location_of self.index_location) (elements_of c.args.array.elements.now) c.args.array.shape.now c.requires.fit
+
+pub decode_piece-requires-clause-below : goal.decode_piece-requires-clause-below
+decode_piece-requires-clause-below g c =
+    let shape = c.args.array.shape.now in
+    let subchunk = c.args.self.now.subchunk_shape in
+    let count : c.in-Some.count ≡ product (grid_of shape subchunk) = c.in-Some.ensures.1 ∙ ap product (c.as_slice.ensures.value ∙ c.in_ok-grid.ensures) in
+    let parts = length-parts shape subchunk in
+    let many = c.requires.many in
+    let below = c.loop-n-test.true in
+    omega (arith, count, parts, many, below)
+
+pub returns-in-Err : goal.returns-in-Err
+returns-in-Err g c =
+    let self = c.args.self.now in
+    let subchunk = self.subchunk_shape in
+    let inner = g.I.ArrayToBytesCodecTraits.meaning self.inner_codecs in
+    let elements = elements_of c.args.array.elements.now in
+    let shape = c.args.array.shape.now in
+    let n = c.loop-n.n in
+    let count : c.in-Some.count ≡ product (grid_of shape subchunk) = c.in-Some.ensures.1 ∙ ap product (c.as_slice.ensures.value ∙ c.in_ok-grid.ensures) in
+    let is = is_subchunk subchunk inner (g.X.ArrayToBytesCodecTraits.meaning self.index_codecs) (location_of self.index_location) elements shape n c.requires.fit (omega (arith, c.loop-n-test.true, count)) in
+    decode_lost inner elements shape subchunk c.args.shard.value.now (pairs_of c.args.shard.index.now) n c.in-Err.error is c.in-Err.ensures
+
+pub loop-n-preserved : goal.loop-n-preserved
+loop-n-preserved g c =
+    let self = c.args.self.now in
+    let subchunk = self.subchunk_shape in
+    let inner = g.I.ArrayToBytesCodecTraits.meaning self.inner_codecs in
+    let elements = elements_of c.args.array.elements.now in
+    let shape = c.args.array.shape.now in
+    let edges = c.as_slice-edges.result.now in
+    let same = c.as_slice-edges.ensures.edges in
+    let grid = c.as_slice-in-loop-n.ensures.value ∙ c.in_ok-grid.ensures in
+    let n = c.loop-n.n in
+    let count : c.in-Some.count ≡ product (grid_of shape subchunk) = c.in-Some.ensures.1 ∙ ap product (c.as_slice.ensures.value ∙ c.in_ok-grid.ensures) in
+    let is = is_subchunk subchunk inner (g.X.ArrayToBytesCodecTraits.meaning self.index_codecs) (location_of self.index_location) elements shape n c.requires.fit (omega (arith, c.loop-n-test.true, count)) in
+    let are = region_numbers shape subchunk c.as_slice-in-loop-n.result.now edges c.in_ok-region.region.start.items c.in_ok-region.region.shape.items n is.cuts is.even is.below grid same c.in_ok-region.ensures.start c.in_ok-region.ensures.shape in
+    let before = c.loop-n.invariant in
+    let piece = c.in-Ok.ensures in
+    let numbers = c.as_slice-in-Ok.ensures.value ∙ (c.in_ok-at.ensures ∙ are) in
+    let step = decode_step inner elements shape subchunk c.args.shard.value.now (pairs_of c.args.shard.index.now) n c.as_slice-in-Ok.result.now before.0 piece.cells is numbers piece.is before.2 before.3 in
+    (put c.as_slice-in-Ok.result.now piece.cells before.0, c.in_ok-all-in-Ok.ensures before.0 piece.cells before.1 piece.lists step.many, step.whole, step.shows)
+
+pub returns : goal.returns
+returns g c =
+    let self = c.args.self.now in
+    let subchunk = self.subchunk_shape in
+    let inner = g.I.ArrayToBytesCodecTraits.meaning self.inner_codecs in
+    let elements = elements_of c.args.array.elements.now in
+    let shape = c.args.array.shape.now in
+    let count : c.in-Some.count ≡ product (grid_of shape subchunk) = c.in-Some.ensures.1 ∙ ap product (c.as_slice.ensures.value ∙ c.in_ok-grid.ensures) in
+    let parts = length-parts shape subchunk in
+    let past = c.loop-n-test.false in
+    let all : length (parts_of shape subchunk) ≤ c.loop-n.n = omega (arith, count, parts, past) in
+    let last = c.loop-n.invariant in
+    record {
+      cells = last.0;
+      is = shown_all inner elements shape subchunk c.args.shard.value.now (pairs_of c.args.shard.index.now) last.0 c.loop-n.n
+          (fitted subchunk inner (g.X.ArrayToBytesCodecTraits.meaning self.index_codecs) (location_of self.index_location) elements shape c.requires.fit).cuts c.requires.many all last.2 last.3;
+      lists = c.in_ok-gather.ensures last.0 last.1;
+    }

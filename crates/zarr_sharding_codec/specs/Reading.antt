@@ -1,0 +1,49 @@
+-- What is read of the subchunks of a shard.
+use Rattle.std.specs.Prelude.{◌≡◌, ℕ, Bool, true, false, List, replicate, Option, None, Some, Result, Ok, Err}
+use Rattle.zarr_grids_boxes.specs.Boxes.{product}
+use Rattle.zarr_codecs_meaning.specs.Chains.{Chain, Location}
+use Rattle.zarr_codecs_meaning.specs.Encoding.{Pair}
+use Rattle.zarr_codecs_meaning.specs.Payloads.{cells_in}
+use Rattle.zarr_codecs_meaning.specs.Types.{Cell, Elements}
+use Rattle.zarr_codecs_arrays.specs.Outcomes.{IsTooLarge}
+use Rattle.zarr_codecs_arrays.specs.Views.{payload_of}
+use Rattle.zarr_codecs_arrays.specs.declared.array_bytes.ArrayBytes.{ArrayBytes}
+use Rattle.zarr_codecs_arrays.specs.declared.error.CodecError.{CodecError}
+use Rattle.zarr_codecs_arrays.specs.declared.error.CodecError.TheVariants as error
+use Rattle.zarr_sharding_index.specs.Held.{DecodesIndex}
+use Rattle.zarr_sharding_index.specs.declared.index.ShardIndex.{ShardIndex}
+use Rattle.zarr_sharding_places.specs.Pieces.{piece_decoded, shard_decoded}
+
+-- elements are these cells, if there are any
+pub record AreCells (elements : Elements) (found : Option (List Cell)) (bytes : ArrayBytes) : Type 0 where
+  pub cells : List Cell
+  pub is : found ≡ Some cells
+  pub lists : cells_in elements.type (payload_of bytes) ≡ Some cells
+
+-- elements of an array of this shape, which are these cells, or why there are none: there are no such cells, or they would be too many
+abbrev pub Lists : Elements → List ℕ → Option (List Cell) → Result ArrayBytes CodecError → Type 0
+Lists elements shape found (Ok bytes) = AreCells elements found bytes
+Lists elements shape found (Err error.Damage) = found ≡ None
+Lists elements shape found (Err error.Size) = IsTooLarge elements.type (product shape)
+Lists elements shape found (Err error.Memory) = Unit {0}
+Lists elements shape found (Err e) = ⊥
+
+-- as many fill values as a shape has places, or that they are too many
+abbrev pub FillsPiece : Elements → List ℕ → Result ArrayBytes CodecError → Type 0
+FillsPiece elements shape result = Lists elements shape (Some (replicate (product shape) elements.fill)) result
+
+-- the elements of a subchunk of this shape, or why there are none
+abbrev pub DecodesPiece : Chain → Elements → List ℕ → List ℕ → Pair → Result ArrayBytes CodecError → Type 0
+DecodesPiece inner elements value shape pair result = Lists elements shape (piece_decoded inner elements value shape pair) result
+
+-- the elements of the array of a shard whose index has these pairs, or why there are none
+abbrev pub DecodesPieces : Chain → Elements → List ℕ → List ℕ → List ℕ → List Pair → Result ArrayBytes CodecError → Type 0
+DecodesPieces inner elements shape subchunk value pairs result = Lists elements shape (shard_decoded inner elements shape subchunk value pairs) result
+
+-- the index of a shard, or why there is none; whether the codec suits the array is told
+abbrev pub DecodesIndexOf : Bool → Chain → Location → List ℕ → List ℕ → Result ShardIndex CodecError → Type 0
+DecodesIndexOf fit index location shape value (Ok found) = (fit ≡ true) × DecodesIndex index location shape value (Ok found)
+DecodesIndexOf fit index location shape value (Err error.Fit) = fit ≡ false
+DecodesIndexOf fit index location shape value (Err error.Damage) = (fit ≡ true) × DecodesIndex index location shape value (Err error.Damage)
+DecodesIndexOf fit index location shape value (Err error.Memory) = Unit {0}
+DecodesIndexOf fit index location shape value (Err e) = ⊥

@@ -1,0 +1,220 @@
+//! The elements of an array that a shard is decoded to.
+ghost use Rattle.std.specs.Prelude.{◌≡◌, IfOk};
+ghost use Rattle.zarr_codecs_arrays.specs.Views.{elements_of};
+ghost use Rattle.zarr_codecs_traits.specs.Indexers.{numbers_of};
+ghost use Rattle.zarr_grids_boxes.specs.Subsets.{region_of};
+ghost use Rattle.zarr_sharding_codec.specs.Reading.{FillsPiece};
+
+use crate::codec::ShardingCodec;
+use crate::subchunks::subchunk_region;
+use std::alloc::{AllocError, Global};
+use zarr_codecs_arrays::{ArrayBytes, CodecError, Elements};
+use zarr_codecs_options::CodecOptions;
+use zarr_codecs_regions::{is_inside, numbers_asked};
+use zarr_codecs_traits::{ArrayToBytesCodecTraits, Indexer, WholeArray};
+use zarr_codecs_types::DataType;
+use zarr_grids_boxes::ArraySubset;
+use zarr_grids_boxes::walk::count_places;
+use zarr_sharding_index::held::decode_index;
+use zarr_sharding_index::pair::{is_absent, slice_at};
+use zarr_sharding_index::shapes::{grid_of, index_shape};
+use zarr_sharding_index::{IndexLayout, ShardIndex};
+use zarr_sharding_places::PlacedElements;
+
+/// A shard: its value, and the index that it holds.
+#[derive(Clone, Copy)]
+pub(crate) struct Shard<'a> {
+    pub value: &'a [u8],
+    pub index: &'a ShardIndex,
+}
+
+impl<I: ArrayToBytesCodecTraits, X: ArrayToBytesCodecTraits> ShardingCodec<I, X> {
+    ghost use Rattle.std.specs.Prelude.{◌≡◌, ◌<◌, length, get_or, true};
+    ghost use Rattle.zarr_codecs_arrays.specs.Views.{elements_of};
+    ghost use Rattle.zarr_codecs_meaning.specs.Encoding.{absent_pair, index_size};
+    ghost use Rattle.zarr_codecs_meaning.specs.Fits.{fits};
+    ghost use Rattle.zarr_codecs_meaning.specs.Places.{index_shape, parts_of};
+    ghost use Rattle.zarr_codecs_traits.specs.Outcomes.{Decodes};
+    ghost use Rattle.zarr_codecs_types.specs.Views.{type_of};
+    ghost use Rattle.zarr_sharding_codec.specs.Reading.{DecodesIndexOf, DecodesPiece, DecodesPieces};
+    ghost use Rattle.zarr_sharding_codec.specs.Views.{index_of, inner_of, place_of_index, shard_chain, subchunk_of};
+    ghost use Rattle.zarr_sharding_index.specs.Held.{DecodesIndex};
+    ghost use Rattle.zarr_sharding_index.specs.Stored.{index_fits};
+    ghost use Rattle.zarr_sharding_index.specs.Views.{pairs_of};
+
+    /// The elements of an array that a shard is decoded to. `Fit` where the codec doesn't suit the
+    /// array; `Damage` where the value has fewer bytes than its index, or no index is decoded from
+    /// these, a present pair ends past the end of the value, or a slice is not one of the inner
+    /// codecs'; `Size` where the array has 2^63 elements or bytes or more.
+    pub fn decode(
+        &self,
+        alloc: Global,
+        value: Vec<u8>,
+        elements: &Elements,
+        shape: &[u64],
+        options: &CodecOptions,
+    ) -> Result<ArrayBytes, CodecError>
+        ensures { Decodes (shard_chain I.meaning X.meaning self.now) (elements_of elements.now)
+            shape.now value.items result }
+    {
+        let Some(size) = self.suited(alloc, elements.data_type(), shape)? else {
+            return Err(CodecError::Fit);
+        };
+        let value = value.as_slice();
+        match self.index_in(alloc, value, shape, size, options) {
+            Ok(index) => {
+                let index = &index;
+                let array = WholeArray { elements, shape };
+                self.decode_pieces(alloc, Shard { value, index }, array, options)
+            }
+            Err(error) => Err(error),
+        }
+    }
+
+    /// The index that a shard holds, of which this is the shape of the array. `Fit` where the codec
+    /// doesn't suit the array; `Damage` where the value has fewer bytes than its index, or no index
+    /// is decoded from these.
+    pub fn decode_index(
+        &self,
+        alloc: Global,
+        value: &[u8],
+        data_type: &DataType,
+        shape: &[u64],
+        options: &CodecOptions,
+    ) -> Result<ShardIndex, CodecError>
+        ensures { DecodesIndexOf (fits (shard_chain I.meaning X.meaning self.now)
+            (type_of data_type.now) shape.now) (X.meaning (index_of self.now))
+            (place_of_index self.now) (index_shape shape.now (subchunk_of self.now)) value.now
+            result }
+    {
+        let Some(size) = self.suited(alloc, data_type, shape)? else {
+            return Err(CodecError::Fit);
+        };
+        self.index_in(alloc, value, shape, size, options)
+    }
+
+    /// The index that a shard holds, which has so many bytes; this is the shape of the array.
+    fn index_in(
+        &self,
+        alloc: Global,
+        value: &[u8],
+        shape: &[u64],
+        size: u64,
+        options: &CodecOptions,
+    ) -> Result<ShardIndex, CodecError>
+        requires rank { length shape.now ≡ length (subchunk_of self.now) }
+        requires fit { index_fits (X.meaning (index_of self.now))
+            (index_shape shape.now (subchunk_of self.now)) ≡ true }
+        requires size { size ≡ index_size (X.meaning (index_of self.now))
+            (index_shape shape.now (subchunk_of self.now)) }
+        ensures { DecodesIndex (X.meaning (index_of self.now)) (place_of_index self.now)
+            (index_shape shape.now (subchunk_of self.now)) value.now result }
+    {
+        let pairs_shape = index_shape(alloc, shape, &self.subchunk_shape)?;
+        let shape = pairs_shape.as_slice();
+        let location = self.index_location;
+        let layout = IndexLayout {
+            location,
+            shape,
+            size,
+        };
+        decode_index(alloc, &self.index_codecs, value, layout, options)
+    }
+
+    /// The elements of the array of a shard. `Damage` where a present pair ends past the end of the
+    /// value, or a slice is not one of the inner codecs'.
+    pub(crate) fn decode_pieces(
+        &self,
+        alloc: Global,
+        shard: Shard<'_>,
+        array: WholeArray<'_>,
+        options: &CodecOptions,
+    ) -> Result<ArrayBytes, CodecError>
+        requires fit { fits (shard_chain I.meaning X.meaning self.now)
+            (elements_of array.elements.now).type array.shape.now ≡ true }
+        requires many { length (pairs_of shard.index.now)
+            ≡ length (parts_of array.shape.now (subchunk_of self.now)) }
+        ensures { DecodesPieces (I.meaning (inner_of self.now))
+            (elements_of array.entry.elements.now) array.entry.shape.now (subchunk_of self.now)
+            shard.entry.value.now (pairs_of shard.entry.index.now) result }
+    {
+        let edges = self.subchunk_shape.as_slice();
+        let grid = grid_of(alloc, array.shape, &self.subchunk_shape)?;
+        let Some(count) = count_places(grid.as_slice()) else {
+            return Err(CodecError::Memory);
+        };
+        let Some(total) = count_places(array.shape) else {
+            return Err(CodecError::Size);
+        };
+        let filled = PlacedElements::new_fill_value(alloc, total as usize, array.elements)?;
+        let mut all = filled;
+        for n in 0..count {
+            let region = subchunk_region(alloc, edges, grid.as_slice(), count, n)?;
+            let at = box_numbers(alloc, array.shape, &region)?;
+            match self.decode_piece(alloc, shard, n as usize, array.elements, options) {
+                Ok(piece) => all = all.put(alloc, at.as_slice(), &piece, array.elements)?,
+                Err(error) => return Err(error),
+            }
+        }
+        Ok(all.gather(alloc, array.elements)?)
+    }
+
+    /// The elements of the subchunk with this number: fill values where it is absent. `Damage` where
+    /// its pair ends past the end of the value, or its slice is not one of the inner codecs'.
+    fn decode_piece(
+        &self,
+        alloc: Global,
+        shard: Shard<'_>,
+        n: usize,
+        elements: &Elements,
+        options: &CodecOptions,
+    ) -> Result<ArrayBytes, CodecError>
+        requires fit { fits (I.meaning (inner_of self.now)) (elements_of elements.now).type
+            (subchunk_of self.now) ≡ true }
+        requires below { n < length (pairs_of shard.index.now) }
+        ensures { DecodesPiece (I.meaning (inner_of self.now)) (elements_of elements.now)
+            shard.entry.value.now (subchunk_of self.now)
+            (get_or (pairs_of shard.entry.index.now) n absent_pair) result }
+    {
+        let edges = self.subchunk_shape.as_slice();
+        let pair = shard.index.get(n);
+        if is_absent(pair) {
+            return fill_piece(alloc, elements, edges);
+        }
+        let Some(slice) = slice_at(shard.value, pair) else {
+            return Err(CodecError::Damage);
+        };
+        let slice = slice.to_vec(alloc)?;
+        self.inner_codecs
+            .decode(alloc, slice, elements, edges, options)
+    }
+}
+
+/// As many fill values as a shape has places.
+fn fill_piece(alloc: Global, elements: &Elements, shape: &[u64]) -> Result<ArrayBytes, CodecError>
+    ensures { FillsPiece (elements_of elements.now) shape.now result }
+{
+    let Some(count) = count_places(shape) else {
+        return Err(CodecError::Size);
+    };
+    ArrayBytes::new_fill_value(alloc, elements, count)
+}
+
+/// The numbers of the places of a box in an array of this shape. `Err` where an allocation failed,
+/// and where the box doesn't lie in the array.
+pub(crate) fn box_numbers(
+    alloc: Global,
+    shape: &[u64],
+    region: &ArraySubset,
+) -> Result<Vec<u64>, AllocError>
+    ensures { IfOk result
+        (λ numbers. numbers.items ≡ numbers_of shape.now (region_of region.now)) }
+{
+    if !is_inside(shape, region) {
+        return Err(AllocError);
+    }
+    if count_places(shape).is_none() {
+        return Err(AllocError);
+    }
+    numbers_asked(alloc, shape, Indexer::Subset(region))
+}

@@ -1,0 +1,4 @@
+pub mod Layout
+pub mod Copying
+pub mod Outcomes
+pub mod Laws

@@ -1,0 +1,4 @@
+pub mod Placing
+pub mod PutPlaces
+pub mod PartPlaces
+pub mod ReadPieces

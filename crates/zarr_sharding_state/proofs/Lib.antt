@@ -1,0 +1,4 @@
+pub mod Counts
+pub mod Ranges
+pub mod Stands
+pub mod Opened

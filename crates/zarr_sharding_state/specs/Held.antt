@@ -1,0 +1,43 @@
+-- What is known of a shard in a source.
+use Rattle.std.specs.Prelude.{◌≡◌, ℕ, ◌+◌, List, [], length, replicate, Option, None, Some, Bool, true, ◌&&◌, ◌||◌, nat_le}
+use Rattle.std.specs.List.{list_all}
+use Rattle.zarr_codecs_meaning.specs.Chains.{Chain, Location}
+use Rattle.zarr_codecs_meaning.specs.Chains.Location.{at_start, at_end}
+use Rattle.zarr_codecs_meaning.specs.Decoding.{decoded, is_absent}
+use Rattle.zarr_codecs_meaning.specs.Encoding.{Pair, Piece, absent_pair, base_of, index_size}
+use Rattle.zarr_codecs_meaning.specs.Standing.{IsLaidOut, PiecesStand}
+use Rattle.zarr_codecs_meaning.specs.Types.{Cell, uint64, zero_filled}
+use Rattle.zarr_sharding_changes.specs.Compaction.{data_in}
+use Rattle.zarr_sharding_index.specs.Held.{held_pairs}
+
+-- whether no subchunk is present
+abbrev pub are_absent : List Pair → Bool
+are_absent pairs = list_all is_absent pairs
+
+-- whether a pair is absent, or lies in a data part from a base to an end
+abbrev pub lies_between : ℕ → ℕ → Pair → Bool
+lies_between base end pair = is_absent pair || (nat_le base pair.0 && nat_le (pair.0 + pair.1) end)
+
+-- what is known of a shard once it is opened: its pairs, each of which lies in the data part, and where that ends. Where there is no value, each subchunk is absent, and the data part is empty
+abbrev pub IsOpened : Chain → Location → List ℕ → ℕ → Option (List ℕ) → List Pair → ℕ → Type 0
+IsOpened index location shape count None pairs end = (pairs ≡ replicate count absent_pair) × (end ≡ base_of location (index_size index shape))
+IsOpened index location shape count (Some value) pairs end =
+    let size = index_size index shape in
+    (held_pairs index location shape value ≡ Some pairs) × (end ≡ base_of location size + length (data_in location size value)) × (list_all (lies_between (base_of location size) end) pairs ≡ true)
+
+-- a value is an index of pairs and a data part; where there is no value, each subchunk is absent, and the data part is empty
+abbrev pub IsHeld : Chain → Location → List ℕ → Option (List ℕ) → List Pair → List ℕ → Type 0
+IsHeld index location shape None pairs «data» = («data» ≡ []) × (are_absent pairs ≡ true)
+IsHeld index location shape (Some value) pairs «data» = IsLaidOut (decoded index (zero_filled uint64) shape) location (index_size index shape) value pairs «data»
+
+-- a shard's pairs and its data part, which ends there, stand for the pieces
+pub record HoldsPieces (inner : List ℕ → List ℕ → List Cell → Type 0) (fill : Cell) (index : Chain) (location : Location) (shape : List ℕ) (pieces : List Piece) (contents : Option (List ℕ)) (pairs : List Pair) (end : ℕ) : Type 0 where
+  pub «data» : List ℕ
+  pub held : IsHeld index location shape contents pairs «data»
+  pub ends : end ≡ base_of location (index_size index shape) + length «data»
+  pub stand : PiecesStand inner fill (base_of location (index_size index shape)) «data» pieces pairs
+
+-- how many bytes a shard has whose data part ends there
+abbrev pub shard_length : Location → ℕ → ℕ → ℕ
+shard_length at_start size end = end
+shard_length at_end size end = end + size

@@ -1,0 +1,30 @@
+-- What a shard in a source is seen as.
+use Rattle.std.specs.Prelude.{◌≡◌, ℕ, List, Option, None, Some, true, false, Vec, Result, Ok, Err}
+use Rattle.std.specs.declared.alloc.Global.{Global}
+use Rattle.zarr_codecs_meaning.specs.Decoding.{is_absent, slice_at}
+use Rattle.zarr_codecs_meaning.specs.Encoding.{Pair}
+use Rattle.zarr_codecs_arrays.specs.declared.error.CodecError.{CodecError}
+use Rattle.zarr_codecs_arrays.specs.declared.error.CodecError.TheVariants as error
+use Rattle.zarr_sharding_index.specs.Views.{pairs_of}
+use Rattle.zarr_sharding_state.specs.declared.state.ShardState.{ShardState}
+
+-- the source that holds the shard
+abbrev pub source_of : {E : Type 0} → ShardState E → E
+source_of state = state.source
+
+-- the pairs of the shard's index
+abbrev pub pairs_in : {E : Type 0} → ShardState E → List Pair
+pairs_in state = pairs_of state.index
+
+-- where the shard's data part ends
+abbrev pub end_of : {E : Type 0} → ShardState E → ℕ
+end_of state = state.end
+
+-- the slice that a pair has in a value, if it is present, or why there is none: it ends past the value, or the source refuses
+abbrev pub HasSliceAt : List ℕ → Pair → Result (Option (Vec ℕ Global)) CodecError → Type 0
+HasSliceAt value pair (Ok None) = is_absent pair ≡ true
+HasSliceAt value pair (Ok (Some slice)) = (is_absent pair ≡ false) × (slice_at value pair ≡ Some slice.items)
+HasSliceAt value pair (Err error.Damage) = (is_absent pair ≡ false) × (slice_at value pair ≡ None)
+HasSliceAt value pair (Err error.Source) = Unit {0}
+HasSliceAt value pair (Err error.Memory) = Unit {0}
+HasSliceAt value pair (Err e) = ⊥

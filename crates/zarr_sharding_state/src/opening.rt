@@ -1,0 +1,92 @@
+//! What is known of a shard once its index is fetched.
+ghost use Rattle.std.specs.Prelude.{◌≡◌, ◌^◌, ◌<◌};
+ghost use Rattle.std.specs.List.{list_all};
+ghost use Rattle.zarr_sharding_index.specs.Views.{location_of, pair_of, pairs_of};
+ghost use Rattle.zarr_sharding_state.specs.Held.{lies_between};
+ghost use Rattle.zarr_sharding_state.specs.Opened.{Opens, data_end};
+
+use std::alloc::Global;
+use zarr_codecs_arrays::CodecError;
+use zarr_codecs_traits::ByteRange;
+use zarr_grids_boxes::walk::count_places;
+use zarr_sharding_index::held::IndexLayout;
+use zarr_sharding_index::pair::is_absent;
+use zarr_sharding_index::{FetchedIndex, ShardIndex, ShardingIndexLocation};
+
+/// The index of a shard, and where its data part ends.
+#[derive(Debug, Drop)]
+pub(crate) struct Opened {
+    pub(crate) index: ShardIndex,
+    pub(crate) end: u64,
+}
+
+/// The index of a shard and where its data part ends, where each present pair lies in that. `Damage`
+/// where one doesn't, and `Size` where the data part ends past 2^63 - 1 bytes.
+pub(crate) fn open_fetched(
+    alloc: Global,
+    fetched: Option<FetchedIndex>,
+    layout: IndexLayout<'_>,
+) -> Result<Opened, CodecError>
+    requires { layout.size < 2 ^ 63 }
+    ensures { Opens (location_of layout.entry.location) layout.entry.shape.now layout.entry.size
+        fetched result }
+{
+    let Some(count) = count_places(layout.shape) else {
+        return Err(CodecError::Memory);
+    };
+    let base = layout.location.base(layout.size);
+    let Some(found) = fetched else {
+        let index = ShardIndex::all_absent(alloc, (count / 2) as usize)?;
+        return Ok(Opened { index, end: base });
+    };
+    let Some(end) = data_end(layout.location, layout.size, found.total) else {
+        return Err(CodecError::Damage);
+    };
+    if found.index.len() as u64 != count / 2 || !all_lie_between(&found.index, base, end) {
+        return Err(CodecError::Damage);
+    }
+    if end > 0x7fff_ffff_ffff_ffff {
+        return Err(CodecError::Size);
+    }
+    Ok(Opened {
+        index: found.index,
+        end,
+    })
+}
+
+/// Where the data part ends of a shard of so many bytes, or `None` where these are fewer than those
+/// of its index.
+fn data_end(location: ShardingIndexLocation, size: u64, total: u64) -> Option<u64>
+    ensures { result ≡ data_end (location_of location) size total }
+{
+    let rest = total.checked_sub(size)?;
+    match location {
+        ShardingIndexLocation::Start => Some(total),
+        ShardingIndexLocation::End => Some(rest),
+    }
+}
+
+/// Whether each present pair lies in a data part from `base` to `end`.
+fn all_lie_between(index: &ShardIndex, base: u64, end: u64) -> bool
+    ensures { result ≡ list_all (lies_between base end) (pairs_of index.now) }
+{
+    for n in 0..index.len() {
+        if !lies_between(index.get(n), base, end) {
+            return false;
+        }
+    }
+    true
+}
+
+/// Whether a pair is absent, or lies in a data part from `base` to `end`.
+fn lies_between(pair: ByteRange, base: u64, end: u64) -> bool
+    ensures { result ≡ lies_between base end (pair_of pair) }
+{
+    if is_absent(pair) {
+        return true;
+    }
+    match pair.offset.checked_add(pair.length) {
+        Some(last) => base <= pair.offset && last <= end,
+        None => false,
+    }
+}

@@ -1,0 +1,137 @@
+//! What replaces the slices of some subchunks.
+ghost use Rattle.std.specs.Prelude.{◌≡◌, ◌+◌, ◌^◌, ◌<◌, ◌≤◌, ℕ, List, [], Option, length, true, unwrap_or, IfOk, IsTrue};
+ghost use Rattle.std.specs.List.{list_all};
+ghost use Rattle.zarr_codecs_traits.specs.Patches.{any_too_far, patched_contents};
+ghost use Rattle.zarr_sharding_changes.specs.Changes.{appended, pairs_after};
+ghost use Rattle.zarr_sharding_index.specs.Views.{location_of, pairs_of};
+ghost use Rattle.zarr_sharding_state.specs.Held.{are_absent, shard_length};
+ghost use Rattle.zarr_sharding_state.specs.Views.{changes_of, is_below};
+ghost use Rattle.zarr_sharding_state.specs.Written.{with_slices};
+
+use std::alloc::{AllocError, Global};
+use zarr_codecs_traits::{ByteRange, ValuePatch};
+use zarr_sharding_index::pair::{ABSENT, is_absent};
+use zarr_sharding_index::{ShardIndex, ShardingIndexLocation};
+
+/// The number of a subchunk and the slice that it is encoded as anew, or none where it became all
+/// fill.
+#[derive(Debug, Drop)]
+pub struct SliceChange {
+    pub number: usize,
+    pub slice: Option<Vec<u8>>,
+}
+
+/// The slices of changes in a row.
+pub(crate) fn join_slices(alloc: Global, changes: &[SliceChange]) -> Result<Vec<u8>, AllocError>
+    ensures { IfOk result (λ made. made.items ≡ appended (changes_of changes.now)) }
+{
+    let mut made = Vec::new(alloc);
+    for change in changes {
+        if let Some(bytes) = &change.slice {
+            made.extend_from_slice(bytes.as_slice())?;
+        }
+    }
+    Ok(made)
+}
+
+/// An equal index.
+fn copy_index(alloc: Global, index: &ShardIndex) -> Result<ShardIndex, AllocError>
+    ensures { IfOk result (λ copy. pairs_of copy ≡ pairs_of index.now) }
+{
+    let mut copy = ShardIndex::new(alloc);
+    for n in 0..index.len() {
+        copy.push(index.get(n))?;
+    }
+    Ok(copy)
+}
+
+/// The index after changes whose slices are appended from `end` on.
+pub(crate) fn changed_index(
+    alloc: Global,
+    index: &ShardIndex,
+    changes: &[SliceChange],
+    end: u64,
+) -> Result<ShardIndex, AllocError>
+    requires room { end + length (appended (changes_of changes.now)) < 2 ^ 63 }
+    requires below { list_all (is_below (length (pairs_of index.now))) changes.now ≡ true }
+    ensures { IfOk result (λ made. pairs_of made
+        ≡ pairs_after end (changes_of changes.now) (pairs_of index.now)) }
+{
+    let mut made = copy_index(alloc, index)?;
+    put_changes(&mut made, changes, end);
+    Ok(made)
+}
+
+/// Puts the pairs of slices into an index, the first of which begins at `end`.
+fn put_changes(index: &mut ShardIndex, changes: &[SliceChange], end: u64)
+    requires room { end + length (appended (changes_of changes.now)) < 2 ^ 63 }
+    requires below { list_all (is_below (length (pairs_of index.old))) changes.now ≡ true }
+    ensures { pairs_of index.new ≡ pairs_after end (changes_of changes.now) (pairs_of index.old) }
+{
+    let mut offset = end;
+    for change in changes {
+        match &change.slice {
+            Some(bytes) => {
+                let length = bytes.len() as u64;
+                index.put(change.number, ByteRange { offset, length });
+                offset += length;
+            }
+            None => index.put(change.number, ABSENT),
+        }
+    }
+}
+
+/// Whether no subchunk is present.
+pub(crate) fn are_absent(index: &ShardIndex) -> bool
+    ensures { result ≡ are_absent (pairs_of index.now) }
+{
+    for n in 0..index.len() {
+        if !is_absent(index.get(n)) {
+            return false;
+        }
+    }
+    true
+}
+
+/// The ranges to be written into a shard whose data part ends at `end`, so that slices are appended
+/// to it, and its index is replaced.
+pub(crate) fn slice_patches(
+    alloc: Global,
+    location: ShardingIndexLocation,
+    end: u64,
+    index: Vec<u8>,
+    slices: Vec<u8>,
+) -> Result<Vec<ValuePatch>, AllocError>
+    requires { end + length slices.items < 2 ^ 63 }
+    ensures patched { IfOk result (λ patches. (contents : Option (List ℕ)) →
+        patched_contents contents patches.items ≡ with_slices (location_of location) end
+        index.items slices.items (unwrap_or contents [])) }
+    ensures far { IfOk result (λ patches. IsTrue (any_too_far patches.items) → 2 ^ 63
+        ≤ shard_length (location_of location) (length index.items) (end + length slices.items)) }
+{
+    let mut patches = Vec::with_capacity(alloc, 2)?;
+    match location {
+        ShardingIndexLocation::Start => {
+            patches.push(ValuePatch {
+                offset: 0,
+                bytes: index,
+            })?;
+            patches.push(ValuePatch {
+                offset: end,
+                bytes: slices,
+            })?;
+        }
+        ShardingIndexLocation::End => {
+            let after = end + slices.len() as u64;
+            patches.push(ValuePatch {
+                offset: end,
+                bytes: slices,
+            })?;
+            patches.push(ValuePatch {
+                offset: after,
+                bytes: index,
+            })?;
+        }
+    }
+    Ok(patches)
+}

@@ -1,0 +1,15 @@
+A chunk of strings is damaged where an offset is less than the one before it, or where the last one isn't the end of the strings.
+
+before:
+  s/c/0 = 0c00000000000000 00000000 02000000 01000000 61
+  s/c/1 = 0c00000000000000 00000000 01000000 01000000 6162
+  s/zarr.json = $stored{"shape":[4],"data_type":"string","chunk_grid":{"name":"regular","configuration":{"chunk_shape":[2]}},"fill_value":"","codecs":[{"name":"vlen","configuration":{"index_codecs":[{"name":"bytes","configuration":{"endian":"little"}}],"data_codecs":["bytes"],"index_data_type":"uint32"}}]}
+
+> {"op":"reopen","path":"/s"}
+< {"done":true}
+> {"op":"read_chunk","path":"/s","chunk":[0]}
+> {"op":"read_chunk","path":"/s","chunk":[1]}
+> {"op":"read_box","path":"/s","box":[[1,2]]}
+< {"applied":0,"refused":"Damage"}
+
+after: as before
