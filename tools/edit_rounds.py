@@ -25,10 +25,11 @@ class Verdict(enum.Enum):
     DOES_NOT_APPLY = "does not apply"
     DOES_NOT_COMPILE = "does not compile"
     NOT_JUDGED = "not judged"
+    APPLIES = "applies"
 
     @property
     def is_well(self) -> bool:
-        return self in (Verdict.REFUSED, Verdict.SHAPE)
+        return self in (Verdict.REFUSED, Verdict.SHAPE, Verdict.APPLIES)
 
 
 @dataclass(frozen=True)

@@ -13,6 +13,7 @@ sys.path.insert(0, HERE)
 from check_output import read_output  # noqa: E402
 from edit_copies import copy_of  # noqa: E402
 from edit_files import DoesNotApply, apply_edit, edit_files, parse_edit  # noqa: E402
+from edit_front import FrontEnd  # noqa: E402
 from edit_kept import Kept  # noqa: E402
 from edit_queue import Queue  # noqa: E402
 from edit_rounds import Rounds, Verdict, refusal  # noqa: E402
@@ -281,6 +282,34 @@ class TakingWhatABuildProved(unittest.TestCase):
             with open(f"{room}/low.rlib/toolchain/checked.json", "w", encoding="utf-8") as it:
                 it.write('["low.first",8,3]\n')
             self.assertFalse(Kept.fill(f"{room}/low.rlib", f"{room}/kept", CHECK), "a library of statements alone holds no proofs")
+
+
+class LookingByTheFrontEnd(unittest.TestCase):
+    SOURCES = {"src/a.rt": "fn first() {\n    3\n}\n\nfn second() {\n    5\n}\n", "specs/A.antt": "one : Bool\none = true\n"}
+
+    def look(self, *edits):
+        asked = []
+
+        def check(texts, functions):
+            asked.append(functions)
+            is_bad = any("bad" in it for it in texts.values())
+            return read_output(1, "src/a.rt:2:5: error: no such name") if is_bad else read_output(0, "only=0 proved=0")
+
+        return [it.verdict for _, it in FrontEnd([*edits], Sources(self.SOURCES), check).run()], asked
+
+    def test_the_edit_to_blame_is_found_among_those_of_one_check(self):
+        edits = edit_of("a", "    3", "    4", "src/a.rt"), edit_of("b", "    5", "    bad", "src/a.rt"), edit_of("c", "    5", "    6", "src/a.rt")
+        verdicts, asked = self.look(*edits)
+        self.assertEqual(verdicts, [Verdict.APPLIES, Verdict.DOES_NOT_COMPILE, Verdict.APPLIES])
+        self.assertTrue(all(it == [""] for it in asked), "no function is proved")
+
+    def test_edits_that_compile_share_one_check(self):
+        _, asked = self.look(edit_of("a", "    3", "    4", "src/a.rt"), edit_of("c", "    5", "    6", "src/a.rt"))
+        self.assertEqual(len(asked), 1)
+
+    def test_an_edit_of_a_definition_is_only_applied(self):
+        edits = edit_of("d", "one = true", "one = bad", "specs/A.antt"), edit_of("e", "one = maybe", "one = true", "specs/A.antt")
+        self.assertEqual(self.look(*edits), ([Verdict.APPLIES, Verdict.DOES_NOT_APPLY], []))
 
 
 class LeavingProofsOut(unittest.TestCase):
