@@ -4,7 +4,7 @@ use crate::listed::read_listed;
 use crate::part::{BoxPart, ListedPart};
 use crate::patches::replace_part;
 use crate::reading::read_part;
-use crate::sizes::{byte_count, have_one_byte};
+use crate::sizes::{byte_count, have_one_byte, whole_count};
 use crate::swapping::swapped;
 use std::alloc::{AllocError, Global};
 use zarr_codecs_arrays::{ArrayBytes, CodecError, Elements, takes_all_bytes};
@@ -25,10 +25,27 @@ pub enum Endianness {
     Big,
 }
 
+impl Endianness {
+    ghost use Rattle.std.specs.Prelude.{◌≡◌};
+
+    /// The order in which elements are in memory: the lowest byte first.
+    pub fn native() -> Endianness
+        ensures { result ≡ Endianness.Little }
+    {
+        Self::Little
+    }
+}
+
 /// The codec `bytes` (Zarr core specification, "Bytes codec"): elements row-major, the bytes of
 /// each component in one order. Without an order it suits types whose components have one byte.
 #[derive(Clone, Copy, Debug, PartialEq, Eq)]
 pub struct BytesCodec {
+    pub endian: Option<Endianness>,
+}
+
+/// What `bytes` is configured by: the order of the bytes of each component, if it has one.
+#[derive(Clone, Copy, Debug, PartialEq, Eq)]
+pub struct BytesCodecConfiguration {
     pub endian: Option<Endianness>,
 }
 
@@ -65,6 +82,22 @@ impl BytesCodec {
         ensures { result.endian ≡ Some Endianness.Big }
     {
         BytesCodec::new(Some(Endianness::Big))
+    }
+
+    /// `bytes` as a configuration gives it.
+    pub fn new_with_configuration(configuration: BytesCodecConfiguration) -> BytesCodec
+        ensures { result.endian ≡ configuration.endian }
+    {
+        BytesCodec::new(configuration.endian)
+    }
+
+    /// The codec's configuration, of which `new_with_configuration` makes an equal codec.
+    pub fn configuration(self) -> BytesCodecConfiguration
+        ensures { result.endian ≡ self.endian }
+    {
+        BytesCodecConfiguration {
+            endian: self.endian,
+        }
     }
 
     /// Whether it suits arrays of a data type, of whatever shape.
@@ -187,6 +220,17 @@ impl BytesCodec {
     }
 }
 
+impl Default for BytesCodec {
+    ghost use Rattle.std.specs.Prelude.{◌≡◌, Some};
+    ghost use Rattle.zarr_codecs_bytes.specs.declared.bytes.Endianness.TheVariants.{Little};
+
+    ghost is_default = { λ codec. codec.endian ≡ Some Little };
+
+    fn default() -> Self {
+        BytesCodec::new(Some(Endianness::native()))
+    }
+}
+
 impl ArrayToBytesCodecTraits for BytesCodec {
     ghost use Rattle.std.specs.Prelude.{true};
     ghost use Rattle.zarr_codecs_bytes.specs.Views.{bytes_chain};
@@ -194,6 +238,10 @@ impl ArrayToBytesCodecTraits for BytesCodec {
     ghost meaning = { bytes_chain };
 
     ghost is_function = { λ codec. true };
+
+    fn encoding_is_function(&self) -> bool {
+        true
+    }
 
     fn fits(&self, _: Global, data_type: &DataType, _: &[u64]) -> Result<bool, AllocError> {
         Ok(self.suits(data_type))
@@ -236,15 +284,10 @@ impl ArrayToBytesCodecTraits for BytesCodec {
         if !self.suits(data_type) {
             return Err(CodecError::Fit);
         }
-        let Some(count) = count_places(shape) else {
-            return Err(CodecError::Size);
-        };
-        match byte_count(data_type, count) {
-            Ok(length) => if value.len() as u64 != length {
-                return Err(CodecError::Damage);
-            },
+        let count = match whole_count(data_type, shape, value.as_slice()) {
+            Ok(count) => count,
             Err(error) => return Err(error),
-        }
+        };
         let bytes = ArrayBytes::Fixed(self.ordered(alloc, data_type, value)?);
         match bytes.validate(data_type, count) {
             Ok(()) => Ok(bytes),

@@ -12,4 +12,4 @@ mod reading;
 mod sizes;
 mod swapping;
 
-pub use bytes::{BytesCodec, Endianness};
+pub use bytes::{BytesCodec, BytesCodecConfiguration, Endianness};

@@ -1,5 +1,6 @@
 //! How many bytes elements of one size have.
-ghost use Rattle.std.specs.Prelude.{◌≡◌, ◌≢◌, ◌*◌, ◌^◌, ◌<◌, true, IfOk, IfErr};
+ghost use Rattle.std.specs.Prelude.{◌≡◌, ◌≢◌, ◌*◌, ◌^◌, ◌<◌, length, true, IfOk, IfErr};
+ghost use Rattle.zarr_grids_boxes.specs.Boxes.{product};
 ghost use Rattle.zarr_codecs_meaning.specs.Types.{components, bytes_in, is_fixed};
 ghost use Rattle.zarr_codecs_types.specs.Views.{type_of, components_of};
 ghost use Rattle.zarr_codecs_arrays.specs.Outcomes.{IsTooLarge};
@@ -7,6 +8,7 @@ ghost use Rattle.zarr_codecs_bytes.specs.Orders.{have_one_byte};
 
 use zarr_codecs_arrays::CodecError;
 use zarr_codecs_types::{Component, DataType};
+use zarr_grids_boxes::walk::count_places;
 
 /// How many bytes so many elements of one size have. `Size` where they are 2^63 or more, or have as
 /// many bytes; `Memory` where an element has no bytes, which no array holds.
@@ -31,6 +33,39 @@ pub(crate) fn byte_count(data_type: &DataType, count: u64) -> Result<u64, CodecE
     match count.checked_mul(width as u64) {
         Some(bytes) if bytes < 1 << 63 => Ok(bytes),
         _ => Err(CodecError::Size),
+    }
+}
+
+/// How many elements of one size a value is, which is to be an array of them. `Damage` where it has
+/// more bytes or fewer than the array's elements, also where these are 2^63 or more; `Memory` where
+/// an element has no bytes, which no array holds.
+pub(crate) fn whole_count(
+    data_type: &DataType,
+    shape: &[u64],
+    value: &[u8],
+) -> Result<u64, CodecError>
+    requires { is_fixed (type_of data_type.now) ≡ true }
+    ensures count { IfOk result (λ count. count ≡ product shape.now) }
+    ensures some { IfOk result (λ count. 0 < bytes_in (components (type_of data_type.now))) }
+    ensures long { IfOk result
+        (λ count. length value.now ≡ count * bytes_in (components (type_of data_type.now))) }
+    ensures err { IfErr result (λ e. e ≢ CodecError.Memory → (e ≡ CodecError.Damage)
+        × (length value.now ≢ product shape.now * bytes_in (components (type_of data_type.now)))) }
+{
+    let Some(count) = count_places(shape) else {
+        return match byte_count(data_type, 0) {
+            Ok(_) => Err(CodecError::Damage),
+            Err(_) => Err(CodecError::Memory),
+        };
+    };
+    match byte_count(data_type, count) {
+        Ok(length) => if value.len() as u64 == length {
+            Ok(count)
+        } else {
+            Err(CodecError::Damage)
+        },
+        Err(CodecError::Size) => Err(CodecError::Damage),
+        Err(_) => Err(CodecError::Memory),
     }
 }
 

@@ -85,6 +85,10 @@ impl<B: BytesToBytesCodecTraits> ArrayToBytesCodecTraits for ArrayToBytesCodec<B
 
     ghost is_function = { λ codec. true };
 
+    fn encoding_is_function(&self) -> bool {
+        true
+    }
+
     fn fits(&self, alloc: Global, data_type: &DataType, shape: &[u64]) -> Result<bool, AllocError> {
         fits_codec(self, alloc, data_type, shape)
     }

@@ -92,6 +92,10 @@ impl<B: BytesToBytesCodecTraits> ArrayToBytesCodecTraits for BytesChain<B> {
 
     ghost is_function = { λ chain. true };
 
+    fn encoding_is_function(&self) -> bool {
+        true
+    }
+
     fn fits(&self, alloc: Global, data_type: &DataType, shape: &[u64]) -> Result<bool, AllocError> {
         self.array_to_bytes.fits(alloc, data_type, shape)
     }

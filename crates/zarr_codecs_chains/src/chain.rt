@@ -160,6 +160,10 @@ impl<B: BytesToBytesCodecTraits> ArrayToBytesCodecTraits for CodecChain<B> {
 
     ghost is_function = { λ chain. true };
 
+    fn encoding_is_function(&self) -> bool {
+        true
+    }
+
     fn fits(&self, alloc: Global, data_type: &DataType, shape: &[u64]) -> Result<bool, AllocError> {
         fits_chain(self, alloc, data_type, shape)
     }

@@ -153,6 +153,10 @@ impl ArrayToBytesCodecTraits for PackBitsCodec {
 
     ghost is_function = { λ codec. true };
 
+    fn encoding_is_function(&self) -> bool {
+        true
+    }
+
     fn fits(&self, alloc: Global, data_type: &DataType, _: &[u64]) -> Result<bool, AllocError> {
         Ok(self.suited(alloc, data_type)?.is_some())
     }

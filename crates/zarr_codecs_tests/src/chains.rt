@@ -234,11 +234,11 @@ fn a_chain_suits_types_of_one_size_with_an_order_where_one_is_needed(rt: HostRun
 }
 
 #[test]
-fn an_array_may_be_too_large(rt: HostRuntime) {
+fn an_array_may_be_too_large_and_has_no_value(rt: HostRuntime) {
     let large = encode(rt.alloc(), &[LITTLE], BYTE, &[1 << 32, 1 << 32], &[]);
     assert!(rt; matches!(large, Err(CodecError::Size)));
-    let large = decode(rt.alloc(), &[LITTLE], BYTE, &[1 << 32, 1 << 32], &[]);
-    assert!(rt; matches!(large, Err(CodecError::Size)));
+    let short = decode(rt.alloc(), &[LITTLE], BYTE, &[1 << 32, 1 << 32], &[]);
+    assert!(rt; matches!(short, Err(CodecError::Damage)));
 }
 
 /// What the copy of a chain makes of two numbers.

@@ -35,6 +35,11 @@ pub trait ArrayToBytesCodecTraits: Sized + Drop {
     /// means, else any value that stands for them.
     ghost is_function: { Self → Bool };
 
+    /// Whether what the codec makes of elements depends on these alone, and not on what was written
+    /// before or on an order of writing.
+    fn encoding_is_function(&self) -> bool
+        ensures { result ≡ is_function self.now };
+
     /// Whether the codec suits arrays of a data type and a shape. `Err` only where an allocation
     /// failed.
     fn fits(&self, alloc: Global, data_type: &DataType, shape: &[u64]) -> Result<bool, AllocError>
@@ -170,8 +175,9 @@ pub trait ArrayToBytesCodecTraits: Sized + Drop {
     /// The value with what it holds of shards written anew: their present slices row-major without
     /// gaps. `None` where nothing is gained, as for each value of a codec that makes no shard. `Fit`
     /// where the codec doesn't suit the array; `Damage` where the value isn't one of shards whose
-    /// present slices lie in their data parts; `Codec` where the caller's codec refuses; `Size`
-    /// where the shard would have 2^63 bytes or more.
+    /// present slices lie in their data parts; `Codec` where a caller's codec refuses the new index
+    /// or the new value; `Size` where the shard would have 2^63 bytes or more, or its new index
+    /// passes an index inside of it.
     fn compact(
         &self,
         alloc: Global,

@@ -6,3 +6,4 @@ pub mod WorkedChanges
 pub mod WorkedCompaction
 pub mod Compactions
 pub mod WorkedCompactions
+pub mod Refusals

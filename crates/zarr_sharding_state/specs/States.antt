@@ -6,18 +6,18 @@ use Rattle.zarr_codecs_meaning.specs.Encoding.{Pair}
 use Rattle.zarr_codecs_arrays.specs.declared.error.CodecError.{CodecError}
 use Rattle.zarr_codecs_arrays.specs.declared.error.CodecError.TheVariants as error
 use Rattle.zarr_sharding_index.specs.Views.{pairs_of}
-use Rattle.zarr_sharding_state.specs.declared.state.ShardState.{ShardState}
+use Rattle.zarr_sharding_state.specs.declared.state.ShardSlices.{ShardSlices}
 
 -- the source that holds the shard
-abbrev pub source_of : {E : Type 0} → ShardState E → E
+abbrev pub source_of : {E : Type 0} → ShardSlices E → E
 source_of state = state.source
 
 -- the pairs of the shard's index
-abbrev pub pairs_in : {E : Type 0} → ShardState E → List Pair
+abbrev pub pairs_in : {E : Type 0} → ShardSlices E → List Pair
 pairs_in state = pairs_of state.index
 
 -- where the shard's data part ends
-abbrev pub end_of : {E : Type 0} → ShardState E → ℕ
+abbrev pub end_of : {E : Type 0} → ShardSlices E → ℕ
 end_of state = state.end
 
 -- the slice that a pair has in a value, if it is present, or why there is none: it ends past the value, or the source refuses

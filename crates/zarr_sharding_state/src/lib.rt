@@ -6,5 +6,5 @@ mod opening;
 pub mod state;
 mod writing;
 
-pub use state::ShardState;
+pub use state::ShardSlices;
 pub use writing::SliceChange;

@@ -16,20 +16,21 @@ use zarr_sharding_index::{ShardIndex, ShardingIndexLocation};
 /// subchunks are read by their pairs, and replaced by one writing call of the source (this project's
 /// profile). A contract sees the pairs of its index and the end of its data part.
 #[derive(Debug, Drop)]
-pub struct ShardState<E> {
+pub struct ShardSlices<E> {
     pub(crate) source: E,
     pub(crate) index: ShardIndex,
     pub(crate) end: u64,
     ghost small: { end < 2 ^ 63 },
 }
 
-impl<E: BytesPartialEncoderTraits> ShardState<E> {
-    ghost use Rattle.std.specs.Prelude.{◌≡◌, ◌+◌, ◌*◌, ◌/◌, ◌%◌, ◌<◌, ◌^◌, [], ℕ, List, get_or, length, replicate, true, None, Some, unwrap_or, IfOk, IfErr, OnOk, OnErr, IsTrue};
+impl<E: BytesPartialEncoderTraits> ShardSlices<E> {
+    ghost use Rattle.std.specs.Prelude.{◌≡◌, ◌+◌, ◌*◌, ◌/◌, ◌%◌, ◌<◌, ◌^◌, [], ℕ, List, get_or, length, replicate, true, None, Some, Ok, unwrap_or, IfOk, IfErr, OnOk, OnErr, IsTrue};
     ghost use Rattle.std.specs.List.{list_all};
+    ghost use Rattle.zarr_codecs_meaning.specs.Decoding.{is_absent};
     ghost use Rattle.zarr_codecs_meaning.specs.Encoding.{absent_pair, base_of, index_size};
     ghost use Rattle.zarr_codecs_traits.specs.Writes.{WriteRefused, accepted_after};
     ghost use Rattle.zarr_grids_boxes.specs.Boxes.{product};
-    ghost use Rattle.zarr_sharding_changes.specs.Changes.{pairs_after};
+    ghost use Rattle.zarr_sharding_changes.specs.Changes.{appended, pairs_after};
     ghost use Rattle.zarr_sharding_index.specs.Stored.{index_fits};
     ghost use Rattle.zarr_sharding_index.specs.Views.{location_of, pairs_of};
     ghost use Rattle.zarr_sharding_state.specs.Held.{IsOpened, shard_length};
@@ -49,7 +50,7 @@ impl<E: BytesPartialEncoderTraits> ShardState<E> {
         codecs: &X,
         layout: IndexLayout<'_>,
         options: &CodecOptions,
-    ) -> Result<ShardState<E>, (E, CodecError)>
+    ) -> Result<ShardSlices<E>, (E, CodecError)>
         requires fit { index_fits (X.meaning codecs.now) layout.shape.now ≡ true }
         requires even { product layout.shape.now % 2 ≡ 0 }
         requires size { layout.size ≡ index_size (X.meaning codecs.now) layout.shape.now }
@@ -69,7 +70,7 @@ impl<E: BytesPartialEncoderTraits> ShardState<E> {
         let mut source = source;
         match fetch_index(alloc, codecs, &mut source, layout, options) {
             Ok(fetched) => match open_fetched(alloc, fetched, layout) {
-                Ok(found) => Ok(ShardState {
+                Ok(found) => Ok(ShardSlices {
                     source,
                     index: found.index,
                     end: found.end,
@@ -78,6 +79,13 @@ impl<E: BytesPartialEncoderTraits> ShardState<E> {
             },
             Err(error) => Err((source, error)),
         }
+    }
+
+    /// How many subchunks the shard has.
+    pub fn len(&self) -> usize
+        ensures { result ≡ length (pairs_in self.now) }
+    {
+        self.index.len()
     }
 
     /// The source.
@@ -98,6 +106,8 @@ impl<E: BytesPartialEncoderTraits> ShardState<E> {
     ) -> Result<Option<Vec<u8>>, CodecError>
         requires below { n < length (pairs_in self.old) }
         requires low { layout.size < 2 ^ 63 }
+        ensures absent { is_absent (get_or (pairs_in self.old) n absent_pair) ≡ true →
+            result ≡ Ok None }
         ensures slice { IsTrue (E.is_honest (source_of self.old)) → (value : List ℕ)
             → E.contents (source_of self.old) ≡ Some value → length value ≡ shard_length
             (location_of layout.entry.location) layout.entry.size (end_of self.old)
@@ -168,6 +178,8 @@ impl<E: BytesPartialEncoderTraits> ShardState<E> {
         requires below { list_all (is_below (length (pairs_in self.old))) changes.now ≡ true }
         ensures pairs { OnOk result (pairs_in self.new
             ≡ pairs_after (end_of self.old) (changes_of changes.now) (pairs_in self.old)) }
+        ensures room { OnOk result
+            (end_of self.old + length (appended (changes_of changes.now)) < 2 ^ 63) }
         ensures ok { IsTrue (E.is_honest (source_of self.old)) → OnOk result
             (IsChanged (X.meaning codecs.now) (X.is_function codecs.now)
             (location_of layout.entry.location) layout.entry.shape.now (changes_of changes.now)

@@ -1,4 +1,4 @@
-use Rattle.std.proofs.Common.{◌≡◌, ◌*◌, length, arith, ◌∙◌, sym, Err, option_map}
+use Rattle.std.proofs.Common.{◌≡◌, ◌*◌, length, ap, ◌∙◌, sym, Err, option_map}
 use Rattle.zarr_grids_boxes.specs.Boxes.{product}
 use Rattle.zarr_codecs_meaning.specs.Payloads.{fixed}
 use Rattle.zarr_codecs_meaning.specs.Types.{components, bytes_in}
@@ -15,12 +15,11 @@ returns-in-Ok-validate c =
     let type = type_of c.data_type-data_type.result.now in
     let value = c.args.value.items in
     let made = c.in_ok-ordered.field-0.items in
-    let ok : c.in-Ok.length ≡ c.in-Some.count * bytes_in (components type) = c.in-Ok.ensures.ok in
-    let long : length value ≡ c.in-Some.count * bytes_in (components type) = omega arith in
+    let long : length value ≡ c.in-Ok.count * bytes_in (components type) = ap length (sym c.as_slice.ensures.value) ∙ c.in-Ok.ensures.long in
     let found = c.in-Ok-validate.ensures in
     read_valid order elements c.args.shape.now value made found.0
-    (read_as order type elements.type c.in-Some.count (product c.args.shape.now) value made c.data_type-data_type.ensures c.in-Some.ensures.1 (sym c.suits.ensures ∙ c.if-not-suits.false) c.in-Ok.ensures.some long c.in_ok-ordered.ensures)
-    (IsValid-at c.data_type-data_type.ensures c.in-Some.ensures.1 found.1)
+    (read_as order type elements.type c.in-Ok.count (product c.args.shape.now) value made c.data_type-data_type.ensures c.in-Ok.ensures.count (sym c.suits.ensures ∙ c.if-not-suits.false) c.in-Ok.ensures.some long c.in_ok-ordered.ensures)
+    (IsValid-at c.data_type-data_type.ensures c.in-Ok.ensures.count found.1)
 
 pub returns-in-Err-validate : goal.returns-in-Err-validate
 returns-in-Err-validate c =
@@ -29,8 +28,7 @@ returns-in-Err-validate c =
     let type = type_of c.data_type-data_type.result.now in
     let value = c.args.value.items in
     let made = c.in_ok-ordered.field-0.items in
-    let ok : c.in-Ok.length ≡ c.in-Some.count * bytes_in (components type) = c.in-Ok.ensures.ok in
-    let long : length value ≡ c.in-Some.count * bytes_in (components type) = omega arith in
-    let read = read_as order type elements.type c.in-Some.count (product c.args.shape.now) value made c.data_type-data_type.ensures c.in-Some.ensures.1 (sym c.suits.ensures ∙ c.if-not-suits.false) c.in-Ok.ensures.some long c.in_ok-ordered.ensures in
+    let long : length value ≡ c.in-Ok.count * bytes_in (components type) = ap length (sym c.as_slice.ensures.value) ∙ c.in-Ok.ensures.long in
+    let read = read_as order type elements.type c.in-Ok.count (product c.args.shape.now) value made c.data_type-data_type.ensures c.in-Ok.ensures.count (sym c.suits.ensures ∙ c.if-not-suits.false) c.in-Ok.ensures.some long c.in_ok-ordered.ensures in
     let e = c.in-Err-validate.field-0 in
-    (read.fit, read_damaged order elements c.args.shape.now value made e read (Validates-at (fixed made) (Err e) c.data_type-data_type.ensures c.in-Some.ensures.1 c.in-Err-validate.ensures))
+    (read.fit, read_damaged order elements c.args.shape.now value made e read (Validates-at (fixed made) (Err e) c.data_type-data_type.ensures c.in-Ok.ensures.count c.in-Err-validate.ensures))

@@ -2,7 +2,7 @@ use Rattle.std.proofs.Common.{◌≡◌, ℕ, subst, Err}
 use Rattle.zarr_sharding_index.specs.Views.{location_of}
 use Rattle.zarr_sharding_state.specs.Opened.{Opens}
 use Rattle.zarr_sharding_state.proofs.Opened.{known_refused}
-use Rattle.zarr_sharding_state.proofs.state.ShardState.open.Goals as goal
+use Rattle.zarr_sharding_state.proofs.state.ShardSlices.open.Goals as goal
 
 pub returns-in-Err-open_fetched-clause-cause : goal.returns-in-Err-open_fetched-clause-cause
 returns-in-Err-open_fetched-clause-cause g c = λ honest.
