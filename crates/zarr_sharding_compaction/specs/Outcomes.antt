@@ -1,23 +1,15 @@
 -- What a call that compacts a shard answers.
-use Rattle.std.specs.Prelude.{◌≡◌, ◌⊎◌, ℕ, ◌+◌, ◌^◌, ◌<◌, List, length, Option, None, Some, false, ◌==◌, Vec, Result, Ok, Err}
+use Rattle.std.specs.Prelude.{◌≡◌, ◌⊎◌, ℕ, ◌^◌, ◌<◌, List, length, Option, None, Some, Vec, Result, Ok, Err}
 use Rattle.std.specs.declared.alloc.Global.{Global}
 use Rattle.zarr_codecs_meaning.specs.Chains.{Chain, Location}
-use Rattle.zarr_codecs_meaning.specs.Encoding.{Pair, base_of, encoded, index_size, joined, joined_slices, pair_cells, pairs_from}
-use Rattle.zarr_codecs_meaning.specs.Places.{index_shape}
+use Rattle.zarr_codecs_meaning.specs.Encoding.{Pair, encoded, joined, joined_slices, pair_cells, pairs_from}
 use Rattle.zarr_codecs_meaning.specs.Refusals.{CodecRefuses, PassesIndex}
 use Rattle.zarr_codecs_meaning.specs.Types.{Cell, Elements, uint64, zero_filled}
 use Rattle.zarr_codecs_arrays.specs.declared.error.CodecError.{CodecError}
 use Rattle.zarr_codecs_arrays.specs.declared.error.CodecError.TheVariants as error
-use Rattle.zarr_sharding_changes.specs.Compaction.{slices_in, slices_of}
+use Rattle.zarr_sharding_changes.specs.Compaction.{slices_of}
 use Rattle.zarr_sharding_changes.specs.Compactions.{shard_compaction, nothing_to_gain, compacted_to, damaged, too_long}
-
--- the index of a shard without gaps is refused, where the shard has gaps and isn't too long
-pub record IndexRefused (refuses : Chain → Elements → List ℕ → List Cell → Type 0) (subchunk : List ℕ) (index : Chain) (location : Location) (shape value : List ℕ) : Type 0 where
-  pub stored : List (Option (List ℕ))
-  pub are : slices_in subchunk index location shape value ≡ Some stored
-  pub gains : (length value == index_size index (index_shape shape subchunk) + length (joined_slices stored)) ≡ false
-  pub short : index_size index (index_shape shape subchunk) + length (joined_slices stored) < 2 ^ 63
-  pub refused : refuses index (zero_filled uint64) (index_shape shape subchunk) (pair_cells (pairs_from (base_of location (index_size index (index_shape shape subchunk))) stored))
+use Rattle.zarr_sharding_changes.specs.Refusals.{IndexRefused}
 
 -- what compaction makes of a shard, or why it makes nothing
 abbrev pub CompactsShard : List ℕ → Chain → Location → List ℕ → List ℕ → Result (Option (Vec ℕ Global)) CodecError → Type 0
