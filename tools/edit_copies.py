@@ -12,7 +12,7 @@ from dataclasses import dataclass
 from typing import Dict, List, Optional, Tuple
 
 from edit_files import Edit, apply_edit
-from rattle_sources import Function, Sources
+from rattle_sources import Function, Sources, start_with_attributes
 
 
 GOAL = re.compile(r"(?:(?:abbrev|pub) )*([^\s:]+) : goal\.")
@@ -27,26 +27,6 @@ class Copy:
     text: str
     proofs: Dict[str, str]
     control: Optional[Copy] = None
-
-
-def start_with_attributes(text: str, start: int) -> int:
-    """Where the comments and attributes right above a function begin."""
-    while start:
-        above = text.rfind("\n", 0, start - 1) + 1
-        line = text[above : start - 1].strip()
-        if not line or not line.startswith("//") and line.endswith(("{", "}", ";")):
-            break
-        start = above
-    return start
-
-
-def cycle_of(function: Function, sources: Sources) -> Optional[str]:
-    """The name of the cycle of calls that a function is in, if it is in one; that of a function that only calls itself is its own."""
-    text = sources.texts[function.file]
-    found = re.search(r"#\[cycle\((\w+)\)\]", text[start_with_attributes(text, function.start) : function.start])
-    if found:
-        return found[1]
-    return function.name if sources.calls_itself(function) else None
 
 
 def can_be_copied(function: Function, cycle: Optional[str], sources: Sources) -> bool:
@@ -87,7 +67,7 @@ def own_part(text: str, member: str) -> str:
 
 def copy_of(edit: Edit, function: Function, number: int, sources: Sources) -> Optional[Copy]:
     """A copy of a function, with an edit that lies in it, where there can be one."""
-    cycle = cycle_of(function, sources)
+    cycle = sources.cycle_of(function)
     if {it.path for it in edit.changes} != {function.file} or not can_be_copied(function, cycle, sources):
         return None
     texts = apply_edit(edit, sources.texts.__getitem__)

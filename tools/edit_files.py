@@ -1,4 +1,5 @@
-"""Reads must-fail edits: files with a line `file: PATH` and pairs of lines `old: TEXT` and `new: TEXT`.
+"""Reads must-fail edits: files with a line `file: PATH` and pairs of lines `old: TEXT` and `new: TEXT`, and perhaps a line `law: FUNCTION`,
+where an edit of a definition is one of a certain function's contract: it is tried in that function first.
 
 PATH is below src/, specs/ or proofs/ of the crate, and each TEXT under `old:` stands in that file exactly once.
 All other lines are comments. An edit lies right in crates/NAME/must-fail/ as NAME.edit, where `rt ci` tries it
@@ -25,11 +26,12 @@ class Change:
 
 @dataclass(frozen=True)
 class Edit:
-    """A must-fail edit: its crate, its name and its changes, in order."""
+    """A must-fail edit: its crate, its name and its changes, in order, and the function that it names, if it names one."""
 
     crate: str
     name: str
     changes: Tuple[Change, ...]
+    law: str = ""
 
     @property
     def label(self) -> str:
@@ -38,13 +40,15 @@ class Edit:
 
 def parse_edit(crate: str, name: str, text: str) -> Edit:
     """The edit that a file's text holds."""
-    path = old = ""
+    path = old = law = ""
     changes: List[Change] = []
     for line in text.split("\n"):
         if line.startswith("file: "):
             path = line[len("file: ") :].strip()
             if os.path.normpath(path) != path or not path.startswith(("src/", "specs/", "proofs/")):
                 raise DoesNotApply("a 'file:' line names no file below src/, specs/ or proofs/")
+        elif line.startswith("law: "):
+            law = line[len("law: ") :].strip()
         elif line.startswith("old: "):
             old = line[len("old: ") :]
         elif line.startswith("new:"):
@@ -55,7 +59,7 @@ def parse_edit(crate: str, name: str, text: str) -> Edit:
             old = ""
     if not changes:
         raise DoesNotApply("it has no 'old:' and 'new:' pair")
-    return Edit(crate, name, tuple(changes))
+    return Edit(crate, name, tuple(changes), law)
 
 
 def apply_edit(edit: Edit, text_of: Callable[[str], str]) -> Dict[str, str]:

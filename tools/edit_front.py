@@ -6,10 +6,8 @@ from typing import Dict, List, Optional
 
 from edit_files import Edit, apply_edit
 from edit_rounds import Check, Judgement, Rounds, Trial, Verdict, text_in
+from rattle_crates import NO_FUNCTION
 from rattle_sources import Sources
-
-# A check of no function ends after the front end.
-NO_FUNCTION = [""]
 
 
 class FrontEnd(Rounds):

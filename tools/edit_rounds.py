@@ -79,8 +79,10 @@ Check = Callable[[Dict[str, str], List[str]], CheckOutput]
 
 
 def own_function(edit: Edit, sources: Sources) -> Optional[Function]:
-    """The one function in which an edit lies, or whose contract alone names the definition that it changes."""
-    found = set()
+    """The one function in which an edit lies, or whose contract alone names the definition that it changes, or which the edit names."""
+    found = {it for it in sources.functions if it.path == edit.law}
+    if found:
+        return found.pop()
     for change in edit.changes:
         start = sources.texts[change.path].find(change.old)
         if start < 0:

@@ -9,12 +9,14 @@ import re
 import shutil
 import signal
 import subprocess
+import threading
 import time
 from dataclasses import dataclass
 from typing import Dict, Iterable, List, Set
 
 from check_output import CheckOutput, read_output
 from edit_kept import Kept
+from rattle_sources import Sources
 
 KIT = os.path.dirname(os.path.dirname(os.path.realpath(shutil.which("rt") or "/opt/rattle/bin/rt")))
 PARTS = ("src", "specs", "proofs")
@@ -123,6 +125,8 @@ pub {name}_spec : {{M : Type 1}} → statement M
 {name}_spec = ?
 """
 PROOF_FILES = ("Answers.antt", "Invariants.antt", "Proof.antt")
+# A check of no function ends after the front end.
+NO_FUNCTION = [""]
 
 
 class Clock:
@@ -153,10 +157,23 @@ def free_memory() -> int:
         return next(int(line.split()[1]) * 1024 for line in it if line.startswith("MemAvailable:"))
 
 
-def wait_for_memory(seconds: int = 600) -> None:
-    """Waits until there is memory for a check, for so long at most: what runs beside gives some back when it ends."""
+def held_memory(pid: int) -> int:
+    """How many bytes of memory a process holds."""
+    try:
+        with open(f"/proc/{pid}/statm", encoding="ascii") as it:
+            return int(it.read().split()[1]) * os.sysconf("SC_PAGE_SIZE")
+    except (OSError, IndexError):
+        return 0
+
+
+def wait_for_memory(running: Iterable[int], seconds: int = 600) -> None:
+    """Waits until there is memory for a check beside those that run, which may still grow, for so long at most: what runs beside gives some
+    back when it ends."""
     until = time.monotonic() + seconds
-    while free_memory() < MEMORY_OF_A_CHECK and time.monotonic() < until:
+    while time.monotonic() < until:
+        awaited = sum(max(0, MEMORY_OF_A_CHECK - held_memory(it)) for it in [*running])
+        if free_memory() - awaited >= MEMORY_OF_A_CHECK:
+            break
         time.sleep(5)
 
 
@@ -164,22 +181,31 @@ class Room:
     """A folder for checks of a crate with other texts; what they prove is kept there from one to the next.
 
     Where the crate's library is built, the first check takes from it what its build proved. Else a check of some functions takes
-    the others by their contracts: the proof of each is a hole. So no time goes to proofs that say nothing of an edit, and a
-    function that is not proved is so by its own text."""
+    the others by their contracts: the proof of each is a hole, and its body a loop that never ends, since what is read of a body
+    takes longer than the hole. So no time goes to what says nothing of an edit, and a function that is not proved is so by its own
+    text."""
 
     running: Set[int] = set()
+    starting = threading.Lock()
     is_stopped = False
+    leaves_bodies_out = True
 
     def __init__(self, crate: Crate, crates: Dict[str, Crate], functions: Iterable[str], folder: str):
         self.crate, self.folder, self.words = crate, folder, check_words(crate, crates)
         is_kept = is_built(crate, crates) and Kept.fill(crate.rlib, f"{folder}/kept", CHECK)
         self.with_holes = set() if is_kept else set(functions)
+        sources = Sources.of_folder(crate.folder)
+        self.texts, self.cycles = sources.texts, sources.cycles()
+        if not is_kept:
+            self.with_holes.update(*self.cycles.values())
         self.seconds, self.checks = 0.0, 0
 
     def check(self, texts: Dict[str, str], functions: List[str]) -> CheckOutput:
         """Checks the functions, or the whole crate where none is named, with these texts in place of the crate's own."""
-        holes = self.with_holes - {*functions} if functions else set()
-        self._write(texts, holes)
+        holes = self._holes(functions)
+        sources = Sources({**self.texts, **texts})
+        without_bodies = sources.without_bodies(holes) if self.leaves_bodies_out and functions != NO_FUNCTION else {}
+        self._write({**texts, **without_bodies}, holes)
         words = [*self.words, "--incremental", "kept", *["--allow-holes"] * bool(holes)]
         for it in functions:
             words += ["--only", it]
@@ -188,12 +214,26 @@ class Room:
             return output
         faulty = {os.path.normpath(line.partition(":")[0]) for line in output.lines if re.search(r": error(\[[\w-]+\])?: ", line)}
         refused = {it for it in holes if self._proofs(it) + "Proof.antt" in faulty}
-        is_of_source = any(it.file.startswith("src/") for it in output.errors)
-        if holes and (refused or not output.reached_the_prover and not is_of_source):
+        blamed = {sources.function_on(it.file, it.line) for it in output.errors if it.file.startswith("src/")}
+        if refused:
             # Where a proof by a hole is not taken, the function has its own again.
-            self.with_holes -= refused or self.with_holes
-            return self.check(texts, functions)
-        return output
+            self.with_holes -= refused
+        elif without_bodies and not output.reached_the_prover and not (blamed and blamed <= {*functions}):
+            # It may be a function without its body that is not taken.
+            self.leaves_bodies_out = False
+        elif holes and not output.reached_the_prover and not blamed:
+            self.with_holes = set()
+        else:
+            return output
+        return self.check(texts, functions)
+
+    def _holes(self, functions: List[str]) -> Set[str]:
+        """The functions whose proofs are holes where these are checked. Those of a cycle have one proof, and are in no cycle without their bodies."""
+        holes = self.with_holes - {*functions} if functions else set()
+        for cycle in self.cycles.values():
+            if not cycle <= holes or not self.leaves_bodies_out:
+                holes -= cycle
+        return holes
 
     def _proofs(self, function: str) -> str:
         return f"proofs/{function.replace('::', '/')}/"
@@ -204,6 +244,10 @@ class Room:
             shutil.rmtree(f"{self.folder}/{part}", ignore_errors=True)
             if os.path.isdir(f"{self.crate.folder}/{part}"):
                 shutil.copytree(f"{self.crate.folder}/{part}", f"{self.folder}/{part}")
+        left_out = [name for name, cycle in self.cycles.items() if cycle <= holes]
+        for at, folders, _ in os.walk(f"{self.folder}/proofs"):
+            for it in {*folders} & {f"+{name}" for name in left_out}:
+                shutil.rmtree(f"{at}/{it}")
         for function in holes:
             place = f"{self.folder}/{self._proofs(function)}"
             for name in PROOF_FILES:
@@ -219,15 +263,16 @@ class Room:
     def _run(self, words: List[str]) -> CheckOutput:
         if Room.is_stopped:
             raise InterruptedError("the run was stopped")
-        wait_for_memory()
-        ran = subprocess.Popen(
-            [*words, "--progress"], cwd=self.folder, stdin=subprocess.DEVNULL, stdout=subprocess.PIPE, stderr=subprocess.STDOUT, start_new_session=True, errors="replace"
-        )
-        Room.running.add(ran.pid)
+        with Room.starting:
+            wait_for_memory(Room.running)
+            how = {"stdin": subprocess.DEVNULL, "stdout": subprocess.PIPE, "stderr": subprocess.STDOUT, "errors": "replace"}
+            ran = subprocess.Popen([*words, "--progress"], cwd=self.folder, start_new_session=True, **how)
+            Room.running.add(ran.pid)
         lines, clock = [], Clock(ran.pid)
-        for line in ran.stdout or ():
-            lines.append(line)
-            clock.read(line)
+        with ran.stdout as said:
+            for line in said:
+                lines.append(line)
+                clock.read(line)
         _, status, used = os.wait4(ran.pid, 0)
         Room.running.discard(ran.pid)
         ran.returncode = os.WEXITSTATUS(status) if os.WIFEXITED(status) else -os.WTERMSIG(status)

@@ -11,6 +11,7 @@ TYPE = re.compile(r"(?m)^[ ]*(?:pub(?:\([^)]*\))?[ ]+)?(?:struct|enum|union)[ ]+
 BLOCK = re.compile(r"(?m)^(?:pub(?:\([^)]*\))?[ ]+)?(impl|trait)\b([^{]*)")
 WORDS_BEFORE = r"(?:(?:pub|abbrev|unfoldable|opaque|data|record|ruleset)[ ]+)*"
 SIGNATURE = re.compile(rf"(?m)^{WORDS_BEFORE}([^\s:(){{}},]+)(?:[ ]+[({{][^)}}\n]*[)}}])*[ ]*:(?=\s)")
+CYCLE = re.compile(r"#\[cycle\((\w+)\)\]")
 INNER = re.compile(r"(?m)^[ ]+([^\s:(){},]+)(?:[ ]+[({][^)}\n]*[)}])*[ ]*:\s")
 
 
@@ -141,6 +142,45 @@ class Sources:
         before = r"\b(?:self\.|Self::)" if text.startswith((" ", "\t")) else r"(?<![\w.:])"
         return bool(re.search(rf"{before}{function.name}\(", text.partition(f"fn {function.name}")[2]))
 
+    def cycle_of(self, function: Function) -> Optional[str]:
+        """The name of the cycle of calls that a function is in, if it is in one; that of a function that only calls itself is its own."""
+        text = self.texts[function.file]
+        found = CYCLE.search(text[start_with_attributes(text, function.start) : function.start])
+        if found:
+            return found[1]
+        return function.name if self.calls_itself(function) else None
+
+    def cycles(self) -> Dict[str, Set[str]]:
+        """The functions of each cycle, by its name; cycles of one name are taken as one."""
+        found: Dict[str, Set[str]] = {}
+        for it in self.functions:
+            name = self.cycle_of(it) if self.is_proved(it) else None
+            if name:
+                found.setdefault(name, set()).add(it.path)
+        return found
+
+    def body_of(self, function: Function) -> Optional[int]:
+        """Where the body of a function begins, where it is more than a line."""
+        text = self.texts[function.file][function.start : function.end]
+        indent = re.match(r"[ \t]*", text)[0]
+        found = re.search(rf"(?m)^{indent}{{$", text) or re.search(rf"(?m)^{indent}\S.*{{$", text)
+        return function.start + found.end() - 1 if found else None
+
+    def without_bodies(self, paths: Set[str]) -> Dict[str, str]:
+        """The texts of the files in which some functions lie, where each of these only turns in a loop, and so is in no cycle of calls; each
+        line stays where it is. What the front end evaluates keeps its body."""
+        texts: Dict[str, str] = {}
+        for it in sorted(self.functions, key=lambda it: -it.start):
+            above = start_with_attributes(self.texts[it.file], it.start)
+            head = self.texts[it.file][above : it.end].partition(f"fn {it.name}")[0]
+            start = self.body_of(it) if it.path in paths and not re.search(r"\bconst\b", head) else None
+            if start is not None:
+                text = texts.get(it.file, self.texts[it.file])
+                lines = text.count("\n", start, it.end)
+                attributes = CYCLE.sub("", text[above : it.start])
+                texts[it.file] = text[:above] + attributes + text[it.start : start] + "{ loop {}" + "\n" * lines + "}" + text[it.end :]
+        return texts
+
     def function_at(self, file: str, start: int, end: int) -> Optional[Function]:
         """The function in whose text this part of a file lies."""
         within = [it for it in self.functions if it.file == file and it.start <= start and end <= it.end]
@@ -155,10 +195,10 @@ class Sources:
         return function.path if function else None
 
     def law_of(self, file: str, start: int) -> Optional[Function]:
-        """The function whose contract names the definition at this place of specs/, where there is just one."""
+        """The function whose contract names the definition at this place of specs/, where there is just one, and it is proved."""
         name = self.definition_at(file, start)
         stated = [it for it in self.functions if name in words_of(self.texts[it.file][it.start : it.end])]
-        return stated[0] if len(stated) == 1 else None
+        return stated[0] if len(stated) == 1 and self.is_proved(stated[0]) else None
 
     def definition_at(self, file: str, start: int) -> Optional[str]:
         """The name of the definition at this place of a file, where that is plain."""
@@ -197,6 +237,17 @@ class Sources:
         for it in sorted((it for it in self.functions if it.file == file), key=lambda it: -it.start):
             text = text[: it.start] + text[it.end :]
         return text
+
+
+def start_with_attributes(text: str, start: int) -> int:
+    """Where the comments and attributes right above a function begin."""
+    while start:
+        above = text.rfind("\n", 0, start - 1) + 1
+        line = text[above : start - 1].strip()
+        if not line or not line.startswith("//") and line.endswith(("{", "}", ";")):
+            break
+        start = above
+    return start
 
 
 def is_of_function(file: str) -> bool:

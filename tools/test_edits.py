@@ -16,7 +16,7 @@ from edit_files import DoesNotApply, apply_edit, edit_files, parse_edit  # noqa:
 from edit_front import FrontEnd  # noqa: E402
 from edit_kept import Kept  # noqa: E402
 from edit_queue import Queue  # noqa: E402
-from edit_rounds import Rounds, Verdict, refusal  # noqa: E402
+from edit_rounds import Rounds, Verdict, own_function, refusal  # noqa: E402
 from rattle_crates import CHECK, Crate, Room  # noqa: E402
 from rattle_sources import Sources, block_name  # noqa: E402
 
@@ -188,6 +188,18 @@ class ChoosingBatches(unittest.TestCase):
         rounds = Rounds(edits, sources, lambda texts, functions: None)
         self.assertEqual([it.path for it in rounds._next_batch()[0]], ["laws::least", "laws::order"])
 
+    def test_an_edit_of_a_definition_is_tried_in_the_law_that_it_names(self):
+        code = "pub fn least()\n    ensures { Least }\n{\n}\n\npub fn sum()\n    ensures { Least }\n{\n}\n"
+        sources = Sources({"src/a.rt": code, "specs/A.antt": "pub Least : Type\nLeast = 1\n"})
+        functions = [own_function(parse_edit("tiny", "name", f"file: specs/A.antt\n{law}old: = 1\nnew: = 2\n"), sources) for law in ("", "law: a::sum\n")]
+        self.assertIsNone(functions[0])
+        self.assertEqual(functions[1].path, "a::sum")
+
+    def test_a_definition_that_only_a_function_without_a_body_names_has_no_law(self):
+        code = "trait Walk {\n    fn start(&self)\n        ensures { Least };\n}\n"
+        sources = Sources({"src/a.rt": code, "specs/A.antt": "pub Least : Type\nLeast = 1\n"})
+        self.assertIsNone(sources.law_of("specs/A.antt", 20))
+
     def test_an_edit_whose_function_the_check_does_not_know_is_tried_alone(self):
         asked = []
 
@@ -327,6 +339,86 @@ class LeavingProofsOut(unittest.TestCase):
         room = Recorded(Crate("tiny", "/nowhere", [], []), {}, ["a::first", "a::loops", "a::second"], "/nowhere")
         self.assertEqual(room.check({}, ["a::first"]).lines, ["only=1 holes=1"])
         self.assertEqual(left_out, [["a::loops", "a::second"], ["a::second"]])
+
+
+    def test_where_a_function_has_a_hole_its_body_is_left_out_and_each_line_stays(self):
+        text = """fn plain(n: u8) -> u8 {
+    n
+}
+
+impl Pair {
+    fn stated(&self) -> u8
+        ensures { result ≡ self.now.first }
+    {
+        if self.first == 0 {
+            return 0;
+        }
+        self.first
+    }
+}
+
+const fn size() -> usize {
+    4
+}
+
+#[cycle(parity)]
+fn even(n: u8) -> bool {
+    n == 0 || odd(n - 1)
+}
+
+fn edited() {
+    plain(1);
+}
+"""
+        sources = Sources({"src/a.rt": text})
+        paths = {it.path for it in sources.functions}
+        short = sources.without_bodies(paths - {"a::edited"})["src/a.rt"]
+        self.assertEqual(short.count("\n"), text.count("\n"))
+        self.assertEqual(len({it.path for it in Sources({"src/a.rt": short}).functions} & paths), len(paths))
+        for kept in ("ensures { result ≡ self.now.first }\n    { loop {}\n", "    4\n", "plain(1);\n"):
+            self.assertIn(kept, short)
+        for gone in ("    n\n", "return 0", "self.first\n", "odd(n - 1)", "#[cycle"):
+            self.assertNotIn(gone, short)
+
+    def test_functions_of_a_cycle_have_holes_together_and_no_file_of_their_proof(self):
+        cycle = "#[cycle(parity)]\nfn even() -> bool {\n    odd()\n}\n\n#[cycle(parity)]\nfn odd() -> bool {\n    even()\n}\n"
+        own = "fn count() {\n    count()\n}\n\nfn last() {\n    3\n}\n"
+        with tempfile.TemporaryDirectory(prefix="test-edits-") as folder:
+            for name in ("src", "room", "proofs/a/+parity", "proofs/a/+count", "proofs/a/last"):
+                os.makedirs(f"{folder}/{name}")
+            with open(f"{folder}/src/a.rt", "w", encoding="utf-8") as it:
+                it.write(cycle + "\n" + own)
+            room = Room(Crate("tiny", folder, [], []), {}, ["a::even", "a::odd", "a::last"], f"{folder}/room")
+            self.assertEqual(room._holes(["a::last"]), {"a::even", "a::odd", "a::count"})
+            self.assertEqual(room._holes(["a::odd"]), {"a::last", "a::count"})
+            room._write({}, room._holes(["a::odd"]))
+            self.assertEqual(sorted(os.listdir(f"{folder}/room/proofs/a")), ["+parity", "count", "last"])
+
+    def bodies_left_out(self, *said):
+        """Whether bodies were left out in each check of a function, where the checks say this, and what came of it."""
+        said, found = [*said], []
+
+        class Recorded(Room):
+            def _write(self, texts, holes):
+                found.append("loop {}" in texts.get("src/a.rt", ""))
+
+            def _run(self, words):
+                return read_output(1, said.pop(0))
+
+        with tempfile.TemporaryDirectory(prefix="test-edits-") as folder:
+            os.mkdir(f"{folder}/src")
+            with open(f"{folder}/src/a.rt", "w", encoding="utf-8") as it:
+                it.write("fn first() {\n    3\n}\n\nfn second() {\n    5\n}\n")
+            room = Recorded(Crate("tiny", folder, [], []), {}, ["a::first", "a::second"], folder)
+            return found, room.check({}, ["a::first"]).lines
+
+    def test_where_a_function_without_its_body_is_refused_all_have_their_bodies(self):
+        found, lines = self.bodies_left_out("src/a.rt:5:1: error: an evaluated function never ends\n", "only=1 holes=1\n")
+        self.assertEqual((found, lines), ([True, False], ["only=1 holes=1"]))
+
+    def test_where_the_function_that_is_checked_is_refused_it_is_to_blame_itself(self):
+        found, lines = self.bodies_left_out("src/a.rt:2:5: error: no such name\n")
+        self.assertEqual((found, lines), ([True], ["src/a.rt:2:5: error: no such name"]))
 
 
 class WaitingForLibraries(unittest.TestCase):

@@ -12,3 +12,4 @@ pub mod PartPatches
 pub mod ChunkWritten
 pub mod ChunksWritten
 pub mod BoxWalks
+mod SeenFrom

@@ -9,11 +9,14 @@ mod chunk_writing;
 pub mod erasing;
 pub mod error;
 mod holding;
+mod moving;
 mod part_writing;
 pub mod reading;
+pub mod region_chunks;
 pub mod store_calls;
 mod store_source;
 pub mod writing;
 
 pub use array_core::ArrayCore;
 pub use error::{ChunkError, ManyError};
+pub use region_chunks::RegionChunks;

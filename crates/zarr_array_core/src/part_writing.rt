@@ -4,6 +4,7 @@ use crate::chunk_value::BoxWrite;
 use crate::chunk_writing::put_value;
 use crate::error::ChunkError;
 use crate::holding::holds_box;
+use crate::moving::seen_from;
 use crate::store_calls::{set_partial, size_key};
 use std::alloc::Global;
 use zarr_array_storage::{ValuePatch, WritableStorageTraits};
@@ -62,9 +63,7 @@ impl<C: ArrayToBytesCodecTraits> ArrayCore<C> {
             (document_of C.meaning self.now).elements.type ≡ true }
     {
         store.supports_set_partial()
-            && self
-                .codecs
-                .supports_partial_encode(self.elements.data_type())
+            && self.codecs.takes_patches(self.elements.data_type())
             && !holds_box(write.region, chunk)
     }
 
@@ -97,14 +96,12 @@ impl<C: ArrayToBytesCodecTraits> ArrayCore<C> {
         let Ok(shared) = write.subset.overlap(write.alloc, own) else {
             return Err(ChunkError::Memory);
         };
-        let Ok(part) = shared.relative_to(write.alloc, own.start()) else {
-            return Err(ChunkError::Memory);
-        };
         let bytes = self.whole_cells(write, &shared)?;
         let empty = self.stores_fill(write, own);
         if !empty && self.is_all_fill(&bytes) {
             return Ok(None);
         }
+        let part = seen_from(shared, own.start());
         if !has_few_lines(&part, own.shape()) {
             return Ok(None);
         }
@@ -135,7 +132,7 @@ impl<C: ArrayToBytesCodecTraits> ArrayCore<C> {
             shape,
             indexer,
         };
-        self.codecs.partial_encode(alloc, given, asked, options)
+        self.codecs.encode_patches(alloc, given, asked, options)
     }
 
     /// Writes the elements of a box that lie in a chunk that has no value.

@@ -1,6 +1,7 @@
 //! Boxes read chunk by chunk.
 use crate::array_core::ArrayCore;
 use crate::error::ChunkError;
+use crate::region_chunks::RegionChunks;
 use std::alloc::Global;
 use zarr_array_elements::BoxElements;
 use zarr_array_storage::ReadableStorageTraits;
@@ -34,34 +35,35 @@ impl<C: ArrayToBytesCodecTraits> ArrayCore<C> {
     ghost use Rattle.zarr_array_core.specs.Views.{document_of, path_of};
     ghost use Rattle.zarr_array_core.specs.Outcomes.{GivesBox, ReadStops, IsSmall, refused_after};
 
-    /// The elements of a region that is not empty, row-major. `chunks` is the box of the chunks
-    /// that it intersects. `Fit` where one of these has a value and does not fit its codecs,
-    /// `Damage` where a place of the region cannot be decoded, `Storage` where the store refuses.
+    /// The elements of a region that is not empty, row-major. `Fit` where one of its chunks has a
+    /// value and does not fit its codecs, `Damage` where a place of the region cannot be decoded,
+    /// `Storage` where the store refuses.
     pub fn read_region<S: ReadableStorageTraits>(
         &self,
         alloc: Global,
         store: &mut S,
-        region: &ArraySubset,
-        chunks: &ArraySubset,
+        target: RegionChunks,
         options: &CodecOptions,
     ) -> Result<ArrayBytes, ChunkError>
-        requires covered { IsCovered (document_of C.meaning self.now).grid (region_of region.now) }
-        requires some { 0 < product region.now.shape.items }
-        requires small { IsSmall (document_of C.meaning self.now) (region_of region.now) }
+        requires covered { IsCovered (document_of C.meaning self.now).grid
+            (region_of target.region.now) }
+        requires some { 0 < product target.region.now.shape.items }
+        requires small { IsSmall (document_of C.meaning self.now) (region_of target.region.now) }
         requires intersecting { AreIntersecting (document_of C.meaning self.now).grid
-            (region_of region.now) (region_of chunks.now) }
+            (region_of target.region.now) (region_of target.chunks.now) }
         ensures ok { IsTrue (S.is_honest store.old) → IfOk result (λ bytes.
             GivesBox (path_of self.now) (document_of C.meaning self.now) (S.held store.old)
-            (region_of region.now) (payload_of bytes)) }
+            (region_of target.entry.region.now) (payload_of bytes)) }
         ensures err { IsTrue (S.is_honest store.old) → IfErr result
             (ReadStops (path_of self.now) (document_of C.meaning self.now) (S.held store.old)
-            (region_of region.now)) }
+            (region_of target.entry.region.now)) }
         ensures held { S.held store.new ≡ S.held store.old }
         ensures honest { S.is_honest store.new ≡ S.is_honest store.old }
         ensures refused { S.refused_calls store.new ≡
             refused_after (S.refused_calls store.old) result }
         ensures accepted { S.accepted_writes store.new ≡ S.accepted_writes store.old }
     {
+        let RegionChunks { region, chunks } = target;
         let shown = BoxElements::new_fill_value(alloc, region, &self.elements)?;
         let read = ReadBox {
             alloc,

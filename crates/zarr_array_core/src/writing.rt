@@ -2,6 +2,7 @@
 use crate::array_core::ArrayCore;
 use crate::chunk_value::BoxWrite;
 use crate::error::{ChunkError, ManyError};
+use crate::region_chunks::RegionChunks;
 use std::alloc::Global;
 use zarr_array_storage::WritableStorageTraits;
 use zarr_codecs_arrays::ArrayBytes;
@@ -31,10 +32,10 @@ impl<C: ArrayToBytesCodecTraits> ArrayCore<C> {
     ghost use Rattle.zarr_array_meaning.specs.Writing.{stores_fill};
 
     /// Writes the elements of a region that is not empty, row-major, chunk by chunk: `bytes` are as
-    /// many values of the array's data type as the region has places, and `chunks` is the box of
-    /// the chunks that it intersects. A chunk that becomes all fill loses its key, unless empty
-    /// chunks are stored. Each chunk takes at most one writing call of the store. A chunk that lies
-    /// in the region is written whatever is stored for it, and nothing is fetched for it.
+    /// many values of the array's data type as the region has places. A chunk that becomes all fill
+    /// loses its key, unless empty chunks are stored. Each chunk takes at most one writing call of
+    /// the store. A chunk that lies in the region is written whatever is stored for it, and nothing
+    /// is fetched for it.
     ///
     /// `Fit` where a chunk does not fit its codecs, `Damage` where a part of a chunk is to stay and
     /// what is stored cannot be decoded, `Codec` where a codec refuses to encode, `Size` where an
@@ -44,40 +45,40 @@ impl<C: ArrayToBytesCodecTraits> ArrayCore<C> {
         &self,
         alloc: Global,
         store: &mut S,
-        region: &ArraySubset,
-        chunks: &ArraySubset,
+        target: RegionChunks,
         bytes: &ArrayBytes,
         options: &CodecOptions,
     ) -> Result<(), ManyError>
-        requires covered { IsCovered (document_of C.meaning self.now).grid (region_of region.now) }
-        requires some { 0 < product region.now.shape.items }
-        requires small { IsSmall (document_of C.meaning self.now) (region_of region.now) }
+        requires covered { IsCovered (document_of C.meaning self.now).grid
+            (region_of target.region.now) }
+        requires some { 0 < product target.region.now.shape.items }
+        requires small { IsSmall (document_of C.meaning self.now) (region_of target.region.now) }
         requires intersecting { AreIntersecting (document_of C.meaning self.now).grid
-            (region_of region.now) (region_of chunks.now) }
+            (region_of target.region.now) (region_of target.chunks.now) }
         requires valid { (cells : List Cell)
             × IsValid (document_of C.meaning self.now).elements.type
-            (payload_of bytes.now) (product region.now.shape.items) cells }
+            (payload_of bytes.now) (product target.region.now.shape.items) cells }
         ensures ok { IsTrue (S.is_honest store.old) → OnOk result
-            (WritesBox (path_of self.now) (document_of C.meaning self.now) (region_of region.now)
+            (WritesBox (path_of self.now) (document_of C.meaning self.now) (region_of target.entry.region.now)
             (payload_of bytes.now) options.now (S.held store.old) (S.held store.new)) }
         ensures err { IsTrue (S.is_honest store.old) → IfErr result
-            (WriteStops (path_of self.now) (document_of C.meaning self.now) (region_of region.now)
+            (WriteStops (path_of self.now) (document_of C.meaning self.now) (region_of target.entry.region.now)
             (payload_of bytes.now) options.now (S.held store.old) (S.held store.new)) }
         ensures honest { S.is_honest store.new ≡ S.is_honest store.old }
         ensures refused { S.refused_calls store.new ≡
             refused_by_many (S.refused_calls store.old) result }
-        ensures counts { CountsWrites (document_of C.meaning self.now) (region_of region.now)
+        ensures counts { CountsWrites (document_of C.meaning self.now) (region_of target.entry.region.now)
             (S.accepted_writes store.old) (S.accepted_writes store.new) }
     {
-        let (start, shape) = (region.start(), region.shape());
+        let (start, shape) = (target.region.start(), target.region.shape());
         let write = BoxWrite {
             alloc,
-            subset: region,
+            subset: target.region,
             region: Extent { start, shape },
             bytes,
             options,
         };
-        self.write_chunks(store, &write, chunks)
+        self.write_chunks(store, &write, target.chunks)
     }
 
     /// Writes the elements of a box to each chunk that it intersects.

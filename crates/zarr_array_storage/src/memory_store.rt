@@ -1,11 +1,9 @@
 //! The store in memory.
-ghost use Rattle.std.specs.Prelude.{◌≡◌, true, false, sum_by, length, IfOk};
+ghost use Rattle.std.specs.Prelude.{◌≡◌, true, false, IfOk};
 ghost use Rattle.std.specs.FinMap as map;
 ghost use Rattle.std.specs.List.{list_any};
-ghost use Rattle.zarr_array_meaning.specs.StoreMaps.{counted};
 ghost use Rattle.zarr_array_storage.specs.MemoryStores.{MemoryState};
 ghost use Rattle.zarr_array_storage.specs.ValueMaps.{key_bytes};
-ghost use Rattle.zarr_codecs_traits.specs.Sources.{part_bytes};
 ghost use Rattle.zarr_grids_keys.specs.Paths.{ends_with_slash};
 
 use crate::error::StorageError;
@@ -13,7 +11,7 @@ use crate::traits::{ReadableStorageTraits, WritableStorageTraits};
 use crate::value_map::ValueMap;
 use std::alloc::{AllocError, Global};
 use std::marker::Model;
-use zarr_codecs_traits::byte_range::{any_ends_past, read_ranges};
+use zarr_codecs_traits::byte_range::{any_ends_past, count_parts, read_ranges};
 use zarr_codecs_traits::value_patch::any_too_far;
 use zarr_codecs_traits::{ByteRange, ValuePatch};
 use zarr_grids_keys::StoreKey;
@@ -68,17 +66,6 @@ fn store_keys(alloc: Global, texts: Vec<String>) -> Result<Vec<StoreKey>, AllocE
         }
     }
     Ok(keys)
-}
-
-/// A count after as many more as the parts have bytes.
-fn count_parts(count: u128, parts: &[Vec<u8>]) -> u128
-    ensures { result ≡ counted count (sum_by length (part_bytes parts.now)) }
-{
-    let mut sum = count;
-    for part in parts {
-        sum = sum.saturating_add(part.len() as u128);
-    }
-    sum
 }
 
 impl ReadableStorageTraits for MemoryStore {

@@ -73,6 +73,8 @@ impl<'a, S: ReadableStorageTraits> BytesPartialDecoderTraits for StoragePartialD
 
     ghost refused_calls = { λ d. S.refused_calls d.store.now };
 
+    ghost given_bytes = { λ d. S.given_bytes d.store.now };
+
     ghost follows = { λ a b. (a.store.ghost_name ≡ b.store.ghost_name)
         × (a.key.now ≡ b.key.now) × (S.held a.store.now ≡ S.held b.store.now)
         × (S.is_honest a.store.now ≡ S.is_honest b.store.now)

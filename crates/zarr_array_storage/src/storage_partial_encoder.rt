@@ -117,6 +117,8 @@ impl<'a, S: WritableStorageTraits> BytesPartialDecoderTraits for StoragePartialE
 
     ghost refused_calls = { λ e. S.refused_calls e.source.store.now };
 
+    ghost given_bytes = { λ e. S.given_bytes e.source.store.now };
+
     ghost follows = { λ a b. (a.source.store.ghost_name ≡ b.source.store.ghost_name)
         × (a.source.key.now ≡ b.source.key.now)
         × (S.held a.source.store.now ≡ S.held b.source.store.now)

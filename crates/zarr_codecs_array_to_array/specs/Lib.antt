@@ -4,3 +4,4 @@ pub mod Moving
 pub mod Written
 pub mod Sizes
 pub mod Strided
+pub mod Names

@@ -23,7 +23,7 @@ impl ArrayToArrayCodec {
     ghost use Rattle.zarr_codecs_meaning.specs.Places.{encoded_shape};
     ghost use Rattle.zarr_codecs_metadata.specs.ArrayCodecs.{array_codec_in};
     ghost use Rattle.zarr_codecs_array_to_array.specs.Moving.{are_places, moved_numbers};
-    ghost use Rattle.zarr_codecs_array_to_array.specs.Written.{array_codec_point};
+    ghost use Rattle.zarr_codecs_array_to_array.specs.Names.{written_codec};
     ghost use Rattle.zarr_codecs_array_to_array.specs.Views.{codec_of};
 
     /// The numbers that places have after the codec, of the numbers that they have before it.
@@ -49,8 +49,8 @@ impl ArrayToArrayCodec {
         }
     }
 
-    /// The codec that metadata describes. `NameUnsupported` where its name is that of none,
-    /// `MetadataInvalid` where its configuration is not one of the name's; `Memory` where an
+    /// The codec that metadata describes, under the name that it has there. `NameUnsupported` where
+    /// this is that of none, `MetadataInvalid` where its configuration is not one of the name's; `Memory` where an
     /// allocation failed.
     pub fn from_metadata(
         alloc: Global,
@@ -58,6 +58,8 @@ impl ArrayToArrayCodec {
     ) -> Result<ArrayToArrayCodec, PluginCreateError>
         ensures ok { IfOk result
             (λ codec. array_codec_in (point_of metadata.now) ≡ Some (codec_of codec)) }
+        ensures name { IfOk result
+            (λ codec. (written_codec codec).name ≡ (point_of metadata.now).name) }
         ensures err { IfErr result (λ e. e ≢ PluginCreateError.Memory
             → array_codec_in (point_of metadata.now) ≡ None) }
     {
@@ -82,7 +84,7 @@ impl ArrayToArrayCodec {
     /// allocation failed.
     pub fn metadata(&self, alloc: Global) -> Result<MetadataV3, AllocError>
         ensures written { IfOk result
-            (λ metadata. point_of metadata ≡ array_codec_point (codec_of self.now)) }
+            (λ metadata. point_of metadata ≡ written_codec self.now) }
         ensures reads_back { IfOk result
             (λ metadata. array_codec_in (point_of metadata) ≡ Some (codec_of self.now)) }
     {
@@ -95,7 +97,8 @@ impl ArrayToArrayCodec {
 
     /// An equal codec. `Err` only where an allocation failed.
     pub fn try_clone(&self, alloc: Global) -> Result<ArrayToArrayCodec, AllocError>
-        ensures { IfOk result (λ codec. codec_of codec ≡ codec_of self.now) }
+        ensures meaning { IfOk result (λ codec. codec_of codec ≡ codec_of self.now) }
+        ensures written { IfOk result (λ codec. written_codec codec ≡ written_codec self.now) }
     {
         match self {
             ArrayToArrayCodec::Transpose(codec) => {

@@ -4,6 +4,7 @@
 pub mod codec;
 pub mod dimensions;
 mod metadata;
+pub mod name;
 pub mod new_shape;
 pub mod order;
 pub mod reshape;
@@ -15,6 +16,7 @@ mod walks;
 
 pub use codec::ArrayToArrayCodec;
 pub use dimensions::ReshapeDim;
+pub use name::CodecName;
 pub use new_shape::ReshapeShape;
 pub use order::TransposeOrder;
 pub use reshape::{ReshapeCodec, ReshapeCodecConfiguration};

@@ -4,6 +4,7 @@ ghost use Rattle.std.specs.List.{filter};
 ghost use Rattle.zarr_codecs_meaning.specs.Places.{squeezed};
 
 use crate::metadata::is_empty;
+use crate::name::CodecName;
 use crate::walks::{copied, kept};
 use std::alloc::{AllocError, Global};
 use zarr_codecs_arrays::{ArrayBytes, CodecError, Elements};
@@ -11,35 +12,44 @@ use zarr_codecs_traits::ArrayToArrayCodecTraits;
 use zarr_grids_metadata::{MetadataV3, PluginCreateError};
 
 /// The codec `squeeze` (this project's profile): the elements in their row-major order, in the shape
-/// without its dimensions of size one, or [1] where there are no others. It suits each shape.
+/// without its dimensions of size one, or [1] where there are no others. It suits each shape. It
+/// keeps the name that its metadata has.
 #[derive(Clone, Copy, Debug, PartialEq, Eq)]
-pub struct SqueezeCodec {}
+pub struct SqueezeCodec {
+    name: CodecName,
+}
 
 /// What `squeeze` is configured by: nothing.
 #[derive(Clone, Copy, Debug, PartialEq, Eq)]
 pub struct SqueezeCodecConfiguration {}
 
 impl SqueezeCodec {
-    ghost use Rattle.std.specs.Prelude.{◌≡◌, ◌≢◌, ◌<◌, ◌^◌, true, Some, None, IfOk, IfErr};
+    ghost use Rattle.std.specs.Prelude.{◌≡◌, ◌≢◌, ◌<◌, ◌^◌, codes, true, Some, None, IfOk, IfErr};
     ghost use Rattle.zarr_grids_boxes.specs.Boxes.{product};
     ghost use Rattle.zarr_grids_metadata.specs.Views.{point_of};
     ghost use Rattle.zarr_codecs_meaning.specs.Fits.{array_codec_fits};
     ghost use Rattle.zarr_codecs_meaning.specs.Places.{encoded_shape};
     ghost use Rattle.zarr_codecs_array_to_array.specs.Moving.{are_places, moved_numbers};
-    ghost use Rattle.zarr_codecs_array_to_array.specs.Written.{array_codec_point, squeeze_in};
+    ghost use Rattle.zarr_grids_metadata.specs.ExtensionPoints.{named};
+    ghost use Rattle.zarr_codecs_array_to_array.specs.Written.{squeeze_in};
     ghost use Rattle.zarr_codecs_array_to_array.specs.Views.{squeeze_of};
+    ghost use Rattle.zarr_codecs_array_to_array.specs.Names.{squeeze_name};
     ghost use Rattle.zarr_codecs_meaning.specs.Chains.ArrayCodec.{squeeze};
 
-    /// `squeeze`.
+    /// `squeeze` under its default name.
     pub fn new() -> SqueezeCodec
-        ensures { squeeze_of result ≡ squeeze }
+        ensures meaning { squeeze_of result ≡ squeeze }
+        ensures name { squeeze_name result ≡ codes "squeeze" }
     {
-        SqueezeCodec {}
+        SqueezeCodec {
+            name: CodecName::Default,
+        }
     }
 
-    /// `squeeze` as a configuration gives it.
+    /// `squeeze` as a configuration gives it, under its default name.
     pub fn new_with_configuration(_: &SqueezeCodecConfiguration) -> SqueezeCodec
-        ensures { squeeze_of result ≡ squeeze }
+        ensures meaning { squeeze_of result ≡ squeeze }
+        ensures name { squeeze_name result ≡ codes "squeeze" }
     {
         SqueezeCodec::new()
     }
@@ -70,50 +80,56 @@ impl SqueezeCodec {
         copied(alloc, numbers)
     }
 
-    /// The codec that metadata describes. `NameUnsupported` where its name is neither `squeeze`
-    /// nor `zarrs.squeeze`, `MetadataInvalid` where its configuration has a member; `Memory` where an
-    /// allocation failed.
+    /// The codec that metadata describes, under the name that it has there. `NameUnsupported` where
+    /// this is neither `squeeze` nor `zarrs.squeeze`, `MetadataInvalid` where its configuration has a
+    /// member; `Memory` where an allocation failed.
     pub fn from_metadata(metadata: &MetadataV3) -> Result<SqueezeCodec, PluginCreateError>
         ensures ok { IfOk result
             (λ codec. squeeze_in (point_of metadata.now) ≡ Some (squeeze_of codec)) }
+        ensures name { IfOk result
+            (λ codec. squeeze_name codec ≡ (point_of metadata.now).name) }
         ensures err { IfErr result (λ e. e ≢ PluginCreateError.Memory
             → squeeze_in (point_of metadata.now) ≡ None) }
     {
-        let name = metadata.name();
-        if name != "squeeze" && name != "zarrs.squeeze" {
-            return Err(PluginCreateError::NameUnsupported);
-        }
+        let name = match metadata.name() {
+            "squeeze" => CodecName::Default,
+            "zarrs.squeeze" => CodecName::Alias,
+            _ => return Err(PluginCreateError::NameUnsupported),
+        };
         if !is_empty(metadata.configuration()) {
             return Err(PluginCreateError::MetadataInvalid);
         }
-        Ok(SqueezeCodec::new())
+        Ok(SqueezeCodec { name })
     }
 
-    /// The codec's metadata, of which `from_metadata` makes an equal codec. `Err` only where an
-    /// allocation failed.
+    /// The codec's metadata under its name, of which `from_metadata` makes an equal codec. `Err` only
+    /// where an allocation failed.
     pub fn metadata(&self, alloc: Global) -> Result<MetadataV3, AllocError>
         ensures written { IfOk result
-            (λ metadata. point_of metadata ≡ array_codec_point (squeeze_of self.now)) }
+            (λ metadata. point_of metadata ≡ named (squeeze_name self.now)) }
         ensures reads_back { IfOk result
             (λ metadata. squeeze_in (point_of metadata) ≡ Some (squeeze_of self.now)) }
     {
-        Ok(MetadataV3::new(String::from_str(alloc, "squeeze")?))
+        match self.name {
+            CodecName::Default => Ok(MetadataV3::new(String::from_str(alloc, "squeeze")?)),
+            CodecName::Alias => Ok(MetadataV3::new(String::from_str(alloc, "zarrs.squeeze")?)),
+        }
     }
 
     /// An equal codec. `Err` only where an allocation failed.
     pub fn try_clone(&self, alloc: Global) -> Result<SqueezeCodec, AllocError>
-        ensures { IfOk result (λ codec. squeeze_of codec ≡ squeeze_of self.now) }
+        ensures meaning { IfOk result (λ codec. squeeze_of codec ≡ squeeze_of self.now) }
+        ensures name { IfOk result (λ codec. squeeze_name codec ≡ squeeze_name self.now) }
     {
         Ok(*self)
     }
 }
 
 impl Default for SqueezeCodec {
-    ghost use Rattle.std.specs.Prelude.{◌≡◌};
-    ghost use Rattle.zarr_codecs_meaning.specs.Chains.ArrayCodec.{squeeze};
-    ghost use Rattle.zarr_codecs_array_to_array.specs.Views.{squeeze_of};
+    ghost use Rattle.std.specs.Prelude.{◌≡◌, codes};
+    ghost use Rattle.zarr_codecs_array_to_array.specs.Names.{squeeze_name};
 
-    ghost is_default = { λ codec. squeeze_of codec ≡ squeeze };
+    ghost is_default = { λ codec. squeeze_name codec ≡ codes "squeeze" };
 
     fn default() -> SqueezeCodec {
         SqueezeCodec::new()

@@ -1,5 +1,5 @@
 -- The elements of a box of an array, line by line.
-use Rattle.std.proofs.Common.{◌≡◌, ℕ, zero, suc, ◌+◌, ◌-◌, ◌*◌, ◌^◌, ◌<◌, ◌≤◌, Bool, true, ◌&&◌, nat_le, nat_lt, cond, List, [], ◌∷◌, ◌++◌, length, map, get_or, set, take, drop, refl, sym, ap, ◌∙◌, subst, arith, length-drop}
+use Rattle.std.proofs.Common.{◌≡◌, ℕ, zero, suc, ◌+◌, ◌-◌, ◌*◌, ◌<◌, ◌≤◌, Bool, true, ◌&&◌, nat_le, nat_lt, cond, List, [], ◌∷◌, ◌++◌, length, map, get_or, set, take, drop, refl, sym, ap, ◌∙◌, subst, arith, length-drop}
 use Rattle.std.specs.Iterator.{Yields, YieldsFirst}
 use Rattle.std.specs.List.{range_with_len, flat_map, list_all}
 use Rattle.std.proofs.Math.Nat.{le-mul_of_pos_right, mul-le-mul_right}
@@ -10,7 +10,7 @@ use Rattle.std.proofs.lemmas.List.{map-append, append-nil, drop-drop, take-appen
 use Rattle.std.proofs.lemmas.List.Folds.{flat_map-map, list_all-map}
 use Rattle.std.proofs.lemmas.Simd.{map-map}
 use Rattle.zarr_grids_boxes.specs.Boxes.{Region, EndsFit, product, places, ravel, each2, is_in_box}
-use Rattle.zarr_grids_boxes.specs.Cuts.{IsAtMost, ends}
+use Rattle.zarr_grids_boxes.specs.Cuts.{IsAtMost}
 use Rattle.zarr_grids_boxes.specs.Laid.{laid, overlaid}
 use Rattle.zarr_grids_boxes.specs.Walks.{linearised}
 use Rattle.zarr_grids_boxes.specs.Subsets.{region_of}

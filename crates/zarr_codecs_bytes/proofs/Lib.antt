@@ -10,3 +10,5 @@ pub mod Scattered
 pub mod BoxScattered
 pub mod Encoding
 mod ListedParts
+mod PartBytes
+mod OneLine

@@ -1,5 +1,5 @@
 -- Elements that are asked for by their numbers.
-use Rattle.std.proofs.Common.{◌≡◌, ◌∙◌, ℕ, ◌*◌, ◌^◌, ◌<◌, Bool, true, List, [], ◌∷◌, length, map, get_or, replicate, refl, sym, ap, arith, subst, zero-mul, Option, Some, None, option_and_then, nat_lt, Result, Ok, Err, Vec, Global}
+use Rattle.std.proofs.Common.{◌≡◌, ◌∙◌, ℕ, ◌*◌, ◌^◌, ◌<◌, true, List, [], ◌∷◌, length, map, replicate, refl, sym, ap, arith, subst, zero-mul, Some, None, option_and_then, nat_lt, Result, Ok, Err, Vec, Global}
 use Rattle.std.specs.Prelude.{IfOk}
 use Rattle.std.specs.List.{list_all}
 use Rattle.std.proofs.lemmas.Bool.{and_parts, ltb-true}

@@ -1,5 +1,5 @@
 -- What a part of a value is decoded to: the elements at its places in the other order, where each is a value.
-use Rattle.std.proofs.Common.{◌≡◌, ℕ, zero, suc, ◌+◌, ◌*◌, ◌/◌, ◌^◌, ◌<◌, ◌≤◌, List, [], ◌∷◌, length, get_or, map, take, drop, replicate, ap, ◌∙◌, sym, refl, arith, Option, Some, None, option_and_then, Bool, true, false, inl, inr, if◌then◌else◌, Result, Ok, Err, Vec, Global, subst, zero-mul}
+use Rattle.std.proofs.Common.{◌≡◌, ℕ, zero, suc, ◌+◌, ◌*◌, ◌/◌, ◌^◌, ◌<◌, ◌≤◌, List, [], ◌∷◌, length, get_or, map, take, drop, replicate, ap, ◌∙◌, sym, refl, arith, Option, Some, None, option_and_then, Bool, true, inl, inr, if◌then◌else◌, Result, Ok, Err, Vec, Global, subst, zero-mul}
 use Rattle.std.specs.Prelude.{MatchOption, IfOk, IfErr, ◌≢◌}
 use Rattle.std.specs.List.{list_all}
 use Rattle.std.proofs.lemmas.Bool.{eq-eqb, ne_eqb, cases_lt, lt-ltb}
@@ -10,11 +10,11 @@ use Rattle.std.proofs.Math.Nat.{mul-div_left, mul-le-mul_right}
 use Rattle.zarr_grids_boxes.specs.Boxes.{Region, product, places, ravel}
 use Rattle.zarr_grids_boxes.proofs.InBox.{length-places}
 use Rattle.zarr_codecs_meaning.specs.Types.{DataType, components, bytes_in, is_fixed, byte_width, Cell, of_bytes, cell_bytes, is_value, Elements}
-use Rattle.zarr_codecs_meaning.specs.Chains.{Endianness, ByteCodec, Chain}
-use Rattle.zarr_codecs_meaning.specs.Chains.Chain.{bytes, then_bytes}
+use Rattle.zarr_codecs_meaning.specs.Chains.{Endianness, Chain}
+use Rattle.zarr_codecs_meaning.specs.Chains.Chain.{bytes}
 use Rattle.zarr_codecs_meaning.specs.Places.{gather}
 use Rattle.zarr_codecs_meaning.specs.Encoding.{ordered}
-use Rattle.zarr_codecs_meaning.specs.Decoding.{all_there, tested, element_at, is_whole, cell_at, opens, part_decoded}
+use Rattle.zarr_codecs_meaning.specs.Decoding.{all_there, tested, element_at, is_whole, cell_at, part_decoded}
 use Rattle.zarr_codecs_meaning.specs.Fits.{fits}
 use Rattle.zarr_codecs_meaning.specs.Payloads.{Payload, fixed, fixed_cells, cells_in}
 use Rattle.zarr_codecs_meaning.proofs.Lists.{some_same}
@@ -27,7 +27,7 @@ use Rattle.zarr_codecs_arrays.specs.Views.{payload_of}
 use Rattle.zarr_codecs_arrays.proofs.Counts.{known_width}
 use Rattle.zarr_codecs_arrays.proofs.FixedCells.{fixed_cells-nil, get_or-fixed_cells, length-fixed_cells}
 use Rattle.zarr_codecs_traits.specs.Indexers.{Asked, in_box, are_inside, lies_in, numbers_asked, numbers_of}
-use Rattle.zarr_codecs_traits.specs.Outcomes.{DecodesPart, IsPart, UndoesBytes}
+use Rattle.zarr_codecs_traits.specs.Outcomes.{DecodesPart, IsPart}
 use Rattle.zarr_codecs_regions.proofs.InsideArray.{inside_product}
 use Rattle.zarr_codecs_bytes.specs.Orders.{all_ordered}
 use Rattle.zarr_codecs_bytes.specs.Parts.{IsExtracted}

@@ -1,5 +1,5 @@
 -- The ranges of parts of no dimension.
-use Rattle.std.proofs.Common.{◌≡◌, ◌∙◌, ◌*◌, ◌^◌, ◌<◌, ◌++◌, ℕ, List, [], ◌∷◌, length, take, drop, ap, sym, refl, arith, true, false, ◌||◌, ◌+◌, Bool, Result, Ok, Err}
+use Rattle.std.proofs.Common.{◌≡◌, ◌∙◌, ◌*◌, ◌^◌, ◌<◌, ◌++◌, ℕ, [], ◌∷◌, length, take, drop, ap, sym, refl, arith, true, false, ◌||◌, ◌+◌, Bool, Result, Ok, Err}
 use Rattle.std.specs.Prelude.{IfOk, nat_lt}
 use Rattle.std.specs.List.{list_any, flat_map}
 use Rattle.std.proofs.lemmas.Bool.{ltb-true}
@@ -8,7 +8,7 @@ use Rattle.zarr_grids_boxes.specs.Subsets.{region_of}
 use Rattle.zarr_codecs_regions.proofs.InsideArray.{inside_rank}
 use Rattle.zarr_codecs_traits.specs.Indexers.{numbers_of}
 use Rattle.zarr_codecs_bytes.specs.Lines.{ArePartRanges, bytes_in_ranges, ends_after}
-use Rattle.zarr_codecs_bytes.specs.Parts.{HasPart, part_width}
+use Rattle.zarr_codecs_bytes.specs.Parts.{part_width}
 use Rattle.zarr_codecs_bytes.specs.declared.lines.PartRanges.{PartRanges}
 use Rattle.zarr_codecs_bytes.specs.declared.part.BoxPart.{BoxPart}
 use Rattle.zarr_codecs_bytes.proofs.BoxLines.{box_has, one_place}

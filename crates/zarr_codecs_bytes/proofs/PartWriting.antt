@@ -1,5 +1,5 @@
 -- The bytes of a part, written in ranges.
-use Rattle.std.proofs.Common.{◌≡◌, ◌∙◌, ℕ, suc, ◌+◌, ◌-◌, ◌*◌, ◌/◌, ◌%◌, ◌^◌, ◌<◌, ◌≤◌, Bool, true, false, ◌||◌, if◌then◌else◌, List, [], ◌∷◌, ◌++◌, length, map, get_or, take, drop, replicate, refl, sym, ap, subst, arith, Option, Some, None, Ok, Vec, Global, length-drop}
+use Rattle.std.proofs.Common.{◌≡◌, ◌∙◌, ℕ, suc, ◌+◌, ◌-◌, ◌*◌, ◌/◌, ◌%◌, ◌^◌, ◌<◌, ◌≤◌, Bool, true, false, ◌||◌, if◌then◌else◌, List, [], ◌∷◌, ◌++◌, length, map, get_or, take, drop, replicate, refl, sym, ap, subst, arith, Option, Some, Ok, Vec, Global, length-drop}
 use Rattle.std.specs.Prelude.{nat_lt}
 use Rattle.std.specs.List.{range_with_len, flat_map, list_all, list_any}
 use Rattle.std.proofs.Math.Nat.{mul-mod_left, mul-div_left}
@@ -15,8 +15,8 @@ use Rattle.zarr_grids_boxes.proofs.Dimensions.{ravel_below}
 use Rattle.zarr_grids_boxes.proofs.InBox.{ravel-place_at}
 use Rattle.zarr_grids_boxes.proofs.Places.{in_box_below, places_by_number}
 use Rattle.zarr_grids_overlay.proofs.Blocks.{blocks_congr}
-use Rattle.zarr_codecs_meaning.specs.Chains.{ByteCodec, Chain, Endianness}
-use Rattle.zarr_codecs_meaning.specs.Chains.Chain.{bytes, then_bytes}
+use Rattle.zarr_codecs_meaning.specs.Chains.{Endianness}
+use Rattle.zarr_codecs_meaning.specs.Chains.Chain.{bytes}
 use Rattle.zarr_codecs_meaning.specs.Decoding.{all_there, decoded, element_at, is_whole}
 use Rattle.zarr_codecs_meaning.specs.Encoding.{encoded, ordered}
 use Rattle.zarr_codecs_meaning.specs.Fits.{fits, order_fits}
@@ -32,7 +32,7 @@ use Rattle.zarr_codecs_arrays.proofs.FixedCells.{fixed_in-whole, flat_map-fixed_
 use Rattle.zarr_codecs_regions.proofs.Extracts.{element_bytes, bytes_of_place, place_width, elements_are, element_within, array_laid}
 use Rattle.zarr_codecs_regions.proofs.InsideArray.{all_places, inside_places}
 use Rattle.zarr_codecs_traits.specs.Indexers.{lies_in, numbers_of}
-use Rattle.zarr_codecs_traits.specs.PartEncoding.{EncodesPart, takes_patches, cells_with_box}
+use Rattle.zarr_codecs_traits.specs.PartEncoding.{EncodesPart, cells_with_box}
 use Rattle.zarr_codecs_traits.specs.Patches.{any_too_far, overwritten, patched, written_at}
 use Rattle.zarr_codecs_traits.specs.declared.byte_range.ByteRange.{ByteRange}
 use Rattle.zarr_codecs_traits.specs.declared.value_patch.ValuePatch.{ValuePatch}

@@ -1,5 +1,6 @@
 -- Parts of an array that are asked for.
-use Rattle.std.specs.Prelude.{◌≡◌, ℕ, ◌*◌, List, Option, Some, Bool, false, Result, length}
+use Rattle.std.specs.Prelude.{◌≡◌, ◌<◌, ℕ, ◌*◌, List, Option, None, Some, Bool, false, Result, length, Vec}
+use Rattle.std.specs.declared.alloc.Global.{Global}
 use Rattle.zarr_grids_boxes.specs.Boxes.{Region, product}
 use Rattle.zarr_grids_boxes.specs.Subsets.{region_of}
 use Rattle.zarr_codecs_meaning.specs.Types.{Cell, components, bytes_in}
@@ -15,6 +16,7 @@ use Rattle.zarr_codecs_arrays.specs.declared.error.CodecError.{CodecError}
 use Rattle.zarr_codecs_traits.specs.Indexers.{in_box, listed, numbers_of}
 use Rattle.zarr_codecs_traits.specs.Outcomes.{DecodesPart}
 use Rattle.zarr_codecs_traits.specs.PartEncoding.{cells_with_box}
+use Rattle.zarr_codecs_traits.specs.ReadBytes.{most_of_numbers, most_read}
 use Rattle.zarr_codecs_traits.specs.Patches.{any_too_far, patched}
 use Rattle.zarr_codecs_traits.specs.declared.value_patch.ValuePatch.{ValuePatch}
 use Rattle.zarr_codecs_bytes.specs.declared.part.ListedPart.{ListedPart}
@@ -31,6 +33,10 @@ part_width part = bytes_in (components (elements_of part.elements.now).type)
 -- the elements of a part, of what is stored, or why there are none
 abbrev pub GivesPart : Chain → Option (List ℕ) → BoxPart → Result ArrayBytes CodecError → Type 0
 GivesPart chain stored part result = DecodesPart chain (elements_of part.elements.now) part.shape.now stored (in_box (region_of part.region.now)) result
+
+-- how many bytes are taken at most of what is stored, for the elements of a part
+abbrev pub most_of_part : Chain → Option (List ℕ) → BoxPart → ℕ
+most_of_part chain stored part = most_read chain (elements_of part.elements.now).type part.shape.now stored (in_box (region_of part.region.now))
 
 -- the bytes of the elements at the places of a box, of the elements that a value holds, each of one width; what is past the value's end is `other`
 pub record IsExtracted (width : ℕ) (value shape : List ℕ) (region : Region) (other : Cell) (extracted : List ℕ) : Type 0 where
@@ -62,7 +68,22 @@ listed_width part = bytes_in (components (elements_of part.elements.now).type)
 abbrev pub GivesListed : Chain → Option (List ℕ) → ListedPart → Result ArrayBytes CodecError → Type 0
 GivesListed chain stored part result = DecodesPart chain (elements_of part.elements.now) part.shape.now stored (listed part.numbers.now) result
 
+-- how many bytes are taken at most of what is stored, for the elements with these numbers
+abbrev pub most_of_listed : Chain → Option (List ℕ) → ListedPart → ℕ
+most_of_listed chain stored part = most_of_numbers chain (elements_of part.elements.now).type part.shape.now stored part.numbers.now
+
 -- the bytes of the elements with these numbers, of the elements that a value holds, each of one width
 pub record IsListed (width : ℕ) (value numbers extracted : List ℕ) : Type 0 where
   pub long : length extracted ≡ length numbers * width
   pub elements : (other : Cell) → fixed_cells width extracted ≡ gather other (fixed_cells width value) numbers
+
+-- the bytes of a part's elements, of a value of as many bytes as the array's elements have
+pub record HasListed (part : ListedPart) (value extracted : List ℕ) : Type 0 where
+  pub positive : 0 < listed_width part
+  pub whole : length value ≡ product part.shape.now * listed_width part
+  pub are : IsListed (listed_width part) value part.numbers.now extracted
+
+-- bytes were found, those of a part's elements
+abbrev pub HasFound : ListedPart → List ℕ → Option (Vec ℕ Global) → Type 0
+HasFound part value None = ⊥
+HasFound part value (Some extracted) = HasListed part value extracted.items

@@ -9,10 +9,10 @@ use crate::swapping::swapped;
 use std::alloc::{AllocError, Global};
 use zarr_codecs_arrays::{ArrayBytes, CodecError, Elements, takes_all_bytes};
 use zarr_codecs_options::CodecOptions;
-use zarr_codecs_regions::{are_below, is_inside};
+use zarr_codecs_regions::{WholeValues, are_below, encode_whole, is_inside};
 use zarr_codecs_traits::{
-    ArrayPart, ArrayToBytesCodecTraits, BytesPartialDecoderTraits, BytesRepresentation, Indexer,
-    ValuePatch,
+    ArrayPart, ArrayToBytesCodecTraits, BytesPartialDecoderTraits, BytesPartialEncoderTraits,
+    BytesRepresentation, Indexer, ValuePatch,
 };
 use zarr_codecs_types::DataType;
 use zarr_grids_boxes::ArraySubset;
@@ -50,12 +50,13 @@ pub struct BytesCodecConfiguration {
 }
 
 impl BytesCodec {
-    ghost use Rattle.std.specs.Prelude.{◌≡◌, ◌<◌, ◌%◌, [], Some, option_map, length, true, IfOk, IsTrue};
+    ghost use Rattle.std.specs.Prelude.{◌≡◌, ◌≤◌, ◌+◌, ◌<◌, ◌%◌, [], Some, option_map, length, true, IfOk, IsTrue};
     ghost use Rattle.zarr_grids_boxes.specs.Subsets.{region_of};
     ghost use Rattle.zarr_codecs_arrays.specs.Views.{elements_of, payload_of};
     ghost use Rattle.zarr_codecs_traits.specs.Indexers.{in_box, listed};
     ghost use Rattle.zarr_codecs_traits.specs.Outcomes.{DecodesPart};
     ghost use Rattle.zarr_codecs_traits.specs.PartEncoding.{EncodesPart};
+    ghost use Rattle.zarr_codecs_traits.specs.ReadBytes.{most_read};
     ghost use Rattle.zarr_codecs_traits.specs.Sources.{refused_after};
     ghost use Rattle.zarr_codecs_meaning.specs.Types.{components, bytes_in};
     ghost use Rattle.zarr_codecs_meaning.specs.Fits.{fits};
@@ -142,6 +143,10 @@ impl BytesCodec {
             (in_box (region_of region.now)) result }
         ensures refused { D.refused_calls source.new ≡
             refused_after (D.refused_calls source.old) result }
+        ensures given { IsTrue (D.is_honest source.old) → D.given_bytes source.new
+            ≤ D.given_bytes source.old + most_read (bytes_chain self)
+            (elements_of array.entry.elements.now).type array.entry.shape.now
+            (D.contents source.old) (in_box (region_of region.now)) }
         ensures follows { D.follows source.old source.new }
     {
         let (elements, shape) = (array.elements, array.shape);
@@ -172,6 +177,10 @@ impl BytesCodec {
             (listed numbers.now) result }
         ensures refused { D.refused_calls source.new ≡
             refused_after (D.refused_calls source.old) result }
+        ensures given { IsTrue (D.is_honest source.old) → D.given_bytes source.new
+            ≤ D.given_bytes source.old + most_read (bytes_chain self)
+            (elements_of array.entry.elements.now).type array.entry.shape.now
+            (D.contents source.old) (listed numbers.now) }
         ensures follows { D.follows source.old source.new }
     {
         let (elements, shape) = (array.elements, array.shape);
@@ -342,11 +351,11 @@ impl ArrayToBytesCodecTraits for BytesCodec {
         }
     }
 
-    fn supports_partial_encode(&self, data_type: &DataType) -> bool {
+    fn takes_patches(&self, data_type: &DataType) -> bool {
         self.suits(data_type) && takes_all_bytes(data_type)
     }
 
-    fn partial_encode(
+    fn encode_patches(
         &self,
         alloc: Global,
         bytes: ArrayBytes,
@@ -357,6 +366,17 @@ impl ArrayToBytesCodecTraits for BytesCodec {
             Indexer::Subset(region) => self.encode_box(alloc, bytes, part, region),
             Indexer::List(_numbers) => Ok(None),
         }
+    }
+
+    fn partial_encode<E: BytesPartialEncoderTraits>(
+        &self,
+        alloc: Global,
+        source: &mut E,
+        bytes: ArrayBytes,
+        part: ArrayPart<'_>,
+        options: &CodecOptions,
+    ) -> Result<(), CodecError> {
+        encode_whole(self, alloc, source, bytes, part, options)
     }
 
     fn compact(
@@ -375,6 +395,52 @@ impl ArrayToBytesCodecTraits for BytesCodec {
 
     fn try_clone(&self, _: Global) -> Result<BytesCodec, AllocError> {
         Ok(*self)
+    }
+
+    ghost lawful = { λ codec. tt };
+}
+
+impl WholeValues for BytesCodec {
+    ghost use Rattle.std.specs.Prelude.{true};
+    ghost use Rattle.zarr_codecs_bytes.specs.Views.{bytes_chain};
+
+    ghost meaning = { bytes_chain };
+
+    ghost is_function = { λ codec. true };
+
+    fn fits_array(
+        &self,
+        alloc: Global,
+        data_type: &DataType,
+        shape: &[u64],
+    ) -> Result<bool, AllocError> {
+        self.fits(alloc, data_type, shape)
+    }
+
+    fn encode_array(
+        &self,
+        alloc: Global,
+        bytes: ArrayBytes,
+        elements: &Elements,
+        shape: &[u64],
+        options: &CodecOptions,
+    ) -> Result<Vec<u8>, CodecError> {
+        self.encode(alloc, bytes, elements, shape, options)
+    }
+
+    fn decode_value(
+        &self,
+        alloc: Global,
+        value: Vec<u8>,
+        elements: &Elements,
+        shape: &[u64],
+        options: &CodecOptions,
+    ) -> Result<ArrayBytes, CodecError> {
+        self.decode(alloc, value, elements, shape, options)
+    }
+
+    fn keeps_fill(&self) -> bool {
+        true
     }
 
     ghost lawful = { λ codec. tt };

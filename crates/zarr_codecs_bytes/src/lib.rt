@@ -2,9 +2,11 @@
 #![tactic(auto)]
 
 pub mod bytes;
+mod fetching;
 mod lines;
 mod listed;
 mod metadata;
+mod numbers;
 pub mod part;
 mod partial;
 mod patches;

@@ -10,11 +10,12 @@ ghost use Rattle.zarr_codecs_arrays.specs.Views.{elements_of};
 ghost use Rattle.zarr_codecs_traits.specs.Sources.{bytes_at};
 
 use crate::part::BoxPart;
-use crate::sizes::byte_count;
+use crate::sizes::array_size;
 use std::alloc::{AllocError, Global};
 use zarr_codecs_arrays::CodecError;
 use zarr_codecs_traits::ByteRange;
 use zarr_grids_boxes::ArraySubset;
+use zarr_grids_boxes::ravel::ravel_indices;
 use zarr_grids_boxes::walk::count_places;
 
 /// The ranges of a value in which the elements of a part of an array stand, and how many bytes the
@@ -28,29 +29,13 @@ pub(crate) struct PartRanges {
 /// How many bytes an element has, a line of elements that lie one after another, and the value.
 #[derive(Clone, Copy)]
 pub(crate) struct LineSizes {
-    width: u64,
-    line: u64,
-    value: u64,
+    pub width: u64,
+    pub line: u64,
+    pub value: u64,
 }
 
 ghost use Rattle.zarr_codecs_bytes.specs.Lines.{AreLineSizes, AreLinesInside, ArePartRanges, bytes_in_ranges, bytes_of_lines, ends_after, line_ends_within, line_starts};
 ghost use Rattle.zarr_codecs_bytes.specs.Parts.{part_width};
-
-/// The ranges in which the elements of a part of an array stand, in their order. `None` where the
-/// value is better read whole: where the array is too large, or `is_worthwhile` says so.
-pub(crate) fn part_ranges(alloc: Global, part: BoxPart) -> Result<Option<PartRanges>, AllocError>
-    requires { is_fixed (elements_of part.elements.now).type ≡ true }
-    ensures { IfOk result (λ found. IfSome found (ArePartRanges part.entry)) }
-{
-    let Ok(size) = value_size(part) else {
-        return Ok(None);
-    };
-    if !is_worthwhile(part, size) {
-        return Ok(None);
-    }
-    let ranges = box_ranges(alloc, part, size)?;
-    Ok(Some(ranges))
-}
 
 /// How many bytes the value has. `Size` where the array has 2^63 elements or bytes or more; `Memory`
 /// where an element has no bytes, which no array holds.
@@ -62,30 +47,7 @@ pub(crate) fn value_size(part: BoxPart) -> Result<u64, CodecError>
     ensures err { IfErr result (λ e. e ≢ CodecError.Memory → (e ≡ CodecError.Size)
         × IsTooLarge (elements_of part.entry.elements.now).type (product part.entry.shape.now)) }
 {
-    let Some(count) = count_places(part.shape) else {
-        return Err(CodecError::Size);
-    };
-    byte_count(part.elements.data_type(), count)
-}
-
-/// Whether lines are read in ranges of their own, rather than the whole value of this size: they
-/// have fewer bytes than the value, and there are at most 16 of them, or the ranges, of 16 bytes
-/// each, take no more memory than the bytes that are not read.
-fn is_worthwhile(part: BoxPart, size: u64) -> bool {
-    let (Some(count), Some(width)) = (
-        count_places(part.region.shape()),
-        part.elements.data_type().byte_width(),
-    ) else {
-        return false;
-    };
-    let lines = match part.region.shape().last() {
-        Some(length) if *length > 0 => count / *length,
-        _ => 0,
-    };
-    match count.checked_mul(width as u64) {
-        Some(bytes) if bytes < size => lines <= 16 || lines <= (size - bytes) / 16,
-        _ => false,
-    }
+    array_size(part.elements.data_type(), part.shape)
 }
 
 /// The ranges in which the elements of a part of an array stand, in their order, of the value of
@@ -104,9 +66,51 @@ pub(crate) fn box_ranges(alloc: Global, part: BoxPart, size: u64) -> Result<Part
         let ranges = Vec::new(alloc);
         return Ok(PartRanges { size, ranges });
     };
-    let starts = line_starts(alloc, part.region)?;
-    let ranges = line_ranges(alloc, &starts, part.shape, sizes)?;
+    let ranges = ranges_of(alloc, part, sizes)?;
     Ok(PartRanges { size, ranges })
+}
+
+/// The ranges in which the lines of a part stand, of which those that lie one after another are one.
+fn ranges_of(alloc: Global, part: BoxPart, sizes: LineSizes) -> Result<Vec<ByteRange>, AllocError>
+    requires { AreLineSizes part sizes }
+    ensures are { IfOk result (λ ranges. (value : List ℕ) → bytes_in_ranges value ranges.items
+        ≡ bytes_of_lines sizes.width sizes.line value
+        (linearised (line_starts (region_of part.entry.region.now)) part.entry.shape.now)) }
+    ensures within { IfOk result
+        (λ ranges. list_any (ends_after sizes.value) ranges.items ≡ false) }
+{
+    if let Some(number) = only_line(part) {
+        return one_range(alloc, line_range(number, sizes));
+    }
+    let starts = line_starts(alloc, part.region)?;
+    line_ranges(alloc, &starts, part.shape, sizes)
+}
+
+/// The number of the first element of a part that is one line. `None` where it may be more.
+fn only_line(part: BoxPart) -> Option<u64>
+    requires dimensions { 0 < length part.region.now.shape.items }
+    requires some { 0 < product part.region.now.shape.items }
+    ensures { IfSome result (λ n.
+        linearised (line_starts (region_of part.entry.region.now)) part.entry.shape.now
+        ≡ n ∷ []) }
+{
+    let shape = part.region.shape();
+    let Some(count) = count_places(shape) else {
+        return None;
+    };
+    if count != shape[shape.len() - 1] {
+        return None;
+    }
+    ravel_indices(part.region.start(), part.shape)
+}
+
+/// One range.
+fn one_range(alloc: Global, range: ByteRange) -> Result<Vec<ByteRange>, AllocError>
+    ensures { IfOk result (λ ranges. ranges.items ≡ range ∷ []) }
+{
+    let mut ranges = Vec::with_capacity(alloc, 1)?;
+    ranges.push(range)?;
+    Ok(ranges)
 }
 
 /// The one range of the whole value of this size.
@@ -195,7 +199,7 @@ fn line_ranges(
 }
 
 /// The range of the line that starts at the element with this number.
-fn line_range(number: u64, sizes: LineSizes) -> ByteRange
+pub(crate) fn line_range(number: u64, sizes: LineSizes) -> ByteRange
     requires { line_ends_within sizes number ≡ true }
     ensures are { (value : List ℕ)
         → bytes_at value result ≡ take sizes.line (drop (number * sizes.width) value) }
@@ -208,7 +212,7 @@ fn line_range(number: u64, sizes: LineSizes) -> ByteRange
 }
 
 /// Two ranges as one, where the second begins where the first ends.
-fn joined(first: ByteRange, second: ByteRange) -> Option<ByteRange>
+pub(crate) fn joined(first: ByteRange, second: ByteRange) -> Option<ByteRange>
     ensures are { IfSome result (λ both. (value : List ℕ)
         → bytes_at value both ≡ bytes_at value first ++ bytes_at value second) }
     ensures within { IfSome result (λ both. (size : ℕ) → ends_after size both ≡ ends_after size second) }
@@ -227,7 +231,7 @@ fn joined(first: ByteRange, second: ByteRange) -> Option<ByteRange>
 }
 
 /// Puts a range at the end of others, if it has a byte.
-fn push_range(ranges: &mut Vec<ByteRange>, range: ByteRange) -> Result<(), AllocError>
+pub(crate) fn push_range(ranges: &mut Vec<ByteRange>, range: ByteRange) -> Result<(), AllocError>
     ensures are { OnOk result ((value : List ℕ) → bytes_in_ranges value ranges.new.items
         ≡ bytes_in_ranges value ranges.old.items ++ bytes_at value range) }
     ensures within { OnOk result ((size : ℕ) → list_any (ends_after size) ranges.old.items ≡ false

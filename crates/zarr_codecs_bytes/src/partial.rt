@@ -14,7 +14,6 @@ use crate::part::BoxPart;
 use crate::sizes::byte_count;
 use std::alloc::{AllocError, Global};
 use zarr_codecs_arrays::{ArrayBytes, CodecError};
-use zarr_codecs_regions::extract_box;
 use zarr_grids_boxes::walk::count_places;
 
 /// The elements of a part of an array where nothing is stored: fill values. `Size` where they would
@@ -28,49 +27,6 @@ pub(crate) fn fill_part(alloc: Global, part: BoxPart) -> Result<ArrayBytes, Code
         return Err(CodecError::Size);
     };
     ArrayBytes::new_fill_value(alloc, part.elements, count)
-}
-
-/// The elements of a part of an array, of a value of `bytes`. `Damage` where the value has another
-/// length, or one of the elements of the part is no value; `Size` where the array is too large.
-pub(crate) fn decode_part(
-    alloc: Global,
-    codec: BytesCodec,
-    value: &[u8],
-    part: BoxPart,
-) -> Result<ArrayBytes, CodecError>
-    requires { fits_part (bytes_chain codec) part ≡ true }
-    ensures part { GivesPart (bytes_chain codec) (Some value.now) part.entry result }
-    ensures no_source { (count : ℕ) → refused_after count result ≡ count }
-{
-    let Some(count) = count_places(part.shape) else {
-        return Err(CodecError::Size);
-    };
-    match byte_count(part.elements.data_type(), count) {
-        Ok(length) => {
-            if value.len() as u64 != length {
-                return Err(CodecError::Damage);
-            }
-            decode_elements(alloc, codec, value, part)
-        }
-        Err(error) => Err(error),
-    }
-}
-
-/// The elements of a part of an array, of as many bytes as the array's elements have.
-fn decode_elements(
-    alloc: Global,
-    codec: BytesCodec,
-    value: &[u8],
-    part: BoxPart,
-) -> Result<ArrayBytes, CodecError>
-    requires fit { fits_part (bytes_chain codec) part ≡ true }
-    requires positive { 0 < part_width part }
-    requires whole { length value.now ≡ product part.shape.now * part_width part }
-    ensures part { GivesPart (bytes_chain codec) (Some value.now) part.entry result }
-    ensures no_source { (count : ℕ) → refused_after count result ≡ count }
-{
-    let extracted = extract(alloc, value, part)?;
-    order_elements(alloc, codec, extracted, part)
 }
 
 /// The elements of a part of an array, of their bytes in a value. `Damage` where these are not as
@@ -100,20 +56,5 @@ pub(crate) fn order_elements(
     match bytes.validate(data_type, count) {
         Ok(()) => Ok(bytes),
         Err(_) => Err(CodecError::Damage),
-    }
-}
-
-/// The bytes of the elements of a part of an array. Where an element has 2^64 bytes or more, the
-/// array has no elements.
-fn extract(alloc: Global, value: &[u8], part: BoxPart) -> Result<Vec<u8>, AllocError>
-    requires fixed { is_fixed (elements_of part.elements.now).type ≡ true }
-    requires positive { 0 < part_width part }
-    requires whole { length value.now ≡ product part.shape.now * part_width part }
-    ensures { (other : Cell) → IfOk result (λ v. IsExtracted (part_width part.entry)
-        value.now part.entry.shape.now (region_of part.entry.region.now) other v.items) }
-{
-    match part.elements.data_type().byte_width() {
-        Some(width) => extract_box(alloc, value, part.shape, part.region, width),
-        None => Ok(Vec::new(alloc)),
     }
 }

@@ -36,6 +36,23 @@ pub(crate) fn byte_count(data_type: &DataType, count: u64) -> Result<u64, CodecE
     }
 }
 
+/// How many bytes the elements of an array have. `Size` where they are 2^63 or more, or have as many
+/// bytes; `Memory` where an element has no bytes, which no array holds.
+pub(crate) fn array_size(data_type: &DataType, shape: &[u64]) -> Result<u64, CodecError>
+    requires { is_fixed (type_of data_type.now) ≡ true }
+    ensures ok { IfOk result
+        (λ n. n ≡ product shape.now * bytes_in (components (type_of data_type.now))) }
+    ensures some { IfOk result (λ n. 0 < bytes_in (components (type_of data_type.now))) }
+    ensures small { IfOk result (λ n. n < 2 ^ 63) }
+    ensures err { IfErr result (λ e. e ≢ CodecError.Memory
+        → (e ≡ CodecError.Size) × IsTooLarge (type_of data_type.now) (product shape.now)) }
+{
+    match count_places(shape) {
+        Some(count) => byte_count(data_type, count),
+        None => Err(CodecError::Size),
+    }
+}
+
 /// How many elements of one size a value is, which is to be an array of them. `Damage` where it has
 /// more bytes or fewer than the array's elements, also where these are 2^63 or more; `Memory` where
 /// an element has no bytes, which no array holds.

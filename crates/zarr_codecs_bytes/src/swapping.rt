@@ -10,6 +10,10 @@ ghost use Rattle.zarr_codecs_bytes.specs.Orders.{all_ordered};
 use std::alloc::{AllocError, Global};
 use zarr_codecs_types::{Component, DataType};
 
+/// How many numbers are put the other way round at a time: the processor's nearest cache holds
+/// them.
+const BLOCK: usize = 512;
+
 /// Elements of one size with the bytes of each component the other way round.
 pub(crate) fn swapped(
     alloc: Global,
@@ -22,82 +26,44 @@ pub(crate) fn swapped(
         v.items ≡ all_ordered (Some big) (components (type_of data_type.now)) bytes.items) }
 {
     match data_type {
-        DataType::Int16 | DataType::UInt16 => swapped_2(alloc, bytes.as_slice()),
-        DataType::Int32 | DataType::UInt32 => swapped_4(alloc, bytes.as_slice()),
-        DataType::Int64 | DataType::UInt64 => swapped_8(alloc, bytes.as_slice()),
+        DataType::Int16 | DataType::UInt16 => swapped_numbers::<2>(alloc, bytes.as_slice()),
+        DataType::Int32 | DataType::UInt32 => swapped_numbers::<4>(alloc, bytes.as_slice()),
+        DataType::Int64 | DataType::UInt64 => swapped_numbers::<8>(alloc, bytes.as_slice()),
         DataType::Custom(parts) => swapped_elements(alloc, parts.as_slice(), bytes.as_slice()),
         _ => Ok(bytes),
     }
 }
 
-fn swapped_2(alloc: Global, bytes: &[u8]) -> Result<Vec<u8>, AllocError>
+/// Numbers of W bytes each, with the bytes of each the other way round.
+fn swapped_numbers<const W: usize>(alloc: Global, bytes: &[u8]) -> Result<Vec<u8>, AllocError>
+    requires some { 0 < W }
+    requires small { W ≤ 8 }
     ensures { IfOk result (λ v. v.items ≡ flat_map (λ ns. ns)
-        (map reverse (first_chunks 2 (length bytes.now / 2) bytes.now))) }
+        (map reverse (first_chunks W (length bytes.now / W) bytes.now))) }
 {
-    let (numbers, _) = bytes.as_chunks::<2>();
-    let swapped = reversed_2(alloc, numbers)?;
-    swapped.as_slice().as_flattened().to_vec(alloc)
+    let (numbers, _) = bytes.as_chunks::<W>();
+    let mut out = Vec::with_capacity(alloc, bytes.len())?;
+    let mut rest = numbers;
+    while !rest.is_empty() {
+        let (block, others) = rest.split_at(rest.len().min(BLOCK));
+        let reversed = reversed_numbers(alloc, block)?;
+        out.extend_from_slice(reversed.as_slice().as_flattened())?;
+        rest = others;
+    }
+    Ok(out)
 }
 
-fn swapped_4(alloc: Global, bytes: &[u8]) -> Result<Vec<u8>, AllocError>
-    ensures { IfOk result (λ v. v.items ≡ flat_map (λ ns. ns)
-        (map reverse (first_chunks 4 (length bytes.now / 4) bytes.now))) }
-{
-    let (numbers, _) = bytes.as_chunks::<4>();
-    let swapped = reversed_4(alloc, numbers)?;
-    swapped.as_slice().as_flattened().to_vec(alloc)
-}
-
-fn swapped_8(alloc: Global, bytes: &[u8]) -> Result<Vec<u8>, AllocError>
-    ensures { IfOk result (λ v. v.items ≡ flat_map (λ ns. ns)
-        (map reverse (first_chunks 8 (length bytes.now / 8) bytes.now))) }
-{
-    let (numbers, _) = bytes.as_chunks::<8>();
-    let swapped = reversed_8(alloc, numbers)?;
-    swapped.as_slice().as_flattened().to_vec(alloc)
-}
-
-fn reversed_2(alloc: Global, numbers: &[[u8; 2]]) -> Result<Vec<[u8; 2]>, AllocError>
+fn reversed_numbers<const W: usize>(
+    alloc: Global,
+    numbers: &[[u8; W]],
+) -> Result<Vec<[u8; W]>, AllocError>
+    requires { W ≤ 8 }
     ensures { IfOk result (λ v. v.items ≡ map reverse numbers.now) }
 {
     numbers
         .iter()
         .map(
-            |number: &[u8; 2]| -> [u8; 2]
-                ensures { result ≡ reverse number.now }
-            {
-                let mut other = *number;
-                other.reverse();
-                other
-            },
-        )
-        .collect(alloc)
-}
-
-fn reversed_4(alloc: Global, numbers: &[[u8; 4]]) -> Result<Vec<[u8; 4]>, AllocError>
-    ensures { IfOk result (λ v. v.items ≡ map reverse numbers.now) }
-{
-    numbers
-        .iter()
-        .map(
-            |number: &[u8; 4]| -> [u8; 4]
-                ensures { result ≡ reverse number.now }
-            {
-                let mut other = *number;
-                other.reverse();
-                other
-            },
-        )
-        .collect(alloc)
-}
-
-fn reversed_8(alloc: Global, numbers: &[[u8; 8]]) -> Result<Vec<[u8; 8]>, AllocError>
-    ensures { IfOk result (λ v. v.items ≡ map reverse numbers.now) }
-{
-    numbers
-        .iter()
-        .map(
-            |number: &[u8; 8]| -> [u8; 8]
+            |number: &[u8; W]| -> [u8; W]
                 ensures { result ≡ reverse number.now }
             {
                 let mut other = *number;

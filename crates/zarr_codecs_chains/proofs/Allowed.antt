@@ -28,8 +28,8 @@ has_none_with chain (codec ∷ codecs) = has_none_with (then_bytes chain codec) 
 codec_has_none : {B : Type 0} (meaning : B → ByteCodec) (codec : ArrayToBytesCodec B) → has_no_array_codec (codec_chain meaning codec) ≡ true
 codec_has_none meaning (Bytes codec) = refl
 codec_has_none meaning (PackBits codec) = refl
-codec_has_none meaning (Vlen' p before index after first content last width location) = refl
-codec_has_none meaning (Optional' p before mask after first content last) = refl
+codec_has_none meaning (Vlen' p before index after first content last width location name) = refl
+codec_has_none meaning (Optional' p before mask after first content last name) = refl
 
 not_empty : (n : ℕ) → (suc n == 0) ≡ false
 not_empty n = at (suc n == 0) refl where

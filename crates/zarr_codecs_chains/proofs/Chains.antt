@@ -3,7 +3,7 @@ use Rattle.std.proofs.Common.{◌≡◌, ℕ, List, [], ◌∷◌, ap, ◌∙◌
 use Rattle.zarr_codecs_meaning.specs.Types.{DataType, Cell, is_value, Elements}
 use Rattle.zarr_codecs_meaning.specs.Chains.{ByteCodec, Chain}
 use Rattle.zarr_codecs_meaning.specs.Chains.Chain.{then_bytes}
-use Rattle.zarr_codecs_meaning.specs.Fits.{fits, is_plain}
+use Rattle.zarr_codecs_meaning.specs.Fits.{fits}
 use Rattle.zarr_codecs_meaning.specs.Encoding.{encoded}
 use Rattle.zarr_codecs_meaning.specs.Decoding.{decoded}
 use Rattle.zarr_codecs_meaning.specs.Laws.{IsLawfulChain, AreCells}
@@ -23,10 +23,6 @@ use Rattle.zarr_codecs_chains.specs.Views.{with_codecs}
 pub fits_with : (chain : Chain) (codecs : List ByteCodec) (type : DataType) (shape : List ℕ) → fits (with_codecs chain codecs) type shape ≡ fits chain type shape
 fits_with chain [] type shape = refl
 fits_with chain (codec ∷ codecs) type shape = fits_with (then_bytes chain codec) codecs type shape
-
-pub plain_with : (chain : Chain) (codecs : List ByteCodec) → is_plain (with_codecs chain codecs) ≡ is_plain chain
-plain_with chain [] = refl
-plain_with chain (codec ∷ codecs) = plain_with (then_bytes chain codec) codecs
 
 passes_with : (chain : Chain) (codecs : List ByteCodec) (elements : Elements) (shape : List ℕ) (cells : List Cell) → PassesIndex chain elements shape cells → PassesIndex (with_codecs chain codecs) elements shape cells
 passes_with chain [] elements shape cells h = h

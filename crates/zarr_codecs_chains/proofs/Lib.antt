@@ -14,3 +14,6 @@ pub mod Told
 pub mod Nested
 pub mod WrittenBack
 pub mod Allowed
+pub mod Taken
+pub mod Names
+pub mod Configured

@@ -151,10 +151,14 @@ found_points (Some told) None c v is = cc
 found_points (Some told) (Some i) None v is = cc
 found_points (Some told) (Some i) (Some c) v is = (ap (option_map (λ (v : VlenPoints). v.index)) is, ap (option_map (λ (v : VlenPoints). v.content)) is)
 
+-- the lists in a configuration of `vlen`
+pub vlen_lists : (ms : Members) (v : VlenPoints) → vlen_points_in ms ≡ Some v → (listed_points (codes "index_codecs") ms ≡ Some v.index) × (listed_points (codes "data_codecs") ms ≡ Some v.content)
+vlen_lists ms v is = found_points (vlen_index_in ms) (listed_points (codes "index_codecs") ms) (listed_points (codes "data_codecs") ms) v is
+
 -- the chains of `vlen` nest less deep than its configuration
 pub vlen_less : (ms : Members) (v : VlenPoints) → vlen_points_in ms ≡ Some v → (points_depth v.index < members_depth ms) × (points_depth v.content < members_depth ms)
 vlen_less ms v is =
-    let found = found_points (vlen_index_in ms) (listed_points (codes "index_codecs") ms) (listed_points (codes "data_codecs") ms) v is in
+    let found = vlen_lists ms v is in
     (listed_less (codes "index_codecs") ms v.index found.0, listed_less (codes "data_codecs") ms v.content found.1)
 
 found_values : (b : Bool) (m c : Option (List ExtensionPoint)) (v : OptionalPoints) → (if b then option_and_then (λ mask. option_map (λ content. record { mask = mask; content = content }) c) m else None) ≡ Some v
@@ -164,10 +168,14 @@ found_values true None c v is = cc
 found_values true (Some m) None v is = cc
 found_values true (Some m) (Some c) v is = (ap (option_map (λ (v : OptionalPoints). v.mask)) is, ap (option_map (λ (v : OptionalPoints). v.content)) is)
 
+-- the lists in a configuration of `optional`
+pub optional_lists : (ms : Members) (v : OptionalPoints) → optional_points_in ms ≡ Some v → (listed_points (codes "mask_codecs") ms ≡ Some v.mask) × (listed_points (codes "data_codecs") ms ≡ Some v.content)
+optional_lists ms v is = found_values (has_only (codes "mask_codecs" ∷ codes "data_codecs" ∷ []) ms) (listed_points (codes "mask_codecs") ms) (listed_points (codes "data_codecs") ms) v is
+
 -- the chains of `optional` nest less deep than its configuration
 pub optional_less : (ms : Members) (v : OptionalPoints) → optional_points_in ms ≡ Some v → (points_depth v.mask < members_depth ms) × (points_depth v.content < members_depth ms)
 optional_less ms v is =
-    let found = found_values (has_only (codes "mask_codecs" ∷ codes "data_codecs" ∷ []) ms) (listed_points (codes "mask_codecs") ms) (listed_points (codes "data_codecs") ms) v is in
+    let found = optional_lists ms v is in
     (listed_less (codes "mask_codecs") ms v.mask found.0, listed_less (codes "data_codecs") ms v.content found.1)
 
 -- ---- metadata in parts

@@ -15,12 +15,12 @@ use Rattle.zarr_codecs_traits.specs.PartEncoding.{EncodesAsked, encodes_ranges, 
 use Rattle.zarr_codecs_traits.specs.Representations.{IsRepresented, RepresentsArray, is_too_long, known_size, tells_too_long}
 use Rattle.zarr_codecs_traits.specs.declared.bytes_representation.BytesRepresentation.{BytesRepresentation}
 use Rattle.zarr_codecs_chains.specs.Codecs.{RepresentsAll, all_represented, any_too_long}
-use Rattle.zarr_codecs_chains.specs.Views.{bytes_meaning, codec_chain, codecs_of, with_array_codecs, with_codecs}
+use Rattle.zarr_codecs_chains.specs.Views.{bytes_meaning, codec_chain, codecs_of, plain_before, with_array_codecs, with_codecs}
 use Rattle.zarr_codecs_chains.specs.declared.array_to_bytes.ArrayToBytesCodec.{ArrayToBytesCodec}
 use Rattle.zarr_codecs_chains.specs.declared.array_to_bytes.ArrayToBytesCodec.TheVariants.{Bytes, PackBits, Vlen', Optional'}
 use Rattle.zarr_codecs_chains.specs.declared.bytes_chain.BytesChain.{BytesChain}
 use Rattle.zarr_codecs_array_to_array.specs.declared.codec.ArrayToArrayCodec.{ArrayToArrayCodec}
-use Rattle.zarr_codecs_chains.proofs.Chains.{fits_with, plain_with}
+use Rattle.zarr_codecs_chains.proofs.Chains.{fits_with}
 
 -- ---- sizes
 
@@ -116,26 +116,12 @@ pub decodes_before : (codecs : List ArrayCodec) (chain : Chain) → decodes_part
 decodes_before [] chain = refl
 decodes_before (codec ∷ codecs) chain = decodes_before codecs chain
 
-pub plain_before : (codecs : List ArrayCodec) (chain : Chain) → is_plain (with_array_codecs codecs chain) ≡ is_plain chain
-plain_before [] chain = refl
-plain_before (codec ∷ codecs) chain = plain_before codecs chain
-
 -- whether parts are encoded by parts too, where there is no shard
 pub encodes_before : (codecs : List ArrayCodec) (chain : Chain) → is_plain chain ≡ true → encodes_in_part (with_array_codecs codecs chain) ≡ encodes_in_part chain
 encodes_before [] chain plain = refl
 encodes_before (transpose order ∷ codecs) chain plain = encodes_before codecs chain plain
 encodes_before (reshape entries ∷ codecs) chain plain = ap (λ (b : Bool). b && encodes_in_part (with_array_codecs codecs chain)) (plain_before codecs chain ∙ plain) ∙ encodes_before codecs chain plain
 encodes_before (squeeze ∷ codecs) chain plain = encodes_before codecs chain plain
-
--- what codecs there are makes no shard
-pub codec_plain : {B : Type 0} (meaning : B → ByteCodec) (codec : ArrayToBytesCodec B) → is_plain (codec_chain meaning codec) ≡ true
-codec_plain meaning (Bytes codec) = refl
-codec_plain meaning (PackBits codec) = refl
-codec_plain meaning (Vlen' p before index after first content last width location) = refl
-codec_plain meaning (Optional' p before mask after first content last) = refl
-
-pub bytes_plain : {B : Type 0} (meaning : B → ByteCodec) (chain : BytesChain B) → is_plain (bytes_meaning meaning chain) ≡ true
-bytes_plain meaning chain = plain_with (codec_chain meaning chain.array_to_bytes) (map meaning chain.bytes_to_bytes.items) ∙ codec_plain meaning chain.array_to_bytes
 
 -- where there is an array codec, the parts that are decoded are all of the array, and no bytes are replaced in values that nobody reads
 pub granularity_whole : (codecs : List ArrayToArrayCodec) (chain : Chain) (shape : List ℕ) → (length codecs ≡ 0 → ⊥) → shape ≡ granularity (with_array_codecs (codecs_of codecs) chain) shape

@@ -6,3 +6,5 @@ pub mod Inside
 pub mod Selecting
 pub mod Reading
 pub mod Parts
+pub mod Names
+pub mod Configured

@@ -1,15 +1,18 @@
 -- What the codecs and the chains of `src/` stand for.
-use Rattle.std.specs.Prelude.{ℕ, List, [], ◌∷◌, ◌++◌, map, codes}
+use Rattle.std.specs.Prelude.{◌≡◌, ℕ, List, [], ◌∷◌, ◌++◌, map, true, refl}
+use Rattle.std.proofs.Common.{◌∙◌}
 use Rattle.zarr_grids_metadata.specs.ExtensionPoints.{ExtensionPoint}
 use Rattle.zarr_codecs_meaning.specs.Chains as chains
 use Rattle.zarr_codecs_meaning.specs.Chains.{ArrayCodec, ByteCodec, Chain}
+use Rattle.zarr_codecs_meaning.specs.Fits.{is_plain}
 use Rattle.zarr_codecs_meaning.specs.Laws.{IsLawful, IsLawfulChain}
 use Rattle.zarr_codecs_bytes.specs.Views.{bytes_chain, bytes_point}
 use Rattle.zarr_codecs_array_to_array.specs.Views.{codec_of}
-use Rattle.zarr_codecs_array_to_array.specs.Written.{array_codec_point}
+use Rattle.zarr_codecs_array_to_array.specs.Names.{written_codec}
 use Rattle.zarr_codecs_array_to_array.specs.declared.codec.ArrayToArrayCodec.{ArrayToArrayCodec}
 use Rattle.zarr_codecs_packbits.specs.Metadata.{packbits_point}
 use Rattle.zarr_codecs_packbits.specs.Views.{packbits_chain}
+use Rattle.zarr_codecs_chains.specs.Names.{name_of_vlen, name_of_optional}
 use Rattle.zarr_codecs_chains.specs.declared.array_to_bytes.ArrayToBytesCodec.{ArrayToBytesCodec}
 use Rattle.zarr_codecs_chains.specs.declared.array_to_bytes.ArrayToBytesCodec.TheVariants.{Bytes, PackBits, Vlen', Optional'}
 use Rattle.zarr_codecs_sections.specs.Views.{width_of, location_of}
@@ -42,9 +45,9 @@ chain_between meaning before chain after = with_array_codecs (codecs_of before) 
 abbrev pub codec_chain : {B : Type 0} → (B → ByteCodec) → ArrayToBytesCodec B → Chain
 codec_chain meaning (Bytes codec) = bytes_chain codec
 codec_chain meaning (PackBits codec) = packbits_chain codec
-codec_chain meaning (Vlen' p before index after first content last width location) =
+codec_chain meaning (Vlen' p before index after first content last width location name) =
     chains.Chain.vlen (chain_between meaning before.items (codec_chain meaning index) after.items) (chain_between meaning first.items (codec_chain meaning content) last.items) (width_of width) (location_of location)
-codec_chain meaning (Optional' p before mask after first content last) =
+codec_chain meaning (Optional' p before mask after first content last name) =
     chains.Chain.optional (chain_between meaning before.items (codec_chain meaning mask) after.items) (chain_between meaning first.items (codec_chain meaning content) last.items)
 
 -- a chain without array codecs
@@ -81,9 +84,9 @@ lawful_between meaning each before chain after lawful = lawful_after (codecs_of 
 pub codec_lawful : {B : Type 0} (meaning : B → ByteCodec) → ((codec : B) → IsLawful (meaning codec)) → (codec : ArrayToBytesCodec B) → IsLawfulChain (codec_chain meaning codec)
 codec_lawful meaning each (Bytes codec) = tt
 codec_lawful meaning each (PackBits codec) = tt
-codec_lawful meaning each (Vlen' p before index after first content last width location) =
+codec_lawful meaning each (Vlen' p before index after first content last width location name) =
     (lawful_between meaning each before.items (codec_chain meaning index) after.items (codec_lawful meaning each index), lawful_between meaning each first.items (codec_chain meaning content) last.items (codec_lawful meaning each content))
-codec_lawful meaning each (Optional' p before mask after first content last) =
+codec_lawful meaning each (Optional' p before mask after first content last name) =
     (lawful_between meaning each before.items (codec_chain meaning mask) after.items (codec_lawful meaning each mask), lawful_between meaning each first.items (codec_chain meaning content) last.items (codec_lawful meaning each content))
 
 -- each chain without array codecs is lawful, where the caller's codecs are
@@ -94,9 +97,34 @@ bytes_lawful meaning each chain = lawful_with meaning each (codec_chain meaning 
 pub lawful_of : {B : Type 0} (meaning : B → ByteCodec) → ((codec : B) → IsLawful (meaning codec)) → (chain : CodecChain B) → IsLawfulChain (meaning_of meaning chain)
 lawful_of meaning each chain = lawful_after (codecs_of chain.array_to_array.items) (bytes_meaning meaning chain.others) (bytes_lawful meaning each chain.others)
 
+-- bytes codecs after a chain add no shard to it
+pub plain_with : (chain : Chain) (codecs : List ByteCodec) → is_plain (with_codecs chain codecs) ≡ is_plain chain
+plain_with chain [] = refl
+plain_with chain (codec ∷ codecs) = plain_with (chains.Chain.then_bytes chain codec) codecs
+
+-- nor do array codecs before it
+pub plain_before : (codecs : List ArrayCodec) (chain : Chain) → is_plain (with_array_codecs codecs chain) ≡ is_plain chain
+plain_before [] chain = refl
+plain_before (codec ∷ codecs) chain = plain_before codecs chain
+
+-- an array to bytes codec makes no shard
+pub codec_plain : {B : Type 0} (meaning : B → ByteCodec) (codec : ArrayToBytesCodec B) → is_plain (codec_chain meaning codec) ≡ true
+codec_plain meaning (Bytes codec) = refl
+codec_plain meaning (PackBits codec) = refl
+codec_plain meaning (Vlen' p before index after first content last width location name) = refl
+codec_plain meaning (Optional' p before mask after first content last name) = refl
+
+-- so no chain does
+pub bytes_plain : {B : Type 0} (meaning : B → ByteCodec) (chain : BytesChain B) → is_plain (bytes_meaning meaning chain) ≡ true
+bytes_plain meaning chain = plain_with (codec_chain meaning chain.array_to_bytes) (map meaning chain.bytes_to_bytes.items) ∙ codec_plain meaning chain.array_to_bytes
+
+-- also with array codecs
+pub chain_plain : {B : Type 0} (meaning : B → ByteCodec) (chain : CodecChain B) → is_plain (meaning_of meaning chain) ≡ true
+chain_plain meaning chain = plain_before (codecs_of chain.array_to_array.items) (bytes_meaning meaning chain.others) ∙ bytes_plain meaning chain.others
+
 -- the metadata of array codecs, in their order
 abbrev pub array_points : List ArrayToArrayCodec → List ExtensionPoint
-array_points codecs = map (λ codec. array_codec_point (codec_of codec)) codecs
+array_points codecs = map written_codec codecs
 
 -- the metadata of array codecs, of an array to bytes codec, and of bytes codecs, in their order
 abbrev pub points_between : {B : Type 0} → (B → ExtensionPoint) → List ArrayToArrayCodec → ExtensionPoint → List B → List ExtensionPoint
@@ -106,11 +134,11 @@ points_between described before point after = array_points before ++ (point ∷ 
 abbrev pub codec_point : {B : Type 0} → (B → ExtensionPoint) → ArrayToBytesCodec B → ExtensionPoint
 codec_point described (Bytes codec) = bytes_point codec.endian
 codec_point described (PackBits codec) = packbits_point codec
-codec_point described (Vlen' p before index after first content last width location) =
-    vlen_point (codes "vlen")
+codec_point described (Vlen' p before index after first content last width location name) =
+    vlen_point (name_of_vlen name)
     (record { index = points_between described before.items (codec_point described index) after.items; content = points_between described first.items (codec_point described content) last.items; width = width_of width; location = location_of location })
-codec_point described (Optional' p before mask after first content last) =
-    optional_point (codes "optional")
+codec_point described (Optional' p before mask after first content last name) =
+    optional_point (name_of_optional name)
     (record { mask = points_between described before.items (codec_point described mask) after.items; content = points_between described first.items (codec_point described content) last.items })
 
 -- the metadata of the codecs of a chain without array codecs, in their order

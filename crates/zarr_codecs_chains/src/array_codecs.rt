@@ -83,15 +83,15 @@ pub(crate) fn undo_all(
 }
 
 impl<B: BytesToBytesCodecTraits> BytesChain<B> {
-    ghost use Rattle.std.specs.Prelude.{◌≡◌, ◌^◌, ◌<◌, true, IfOk, IsTrue};
+    ghost use Rattle.std.specs.Prelude.{◌≡◌, ◌≤◌, ◌+◌, ◌^◌, ◌<◌, true, IfOk, IsTrue};
     ghost use Rattle.zarr_grids_boxes.specs.Boxes.{product};
-    ghost use Rattle.zarr_codecs_meaning.specs.Fits.{fits};
+    ghost use Rattle.zarr_codecs_meaning.specs.Fits.{fits, is_plain};
     ghost use Rattle.zarr_codecs_types.specs.Views.{type_of};
     ghost use Rattle.zarr_codecs_arrays.specs.Views.{payload_of, elements_of};
     ghost use Rattle.zarr_codecs_traits.specs.Outcomes.{Encodes, Decodes};
     ghost use Rattle.zarr_codecs_traits.specs.Representations.{RepresentsArray};
     ghost use Rattle.zarr_codecs_traits.specs.Sources.{refused_after};
-    ghost use Rattle.zarr_codecs_bytes.specs.Parts.{GivesListed};
+    ghost use Rattle.zarr_codecs_bytes.specs.Parts.{GivesListed, most_of_listed};
     ghost use Rattle.zarr_codecs_chains.specs.Views.{bytes_meaning, codecs_of, with_array_codecs};
 
     /// What is known of the size of what array codecs, and this chain after them, make.
@@ -130,6 +130,11 @@ impl<B: BytesToBytesCodecTraits> BytesChain<B> {
             part.entry result }
         ensures refused { D.refused_calls source.new ≡
             refused_after (D.refused_calls source.old) result }
+        ensures given { is_plain (with_array_codecs (codecs_of codecs.now)
+            (bytes_meaning B.meaning self.now)) ≡ true → IsTrue (D.is_honest source.old) →
+            D.given_bytes source.new ≤ D.given_bytes source.old + most_of_listed
+            (with_array_codecs (codecs_of codecs.now) (bytes_meaning B.meaning self.now))
+            (D.contents source.old) part.entry }
         ensures follows { D.follows source.old source.new }
     {
         let (elements, shape, numbers) = (part.elements, part.shape, part.numbers);

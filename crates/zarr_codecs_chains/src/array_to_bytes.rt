@@ -15,9 +15,10 @@ use zarr_codecs_arrays::{ArrayBytes, CodecError, Elements};
 use zarr_codecs_bytes::BytesCodec;
 use zarr_codecs_options::CodecOptions;
 use zarr_codecs_packbits::PackBitsCodec;
+use zarr_codecs_regions::encode_whole;
 use zarr_codecs_traits::{
-    ArrayPart, ArrayToBytesCodecTraits, BytesPartialDecoderTraits, BytesRepresentation,
-    BytesToBytesCodecTraits, ValuePatch, WholeArray,
+    ArrayPart, ArrayToBytesCodecTraits, BytesPartialDecoderTraits, BytesPartialEncoderTraits,
+    BytesRepresentation, BytesToBytesCodecTraits, ValuePatch, WholeArray,
 };
 use zarr_codecs_types::DataType;
 use zarr_grids_metadata::{MetadataV3, PluginCreateError};
@@ -33,14 +34,15 @@ pub enum ArrayToBytesCodec<B: BytesToBytesCodecTraits> {
 }
 
 impl<B: BytesToBytesCodecTraits> ArrayToBytesCodec<B> {
-    ghost use Rattle.std.specs.Prelude.{◌≡◌, ◌≢◌, Some, None, option_and_then, IfOk, IfErr};
+    ghost use Rattle.std.specs.Prelude.{◌≡◌, ◌≢◌, Some, None, true, option_and_then, IfOk, IfErr};
     ghost use Rattle.zarr_grids_metadata.specs.Views.{point_of};
-    ghost use Rattle.zarr_codecs_metadata.specs.Allowed.{allowed};
+    ghost use Rattle.zarr_codecs_metadata.specs.Allowed.{allowed, is_allowed};
     ghost use Rattle.zarr_codecs_metadata.specs.Chains.{array_to_bytes_in};
+    ghost use Rattle.zarr_codecs_chains.specs.Names.{Names};
     ghost use Rattle.zarr_codecs_chains.specs.Views.{codec_chain, codec_point};
 
-    /// The codec that metadata describes, with all chains inside of it. `NameUnsupported` where its
-    /// name is that of none, `MetadataInvalid` where its configuration is not one of the name's, or
+    /// The codec that metadata describes, with all chains inside of it, each codec under the name that
+    /// it has there. `NameUnsupported` where its name is that of none, `MetadataInvalid` where its configuration is not one of the name's, or
     /// where an array to array codec stands in it where none may: in the data chain of `vlen` or
     /// `optional`, or in any chain inside that of `optional` (this project's profile). Codecs inside
     /// of it are refused as they are elsewhere. `Memory` where an allocation failed. It goes as deep
@@ -52,6 +54,7 @@ impl<B: BytesToBytesCodecTraits> ArrayToBytesCodec<B> {
         ensures ok { IfOk result (λ codec.
             option_and_then allowed (array_to_bytes_in B.reads (point_of metadata.now))
             ≡ Some (codec_chain B.meaning codec)) }
+        ensures names { IfOk result (λ codec. Names codec (point_of metadata.now)) }
         ensures err { IfErr result (λ e. e ≢ PluginCreateError.Memory →
             option_and_then allowed (array_to_bytes_in B.reads (point_of metadata.now))
             ≡ None) }
@@ -66,11 +69,16 @@ impl<B: BytesToBytesCodecTraits> ArrayToBytesCodec<B> {
         }
     }
 
-    /// The codec's metadata, which says an equal codec. `Err` only where an allocation failed.
+    /// The codec's metadata under the names that its codecs keep, of which `from_metadata` makes an
+    /// equal codec where array to array codecs stand only where they may. `Err` only where an
+    /// allocation failed.
     pub fn metadata(&self, alloc: Global) -> Result<MetadataV3, AllocError>
         ensures written { IfOk result
             (λ metadata. point_of metadata ≡ codec_point B.described self.now) }
         ensures reads_back { IfOk result (λ metadata. array_to_bytes_in B.reads (point_of metadata)
+            ≡ Some (codec_chain B.meaning self.now)) }
+        ensures made_again { is_allowed (codec_chain B.meaning self.now) ≡ true → IfOk result
+            (λ metadata. option_and_then allowed (array_to_bytes_in B.reads (point_of metadata))
             ≡ Some (codec_chain B.meaning self.now)) }
     {
         codec_metadata(self, alloc)
@@ -172,15 +180,15 @@ impl<B: BytesToBytesCodecTraits> ArrayToBytesCodecTraits for ArrayToBytesCodec<B
         }
     }
 
-    fn supports_partial_encode(&self, data_type: &DataType) -> bool {
+    fn takes_patches(&self, data_type: &DataType) -> bool {
         match self {
-            ArrayToBytesCodec::Bytes(codec) => codec.supports_partial_encode(data_type),
-            ArrayToBytesCodec::PackBits(codec) => codec.supports_partial_encode(data_type),
+            ArrayToBytesCodec::Bytes(codec) => codec.takes_patches(data_type),
+            ArrayToBytesCodec::PackBits(codec) => codec.takes_patches(data_type),
             ArrayToBytesCodec::Vlen(_) | ArrayToBytesCodec::Optional(_) => false,
         }
     }
 
-    fn partial_encode(
+    fn encode_patches(
         &self,
         alloc: Global,
         bytes: ArrayBytes,
@@ -188,9 +196,29 @@ impl<B: BytesToBytesCodecTraits> ArrayToBytesCodecTraits for ArrayToBytesCodec<B
         options: &CodecOptions,
     ) -> Result<Option<Vec<ValuePatch>>, CodecError> {
         match self {
-            ArrayToBytesCodec::Bytes(codec) => codec.partial_encode(alloc, bytes, part, options),
-            ArrayToBytesCodec::PackBits(codec) => codec.partial_encode(alloc, bytes, part, options),
+            ArrayToBytesCodec::Bytes(codec) => codec.encode_patches(alloc, bytes, part, options),
+            ArrayToBytesCodec::PackBits(codec) => codec.encode_patches(alloc, bytes, part, options),
             ArrayToBytesCodec::Vlen(_) | ArrayToBytesCodec::Optional(_) => Ok(None),
+        }
+    }
+
+    fn partial_encode<E: BytesPartialEncoderTraits>(
+        &self,
+        alloc: Global,
+        source: &mut E,
+        bytes: ArrayBytes,
+        part: ArrayPart<'_>,
+        options: &CodecOptions,
+    ) -> Result<(), CodecError> {
+        match self {
+            ArrayToBytesCodec::Bytes(codec) => {
+                codec.partial_encode(alloc, source, bytes, part, options)
+            }
+            ArrayToBytesCodec::PackBits(_)
+            | ArrayToBytesCodec::Vlen(_)
+            | ArrayToBytesCodec::Optional(_) => {
+                encode_whole(self, alloc, source, bytes, part, options)
+            }
         }
     }
 

@@ -12,9 +12,10 @@ use crate::byte_codecs::{copies, decode_all, encode_all, represent_all};
 use std::alloc::{AllocError, Global};
 use zarr_codecs_arrays::{ArrayBytes, CodecError, Elements};
 use zarr_codecs_options::CodecOptions;
+use zarr_codecs_regions::encode_whole;
 use zarr_codecs_traits::{
-    ArrayPart, ArrayToBytesCodecTraits, BytesPartialDecoderTraits, BytesRepresentation,
-    BytesToBytesCodecTraits, MemorySource, ValuePatch, read_value,
+    ArrayPart, ArrayToBytesCodecTraits, BytesPartialDecoderTraits, BytesPartialEncoderTraits,
+    BytesRepresentation, BytesToBytesCodecTraits, MemorySource, ValuePatch, read_value,
 };
 use zarr_codecs_types::DataType;
 
@@ -188,11 +189,11 @@ impl<B: BytesToBytesCodecTraits> ArrayToBytesCodecTraits for BytesChain<B> {
         }
     }
 
-    fn supports_partial_encode(&self, data_type: &DataType) -> bool {
-        self.bytes_to_bytes.is_empty() && self.array_to_bytes.supports_partial_encode(data_type)
+    fn takes_patches(&self, data_type: &DataType) -> bool {
+        self.bytes_to_bytes.is_empty() && self.array_to_bytes.takes_patches(data_type)
     }
 
-    fn partial_encode(
+    fn encode_patches(
         &self,
         alloc: Global,
         bytes: ArrayBytes,
@@ -203,7 +204,23 @@ impl<B: BytesToBytesCodecTraits> ArrayToBytesCodecTraits for BytesChain<B> {
             return Ok(None);
         }
         self.array_to_bytes
-            .partial_encode(alloc, bytes, part, options)
+            .encode_patches(alloc, bytes, part, options)
+    }
+
+    fn partial_encode<E: BytesPartialEncoderTraits>(
+        &self,
+        alloc: Global,
+        source: &mut E,
+        bytes: ArrayBytes,
+        part: ArrayPart<'_>,
+        options: &CodecOptions,
+    ) -> Result<(), CodecError> {
+        if self.bytes_to_bytes.is_empty() {
+            return self
+                .array_to_bytes
+                .partial_encode(alloc, source, bytes, part, options);
+        }
+        encode_whole(self, alloc, source, bytes, part, options)
     }
 
     fn compact(

@@ -12,11 +12,13 @@ use crate::writing::chain_metadatas;
 use std::alloc::{AllocError, Global};
 use zarr_codecs_array_to_array::ArrayToArrayCodec;
 use zarr_codecs_arrays::{ArrayBytes, CodecError, Elements};
+use zarr_codecs_bytes::BytesCodec;
 use zarr_codecs_bytes::part::ListedPart;
 use zarr_codecs_options::CodecOptions;
+use zarr_codecs_regions::encode_whole;
 use zarr_codecs_traits::{
-    ArrayPart, ArrayToBytesCodecTraits, BytesPartialDecoderTraits, BytesRepresentation,
-    BytesToBytesCodecTraits, ValuePatch, WholeArray,
+    ArrayPart, ArrayToBytesCodecTraits, BytesPartialDecoderTraits, BytesPartialEncoderTraits,
+    BytesRepresentation, BytesToBytesCodecTraits, ValuePatch, WholeArray,
 };
 use zarr_codecs_types::DataType;
 use zarr_grids_boxes::walk::count_places;
@@ -32,14 +34,19 @@ pub struct CodecChain<B: BytesToBytesCodecTraits> {
 }
 
 impl<B: BytesToBytesCodecTraits> CodecChain<B> {
-    ghost use Rattle.std.specs.Prelude.{◌≡◌, ◌≢◌, Some, None, map, IfOk, IfErr, IsTrue};
+    ghost use Rattle.std.specs.Prelude.{◌≡◌, ◌≢◌, ◌≤◌, ◌+◌, Some, None, map, IfOk, IfErr, IsTrue, true};
     ghost use Rattle.zarr_codecs_arrays.specs.Views.{elements_of};
     ghost use Rattle.zarr_codecs_traits.specs.Indexers.{asked_of};
     ghost use Rattle.zarr_codecs_traits.specs.Outcomes.{DecodesPart};
+    ghost use Rattle.zarr_codecs_traits.specs.ReadBytes.{most_read};
+    ghost use Rattle.zarr_codecs_meaning.specs.Fits.{is_plain};
     ghost use Rattle.zarr_codecs_traits.specs.Sources.{refused_after};
     ghost use Rattle.zarr_codecs_chains.specs.Parts.{arrays_of, bytes_of, codec_of};
     ghost use Rattle.zarr_codecs_chains.specs.Views.{meaning_of, points_of};
+    ghost use Rattle.zarr_codecs_metadata.specs.Allowed.{is_allowed};
     ghost use Rattle.zarr_codecs_metadata.specs.Chains.{allowed_chain, chain_of};
+    ghost use Rattle.zarr_codecs_chains.specs.Configured.{little_bytes};
+    ghost use Rattle.zarr_codecs_chains.specs.Names.{NamesChain};
     ghost use Rattle.zarr_grids_metadata.specs.Views.{point_of};
 
     /// The chain of array to array codecs, of an array to bytes codec, and of bytes to bytes codecs,
@@ -61,6 +68,14 @@ impl<B: BytesToBytesCodecTraits> CodecChain<B> {
             array_to_array,
             others,
         }
+    }
+
+    /// The chain of `bytes` with the lowest byte first, alone.
+    pub(crate) fn of_little_bytes(alloc: Global) -> CodecChain<B>
+        ensures { meaning_of B.meaning result ≡ little_bytes }
+    {
+        let codec = ArrayToBytesCodec::Bytes(BytesCodec::little());
+        CodecChain::new(Vec::new(alloc), codec, Vec::new(alloc))
     }
 
     /// The array to array codecs in the order in which they encode.
@@ -85,7 +100,7 @@ impl<B: BytesToBytesCodecTraits> CodecChain<B> {
     }
 
     /// The chain that the metadata of its codecs names and describes, in their order, with all
-    /// chains inside of them. `NameUnsupported` or `MetadataInvalid` where there is none;
+    /// chains inside of them, each codec under the name that it has there. `NameUnsupported` or `MetadataInvalid` where there is none;
     /// `MetadataInvalid` where an array to array codec stands where none may: in the data chain of
     /// `vlen` or `optional`, or in any chain inside that of `optional` (this project's profile).
     /// `Memory` where an allocation failed. It goes as deep as chains nest.
@@ -95,6 +110,7 @@ impl<B: BytesToBytesCodecTraits> CodecChain<B> {
     ) -> Result<CodecChain<B>, PluginCreateError>
         ensures ok { IfOk result (λ chain.
             allowed_chain B.reads (map point_of codecs.now) ≡ Some (meaning_of B.meaning chain)) }
+        ensures names { IfOk result (λ chain. NamesChain chain (map point_of codecs.now)) }
         ensures err { IfErr result (λ e. e ≢ PluginCreateError.Memory →
             allowed_chain B.reads (map point_of codecs.now) ≡ None) }
     {
@@ -108,12 +124,17 @@ impl<B: BytesToBytesCodecTraits> CodecChain<B> {
         }
     }
 
-    /// The metadata of the codecs, which says an equal chain. `Err` only where an allocation failed.
+    /// The metadata of the codecs under the names that they keep, of which `from_metadata` makes an
+    /// equal chain where array to array codecs stand only where they may, as in any chain that it
+    /// made. `Err` only where an allocation failed.
     pub fn create_metadatas(&self, alloc: Global) -> Result<Vec<MetadataV3>, AllocError>
         ensures written { IfOk result
             (λ codecs. map point_of codecs.items ≡ points_of B.described self.now) }
         ensures reads_back { IfOk result (λ codecs.
             chain_of B.reads (map point_of codecs.items) ≡ Some (meaning_of B.meaning self.now)) }
+        ensures made_again { is_allowed (meaning_of B.meaning self.now) ≡ true → IfOk result
+            (λ codecs. allowed_chain B.reads (map point_of codecs.items)
+            ≡ Some (meaning_of B.meaning self.now)) }
     {
         chain_metadatas(self, alloc)
     }
@@ -131,6 +152,11 @@ impl<B: BytesToBytesCodecTraits> CodecChain<B> {
             part.entry.shape.now (D.contents source.old) (asked_of part.entry.indexer) result }
         ensures refused { D.refused_calls source.new ≡
             refused_after (D.refused_calls source.old) result }
+        ensures given { is_plain (meaning_of B.meaning self.now) ≡ true →
+            IsTrue (D.is_honest source.old) → D.given_bytes source.new
+            ≤ D.given_bytes source.old + most_read (meaning_of B.meaning self.now)
+            (elements_of part.entry.elements.now).type part.entry.shape.now
+            (D.contents source.old) (asked_of part.entry.indexer) }
         ensures follows { D.follows source.old source.new }
     {
         let (elements, shape) = (part.elements, part.shape);
@@ -234,11 +260,11 @@ impl<B: BytesToBytesCodecTraits> ArrayToBytesCodecTraits for CodecChain<B> {
         self.decode_numbers(alloc, source, part, options)
     }
 
-    fn supports_partial_encode(&self, data_type: &DataType) -> bool {
-        self.array_to_array.is_empty() && self.others.supports_partial_encode(data_type)
+    fn takes_patches(&self, data_type: &DataType) -> bool {
+        self.array_to_array.is_empty() && self.others.takes_patches(data_type)
     }
 
-    fn partial_encode(
+    fn encode_patches(
         &self,
         alloc: Global,
         bytes: ArrayBytes,
@@ -248,7 +274,23 @@ impl<B: BytesToBytesCodecTraits> ArrayToBytesCodecTraits for CodecChain<B> {
         if !self.array_to_array.is_empty() {
             return Ok(None);
         }
-        self.others.partial_encode(alloc, bytes, part, options)
+        self.others.encode_patches(alloc, bytes, part, options)
+    }
+
+    fn partial_encode<E: BytesPartialEncoderTraits>(
+        &self,
+        alloc: Global,
+        source: &mut E,
+        bytes: ArrayBytes,
+        part: ArrayPart<'_>,
+        options: &CodecOptions,
+    ) -> Result<(), CodecError> {
+        if self.array_to_array.is_empty() {
+            return self
+                .others
+                .partial_encode(alloc, source, bytes, part, options);
+        }
+        encode_whole(self, alloc, source, bytes, part, options)
     }
 
     fn compact(

@@ -73,6 +73,7 @@ fn copy_vlen<B: BytesToBytesCodecTraits>(
         data_codecs,
         index_data_type: codec.index_data_type,
         index_location: codec.index_location,
+        name: codec.name,
     })
 }
 
@@ -90,5 +91,6 @@ fn copy_optional<B: BytesToBytesCodecTraits>(
     Ok(OptionalCodec {
         mask_codecs,
         data_codecs,
+        name: codec.name,
     })
 }

@@ -19,12 +19,13 @@ mod reading;
 mod representing;
 mod selecting;
 pub mod vlen;
+mod whole_values;
 mod writing;
 
 pub use array_to_bytes::ArrayToBytesCodec;
 pub use chain::CodecChain;
 pub use optional::OptionalCodec;
 pub use vlen::VlenCodec;
-pub use zarr_codecs_bytes::{BytesCodec, Endianness};
+pub use zarr_codecs_bytes::{BytesCodec, BytesCodecConfiguration, Endianness};
 pub use zarr_codecs_configurations::{OptionalCodecConfiguration, VlenCodecConfiguration};
 pub use zarr_codecs_sections::{VlenIndexDataType, VlenIndexLocation};

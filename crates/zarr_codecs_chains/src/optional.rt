@@ -2,22 +2,31 @@
 
 use crate::chain::CodecChain;
 use crate::fitting::takes_each_shape;
+use crate::writing::optional_configuration;
+use std::alloc::{AllocError, Global};
+use zarr_codecs_array_to_array::CodecName;
+use zarr_codecs_configurations::OptionalCodecConfiguration;
 use zarr_codecs_traits::BytesToBytesCodecTraits;
 use zarr_grids_metadata::PluginCreateError;
 
 /// `optional` (this project's profile): elements that may be absent, as a mask and those that are
-/// present, each by a chain of its own.
+/// present, each by a chain of its own. It keeps the name that its metadata has.
 #[cycle(codec)]
 #[derive(Debug, Drop)]
 pub struct OptionalCodec<B: BytesToBytesCodecTraits> {
     pub(crate) mask_codecs: CodecChain<B>,
     pub(crate) data_codecs: CodecChain<B>,
+    pub(crate) name: CodecName,
 }
 
 impl<B: BytesToBytesCodecTraits> OptionalCodec<B> {
-    ghost use Rattle.std.specs.Prelude.{◌≡◌, true, false, IfOk, IfErr};
+    ghost use Rattle.std.specs.Prelude.{◌≡◌, ◌≢◌, codes, true, false, Some, None, IfOk, IfErr};
     ghost use Rattle.zarr_codecs_meaning.specs.Fits.{takes_each_shape};
-    ghost use Rattle.zarr_codecs_chains.specs.Views.{meaning_of};
+    ghost use Rattle.zarr_codecs_metadata.specs.Allowed.{is_allowed};
+    ghost use Rattle.zarr_codecs_configurations.specs.Views.{optional_points};
+    ghost use Rattle.zarr_codecs_chains.specs.Configured.{configured_optional};
+    ghost use Rattle.zarr_codecs_chains.specs.Names.{NamesChain, optional_name};
+    ghost use Rattle.zarr_codecs_chains.specs.Views.{given_to_optional, meaning_of, optional_chain};
     ghost use Rattle.zarr_codecs_chains.specs.Parts.{optional_data, optional_mask};
 
     /// `optional` with the chains of its mask and of the elements that are present.
@@ -29,6 +38,7 @@ impl<B: BytesToBytesCodecTraits> OptionalCodec<B> {
     ) -> Result<OptionalCodec<B>, PluginCreateError>
         ensures mask { IfOk result (λ codec. optional_mask codec ≡ mask_codecs) }
         ensures data { IfOk result (λ codec. optional_data codec ≡ data_codecs) }
+        ensures name { IfOk result (λ codec. optional_name codec ≡ codes "optional") }
         ensures allowed { IfOk result
             (λ codec. takes_each_shape (meaning_of B.meaning data_codecs) ≡ true) }
         ensures err { IfErr result (λ e. (e ≡ PluginCreateError.MetadataInvalid)
@@ -40,7 +50,61 @@ impl<B: BytesToBytesCodecTraits> OptionalCodec<B> {
         Ok(OptionalCodec {
             mask_codecs,
             data_codecs,
+            name: CodecName::Default,
         })
+    }
+
+    /// `optional` as a configuration gives it, under its default name. Its codecs keep the names
+    /// that they have there, and are refused as `CodecChain::from_metadata` refuses them;
+    /// `MetadataInvalid` also where the chain of the elements, or a chain inside of it, has an array
+    /// to array codec.
+    pub fn new_with_configuration(
+        alloc: Global,
+        configuration: &OptionalCodecConfiguration,
+    ) -> Result<OptionalCodec<B>, PluginCreateError>
+        ensures ok { IfOk result
+            (λ codec. configured_optional B.reads (optional_points configuration.now)
+            ≡ Some (optional_chain B.meaning codec)) }
+        ensures name { IfOk result (λ codec. optional_name codec ≡ codes "optional") }
+        ensures mask_names { IfOk result
+            (λ codec. NamesChain (optional_mask codec) (optional_points configuration.now).mask) }
+        ensures data_names { IfOk result
+            (λ codec. NamesChain (optional_data codec) (optional_points configuration.now).content) }
+        ensures err { IfErr result (λ e. e ≢ PluginCreateError.Memory
+            → configured_optional B.reads (optional_points configuration.now) ≡ None) }
+    {
+        let mask = configuration.mask_codecs.as_slice();
+        let mask_codecs = match CodecChain::from_metadata(alloc, mask) {
+            Ok(chain) => chain,
+            Err(error) => return Err(error),
+        };
+        let content = configuration.data_codecs.as_slice();
+        let data_codecs = match CodecChain::from_metadata(alloc, content) {
+            Ok(chain) => chain,
+            Err(error) => return Err(error),
+        };
+        if takes_each_shape(&data_codecs) {
+            Ok(OptionalCodec {
+                mask_codecs,
+                data_codecs,
+                name: CodecName::Default,
+            })
+        } else {
+            Err(PluginCreateError::MetadataInvalid)
+        }
+    }
+
+    /// What the codec is configured by, of which `new_with_configuration` makes an equal codec under
+    /// the default name, where array to array codecs stand only where they may. `Err` only where an
+    /// allocation failed.
+    pub fn configuration(&self, alloc: Global) -> Result<OptionalCodecConfiguration, AllocError>
+        ensures given { IfOk result (λ configuration.
+            optional_points configuration ≡ given_to_optional B.described self.now) }
+        ensures made_again { is_allowed (optional_chain B.meaning self.now) ≡ true → IfOk result
+            (λ configuration. configured_optional B.reads (optional_points configuration)
+            ≡ Some (optional_chain B.meaning self.now)) }
+    {
+        optional_configuration(self, alloc)
     }
 
     /// The chain of the mask.

@@ -1,11 +1,14 @@
 //! Chains read from the metadata of their codecs.
-ghost use Rattle.std.specs.Prelude.{◌≡◌, ◌≢◌, ◌≤◌, bytes_eq, codes, drop, length, map, Option, Some, None, IfOk, IfErr};
+ghost use Rattle.std.specs.Prelude.{◌≡◌, ◌≢◌, ◌≤◌, ℕ, List, [], bytes_eq, codes, drop, length, map, take, true, Option, Some, None, IfOk, IfErr};
 ghost use Rattle.zarr_grids_metadata.specs.ExtensionPoints.{configuration_members};
 ghost use Rattle.zarr_grids_metadata.specs.Views.{point_of};
 ghost use Rattle.zarr_codecs_meaning.specs.Chains.{Chain};
 ghost use Rattle.zarr_codecs_metadata.specs.Chains.{array_to_bytes_in, bytes_chain_of, bytes_in, chain_of, listed_chain};
 ghost use Rattle.zarr_codecs_metadata.specs.Sections.{names_optional, names_vlen, optional_of, vlen_of};
 ghost use Rattle.zarr_codecs_packbits.specs.Metadata.{packbits_in};
+ghost use Rattle.zarr_grids_metadata.specs.ExtensionPoints.{ExtensionPoint};
+ghost use Rattle.zarr_codecs_array_to_array.specs.Names.{written_codec};
+ghost use Rattle.zarr_codecs_chains.specs.Names.{NameAll, Names, NamesChain, NamesOptional, NamesVlen, name_of_optional, name_of_vlen};
 ghost use Rattle.zarr_codecs_chains.specs.Reading.{array_codecs_of, leaf_in};
 ghost use Rattle.zarr_codecs_chains.specs.Views.{bytes_meaning, codec_chain, codecs_of, meaning_of, optional_chain, vlen_chain};
 
@@ -16,7 +19,7 @@ use crate::metadata::read_codecs;
 use crate::optional::OptionalCodec;
 use crate::vlen::VlenCodec;
 use std::alloc::{AllocError, Global};
-use zarr_codecs_array_to_array::ArrayToArrayCodec;
+use zarr_codecs_array_to_array::{ArrayToArrayCodec, CodecName};
 use zarr_codecs_bytes::BytesCodec;
 use zarr_codecs_configurations::{OptionalCodecConfiguration, VlenCodecConfiguration};
 use zarr_codecs_packbits::PackBitsCodec;
@@ -31,6 +34,7 @@ pub(crate) fn read_chain<B: BytesToBytesCodecTraits>(
 ) -> Result<CodecChain<B>, PluginCreateError>
     ensures ok { IfOk result (λ chain.
         chain_of B.reads (map point_of codecs.now) ≡ Some (meaning_of B.meaning chain)) }
+    ensures names { IfOk result (λ chain. NamesChain chain (map point_of codecs.now)) }
     ensures err { IfErr result (λ e. e ≢ PluginCreateError.Memory →
         chain_of B.reads (map point_of codecs.now) ≡ None) }
 {
@@ -55,6 +59,8 @@ fn read_bytes_chain<B: BytesToBytesCodecTraits>(
 ) -> Result<BytesChain<B>, PluginCreateError>
     ensures ok { IfOk result (λ chain.
         bytes_chain_of B.reads (map point_of codecs.now) ≡ Some (bytes_meaning B.meaning chain)) }
+    ensures names { IfOk result
+        (λ chain. NameAll [] (Names chain.array_to_bytes) (map point_of codecs.now)) }
     ensures err { IfErr result (λ e. e ≢ PluginCreateError.Memory →
         bytes_chain_of B.reads (map point_of codecs.now) ≡ None) }
 {
@@ -82,6 +88,7 @@ pub(crate) fn read_codec<B: BytesToBytesCodecTraits>(
 ) -> Result<ArrayToBytesCodec<B>, PluginCreateError>
     ensures ok { IfOk result (λ codec. array_to_bytes_in B.reads (point_of metadata.now)
         ≡ Some (codec_chain B.meaning codec)) }
+    ensures names { IfOk result (λ codec. Names codec (point_of metadata.now)) }
     ensures err { IfErr result (λ e. e ≢ PluginCreateError.Memory →
         array_to_bytes_in B.reads (point_of metadata.now) ≡ None) }
 {
@@ -103,6 +110,8 @@ fn read_vlen<B: BytesToBytesCodecTraits>(
     ensures ok { IfOk result (λ codec. vlen_of (listed_chain B.reads)
         (configuration_members (point_of metadata.now).configuration)
         ≡ Some (vlen_chain B.meaning codec)) }
+    ensures names { names_vlen (point_of metadata.now).name ≡ true
+        → IfOk result (λ codec. NamesVlen codec (point_of metadata.now)) }
     ensures err { IfErr result (λ e. e ≢ PluginCreateError.Memory →
         vlen_of (listed_chain B.reads)
         (configuration_members (point_of metadata.now).configuration) ≡ None) }
@@ -121,6 +130,7 @@ fn read_vlen<B: BytesToBytesCodecTraits>(
             data_codecs,
             index_data_type: configuration.index_data_type,
             index_location: configuration.index_location,
+            name: vlen_name(metadata.name()),
         }),
         Err(error) => Err(error),
     }
@@ -135,6 +145,8 @@ fn read_optional<B: BytesToBytesCodecTraits>(
     ensures ok { IfOk result (λ codec. optional_of (listed_chain B.reads)
         (configuration_members (point_of metadata.now).configuration)
         ≡ Some (optional_chain B.meaning codec)) }
+    ensures names { names_optional (point_of metadata.now).name ≡ true
+        → IfOk result (λ codec. NamesOptional codec (point_of metadata.now)) }
     ensures err { IfErr result (λ e. e ≢ PluginCreateError.Memory →
         optional_of (listed_chain B.reads)
         (configuration_members (point_of metadata.now).configuration) ≡ None) }
@@ -151,6 +163,7 @@ fn read_optional<B: BytesToBytesCodecTraits>(
         Ok(data_codecs) => Ok(OptionalCodec {
             mask_codecs,
             data_codecs,
+            name: optional_name(metadata.name()),
         }),
         Err(error) => Err(error),
     }
@@ -164,6 +177,8 @@ fn first_array_codecs(
     ensures first { IfOk result
         (λ found. codecs_of found.items ≡ array_codecs_of (map point_of codecs.now)) }
     ensures few { IfOk result (λ found. length found.items ≤ length codecs.now) }
+    ensures names { IfOk result (λ found. map (λ codec. (written_codec codec).name) found.items
+        ≡ map (λ metadata. (point_of metadata).name) (take (length found.items) codecs.now)) }
 {
     let mut array_to_array = Vec::new(alloc);
     for metadata in codecs {
@@ -191,6 +206,8 @@ fn boxed_vlen<B: BytesToBytesCodecTraits>(
 ) -> Result<ArrayToBytesCodec<B>, PluginCreateError>
     ensures ok { (said : Option Chain) → IfOk read (λ codec. said ≡ Some (vlen_chain B.meaning codec))
         → IfOk result (λ codec. said ≡ Some (codec_chain B.meaning codec)) }
+    ensures names { (point : ExtensionPoint) → IfOk read (λ codec. NamesVlen codec point)
+        → IfOk result (λ codec. Names codec point) }
     ensures err { (said : Option Chain) →
         IfErr read (λ e. e ≢ PluginCreateError.Memory → said ≡ None)
         → IfErr result (λ e. e ≢ PluginCreateError.Memory → said ≡ None) }
@@ -212,6 +229,8 @@ fn boxed_optional<B: BytesToBytesCodecTraits>(
     ensures ok { (said : Option Chain) →
         IfOk read (λ codec. said ≡ Some (optional_chain B.meaning codec))
         → IfOk result (λ codec. said ≡ Some (codec_chain B.meaning codec)) }
+    ensures names { (point : ExtensionPoint) → IfOk read (λ codec. NamesOptional codec point)
+        → IfOk result (λ codec. Names codec point) }
     ensures err { (said : Option Chain) →
         IfErr read (λ e. e ≢ PluginCreateError.Memory → said ≡ None)
         → IfErr result (λ e. e ≢ PluginCreateError.Memory → said ≡ None) }
@@ -231,6 +250,7 @@ fn read_leaf<B: BytesToBytesCodecTraits>(
 ) -> Result<ArrayToBytesCodec<B>, PluginCreateError>
     ensures ok { IfOk result
         (λ codec. leaf_in (point_of metadata.now) ≡ Some (codec_chain B.meaning codec)) }
+    ensures names { IfOk result (λ codec. Names codec (point_of metadata.now)) }
     ensures err { IfErr result (λ e. e ≢ PluginCreateError.Memory
         → leaf_in (point_of metadata.now) ≡ None) }
 {
@@ -246,6 +266,7 @@ fn read_packbits<B: BytesToBytesCodecTraits>(
 ) -> Result<ArrayToBytesCodec<B>, PluginCreateError>
     ensures ok { IfOk result
         (λ codec. packbits_in (point_of metadata.now) ≡ Some (codec_chain B.meaning codec)) }
+    ensures names { IfOk result (λ codec. Names codec (point_of metadata.now)) }
     ensures err { IfErr result (λ e. e ≢ PluginCreateError.Memory
         → packbits_in (point_of metadata.now) ≡ None) }
 {
@@ -261,6 +282,7 @@ fn read_bytes<B: BytesToBytesCodecTraits>(
 ) -> Result<ArrayToBytesCodec<B>, PluginCreateError>
     ensures ok { IfOk result
         (λ codec. bytes_in (point_of metadata.now) ≡ Some (codec_chain B.meaning codec)) }
+    ensures names { IfOk result (λ codec. Names codec (point_of metadata.now)) }
     ensures err { IfErr result (λ e. e ≢ PluginCreateError.Memory
         → bytes_in (point_of metadata.now) ≡ None) }
 {
@@ -276,10 +298,30 @@ fn names_vlen(name: &str) -> bool
     name == "vlen" || name == "zarrs.vlen"
 }
 
+/// Which name of `vlen` this is.
+fn vlen_name(name: &str) -> CodecName
+    ensures { names_vlen name.now ≡ true → name_of_vlen result ≡ name.now }
+{
+    match name {
+        "zarrs.vlen" => CodecName::Alias,
+        _ => CodecName::Default,
+    }
+}
+
 fn names_optional(name: &str) -> bool
     ensures { result ≡ names_optional name.now }
 {
     name == "optional" || name == "zarrs.optional"
+}
+
+/// Which name of `optional` this is.
+fn optional_name(name: &str) -> CodecName
+    ensures { names_optional name.now ≡ true → name_of_optional result ≡ name.now }
+{
+    match name {
+        "zarrs.optional" => CodecName::Alias,
+        _ => CodecName::Default,
+    }
 }
 
 fn names_packbits(name: &str) -> bool

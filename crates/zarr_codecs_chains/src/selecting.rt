@@ -1,11 +1,12 @@
 //! The elements at the places that are asked for, of a value that is decoded whole.
-ghost use Rattle.std.specs.Prelude.{◌≡◌, ◌^◌, ◌<◌, ℕ, None, Some, true, IsTrue};
+ghost use Rattle.std.specs.Prelude.{◌≡◌, ◌≤◌, ◌+◌, ◌^◌, ◌<◌, ℕ, None, Some, true, IsTrue};
 ghost use Rattle.zarr_grids_boxes.specs.Boxes.{product};
 ghost use Rattle.zarr_codecs_meaning.specs.Chains.{Chain};
 ghost use Rattle.zarr_codecs_meaning.specs.Fits.{fits};
 ghost use Rattle.zarr_codecs_arrays.specs.Views.{elements_of};
 ghost use Rattle.zarr_codecs_traits.specs.Indexers.{are_inside, asked_of, numbers_asked};
 ghost use Rattle.zarr_codecs_traits.specs.Outcomes.{DecodesPart};
+ghost use Rattle.zarr_codecs_traits.specs.ReadBytes.{most_read};
 ghost use Rattle.zarr_codecs_traits.specs.Sources.{refused_after};
 ghost use Rattle.zarr_codecs_chains.specs.Selecting.{reads_whole};
 ghost use Rattle.zarr_codecs_chains.specs.Views.{codec_chain};
@@ -37,6 +38,10 @@ pub(crate) fn decode_asked<B: BytesToBytesCodecTraits, D: BytesPartialDecoderTra
         (asked_of part.entry.indexer) result }
     ensures refused { D.refused_calls source.new ≡
         refused_after (D.refused_calls source.old) result }
+    ensures given { IsTrue (D.is_honest source.old) → D.given_bytes source.new
+        ≤ D.given_bytes source.old + most_read (codec_chain B.meaning codec.now)
+        (elements_of part.entry.elements.now).type part.entry.shape.now (D.contents source.old)
+        (asked_of part.entry.indexer) }
     ensures follows { D.follows source.old source.new }
 {
     if !fits_codec(codec, alloc, part.elements.data_type(), part.shape)? {
@@ -53,6 +58,7 @@ pub(crate) fn decode_asked<B: BytesToBytesCodecTraits, D: BytesPartialDecoderTra
 
 /// The elements at places of the array. Errors as those of `decode_codec`, and `Source` where the
 /// source refuses.
+#[tactic(auto, using(crate::proofs::Taken::whole_most))]
 fn read_asked<B: BytesToBytesCodecTraits, D: BytesPartialDecoderTraits>(
     codec: &ArrayToBytesCodec<B>,
     alloc: Global,
@@ -70,6 +76,10 @@ fn read_asked<B: BytesToBytesCodecTraits, D: BytesPartialDecoderTraits>(
         (asked_of part.entry.indexer) result }
     ensures refused { D.refused_calls source.new ≡
         refused_after (D.refused_calls source.old) result }
+    ensures given { IsTrue (D.is_honest source.old) → D.given_bytes source.new
+        ≤ D.given_bytes source.old + most_read (codec_chain B.meaning codec.now)
+        (elements_of part.entry.elements.now).type part.entry.shape.now (D.contents source.old)
+        (asked_of part.entry.indexer) }
     ensures follows { D.follows source.old source.new }
 {
     let numbers = numbers_asked(alloc, part.shape, part.indexer)?;

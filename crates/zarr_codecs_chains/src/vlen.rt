@@ -2,12 +2,16 @@
 
 use crate::allowing::has_no_array_codec;
 use crate::chain::CodecChain;
+use crate::writing::vlen_configuration;
+use std::alloc::{AllocError, Global};
+use zarr_codecs_array_to_array::CodecName;
+use zarr_codecs_configurations::VlenCodecConfiguration;
 use zarr_codecs_sections::{VlenIndexDataType, VlenIndexLocation};
 use zarr_codecs_traits::BytesToBytesCodecTraits;
 use zarr_grids_metadata::PluginCreateError;
 
 /// `vlen` (this project's profile): elements of variable length, as an index of offsets and their
-/// joined bytes, each by a chain of its own.
+/// joined bytes, each by a chain of its own. It keeps the name that its metadata has.
 #[cycle(codec)]
 #[derive(Debug, Drop)]
 pub struct VlenCodec<B: BytesToBytesCodecTraits> {
@@ -15,12 +19,17 @@ pub struct VlenCodec<B: BytesToBytesCodecTraits> {
     pub(crate) data_codecs: CodecChain<B>,
     pub(crate) index_data_type: VlenIndexDataType,
     pub(crate) index_location: VlenIndexLocation,
+    pub(crate) name: CodecName,
 }
 
 impl<B: BytesToBytesCodecTraits> VlenCodec<B> {
-    ghost use Rattle.std.specs.Prelude.{◌≡◌, true, false, IfOk, IfErr};
-    ghost use Rattle.zarr_codecs_metadata.specs.Allowed.{has_no_array_codec};
-    ghost use Rattle.zarr_codecs_chains.specs.Views.{meaning_of};
+    ghost use Rattle.std.specs.Prelude.{◌≡◌, ◌≢◌, codes, true, false, Some, None, IfOk, IfErr};
+    ghost use Rattle.zarr_codecs_meaning.specs.Chains as chains;
+    ghost use Rattle.zarr_codecs_metadata.specs.Allowed.{has_no_array_codec, is_allowed};
+    ghost use Rattle.zarr_codecs_configurations.specs.Views.{vlen_points};
+    ghost use Rattle.zarr_codecs_chains.specs.Configured.{configured_vlen, little_bytes};
+    ghost use Rattle.zarr_codecs_chains.specs.Names.{NamesChain, vlen_name};
+    ghost use Rattle.zarr_codecs_chains.specs.Views.{given_to_vlen, meaning_of, vlen_chain};
     ghost use Rattle.zarr_codecs_chains.specs.Parts.{vlen_data_type, vlen_data, vlen_index, vlen_location};
 
     /// `vlen` with the chains of its index and of its joined data, and the type of the index's
@@ -35,6 +44,7 @@ impl<B: BytesToBytesCodecTraits> VlenCodec<B> {
         ensures data { IfOk result (λ codec. vlen_data codec ≡ data_codecs) }
         ensures data_type { IfOk result (λ codec. vlen_data_type codec ≡ index_data_type) }
         ensures start { IfOk result (λ codec. vlen_location codec ≡ VlenIndexLocation.Start) }
+        ensures name { IfOk result (λ codec. vlen_name codec ≡ codes "vlen") }
         ensures allowed { IfOk result
             (λ codec. has_no_array_codec (meaning_of B.meaning data_codecs) ≡ true) }
         ensures err { IfErr result (λ e. (e ≡ PluginCreateError.MetadataInvalid)
@@ -48,7 +58,78 @@ impl<B: BytesToBytesCodecTraits> VlenCodec<B> {
             data_codecs,
             index_data_type,
             index_location: VlenIndexLocation::Start,
+            name: CodecName::Default,
         })
+    }
+
+    /// `vlen` on default codecs: `bytes` with the lowest byte first for the index and for the joined
+    /// data, and an index of `uint64` at the start.
+    pub fn new_default(alloc: Global) -> VlenCodec<B>
+        ensures meaning { vlen_chain B.meaning result
+            ≡ chains.Chain.vlen little_bytes little_bytes 64 chains.Location.at_start }
+        ensures name { vlen_name result ≡ codes "vlen" }
+    {
+        let index_location = VlenIndexLocation::Start;
+        VlenCodec {
+            index_codecs: CodecChain::of_little_bytes(alloc),
+            data_codecs: CodecChain::of_little_bytes(alloc),
+            index_data_type: VlenIndexDataType::UInt64,
+            index_location,
+            name: CodecName::Default,
+        }
+    }
+
+    /// `vlen` as a configuration gives it, under its default name. Its codecs keep the names that
+    /// they have there, and are refused as `CodecChain::from_metadata` refuses them;
+    /// `MetadataInvalid` also where the chain of the data has an array to array codec.
+    pub fn new_with_configuration(
+        alloc: Global,
+        configuration: &VlenCodecConfiguration,
+    ) -> Result<VlenCodec<B>, PluginCreateError>
+        ensures ok { IfOk result (λ codec. configured_vlen B.reads (vlen_points configuration.now)
+            ≡ Some (vlen_chain B.meaning codec)) }
+        ensures name { IfOk result (λ codec. vlen_name codec ≡ codes "vlen") }
+        ensures index_names { IfOk result
+            (λ codec. NamesChain (vlen_index codec) (vlen_points configuration.now).index) }
+        ensures data_names { IfOk result
+            (λ codec. NamesChain (vlen_data codec) (vlen_points configuration.now).content) }
+        ensures err { IfErr result (λ e. e ≢ PluginCreateError.Memory
+            → configured_vlen B.reads (vlen_points configuration.now) ≡ None) }
+    {
+        let index = configuration.index_codecs.as_slice();
+        let index_codecs = match CodecChain::from_metadata(alloc, index) {
+            Ok(chain) => chain,
+            Err(error) => return Err(error),
+        };
+        let content = configuration.data_codecs.as_slice();
+        let data_codecs = match CodecChain::from_metadata(alloc, content) {
+            Ok(chain) => chain,
+            Err(error) => return Err(error),
+        };
+        if has_no_array_codec(&data_codecs) {
+            Ok(VlenCodec {
+                index_codecs,
+                data_codecs,
+                index_data_type: configuration.index_data_type,
+                index_location: configuration.index_location,
+                name: CodecName::Default,
+            })
+        } else {
+            Err(PluginCreateError::MetadataInvalid)
+        }
+    }
+
+    /// What the codec is configured by, of which `new_with_configuration` makes an equal codec under
+    /// the default name, where array to array codecs stand only where they may. `Err` only where an
+    /// allocation failed.
+    pub fn configuration(&self, alloc: Global) -> Result<VlenCodecConfiguration, AllocError>
+        ensures given { IfOk result (λ configuration.
+            vlen_points configuration ≡ given_to_vlen B.described self.now) }
+        ensures made_again { is_allowed (vlen_chain B.meaning self.now) ≡ true → IfOk result
+            (λ configuration. configured_vlen B.reads (vlen_points configuration)
+            ≡ Some (vlen_chain B.meaning self.now)) }
+    {
+        vlen_configuration(self, alloc)
     }
 
     /// The same codec with its index elsewhere.
@@ -57,6 +138,7 @@ impl<B: BytesToBytesCodecTraits> VlenCodec<B> {
         ensures data { vlen_data result ≡ vlen_data self }
         ensures data_type { vlen_data_type result ≡ vlen_data_type self }
         ensures location { vlen_location result ≡ index_location }
+        ensures name { vlen_name result ≡ vlen_name self }
     {
         let mut codec = self;
         codec.index_location = index_location;

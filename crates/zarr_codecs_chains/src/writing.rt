@@ -2,6 +2,7 @@
 ghost use Rattle.std.specs.Prelude.{◌≡◌, map, IfOk};
 ghost use Rattle.zarr_grids_metadata.specs.Views.{point_of};
 ghost use Rattle.zarr_codecs_configurations.specs.Views.{optional_points, vlen_points};
+ghost use Rattle.zarr_codecs_chains.specs.Names.{name_of_optional, name_of_vlen};
 ghost use Rattle.zarr_codecs_chains.specs.Views.{codec_point, given_to_optional, given_to_vlen, points_of};
 
 use crate::array_metadata::array_metadatas;
@@ -11,6 +12,7 @@ use crate::metadata::push_metadatas;
 use crate::optional::OptionalCodec;
 use crate::vlen::VlenCodec;
 use std::alloc::{AllocError, Global};
+use zarr_codecs_array_to_array::CodecName;
 use zarr_codecs_configurations::{OptionalCodecConfiguration, VlenCodecConfiguration};
 use zarr_codecs_traits::BytesToBytesCodecTraits;
 use zarr_grids_metadata::MetadataV3;
@@ -46,9 +48,11 @@ pub(crate) fn codec_metadata<B: BytesToBytesCodecTraits>(
     match codec {
         ArrayToBytesCodec::Bytes(codec) => codec.metadata(alloc),
         ArrayToBytesCodec::PackBits(codec) => codec.metadata(alloc),
-        ArrayToBytesCodec::Vlen(codec) => vlen_configuration(codec, alloc)?.metadata(alloc, "vlen"),
+        ArrayToBytesCodec::Vlen(codec) => {
+            vlen_configuration(codec, alloc)?.metadata(alloc, vlen_name(codec.name))
+        }
         ArrayToBytesCodec::Optional(codec) => {
-            optional_configuration(codec, alloc)?.metadata(alloc, "optional")
+            optional_configuration(codec, alloc)?.metadata(alloc, optional_name(codec.name))
         }
     }
 }
@@ -87,4 +91,22 @@ pub(crate) fn optional_configuration<B: BytesToBytesCodecTraits>(
         mask_codecs,
         data_codecs,
     })
+}
+
+fn vlen_name(name: CodecName) -> &'static str
+    ensures { result.now ≡ name_of_vlen name }
+{
+    match name {
+        CodecName::Default => "vlen",
+        CodecName::Alias => "zarrs.vlen",
+    }
+}
+
+fn optional_name(name: CodecName) -> &'static str
+    ensures { result.now ≡ name_of_optional name }
+{
+    match name {
+        CodecName::Default => "optional",
+        CodecName::Alias => "zarrs.optional",
+    }
 }

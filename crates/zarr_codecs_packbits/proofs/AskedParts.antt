@@ -1,9 +1,9 @@
 -- The elements at the places that are asked for, of what is decoded.
-use Rattle.std.proofs.Common.{◌≡◌, ℕ, List, [], ◌∷◌, length, map, replicate, ap, ◌∙◌, sym, refl, Some, None, true}
+use Rattle.std.proofs.Common.{◌≡◌, ℕ, List, [], ◌∷◌, length, map, replicate, ap, ◌∙◌, sym, refl, Some, None, true, Option, ◌+◌, ◌≤◌}
 use Rattle.std.specs.Prelude.{nat_lt}
 use Rattle.std.specs.List.{list_all}
 use Rattle.zarr_grids_boxes.specs.Boxes.{product}
-use Rattle.zarr_codecs_meaning.specs.Types.{Cell, Elements}
+use Rattle.zarr_codecs_meaning.specs.Types.{Cell, DataType, Elements}
 use Rattle.zarr_codecs_meaning.specs.Chains.{Chain}
 use Rattle.zarr_codecs_meaning.specs.Places.{gather}
 use Rattle.zarr_codecs_meaning.specs.Fits.{fits}
@@ -12,6 +12,10 @@ use Rattle.zarr_codecs_meaning.proofs.Counts.{decoded_count}
 use Rattle.zarr_codecs_meaning.proofs.PartReading.{part_read}
 use Rattle.zarr_codecs_traits.specs.Indexers.{Asked, are_inside, numbers_asked}
 use Rattle.zarr_codecs_traits.specs.Outcomes.{IsDecoded, IsPart}
+use Rattle.zarr_codecs_traits.specs.ReadBytes.{most_read}
+use Rattle.zarr_codecs_traits.specs.Sources.{value_length}
+use Rattle.zarr_codecs_packbits.specs.Views.{packbits_chain}
+use Rattle.zarr_codecs_packbits.specs.declared.codec.PackBitsCodec.{PackBitsCodec}
 use Rattle.zarr_codecs_regions.proofs.AskedPlaces.{asked_places}
 
 -- ---- of a value
@@ -44,3 +48,10 @@ fills_numbers chain elements shape ns asked payload inside are fit lists = recor
   each : (ms : List ℕ) → replicate (length ms) elements.fill ≡ map (λ n. elements.fill) ms
   each [] = refl
   each (m ∷ ms) = ap (λ cells. elements.fill ∷ cells) (each ms)
+
+-- ---- how many bytes are taken
+
+-- no more is taken than is at most, where no more is taken than the value has
+pub whole_most : (codec : PackBitsCodec) (type : DataType) (shape : List ℕ) (contents : Option (List ℕ)) (asked : Asked) (old new : ℕ) → new ≤ old + value_length contents → new ≤ old + most_read (packbits_chain codec) type shape contents asked
+whole_most codec type shape None asked old new h = h
+whole_most codec type shape (Some value) asked old new h = h

@@ -4,3 +4,5 @@ pub mod Turns
 pub mod PackedCells
 pub mod ReadsBack
 pub mod AskedParts
+pub mod PackedWords
+pub mod Singles

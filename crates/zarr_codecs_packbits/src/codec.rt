@@ -7,9 +7,10 @@ use crate::turning::{Turn, Way};
 use std::alloc::{AllocError, Global};
 use zarr_codecs_arrays::{ArrayBytes, CodecError, Elements};
 use zarr_codecs_options::CodecOptions;
-use zarr_codecs_regions::test_asked;
+use zarr_codecs_regions::{WholeValues, encode_whole, test_asked};
 use zarr_codecs_traits::{
-    ArrayPart, ArrayToBytesCodecTraits, BytesPartialDecoderTraits, BytesRepresentation, ValuePatch,
+    ArrayPart, ArrayToBytesCodecTraits, BytesPartialDecoderTraits, BytesPartialEncoderTraits,
+    BytesRepresentation, ValuePatch,
 };
 use zarr_codecs_types::{Component, DataType};
 use zarr_grids_boxes::walk::count_places;
@@ -274,11 +275,11 @@ impl ArrayToBytesCodecTraits for PackBitsCodec {
         read_asked(alloc, source, *self, part, options)
     }
 
-    fn supports_partial_encode(&self, _: &DataType) -> bool {
+    fn takes_patches(&self, _: &DataType) -> bool {
         false
     }
 
-    fn partial_encode(
+    fn encode_patches(
         &self,
         _: Global,
         _: ArrayBytes,
@@ -286,6 +287,17 @@ impl ArrayToBytesCodecTraits for PackBitsCodec {
         _: &CodecOptions,
     ) -> Result<Option<Vec<ValuePatch>>, CodecError> {
         Ok(None)
+    }
+
+    fn partial_encode<E: BytesPartialEncoderTraits>(
+        &self,
+        alloc: Global,
+        source: &mut E,
+        bytes: ArrayBytes,
+        part: ArrayPart<'_>,
+        options: &CodecOptions,
+    ) -> Result<(), CodecError> {
+        encode_whole(self, alloc, source, bytes, part, options)
     }
 
     fn compact(
@@ -304,6 +316,52 @@ impl ArrayToBytesCodecTraits for PackBitsCodec {
 
     fn try_clone(&self, _: Global) -> Result<PackBitsCodec, AllocError> {
         Ok(*self)
+    }
+
+    ghost lawful = { λ codec. tt };
+}
+
+impl WholeValues for PackBitsCodec {
+    ghost use Rattle.std.specs.Prelude.{true};
+    ghost use Rattle.zarr_codecs_packbits.specs.Views.{packbits_chain};
+
+    ghost meaning = { packbits_chain };
+
+    ghost is_function = { λ codec. true };
+
+    fn fits_array(
+        &self,
+        alloc: Global,
+        data_type: &DataType,
+        shape: &[u64],
+    ) -> Result<bool, AllocError> {
+        self.fits(alloc, data_type, shape)
+    }
+
+    fn encode_array(
+        &self,
+        alloc: Global,
+        bytes: ArrayBytes,
+        elements: &Elements,
+        shape: &[u64],
+        options: &CodecOptions,
+    ) -> Result<Vec<u8>, CodecError> {
+        self.encode(alloc, bytes, elements, shape, options)
+    }
+
+    fn decode_value(
+        &self,
+        alloc: Global,
+        value: Vec<u8>,
+        elements: &Elements,
+        shape: &[u64],
+        options: &CodecOptions,
+    ) -> Result<ArrayBytes, CodecError> {
+        self.decode(alloc, value, elements, shape, options)
+    }
+
+    fn keeps_fill(&self) -> bool {
+        true
     }
 
     ghost lawful = { λ codec. tt };

@@ -3,10 +3,13 @@
 
 mod bits;
 pub mod codec;
+mod eights;
+mod kept;
 mod metadata;
 mod packing;
 mod padding;
 mod partial;
+mod restoring;
 mod sizes;
 mod turning;
 

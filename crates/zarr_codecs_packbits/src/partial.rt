@@ -1,11 +1,12 @@
 //! The elements at the places that are asked for.
-ghost use Rattle.std.specs.Prelude.{◌≡◌, ◌^◌, ◌<◌, ℕ, None, Some, true, IsTrue};
+ghost use Rattle.std.specs.Prelude.{◌≡◌, ◌≤◌, ◌+◌, ◌^◌, ◌<◌, ℕ, None, Some, true, IsTrue};
 ghost use Rattle.zarr_grids_boxes.specs.Boxes.{product};
 ghost use Rattle.zarr_codecs_meaning.specs.Chains.{Chain};
 ghost use Rattle.zarr_codecs_meaning.specs.Fits.{fits};
 ghost use Rattle.zarr_codecs_arrays.specs.Views.{elements_of};
 ghost use Rattle.zarr_codecs_traits.specs.Indexers.{are_inside, asked_of, numbers_asked};
 ghost use Rattle.zarr_codecs_traits.specs.Outcomes.{DecodesPart};
+ghost use Rattle.zarr_codecs_traits.specs.ReadBytes.{most_read};
 ghost use Rattle.zarr_codecs_traits.specs.Sources.{refused_after};
 ghost use Rattle.zarr_codecs_packbits.specs.Views.{packbits_chain};
 
@@ -20,6 +21,7 @@ use zarr_codecs_traits::{
 
 /// The elements at the places that are asked for, of the value that a source holds, which is read
 /// whole. Errors as those of `decode`, and `Source` where the source refuses.
+#[tactic(auto, using(crate::proofs::AskedParts::whole_most))]
 pub(crate) fn read_asked<D: BytesPartialDecoderTraits>(
     alloc: Global,
     source: &mut D,
@@ -36,6 +38,10 @@ pub(crate) fn read_asked<D: BytesPartialDecoderTraits>(
         (asked_of part.entry.indexer) result }
     ensures refused { D.refused_calls source.new ≡
         refused_after (D.refused_calls source.old) result }
+    ensures given { IsTrue (D.is_honest source.old) → D.given_bytes source.new
+        ≤ D.given_bytes source.old + most_read (packbits_chain codec)
+        (elements_of part.entry.elements.now).type part.entry.shape.now (D.contents source.old)
+        (asked_of part.entry.indexer) }
     ensures follows { D.follows source.old source.new }
 {
     let numbers = numbers_asked(alloc, part.shape, part.indexer)?;

@@ -6,3 +6,6 @@ pub mod AskedPlaces
 pub mod Pieces
 pub mod Puts
 pub mod BoxPayloads
+pub mod CountAsked
+pub mod Shown
+pub mod WholeWrites

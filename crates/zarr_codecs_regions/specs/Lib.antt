@@ -2,3 +2,4 @@ pub mod Asking
 pub mod Pieces
 pub mod Updates
 pub mod Filling
+pub mod Whole

@@ -1,5 +1,5 @@
 -- Elements of an array that are taken out of it, and that are replaced.
-use Rattle.std.specs.Prelude.{◌≡◌, ◌⊎◌, ℕ, ◌^◌, ◌≤◌, List, [], ◌∷◌, length, set, Some, Result, Ok, Err, true, false}
+use Rattle.std.specs.Prelude.{◌≡◌, ◌⊎◌, ℕ, ◌^◌, ◌≤◌, List, length, Some, Result, Ok, Err, true, false}
 use Rattle.zarr_grids_boxes.specs.Boxes.{product}
 use Rattle.zarr_codecs_meaning.specs.Payloads.{Payload, cells_in}
 use Rattle.zarr_codecs_meaning.specs.Places.{gather}
@@ -10,12 +10,7 @@ use Rattle.zarr_codecs_arrays.specs.declared.array_bytes.ArrayBytes.{ArrayBytes}
 use Rattle.zarr_codecs_arrays.specs.declared.error.CodecError.{CodecError}
 use Rattle.zarr_codecs_arrays.specs.declared.error.CodecError.TheVariants as error
 use Rattle.zarr_codecs_traits.specs.Indexers.{Asked, are_inside, numbers_asked}
-
--- what a list holds after others were put at these places of it, one after another: at a place that is there twice the last one stays
-abbrev pub put : {X : Type 0} → List ℕ → List X → List X → List X
-put [] given before = before
-put (n ∷ ns) [] before = before
-put (n ∷ ns) (x ∷ xs) before = put ns xs (set before n x)
+pub use Rattle.zarr_codecs_traits.specs.Indexers.{put}
 
 -- the elements at the places of an array that are asked for were taken out of it
 pub record IsExtracted (type : DataType) (shape : List ℕ) (asked : Asked) (array made : Payload) (cells : List Cell) : Type 0 where

@@ -9,6 +9,8 @@ pub mod inside;
 pub mod list;
 pub mod update;
 mod variable;
+pub mod whole;
+pub mod whole_values;
 
 pub use asked::{numbers_asked, test_asked};
 pub use extract::extract_box;
@@ -17,3 +19,5 @@ pub use gather::gather_elements;
 pub use inside::is_inside;
 pub use list::{are_below, extract_list};
 pub use update::{extract_array_subset, update_array_bytes};
+pub use whole::encode_whole;
+pub use whole_values::WholeValues;

@@ -1,10 +1,11 @@
 -- The codec `x-reverse` is lawful.
-use Rattle.std.specs.Prelude.{◌≡◌, ℕ, List, [], reverse, length, Option, Some, None}
-use Rattle.std.proofs.Common.{sym, ap, ◌∙◌}
+use Rattle.std.specs.Prelude.{◌≡◌, ℕ, List, [], reverse, length, Option, Some, None, codes, bytes_eq}
+use Rattle.std.proofs.Common.{sym, ap, ◌∙◌, subst}
 use Rattle.std.proofs.lemmas.List.{reverse-reverse, length-reverse}
 use Rattle.zarr_codecs_meaning.specs.Fits.{is_size_as}
 use Rattle.zarr_codecs_meaning.specs.Laws.{IsLawful}
-use Rattle.zarr_codecs_reverse.specs.Reversing.{reversing}
+use Rattle.zarr_codecs_meaning.proofs.Lists.{if_some, some_same}
+use Rattle.zarr_codecs_reverse.specs.Reversing.{reversing, ReadsLawful}
 
 abbrev made_bytes : Option (List ℕ) → List ℕ
 made_bytes None = []
@@ -23,3 +24,7 @@ reversing_lawful = record {
   honest = λ known given made is sized. ap (is_size_as known) (as_long given made is) ∙ sized;
   monotone = λ known wider within. within;
 }
+
+-- and each that metadata says is this codec
+pub reads_reversing_lawful : ReadsLawful
+reads_reversing_lawful point codec is = subst IsLawful (some_same (if_some (bytes_eq point.name (codes "x-reverse")) (Some reversing) codec is).1) reversing_lawful

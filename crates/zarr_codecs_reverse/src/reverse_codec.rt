@@ -11,7 +11,7 @@ pub struct ReverseCodec;
 
 impl BytesToBytesCodecTraits for ReverseCodec {
     ghost use Rattle.std.specs.Prelude.{refl};
-    ghost use Rattle.zarr_codecs_reverse.specs.Lawful.{reversing_lawful};
+    ghost use Rattle.zarr_codecs_reverse.specs.Lawful.{reads_reversing_lawful, reversing_lawful};
     ghost use Rattle.zarr_codecs_reverse.specs.Reversing.{reversing, reversing_point, reads_reversing};
 
     ghost meaning = { λ codec. reversing };
@@ -52,6 +52,8 @@ impl BytesToBytesCodecTraits for ReverseCodec {
     }
 
     ghost lawful = { λ codec. reversing_lawful };
+
+    ghost reads_lawful = { reads_reversing_lawful };
 
     ghost reads_back = { λ codec. refl };
 }

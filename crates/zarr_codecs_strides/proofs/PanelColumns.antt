@@ -1,5 +1,5 @@
 -- Panels: lines of elements that stand side by side, read column by column.
-use Rattle.std.proofs.Common.{◌≡◌, ℕ, zero, suc, ◌+◌, ◌-◌, ◌*◌, ◌/◌, ◌<◌, ◌≤◌, List, [], ◌∷◌, ◌++◌, length, map, take, drop, get_or, slice_index, ap, ◌∙◌, sym, refl, arith, subst, length-append, length-drop, append_assoc, ap₂}
+use Rattle.std.proofs.Common.{◌≡◌, ℕ, zero, suc, ◌+◌, ◌-◌, ◌*◌, ◌/◌, ◌<◌, ◌≤◌, List, [], ◌∷◌, ◌++◌, length, map, take, drop, get_or, ap, ◌∙◌, sym, refl, arith, subst, length-append, length-drop, append_assoc, ap₂}
 use Rattle.std.specs.Prelude.{flat_map}
 use Rattle.std.specs.List.{range_with_len, between}
 use Rattle.std.proofs.Math.Nat.{mul-le-mul_right, mul-div_cancel, mul-pos}
@@ -7,9 +7,8 @@ use Rattle.std.proofs.Math.Seq.{drop-append-add}
 use Rattle.std.proofs.lemmas.List.{take_at, length-take-le, append-nil, take-take, drop-drop, drop-take, take-append-drop}
 use Rattle.std.proofs.lemmas.Slice.{between_is}
 use Rattle.std.proofs.lemmas.List.Folds.{flat_map-map}
-use Rattle.std.proofs.lemmas.List.FromFn.{length-range_with_len, get_or-range_with_len, fill_by_all}
+use Rattle.std.proofs.lemmas.List.FromFn.{fill_by_all}
 use Rattle.std.proofs.lemmas.Grind.{flat_map-append}
-use Rattle.zarr_grids_boxes.specs.Boxes.{product}
 use Rattle.zarr_grids_boxes.proofs.Places.{range_with_len-append}
 use Rattle.zarr_codecs_strides.specs.Strides.{strided, reach, run_at, element_at, walked, element_in, column_of}
 use Rattle.zarr_codecs_strides.proofs.Walks.{flat_same, reach_step, within, number_small}
@@ -125,7 +124,7 @@ element_is w edge c r b bytes ms l less h inside =
           let long = length-drop (k * w) bytes in
           length-take-le (edge * w) (drop (k * w) bytes) (omega (arith, long, most, sum, inside))
 
-flat_below : (f g : ℕ → List ℕ) (a n : ℕ) → ((i : ℕ) → a ≤ i → i < a + n → f i ≡ g i) → flat_map f (range_with_len a n) ≡ flat_map g (range_with_len a n)
+pub flat_below : (f g : ℕ → List ℕ) (a n : ℕ) → ((i : ℕ) → a ≤ i → i < a + n → f i ≡ g i) → flat_map f (range_with_len a n) ≡ flat_map g (range_with_len a n)
 flat_below f g a zero h = refl
 flat_below f g a (suc n) h =
     ap (λ ys. ys ++ flat_map f (range_with_len (a + 1) n)) (h a (omega arith) (omega arith))
@@ -241,3 +240,8 @@ line_inside base count rest w long inside = let k = mul-le-mul_right {m = base +
 pub empty_list : (xs : List ℕ) → length xs ≡ 0 → xs ≡ []
 empty_list [] h = refl
 empty_list (x ∷ xs) h = absurd (omega (arith, h))
+
+pub element_written : (w start : ℕ) (bytes old new : List ℕ) → new ≡ old ++ between start (start + w) bytes → new ≡ old ++ take w (drop start bytes)
+element_written w start bytes old new e =
+    let long : start + w - start ≡ w = omega arith in
+    e ∙ ap (λ n. old ++ take n (drop start bytes)) long

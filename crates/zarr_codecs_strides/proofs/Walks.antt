@@ -1,5 +1,5 @@
 -- Walks along strides, and the bytes that they come by.
-use Rattle.std.proofs.Common.{◌≡◌, ℕ, zero, suc, ◌+◌, ◌-◌, ◌*◌, ◌<◌, ◌≤◌, List, [], ◌∷◌, ◌++◌, length, map, ap, ◌∙◌, sym, refl, arith, append_assoc, subst}
+use Rattle.std.proofs.Common.{◌≡◌, ℕ, zero, suc, ◌+◌, ◌-◌, ◌*◌, ◌<◌, ◌≤◌, List, [], ◌∷◌, ◌++◌, length, ap, ◌∙◌, sym, refl, arith, append_assoc, subst}
 use Rattle.std.specs.Prelude.{flat_map}
 use Rattle.std.specs.List.{range_with_len}
 use Rattle.std.proofs.Math.Nat.{mul-le-mul_right, mul-le-mul_left}
@@ -8,7 +8,7 @@ use Rattle.std.proofs.lemmas.List.{append-nil}
 use Rattle.std.proofs.lemmas.Grind.{flat_map-append}
 use Rattle.zarr_grids_boxes.specs.Boxes.{product}
 use Rattle.zarr_grids_boxes.proofs.Places.{range_with_len-append}
-use Rattle.zarr_codecs_strides.specs.Strides.{strided, reach, run_at, element_at, walked}
+use Rattle.zarr_codecs_strides.specs.Strides.{strided, reach, run_at, walked}
 
 -- a product that is not zero has no factor that is
 pub first_some : (a b : ℕ) → 0 < a * b → 0 < a

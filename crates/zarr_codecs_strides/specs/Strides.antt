@@ -1,5 +1,5 @@
 -- Elements that a walk comes by.
-use Rattle.std.specs.Prelude.{ℕ, ◌+◌, ◌-◌, ◌*◌, List, [], ◌∷◌, take, drop, flat_map}
+use Rattle.std.specs.Prelude.{ℕ, ◌+◌, ◌-◌, ◌*◌, List, [], ◌∷◌, take, drop, flat_map, slice_index_or}
 use Rattle.std.specs.List.{range_with_len}
 
 -- the numbers that a walk over sizes comes by, where a step in a dimension goes on by its stride
@@ -33,3 +33,7 @@ element_in width lines edge column line = element_at width lines (line * edge + 
 -- the elements of a column of so many lines
 abbrev pub column_of : ℕ → List ℕ → ℕ → ℕ → ℕ → List ℕ
 column_of width lines edge count column = flat_map (element_in width lines edge column) (range_with_len 0 count)
+
+-- eight elements, the first with a number, each other one so many elements after the one before it
+abbrev pub eight_of : List (List ℕ) → ℕ → ℕ → List ℕ
+eight_of cells first step = flat_map (λ k. slice_index_or cells (first + k * step) []) (range_with_len 0 8)

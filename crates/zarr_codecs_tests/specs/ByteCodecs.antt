@@ -1,11 +1,13 @@
 -- The bytes codecs that the tests bring.
 use Rattle.std.specs.Prelude.{◌≡◌, ℕ, List, [], ◌∷◌, reverse, length, codes, bytes_eq, Option, Some, None, true, if◌then◌else◌}
-use Rattle.std.proofs.Common.{Bool, false, ap, ◌∙◌, sym, refl}
+use Rattle.std.proofs.Common.{Bool, false, ap, ◌∙◌, sym, refl, subst}
 use Rattle.std.proofs.lemmas.List.{reverse-reverse, length-reverse}
+use Rattle.std.proofs.lemmas.Option.{none-some}
 use Rattle.zarr_grids_metadata.specs.ExtensionPoints.{ExtensionPoint, named}
 use Rattle.zarr_codecs_meaning.specs.Chains.{ByteCodec, BytesRepresentation}
 use Rattle.zarr_codecs_meaning.specs.Fits.{is_size_as}
 use Rattle.zarr_codecs_meaning.specs.Laws.{IsLawful}
+use Rattle.zarr_codecs_meaning.proofs.Lists.{some_same}
 use Rattle.zarr_codecs_tests.specs.declared.byte_codecs.TestCodec.{TestCodec}
 use Rattle.zarr_codecs_tests.specs.declared.byte_codecs.TestCodec.TheVariants.{Reverse, Refuse}
 
@@ -47,6 +49,14 @@ codec_lawful Refuse = record {
   honest = λ known given made h size. ap (λ ns. is_size_as known (length ns)) (sym (unless_same given made h)) ∙ size;
   monotone = λ known wider h. h;
 }
+
+codec_if : (is_reverse is_refuse : Bool) (codec : ByteCodec) → (if is_reverse then Some (codec_of Reverse) else (if is_refuse then Some (codec_of Refuse) else None)) ≡ Some codec → IsLawful codec
+codec_if true is_refuse codec h = subst IsLawful (some_same h) (codec_lawful Reverse)
+codec_if false true codec h = subst IsLawful (some_same h) (codec_lawful Refuse)
+codec_if false false codec h = absurd (none-some codec h)
+
+pub codec_in_lawful : (point : ExtensionPoint) (codec : ByteCodec) → codec_in point ≡ Some codec → IsLawful codec
+codec_in_lawful point codec h = codec_if (bytes_eq point.name (codes "x-reverse")) (bytes_eq point.name (codes "x-refuse")) codec h
 
 pub codec_reads_back : (codec : TestCodec) → codec_in (point_of_codec codec) ≡ Some (codec_of codec)
 codec_reads_back Reverse = refl

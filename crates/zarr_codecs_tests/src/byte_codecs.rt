@@ -15,7 +15,7 @@ pub enum TestCodec {
 }
 
 impl BytesToBytesCodecTraits for TestCodec {
-    ghost use Rattle.zarr_codecs_tests.specs.ByteCodecs.{codec_of, point_of_codec, codec_in, codec_lawful, codec_reads_back};
+    ghost use Rattle.zarr_codecs_tests.specs.ByteCodecs.{codec_of, point_of_codec, codec_in, codec_in_lawful, codec_lawful, codec_reads_back};
 
     ghost meaning = { codec_of };
 
@@ -71,6 +71,8 @@ impl BytesToBytesCodecTraits for TestCodec {
     }
 
     ghost lawful = { codec_lawful };
+
+    ghost reads_lawful = { codec_in_lawful };
 
     ghost reads_back = { codec_reads_back };
 }

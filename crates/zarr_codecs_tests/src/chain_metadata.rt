@@ -58,6 +58,13 @@ fn a_chain_is_written_as_the_metadata_of_its_codecs(rt: HostRuntime) {
     assert!(rt; is_written_chain(rt.alloc(), &CHAIN, CHAIN_WRITTEN) == Ok(true));
 }
 
+#[test]
+fn array_codecs_keep_their_names(rt: HostRuntime) {
+    let codecs = [r#""squeeze""#, r#""zarrs.squeeze""#, r#""bytes""#];
+    let want = "\"squeeze\"\n\"zarrs.squeeze\"\n\"bytes\"\n";
+    assert!(rt; is_written_chain(rt.alloc(), &codecs, want) == Ok(true));
+}
+
 /// Lists of codecs of which one has an unknown name where it stands.
 const UNKNOWN: [&[&str]; 4] = [
     &[r#""x-reverse""#],
@@ -104,11 +111,11 @@ fn a_configuration_that_is_none_of_bytes_is_refused(rt: HostRuntime) {
     assert!(rt; found == None);
 }
 
-/// A codec with chains inside of it under its other name, or with what may be left out, and its metadata.
-const SECTIONS: [(&str, &str); 3] = [
+/// A codec with chains inside of it under one of its names, or with what may be left out, and its metadata.
+const SECTIONS: [(&str, &str); 4] = [
     (
         r#"{"name":"zarrs.vlen","configuration":{"index_codecs":["bytes"],"data_codecs":["bytes"],"index_data_type":"uint32"}}"#,
-        r#"{"configuration":{"data_codecs":["bytes"],"index_codecs":["bytes"],"index_data_type":"uint32","index_location":"start"},"name":"vlen"}
+        r#"{"configuration":{"data_codecs":["bytes"],"index_codecs":["bytes"],"index_data_type":"uint32","index_location":"start"},"name":"zarrs.vlen"}
 "#,
     ),
     (
@@ -118,7 +125,12 @@ const SECTIONS: [(&str, &str); 3] = [
     ),
     (
         r#"{"name":"zarrs.optional","configuration":{"mask_codecs":["bytes"],"data_codecs":["bytes"]}}"#,
-        r#"{"configuration":{"data_codecs":["bytes"],"mask_codecs":["bytes"]},"name":"optional"}
+        r#"{"configuration":{"data_codecs":["bytes"],"mask_codecs":["bytes"]},"name":"zarrs.optional"}
+"#,
+    ),
+    (
+        r#"{"name":"vlen","configuration":{"index_codecs":["zarrs.squeeze","squeeze","bytes"],"data_codecs":["bytes"],"index_data_type":"uint64"}}"#,
+        r#"{"configuration":{"data_codecs":["bytes"],"index_codecs":["zarrs.squeeze","squeeze","bytes"],"index_data_type":"uint64","index_location":"start"},"name":"vlen"}
 "#,
     ),
 ];
@@ -134,7 +146,7 @@ fn first_written_otherwise(alloc: Global, rows: &[(&str, &str)]) -> Option<usize
 }
 
 #[test]
-fn vlen_and_optional_are_read_under_both_names(rt: HostRuntime) {
+fn vlen_and_optional_keep_their_names(rt: HostRuntime) {
     assert!(rt; first_written_otherwise(rt.alloc(), &SECTIONS) == None);
 }
 

@@ -28,13 +28,15 @@ fn total_length(ranges: &[ByteRange]) -> u64 {
 impl BytesPartialDecoderTraits for CountingSource {
     ghost use Rattle.std.specs.Prelude.{refl, true};
     ghost use Rattle.std.proofs.Common.{◌∙◌};
-    ghost use Rattle.zarr_codecs_traits.specs.Sources.{source_accepted, source_contents, source_length};
+    ghost use Rattle.zarr_codecs_traits.specs.Sources.{source_accepted, source_contents, source_given, source_length};
 
     ghost contents = { λ s. source_contents s.inner };
 
     ghost is_honest = { λ _. true };
 
     ghost refused_calls = { λ _. 0 };
+
+    ghost given_bytes = { λ s. source_given s.inner };
 
     ghost follows = { λ a b. (source_contents a.inner ≡ source_contents b.inner)
         × (source_accepted a.inner ≡ source_accepted b.inner) };

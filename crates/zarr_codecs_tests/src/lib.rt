@@ -17,7 +17,11 @@ mod fill_values;
 #[cfg(test)]
 mod json;
 #[cfg(test)]
+mod made;
+#[cfg(test)]
 mod new_shapes;
+#[cfg(test)]
+mod options;
 #[cfg(test)]
 mod packed;
 #[cfg(test)]
@@ -25,9 +29,13 @@ mod part_writing;
 #[cfg(test)]
 mod parts;
 #[cfg(test)]
+mod put_parts;
+#[cfg(test)]
 mod regions;
 #[cfg(test)]
 mod samples;
+#[cfg(test)]
+mod taken;
 #[cfg(test)]
 mod targets;
 #[cfg(test)]

@@ -40,7 +40,7 @@ fn patches(
     let region = ArraySubset::new_with_ranges(alloc, ranges)?;
     let given = fixed(alloc, bytes)?;
     let part = box_part(&elements, shape, &region);
-    BytesCodec::big().partial_encode(alloc, given, part, &CodecOptions::default())
+    BytesCodec::big().encode_patches(alloc, given, part, &CodecOptions::default())
 }
 
 /// The ranges that a chain of these codecs writes for 9 at the third of four places.
@@ -49,13 +49,13 @@ fn chain_patches(alloc: Global, codecs: &[&str]) -> Result<Option<Vec<ValuePatch
     let region = ArraySubset::new_with_ranges(alloc, &[2..3])?;
     let given = fixed(alloc, &[9])?;
     let part = box_part(&elements, &[4], &region);
-    chain(alloc, codecs)?.partial_encode(alloc, given, part, &CodecOptions::default())
+    chain(alloc, codecs)?.encode_patches(alloc, given, part, &CodecOptions::default())
 }
 
 /// Whether a chain of these codecs can write bytes unread; `None` where there is no chain.
-fn supports_partial_encode(alloc: Global, codecs: &[&str]) -> Option<bool> {
+fn takes_patches(alloc: Global, codecs: &[&str]) -> Option<bool> {
     match chain(alloc, codecs) {
-        Ok(chain) => Some(chain.supports_partial_encode(&DataType::UInt8)),
+        Ok(chain) => Some(chain.takes_patches(&DataType::UInt8)),
         Err(_) => None,
     }
 }
@@ -113,11 +113,11 @@ fn a_box_outside_of_the_array_is_not_written(rt: HostRuntime) {
 #[test]
 fn values_of_integers_of_whole_bytes_can_be_written_unread(rt: HostRuntime) {
     let codec = BytesCodec::little();
-    assert!(rt; codec.supports_partial_encode(&DataType::Int64));
-    assert!(rt; codec.supports_partial_encode(&DataType::UInt8));
-    assert!(rt; !codec.supports_partial_encode(&DataType::Bool));
-    assert!(rt; !codec.supports_partial_encode(&DataType::UInt4));
-    assert!(rt; !codec.supports_partial_encode(&DataType::String));
+    assert!(rt; codec.takes_patches(&DataType::Int64));
+    assert!(rt; codec.takes_patches(&DataType::UInt8));
+    assert!(rt; !codec.takes_patches(&DataType::Bool));
+    assert!(rt; !codec.takes_patches(&DataType::UInt4));
+    assert!(rt; !codec.takes_patches(&DataType::String));
 }
 
 #[test]
@@ -129,13 +129,13 @@ fn any_eight_bytes_are_an_int64(rt: HostRuntime) {
 #[test]
 fn a_chain_of_bytes_alone_writes_a_part(rt: HostRuntime) {
     let codecs = [r#""bytes""#];
-    assert!(rt; supports_partial_encode(rt.alloc(), &codecs) == Some(true));
+    assert!(rt; takes_patches(rt.alloc(), &codecs) == Some(true));
     assert!(rt; is_some_of(chain_patches(rt.alloc(), &codecs), &[(2, &[9])]));
 }
 
 #[test]
 fn a_chain_with_a_bytes_codec_writes_no_part(rt: HostRuntime) {
     let codecs = [r#""bytes""#, r#""x-reverse""#];
-    assert!(rt; supports_partial_encode(rt.alloc(), &codecs) == Some(false));
+    assert!(rt; takes_patches(rt.alloc(), &codecs) == Some(false));
     assert!(rt; matches!(chain_patches(rt.alloc(), &codecs), Ok(None)));
 }

@@ -137,7 +137,7 @@ fn patches(
     let part = box_part(&elements, &[4, 4], region);
     let given = fixed(alloc, cells)?;
     let codec = BytesCodec::little();
-    match codec.partial_encode(alloc, given, part, &CodecOptions::default())? {
+    match codec.encode_patches(alloc, given, part, &CodecOptions::default())? {
         Some(patches) => Ok(patches),
         None => Err(CodecError::Unsupported),
     }

@@ -1,2 +1,3 @@
 mod PartLemmas
 pub mod PartValues
+mod Intervals

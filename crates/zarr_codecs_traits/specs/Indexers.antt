@@ -1,5 +1,5 @@
 -- Places of an array that a call asks for.
-use Rattle.std.specs.Prelude.{ℕ, List, map, length, Bool, ◌==◌, ◌&&◌, nat_lt}
+use Rattle.std.specs.Prelude.{ℕ, List, [], ◌∷◌, map, length, set, Bool, ◌==◌, ◌&&◌, nat_lt}
 use Rattle.std.specs.List.{list_all}
 use Rattle.zarr_grids_boxes.specs.Boxes.{Region, product, places, is_in_box, ravel}
 use Rattle.zarr_grids_boxes.specs.Subsets.{region_of}
@@ -33,3 +33,9 @@ are_inside shape (listed numbers) = list_all (λ n. nat_lt n (product shape)) nu
 abbrev pub numbers_asked : List ℕ → Asked → List ℕ
 numbers_asked shape (in_box region) = numbers_of shape region
 numbers_asked shape (listed numbers) = numbers
+
+-- what a list holds after others were put at these places of it, one after another: at a place that is there twice the last one stays
+abbrev pub put : {X : Type 0} → List ℕ → List X → List X → List X
+put [] given before = before
+put (n ∷ ns) [] before = before
+put (n ∷ ns) (x ∷ xs) before = put ns xs (set before n x)

@@ -1,10 +1,12 @@
 pub mod Indexers
 pub mod Outcomes
 pub mod Sources
+pub mod ReadBytes
 pub mod Patches
 pub mod Writes
 pub mod Targets
 pub mod PartEncoding
+pub mod PartWriting
 pub mod Representations
 pub mod Capabilities
 pub mod Compactions

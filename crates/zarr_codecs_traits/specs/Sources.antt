@@ -1,5 +1,5 @@
 -- What sources of bytes answer.
-use Rattle.std.specs.Prelude.{ℕ, ◌+◌, ◌-◌, ◌^◌, min, map, List, Vec, Bool, Option, None, Some, option_map, length, take, drop, false, nat_lt, IsTrue, Result, Ok, Err}
+use Rattle.std.specs.Prelude.{ℕ, ◌+◌, ◌-◌, ◌^◌, min, map, List, Vec, Bool, Option, None, Some, option_map, length, take, drop, false, nat_lt, IsTrue, Result, Ok, Err, nat_le, sum_by}
 use Rattle.std.specs.List.{list_any}
 use Rattle.std.specs.Option.{option_map_or}
 use Rattle.std.specs.declared.alloc.Global.{Global}
@@ -40,6 +40,19 @@ refused_after count (Ok value) = count
 refused_after count (Err error.Source) = min (count + 1) (2 ^ 128 - 1)
 refused_after count (Err e) = count
 
+-- how many bytes the parts have together that were given, or 0 where there are none
+abbrev pub parts_length : Option (Vec (Vec ℕ Global) Global) → ℕ
+parts_length found = option_map_or (λ parts. sum_by length parts) (part_lists found) 0
+
+-- the count of bytes given after ranges were asked for: as many more as were given, and none where the source refused (a count stands still at 2^128 - 1)
+abbrev pub given_after : ℕ → Result (Option (Vec (Vec ℕ Global) Global)) CodecError → ℕ
+given_after count (Ok found) = min (count + parts_length found) (2 ^ 128 - 1)
+given_after count (Err e) = count
+
+-- how many bytes a value has, or 0 where there is none
+abbrev pub value_length : Option (List ℕ) → ℕ
+value_length contents = option_map_or length contents 0
+
 -- why a source is not read: it refuses, or memory ran out
 abbrev pub ReadRefused : {A : Type 0} → Result A CodecError → Type 0
 ReadRefused (Ok value) = Unit {0}
@@ -51,6 +64,23 @@ ReadRefused (Err e) = ⊥
 abbrev pub RangesRefused : {A : Type 0} → Option (List ℕ) → List ByteRange → Result A CodecError → Type 0
 RangesRefused contents ranges (Err error.Damage) = IsTrue (any_past_end contents ranges)
 RangesRefused contents ranges result = ReadRefused result
+
+-- whether there is a value, and a range lies in it
+abbrev pub has_range : Option (List ℕ) → ByteRange → Bool
+has_range None range = false
+has_range (Some value) range = nat_le (range.offset + range.length) (length value)
+
+-- the bytes of a value in a range, as a value of their own, or none where there is no value
+abbrev pub interval_of : Option (List ℕ) → ByteRange → Option (List ℕ)
+interval_of contents range = option_map (λ value. bytes_at value range) contents
+
+-- whether a range of an interval ends past the end of the interval
+abbrev pub is_outside : ByteRange → ByteRange → Bool
+is_outside interval range = nat_lt interval.length (range.offset + range.length)
+
+-- a range of an interval, as a range of the whole value
+abbrev pub moved_range : ByteRange → ByteRange → ByteRange
+moved_range interval range = record { offset = interval.offset + range.offset; length = range.length }
 
 -- the bytes of a value that is lent, if one is
 abbrev pub value_lent : Option (Bor (List ℕ)) → Option (List ℕ)
@@ -71,6 +101,10 @@ source_contents source = value_bytes source.value
 abbrev pub source_accepted : MemorySource → ℕ
 source_accepted source = source.accepted
 
+-- how many bytes a source in memory gave
+abbrev pub source_given : MemorySource → ℕ
+source_given source = source.given
+
 -- how many bytes the value has that a source in memory holds, or 0 where it holds none
 abbrev pub source_length : MemorySource → ℕ
-source_length source = option_map_or length (source_contents source) 0
+source_length source = value_length (source_contents source)

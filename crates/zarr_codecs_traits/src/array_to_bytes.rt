@@ -1,9 +1,10 @@
 //! Codecs between arrays and bytes.
-ghost use Rattle.std.specs.Prelude.{◌≡◌, Bool, IfErr, IfOk, IsTrue, OnErr, OnOk};
+ghost use Rattle.std.specs.Prelude.{◌≡◌, ◌≤◌, ◌+◌, Bool, List, IfErr, IfOk, IsTrue, OnErr, OnOk, true};
 ghost use Rattle.zarr_codecs_meaning.specs.Chains.{Chain};
-ghost use Rattle.zarr_codecs_meaning.specs.Fits.{fits};
+ghost use Rattle.zarr_codecs_meaning.specs.Fits.{fits, is_plain};
 ghost use Rattle.zarr_codecs_meaning.specs.Laws.{IsLawfulChain};
 ghost use Rattle.zarr_codecs_meaning.specs.Partial.{encodes_in_part};
+ghost use Rattle.zarr_codecs_meaning.specs.Types.{Cell};
 ghost use Rattle.zarr_codecs_types.specs.Views.{type_of};
 ghost use Rattle.zarr_codecs_arrays.specs.Views.{payload_of, elements_of};
 ghost use Rattle.zarr_codecs_traits.specs.Capabilities.{decodes_parts, granularity};
@@ -11,12 +12,15 @@ ghost use Rattle.zarr_codecs_traits.specs.Compactions.{Compacts};
 ghost use Rattle.zarr_codecs_traits.specs.Indexers.{asked_of};
 ghost use Rattle.zarr_codecs_traits.specs.Outcomes.{Encodes, Decodes, DecodesPart};
 ghost use Rattle.zarr_codecs_traits.specs.PartEncoding.{EncodesAsked, takes_patches};
+ghost use Rattle.zarr_codecs_traits.specs.PartWriting.{IsEncodedInto, NotEncodedInto, WritesOnce};
+ghost use Rattle.zarr_codecs_traits.specs.ReadBytes.{most_read};
 ghost use Rattle.zarr_codecs_traits.specs.Representations.{RepresentsArray};
 ghost use Rattle.zarr_codecs_traits.specs.Sources.{refused_after};
 ghost use Rattle.zarr_codecs_traits.specs.Targets.{IsDecodedInto, NotDecodedInto};
 
 use crate::array_part::{ArrayPart, WholeArray};
 use crate::byte_source::BytesPartialDecoderTraits;
+use crate::byte_target::BytesPartialEncoderTraits;
 use crate::bytes_representation::BytesRepresentation;
 use crate::target::{ArrayBytesDecodeIntoTarget, put_all};
 use crate::value_patch::ValuePatch;
@@ -135,7 +139,9 @@ pub trait ArrayToBytesCodecTraits: Sized + Drop {
     /// holds; each is the fill value where it holds none. `Fit` where the codec doesn't suit the
     /// array; `IncompatibleIndexer` where a place isn't one of the array's; `Damage` where a place
     /// that is asked for cannot be decoded; `Size` where the array has 2^63 elements or bytes or
-    /// more; `Source` where the source refuses.
+    /// more; `Source` where the source refuses. Of an honest source a codec without
+    /// shards takes at most as many bytes as the value has, and a chain that ends in `bytes` no more
+    /// than those elements have.
     fn partial_decode<D: BytesPartialDecoderTraits>(
         &self,
         alloc: Global,
@@ -148,11 +154,15 @@ pub trait ArrayToBytesCodecTraits: Sized + Drop {
             (asked_of part.entry.indexer) result }
         ensures refused { D.refused_calls source.new ≡
             refused_after (D.refused_calls source.old) result }
+        ensures given { is_plain (meaning self.now) ≡ true → IsTrue (D.is_honest source.old) →
+            D.given_bytes source.new ≤ D.given_bytes source.old + most_read (meaning self.now)
+            (elements_of part.entry.elements.now).type part.entry.shape.now
+            (D.contents source.old) (asked_of part.entry.indexer) }
         ensures follows { D.follows source.old source.new };
 
-    /// Whether elements can be replaced by `partial_encode` in values that nobody reads. Each value
+    /// Whether elements can be replaced by `encode_patches` in values that nobody reads. Each value
     /// with as many bytes as the array's elements is then decoded, and no other.
-    fn supports_partial_encode(&self, data_type: &DataType) -> bool
+    fn takes_patches(&self, data_type: &DataType) -> bool
         ensures { result ≡ takes_patches (meaning self.now) (type_of data_type.now) };
 
     /// The ranges to be written into a value of an array, so that the elements at the places of a
@@ -161,7 +171,7 @@ pub trait ArrayToBytesCodecTraits: Sized + Drop {
     /// value whole. `Fit` where the codec doesn't suit the array; `IncompatibleIndexer` where the box
     /// doesn't lie in the shape; `InvalidNumberOfElements`, `Expected..` or `CellOutOfRange` where
     /// these are not elements of the box; `Size` where the array has 2^63 elements or bytes or more.
-    fn partial_encode(
+    fn encode_patches(
         &self,
         alloc: Global,
         bytes: ArrayBytes,
@@ -171,6 +181,40 @@ pub trait ArrayToBytesCodecTraits: Sized + Drop {
         ensures { EncodesAsked (meaning self.now) (is_function self.now)
             (elements_of part.entry.elements.now) part.entry.shape.now
             (asked_of part.entry.indexer) (payload_of bytes) result };
+
+    /// Puts elements in the place of those at the places that are asked for, in their order, in the
+    /// value that a source holds, by at most one writing call; of a place that is asked for twice the
+    /// last element stays. Where the source holds no value, the rest of the array is the fill value.
+    /// Where all of a shard is the fill value then, its value is taken away; other codecs keep theirs.
+    /// A refusal leaves the source as it was.
+    /// `Fit` where the codec doesn't suit the array; `IncompatibleIndexer` where a place isn't one of
+    /// the array's; `InvalidNumberOfElements`, `Expected..` or `CellOutOfRange` where these are not
+    /// elements, one for each place; `Damage` where the value that was there can't be decoded;
+    /// `Codec` where the caller's codec refuses; `Size` where an offset, a length, the new value or
+    /// the array is too large; `Source` where the source refuses.
+    fn partial_encode<E: BytesPartialEncoderTraits>(
+        &self,
+        alloc: Global,
+        source: &mut E,
+        bytes: ArrayBytes,
+        part: ArrayPart<'_>,
+        options: &CodecOptions,
+    ) -> Result<(), CodecError>
+        ensures ok { IsTrue (E.is_honest source.old) → OnOk result ((cells : List Cell)
+            × IsEncodedInto (meaning self.now) (is_function self.now)
+            (elements_of part.entry.elements.now) part.entry.shape.now
+            (asked_of part.entry.indexer) (payload_of bytes) cells (E.contents source.old)
+            (E.contents source.new)) }
+        ensures err { IsTrue (E.is_honest source.old) →
+            OnErr result (E.contents source.new ≡ E.contents source.old) }
+        ensures cause { IsTrue (E.is_honest source.old) → NotEncodedInto (meaning self.now)
+            (elements_of part.entry.elements.now) part.entry.shape.now
+            (asked_of part.entry.indexer) (payload_of bytes) (E.contents source.old) result }
+        ensures refused { E.refused_calls source.new ≡
+            refused_after (E.refused_calls source.old) result }
+        ensures once { WritesOnce (E.accepted_writes source.old) (E.accepted_writes source.new)
+            result }
+        ensures rewrites { E.rewrites source.old source.new };
 
     /// The value with what it holds of shards written anew: their present slices row-major without
     /// gaps. `None` where nothing is gained, as for each value of a codec that makes no shard. `Fit`

@@ -1,5 +1,5 @@
 //! Ranges of a value that are read.
-ghost use Rattle.std.specs.Prelude.{◌≡◌, map, false, IfOk};
+ghost use Rattle.std.specs.Prelude.{◌≡◌, ◌+◌, ◌-◌, ◌^◌, min, map, false, length, sum_by, IfOk};
 ghost use Rattle.std.specs.List.{list_any};
 ghost use Rattle.zarr_codecs_traits.specs.Sources.{bytes_at, ends_past, part_bytes};
 
@@ -51,4 +51,15 @@ pub fn read_ranges(
         parts.push(Vec::from_slice(alloc, bytes_at(value, *range))?)?;
     }
     Ok(parts)
+}
+
+/// A count after as many more as the parts have bytes. At 2^128 - 1 it stands still.
+pub fn count_parts(count: u128, parts: &[Vec<u8>]) -> u128
+    ensures { result ≡ min (count + sum_by length (part_bytes parts.now)) (2 ^ 128 - 1) }
+{
+    let mut sum = count;
+    for part in parts {
+        sum = sum.saturating_add(part.len() as u128);
+    }
+    sum
 }

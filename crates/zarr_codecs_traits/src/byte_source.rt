@@ -1,6 +1,6 @@
 //! Sources of bytes that are read in part.
-ghost use Rattle.std.specs.Prelude.{◌≡◌, ◌≤◌, ℕ, List, Bool, Option, IsTrue, IfOk, option_map, is_some, length};
-ghost use Rattle.zarr_codecs_traits.specs.Sources.{ReadRefused, RangesRefused, any_past_end, part_lists, parts_of, refused_after};
+ghost use Rattle.std.specs.Prelude.{◌≡◌, ◌≤◌, ℕ, List, Bool, Option, IsTrue, IfOk, OnOk, option_map, is_some, length, false};
+ghost use Rattle.zarr_codecs_traits.specs.Sources.{ReadRefused, RangesRefused, any_past_end, given_after, part_lists, parts_of, refused_after};
 
 use crate::byte_range::ByteRange;
 use std::alloc::Global;
@@ -18,6 +18,9 @@ pub trait BytesPartialDecoderTraits {
     /// How many calls were refused by what stands behind it.
     ghost refused_calls: { Self → ℕ };
 
+    /// How many bytes `partial_decode` gave. At 2^128 - 1 each count stands still.
+    ghost given_bytes: { Self → ℕ };
+
     /// Whether the second is the first after calls: a source of the same value, with all else that
     /// stands behind it as it was.
     ghost follows: { Self → Self → Type 0 };
@@ -32,6 +35,7 @@ pub trait BytesPartialDecoderTraits {
             IfOk result (λ size. size ≡ option_map length (contents self.old)) }
         ensures cause { ReadRefused result }
         ensures refused { refused_calls self.new ≡ refused_after (refused_calls self.old) result }
+        ensures given { given_bytes self.new ≡ given_bytes self.old }
         ensures follows { follows self.old self.new };
 
     /// The bytes of the value in each range, or `None` where there is no value. `Source` where the
@@ -43,9 +47,12 @@ pub trait BytesPartialDecoderTraits {
     ) -> Result<Option<Vec<Vec<u8>>>, CodecError>
         ensures parts { IsTrue (is_honest self.old) → IfOk result
             (λ found. part_lists found ≡ parts_of (contents self.old) ranges.now) }
+        ensures in_range { IsTrue (is_honest self.old) →
+            OnOk result (any_past_end (contents self.old) ranges.now ≡ false) }
         ensures cause { IsTrue (is_honest self.old) →
             RangesRefused (contents self.old) ranges.now result }
         ensures refused { refused_calls self.new ≡ refused_after (refused_calls self.old) result }
+        ensures given { given_bytes self.new ≡ given_after (given_bytes self.old) result }
         ensures follows { follows self.old self.new };
 
     /// Whether there is a value. `Source` where the source refuses.
@@ -54,6 +61,7 @@ pub trait BytesPartialDecoderTraits {
             IfOk result (λ there. there ≡ is_some (contents self.old)) }
         ensures cause { ReadRefused result }
         ensures refused { refused_calls self.new ≡ refused_after (refused_calls self.old) result }
+        ensures given { given_bytes self.new ≡ given_bytes self.old }
         ensures follows { follows self.old self.new }
     {
         Ok(self.size()?.is_some())

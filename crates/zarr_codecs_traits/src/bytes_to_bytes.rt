@@ -54,4 +54,7 @@ pub trait BytesToBytesCodecTraits: Sized + Drop {
     ghost lawful: { (codec : Self) → IsLawful (meaning codec) };
 
     ghost reads_back: { (codec : Self) → reads (described codec) ≡ Some (meaning codec) };
+
+    ghost reads_lawful: { (point : ExtensionPoint) (codec : ByteCodec) → reads point ≡ Some codec
+        → IsLawful codec };
 }

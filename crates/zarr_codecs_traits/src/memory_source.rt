@@ -1,9 +1,9 @@
 //! A source of bytes in memory.
 ghost use Rattle.std.specs.Prelude.{◌≡◌, Some, true, false, OnOk, OnErr};
 ghost use Rattle.zarr_codecs_traits.specs.Patches.{any_too_far, patched_contents};
-ghost use Rattle.zarr_codecs_traits.specs.Sources.{source_accepted, source_contents, source_length, value_bytes};
+ghost use Rattle.zarr_codecs_traits.specs.Sources.{source_accepted, source_contents, source_given, source_length, value_bytes};
 
-use crate::byte_range::{ByteRange, any_ends_past, read_ranges};
+use crate::byte_range::{ByteRange, any_ends_past, count_parts, read_ranges};
 use crate::byte_source::BytesPartialDecoderTraits;
 use crate::byte_target::BytesPartialEncoderTraits;
 use crate::value_patch;
@@ -17,6 +17,7 @@ use zarr_codecs_arrays::CodecError;
 pub struct MemorySource {
     value: Option<Vec<u8>>,
     accepted: u128,
+    given: u128,
 }
 
 impl MemorySource {
@@ -24,8 +25,20 @@ impl MemorySource {
     pub fn new(value: Option<Vec<u8>>) -> Self
         ensures contents { source_contents result ≡ value_bytes value }
         ensures accepted { source_accepted result ≡ 0 }
+        ensures given { source_given result ≡ 0 }
     {
-        MemorySource { value, accepted: 0 }
+        MemorySource {
+            value,
+            accepted: 0,
+            given: 0,
+        }
+    }
+
+    /// How many bytes the source gave. At 2^128 - 1 the count stands still.
+    pub fn given_bytes(&self) -> u128
+        ensures { result ≡ source_given self.now }
+    {
+        self.given
     }
 
     /// The value that the source holds.
@@ -46,6 +59,8 @@ impl BytesPartialDecoderTraits for MemorySource {
 
     ghost refused_calls = { λ _. 0 };
 
+    ghost given_bytes = { source_given };
+
     ghost follows = { λ a b. (source_contents a ≡ source_contents b)
         × (source_accepted a ≡ source_accepted b) };
 
@@ -63,13 +78,16 @@ impl BytesPartialDecoderTraits for MemorySource {
         alloc: Global,
         ranges: &[ByteRange],
     ) -> Result<Option<Vec<Vec<u8>>>, CodecError> {
+        let given = self.given;
         let Some(value) = &self.value else {
             return Ok(None);
         };
         if any_ends_past(value, ranges) {
             return Err(CodecError::Damage);
         }
-        Ok(Some(read_ranges(alloc, value, ranges)?))
+        let parts = read_ranges(alloc, value, ranges)?;
+        self.given = count_parts(given, parts.as_slice());
+        Ok(Some(parts))
     }
 
     fn size_held(&self) -> usize {

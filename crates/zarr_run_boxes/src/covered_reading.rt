@@ -11,7 +11,7 @@ ghost use Rattle.zarr_run_boxes.specs.Outcomes.{GivesCovered, CoveredReadRefused
 use crate::refusal::cause_of;
 use crate::targets::small_chunks_intersecting;
 use std::alloc::Global;
-use zarr_array_core::ArrayCore;
+use zarr_array_core::{ArrayCore, RegionChunks};
 use zarr_array_storage::ReadableStorageTraits;
 use zarr_codecs_arrays::ArrayBytes;
 use zarr_codecs_options::CodecOptions;
@@ -61,7 +61,11 @@ pub(crate) fn read_covered<C: ArrayToBytesCodecTraits, S: ReadableStorageTraits>
         return no_cells(alloc, array);
     }
     let chunks = small_chunks_intersecting(alloc, array, region, count)?;
-    match array.read_region(alloc, store, region, &chunks, options) {
+    let target = RegionChunks {
+        region,
+        chunks: &chunks,
+    };
+    match array.read_region(alloc, store, target, options) {
         Ok(bytes) => Ok(bytes),
         Err(error) => Err(cause_of(&error)),
     }

@@ -16,7 +16,7 @@ use crate::refusal::Refusal;
 use crate::targets::small_chunks_intersecting;
 use serde_json::Value;
 use std::alloc::Global;
-use zarr_array_core::ArrayCore;
+use zarr_array_core::{ArrayCore, RegionChunks};
 use zarr_array_storage::WritableStorageTraits;
 use zarr_codecs_arrays::ArrayBytes;
 use zarr_codecs_json::elements_in;
@@ -137,7 +137,11 @@ fn write_elements<C: ArrayToBytesCodecTraits, S: WritableStorageTraits>(
         Ok(chunks) => chunks,
         Err(cause) => return Err(Refusal::whole(cause)),
     };
-    match array.write_region(alloc, store, region, &chunks, elements, options) {
+    let target = RegionChunks {
+        region,
+        chunks: &chunks,
+    };
+    match array.write_region(alloc, store, target, elements, options) {
         Ok(()) => Ok(()),
         Err(stopped) => Err(Refusal::at_chunk(&stopped)),
     }

@@ -17,12 +17,11 @@ use Rattle.zarr_run_meaning.specs.declared.cause.Cause.{Cause}
 use Rattle.zarr_run_meaning.specs.declared.cause.Cause.TheVariants as cause
 use Rattle.zarr_run_meaning.specs.Causes.{ReopenRefuses, IsChunkKeyIn}
 use Rattle.zarr_run_meaning.specs.Changes.{Reopens, Opens}
-use Rattle.zarr_run_meaning.specs.Laws.{HasCells, IsReopenedAs, AreReopened, AsksAgain, IsAnsweredAgain, RunsReopen, RunsGoOn}
+use Rattle.zarr_run_meaning.specs.Laws.{IsReopenedAs, IsAgain, AreReopened, AsksAgain, IsAnsweredAgain, RunsReopen, RunsGoOn}
 use Rattle.zarr_run_meaning.specs.Requests.{Request, reopen, Answer, done, cells, refused}
 use Rattle.zarr_run_meaning.specs.Runs.{Run, world_over}
 use Rattle.zarr_run_meaning.specs.Sound.{AreApart, IsSound, ReadsGood}
 use Rattle.zarr_run_meaning.specs.Steps.{Stays, RefusesAt, Step}
-use Rattle.zarr_run_meaning.specs.Tables.{cell}
 use Rattle.zarr_run_meaning.specs.Worlds.{Held, World, held_at, is_taken, with_order}
 use Rattle.zarr_run_meaning.proofs.Arrays.{held_at-path, held_at-before, held_at-more, held_at-new, held_at-ordered, held_at-reordered, apart_more, apart_ordered, free_of, free_from, unrelated_paths}
 use Rattle.zarr_run_meaning.proofs.Effects.{at_cases}
@@ -31,7 +30,7 @@ use Rattle.zarr_run_meaning.proofs.Reopening.{reopens_alike, reopened_sound}
 
 -- an array of the world is one that was held, with its cells
 abbrev WasHeld : World → List ℕ → Held → Type 0
-WasHeld closed path h = (before : Held) × (held_at path closed.arrays ≡ Some before) × (h ≡ record before { order = h.order; table = h.table }) × HasCells h (cell before.document.elements.fill before.table)
+WasHeld closed path h = (before : Held) × (held_at path closed.arrays ≡ Some before) × IsAgain before h
 
 -- what is held at a path is held there still
 abbrev HoldsStill : World → World → Type 0
@@ -65,7 +64,7 @@ module _ (reads : ReadsCodecs) (closed old new : World) (path : List ℕ) (h : H
   free none = free_from path old.arrays again.apart (λ q g at.
       let was = again.each q g at in
       let differs = λ (same : path ≡ q). none-some g (sym none ∙ ap (λ r. held_at r old.arrays) same ∙ at) in
-      ap (λ p. is_related p g.path) here ∙ ap (is_related h.path) (ap (λ (x : Held). x.path) was.2) ∙ unrelated_paths closed.arrays path q h was.0 sound.apart found was.1 differs)
+      ap (λ p. is_related p g.path) here ∙ ap (is_related h.path) (ap (λ (x : Held). x.path) was.2.0) ∙ unrelated_paths closed.arrays path q h was.0 sound.apart found was.1 differs)
 
   -- and the key of the document is no key of a chunk
   no_chunk : held_at path old.arrays ≡ None → IsChunkKeyIn old.arrays (document_key path ZarrJson) → ⊥
@@ -82,7 +81,7 @@ module _ (reads : ReadsCodecs) (closed old new : World) (path : List ℕ) (h : H
         let g = held_at-ordered path q order old.arrays x e in
         let was = again.each q g.0 g.1 in
         let P : Held → Type 0 = λ y. WasHeld closed q y in
-        ⊎_elim (λ is. subst P (sym is) was) (λ is. subst P (sym is) (was.0, was.1, ap (λ (y : Held). record y { order = order }) was.2, was.3)) g.2
+        ⊎_elim (λ is. subst P (sym is) was) (λ is. subst P (sym is) (was.0, was.1, (ap (λ (y : Held). record y { order = order }) was.2.0, was.2.1))) g.2
 
   opened_again : Opens reads path order old new → IsReopenedAs h order done new → AreReopened closed new
   opened_again o r = record {
@@ -98,7 +97,7 @@ module _ (reads : ReadsCodecs) (closed old new : World) (path : List ℕ) (h : H
         let at : q ≡ path = held_at-path q new.arrays x e ∙ ap (λ (y : Held). y.path) is in
         let one : x ≡ record h { order = order; table = r.table } = same_Some x (record h { order = order; table = r.table }) (sym e ∙ ap (λ p. held_at p new.arrays) (at ∙ here) ∙ r.held) in
         let Q : Held → Type 0 = λ y. WasHeld closed q y in
-        subst Q (sym one) (h, ap (λ p. held_at p closed.arrays) at ∙ found, refl, r.cells)
+        subst Q (sym one) (h, ap (λ p. held_at p closed.arrays) at ∙ found, (refl, r.cells))
 
   -- ---- it is refused
 
@@ -120,7 +119,7 @@ module _ (reads : ReadsCodecs) (closed old new : World) (path : List ℕ) (h : H
   answered (cells payload) s = absurd s
   answered (refused c n) s = go (held_at path old.arrays) refl where
     go : (o : Option Held) → held_at path old.arrays ≡ o → IsAnsweredAgain (refused c n)
-    go None e = ⊎_elim (λ r. inl r.is) inr (reopens_alike reads closed old new path h order (refused c n) good sound found again.store e (no_chunk e) s)
+    go None e = ⊎_elim (λ r. inl r.is) inr (reopens_alike reads closed old new path h order (refused c n) good found (sound.each path h found) again.store e (no_chunk e) s)
     go (Some g) e = held_refused c n g e s
 
   -- ---- in all cases
@@ -129,7 +128,7 @@ module _ (reads : ReadsCodecs) (closed old new : World) (path : List ℕ) (h : H
   next_again done s = ⊎_elim reordered_again opens s.0 where
     opens : Opens reads path order old new → AreReopened closed new
     opens o = ⊎_elim (opened_again o) (λ other. absurd (⊎_elim (λ e. not_refused cause.Memory 0 e) (λ e. not_refused cause.Store 0 e) other))
-        (reopens_alike reads closed old new path h order done good sound found again.store o.begins.free (no_chunk o.begins.free) s) where
+        (reopens_alike reads closed old new path h order done good found (sound.each path h found) again.store o.begins.free (no_chunk o.begins.free) s) where
           not_refused : (c : Cause) (n : ℕ) → done ≡ refused c n → ⊥
           not_refused c n e = cc
   next_again (cells payload) s = absurd s

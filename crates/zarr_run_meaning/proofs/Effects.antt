@@ -74,7 +74,7 @@ at_cases reads path request cause.Memory n old new P h stays refuses = ⊎_elim 
 at_cases reads path request c n old new P h stays refuses = refuses h.1
 
 -- how a command on a held array is refused
-held_cases : (o : Option Held) (refuses : Held → Cause → ℕ → World → World → Type 0) (c : Cause) (n : ℕ) (old new : World) (P : Type 0) → RefusesHeld o refuses c n old new → (Stays c n old new → P) → ((h : Held) → o ≡ Some h → refuses h c n old new → P) → P
+pub held_cases : (o : Option Held) (refuses : Held → Cause → ℕ → World → World → Type 0) (c : Cause) (n : ℕ) (old new : World) (P : Type 0) → RefusesHeld o refuses c n old new → (Stays c n old new → P) → ((h : Held) → o ≡ Some h → refuses h c n old new → P) → P
 held_cases None refuses cause.NoArray n old new P r stays held = stays r
 held_cases None refuses c n old new P r stays held = absurd r
 held_cases (Some h) refuses c n old new P r stays held = held h refl r

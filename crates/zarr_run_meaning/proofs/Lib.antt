@@ -15,6 +15,8 @@ pub mod Standing
 pub mod Owning
 pub mod Begun
 pub mod Sound
+pub mod Undamaged
 pub mod Reopening
 pub mod Again
 pub mod Alone
+pub mod One

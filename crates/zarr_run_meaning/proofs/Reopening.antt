@@ -22,7 +22,7 @@ use Rattle.zarr_run_meaning.specs.Causes.{ReopenRefuses, IsChunkKeyIn, HasNoneAt
 use Rattle.zarr_run_meaning.specs.Changes.{Opens}
 use Rattle.zarr_run_meaning.specs.Laws.{SameCells, HasCells, IsReopenedAs, ReopensAlike, ReopenedSound, ReopenedOwned}
 use Rattle.zarr_run_meaning.specs.Requests.{reopen, Answer, done, cells, refused}
-use Rattle.zarr_run_meaning.specs.Sound.{OwnsKey, IsSoundAt, IsSound, ReadsGood}
+use Rattle.zarr_run_meaning.specs.Sound.{OwnsKey, IsSoundAt, ReadsGood}
 use Rattle.zarr_run_meaning.specs.Steps.{RefusesAt, Step}
 use Rattle.zarr_run_meaning.specs.Tables.{Table, cell}
 use Rattle.zarr_run_meaning.specs.Worlds.{Held, World, held_at, IsTableAt}
@@ -46,12 +46,9 @@ ok_no_error {A} {E} r x e h = let P : Result A E → Type 0 = λ s. IsErr s in f
 
 -- ---- a path that is opened again
 
-module _ (reads : ReadsCodecs) (closed old new : World) (path : List ℕ) (h : Held) (order : SubchunkWriteOrder) (good : ReadsGood reads) (sound : IsSound reads closed) (found : held_at path closed.arrays ≡ Some h) (same : old.store ≡ closed.store) (none : held_at path old.arrays ≡ None) (other : ¬ IsChunkKeyIn old.arrays (document_key path ZarrJson)) where
+module _ (reads : ReadsCodecs) (closed old new : World) (path : List ℕ) (h : Held) (order : SubchunkWriteOrder) (good : ReadsGood reads) (found : held_at path closed.arrays ≡ Some h) (there : IsSoundAt reads closed.store h) (same : old.store ≡ closed.store) (none : held_at path old.arrays ≡ None) (other : ¬ IsChunkKeyIn old.arrays (document_key path ZarrJson)) where
   at : path ≡ h.path
   at = held_at-path path closed.arrays h found
-
-  there : IsSoundAt reads closed.store h
-  there = sound.each path h found
 
   -- the document is stored there still
   stored : HasDocument path h.tree old.store
@@ -120,12 +117,12 @@ module _ (reads : ReadsCodecs) (closed old new : World) (path : List ℕ) (h : H
   alike (refused c n) s = refused_alike c n s
 
 pub reopens_alike : ReopensAlike
-reopens_alike reads closed old new path h order answer good sound found same none other s = alike reads closed old new path h order good sound found same none other answer s
+reopens_alike reads closed old new path h order answer good found there same none other s = alike reads closed old new path h order good found there same none other answer s
 
 -- ---- a world whose arrays were opened again
 
 -- an array with its cells again
-again_sound : (reads : ReadsCodecs) (closed new : StoreMap) (h : Held) (order : SubchunkWriteOrder) (table : Table) → IsSoundAt reads closed h → new ≡ closed → SameCells h.document (cell h.document.elements.fill table) (cell h.document.elements.fill h.table)
+pub again_sound : (reads : ReadsCodecs) (closed new : StoreMap) (h : Held) (order : SubchunkWriteOrder) (table : Table) → IsSoundAt reads closed h → new ≡ closed → SameCells h.document (cell h.document.elements.fill table) (cell h.document.elements.fill h.table)
     → IsSoundAt reads new (record h { order = order; table = table })
 again_sound reads closed new h order table s same cells_again =
     let P : StoreMap → Type 0 = λ store. IsSoundAt reads store (record h { order = order; table = table }) in
@@ -146,7 +143,7 @@ reopened_sound reads closed new sound again = record {
       let r = again.each path h e in
       let P : Held → Type 0 = λ x. IsSoundAt reads new.store x in
       let Q : Held → Type 0 = λ x. HasCells x (cell r.0.document.elements.fill r.0.table) in
-      subst P (sym r.2) (again_sound reads closed.store new.store r.0 h.order h.table (sound.each path r.0 r.1) again.store (subst Q r.2 r.3));
+      subst P (sym r.2.0) (again_sound reads closed.store new.store r.0 h.order h.table (sound.each path r.0 r.1) again.store (subst Q r.2.0 r.2.1));
 }
 
 -- an array with another order and another table has the same keys of its own
@@ -161,4 +158,4 @@ reopened_owned closed new key again all owned value e =
     let own = owned value (ap (λ m. get m key) (sym again.store) ∙ e) in
     let h = all own.0.path own.0 own.1 in
     let r = again.each own.0.path h.0 h.1 in
-    (h.0, held_own own.0.path new.arrays h.0 h.1, own_again own.0 r.0 h.0 key (same_Some own.0 r.0 (sym own.1 ∙ r.1)) r.2 own.2)
+    (h.0, held_own own.0.path new.arrays h.0 h.1, own_again own.0 r.0 h.0 key (same_Some own.0 r.0 (sym own.1 ∙ r.1)) r.2.0 own.2)

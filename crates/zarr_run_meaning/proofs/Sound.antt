@@ -15,7 +15,8 @@ use Rattle.zarr_array_meaning.specs.StoreMaps.{StoreMap}
 use Rattle.zarr_run_meaning.specs.Changes.{Creates, Reopens, Opens}
 use Rattle.zarr_run_meaning.specs.Laws.{StepsSound, RunsSound, OwnedBegins, OwnedRunsSound}
 use Rattle.zarr_run_meaning.specs.Requests.{Request, create, reopen, Answer, done}
-use Rattle.zarr_run_meaning.specs.Sound.{IsSoundAt, IsSound, IsStoredAs, BeginsSound, AsksOwned, ReadsGood}
+use Rattle.zarr_run_meaning.specs.Runs.{Run}
+use Rattle.zarr_run_meaning.specs.Sound.{IsSoundAt, IsSound, IsStoredAs, BeginsSound, SoundRun, AllAskLossless, AsksOwned, ReadsGood}
 use Rattle.zarr_run_meaning.specs.Steps.{Step}
 use Rattle.zarr_run_meaning.specs.Tables.{Table}
 use Rattle.zarr_run_meaning.specs.Worlds.{Held, World, held_at, is_taken, with_order, WithTable}
@@ -155,12 +156,21 @@ all_still old mid still [] owned = All-nil (AsksOwned mid)
 all_still old mid still (request ∷ requests) owned =
     All-cons (AsksOwned mid) request requests (still request (All-head (AsksOwned old) request requests owned)) (all_still old mid still requests (All-tail (AsksOwned old) request requests owned))
 
+-- in such a run each array begins over chunks that stand for cells
+pub owned_run : (reads : ReadsCodecs) (old new : World) (requests : List Request) (answers : List Answer) → ReadsGood reads → All (AsksOwned old) requests → AllAskLossless reads requests answers
+    → IsSound reads old → Run reads old requests answers new → SoundRun reads old requests answers new
+owned_run reads old new [] [] good owned lossless sound r = r
+owned_run reads old new [] (answer ∷ answers) good owned lossless sound r = absurd r
+owned_run reads old new (request ∷ requests) [] good owned lossless sound r = absurd r
+owned_run reads old new (request ∷ requests) (answer ∷ answers) good owned lossless sound r =
+    let begins = owned_begins reads old r.0 request answer good (All-head (AsksOwned old) request requests owned) lossless.0 sound r.1 in (
+      r.0,
+      begins,
+      r.1,
+      owned_run reads r.0 new requests answers good
+          (all_still old r.0 (asks_still reads old r.0 request answer r.1) requests (All-tail (AsksOwned old) request requests owned)) lossless.1
+          (steps_sound reads old r.0 request answer good begins sound r.1) r.2,
+    )
+
 pub owned_runs_sound : OwnedRunsSound
-owned_runs_sound reads old new [] [] good owned lossless sound r = let P : World → Type 0 = λ w. IsSound reads w in subst P (sym r) sound
-owned_runs_sound reads old new [] (answer ∷ answers) good owned lossless sound r = absurd r
-owned_runs_sound reads old new (request ∷ requests) [] good owned lossless sound r = absurd r
-owned_runs_sound reads old new (request ∷ requests) (answer ∷ answers) good owned lossless sound r =
-    let begins = owned_begins reads old r.0 request answer good (All-head (AsksOwned old) request requests owned) lossless.0 sound r.1 in
-    owned_runs_sound reads r.0 new requests answers good
-    (all_still old r.0 (asks_still reads old r.0 request answer r.1) requests (All-tail (AsksOwned old) request requests owned)) lossless.1
-    (steps_sound reads old r.0 request answer good begins sound r.1) r.2
+owned_runs_sound reads old new requests answers good owned lossless sound r = runs_sound reads old new requests answers good sound (owned_run reads old new requests answers good owned lossless sound r)

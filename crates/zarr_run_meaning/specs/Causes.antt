@@ -1,5 +1,5 @@
 -- When a cause may be answered: the conditions of each, where none before it in the command's order holds.
-use Rattle.std.specs.Prelude.{◌≡◌, ◌⊎◌, ℕ, ◌*◌, ◌^◌, ◌<◌, ◌≤◌, List, length, true, false, Option, Some, None, IsErr, IsOk, IsSome, IsUtf8, MatchOption}
+use Rattle.std.specs.Prelude.{◌≡◌, ◌⊎◌, ℕ, ◌^◌, ◌<◌, ◌≤◌, List, length, true, false, Option, Some, None, IsErr, IsOk, IsSome, IsUtf8}
 use Rattle.std.specs.FinMap.{get}
 use Rattle.serde_json.specs.Data.{Data}
 use Rattle.serde_json.specs.Read.{read}
@@ -9,7 +9,8 @@ use Rattle.zarr_grids_keys.specs.Documents.{document_key}
 use Rattle.zarr_grids_keys.specs.Keys.{chunk_key}
 use Rattle.zarr_grids_keys.specs.declared.document_name.DocumentName.TheVariants.{ZarrJson, ZArray}
 use Rattle.zarr_grids_metadata.specs.Trees.{SameTree}
-use Rattle.zarr_codecs_meaning.specs.Types.{DataType, byte_width, Cell}
+use Rattle.zarr_codecs_arrays.specs.Outcomes.{IsTooLarge}
+use Rattle.zarr_codecs_meaning.specs.Types.{Cell}
 use Rattle.zarr_codecs_metadata.specs.Chains.{ReadsCodecs}
 use Rattle.zarr_codecs_options.specs.declared.codec_options.CodecOptions.{CodecOptions}
 use Rattle.zarr_codecs_types.specs.Given.{GivenCells, given_in}
@@ -41,19 +42,15 @@ Gives document region given values = (given_in document.elements.type given ≡ 
 
 -- ---- sizes
 
--- a box with this shape has 2^63 cells or more, or 2^63 bytes or more, where the cells are of one size
-abbrev pub IsTooLarge : DataType → List ℕ → Type 0
-IsTooLarge type shape = (2 ^ 63 ≤ product shape) ⊎ MatchOption (byte_width type) ⊥ (λ width. 2 ^ 63 ≤ product shape * width)
-
--- a box of places, or a chunk that it intersects, is too large
+-- a box of places, or a chunk that it intersects, has 2^63 cells or more, or 2^63 bytes or more where the cells are of one size
 abbrev pub HasTooLarge : Document → Region → Type 0
-HasTooLarge document region = IsTooLarge document.elements.type region.shape
-    ⊎ ((chunk : List ℕ) × (box : Region) × IsInGrid document.grid chunk box × (intersects document.grid region chunk ≡ true) × IsTooLarge document.elements.type box.shape)
+HasTooLarge document region = IsTooLarge document.elements.type (product region.shape)
+    ⊎ ((chunk : List ℕ) × (box : Region) × IsInGrid document.grid chunk box × (intersects document.grid region chunk ≡ true) × IsTooLarge document.elements.type (product box.shape))
 
 -- a box of chunk indices has 2^63 chunks or more, or a chunk that is too large
 abbrev pub HasTooLargeChunk : Document → Region → Type 0
 HasTooLargeChunk document chunks = (2 ^ 63 ≤ product chunks.shape)
-    ⊎ ((chunk : List ℕ) × (box : Region) × IsInGrid document.grid chunk box × (is_in_box chunks.start chunks.shape chunk ≡ true) × IsTooLarge document.elements.type box.shape)
+    ⊎ ((chunk : List ℕ) × (box : Region) × IsInGrid document.grid chunk box × (is_in_box chunks.start chunks.shape chunk ≡ true) × IsTooLarge document.elements.type (product box.shape))
 
 -- ---- documents
 

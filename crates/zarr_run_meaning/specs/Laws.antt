@@ -6,6 +6,7 @@ use Rattle.zarr_grids_boxes.specs.Boxes.{Region, is_in_box}
 use Rattle.zarr_grids_chunks.specs.Grids.{IsInGrid}
 use Rattle.zarr_grids_keys.specs.Documents.{document_key}
 use Rattle.zarr_grids_keys.specs.Paths.{is_node_path}
+use Rattle.zarr_grids_keys.specs.Related.{is_related}
 use Rattle.zarr_grids_keys.specs.declared.document_name.DocumentName.TheVariants.{ZarrJson}
 use Rattle.zarr_codecs_meaning.specs.Payloads.{Payload}
 use Rattle.zarr_codecs_meaning.specs.Types.{Cell}
@@ -22,7 +23,7 @@ use Rattle.zarr_run_meaning.specs.Causes.{IsChunkKeyIn}
 use Rattle.zarr_run_meaning.specs.Printing.{PrintsValues, IsFormed, GivesValues}
 use Rattle.zarr_run_meaning.specs.Requests.{Target, Request, create, reopen, read, path_of, Answer, done, cells as gives, refused}
 use Rattle.zarr_run_meaning.specs.Runs.{Run, world_over}
-use Rattle.zarr_run_meaning.specs.Sound.{AreApart, IsSound, IsSoundAlone, OpensApart, IsOwned, OwnsAllKeys, OwnsKeysUnder, HasNoChunks, IsStoredAs, BeginsSound, SoundRun, AsksLossless, AllAskLossless, AsksOwned, ReadsLawful, ReadsGood}
+use Rattle.zarr_run_meaning.specs.Sound.{AreApart, IsSoundAt, IsSound, IsSoundAlone, OpensApart, IsOwned, OwnsAllKeys, OwnsKeysUnder, HasNoChunks, IsStoredAs, BeginsSound, SoundRun, AsksLossless, AllAskLossless, AsksOwned, ReadsLawful, ReadsGood}
 use Rattle.zarr_run_meaning.specs.Steps.{Step}
 use Rattle.zarr_run_meaning.specs.Tables.{Table, cell}
 use Rattle.zarr_run_meaning.specs.Worlds.{Held, World, held_at, is_taken, IsTableAt}
@@ -139,6 +140,27 @@ abbrev pub OwnedRunsSound : Type 0
 OwnedRunsSound = (reads : ReadsCodecs) (old new : World) (requests : List Request) (answers : List Answer) → ReadsGood reads → All (AsksOwned old) requests → AllAskLossless reads requests answers
     → IsSound reads old → Run reads old requests answers new → IsSound reads new
 
+-- an answer is neither damage nor that a document has changed, and of a read not that a chunk does not fit
+abbrev pub IsUndamaged : Request → Answer → Type 0
+IsUndamaged request (refused cause.Damage n) = ⊥
+IsUndamaged request (refused cause.DocumentChanged n) = ⊥
+IsUndamaged (read path target options) (refused cause.Fit n) = ⊥
+IsUndamaged request answer = Unit {0}
+
+-- each command of some is answered so
+abbrev pub AreUndamaged : List Request → List Answer → Type 0
+AreUndamaged requests answers = (n : ℕ) (request : Request) (answer : Answer) → slice_get requests n ≡ Some request → slice_get answers n ≡ Some answer → IsUndamaged request answer
+
+-- a run from a sound world in which each array begins over chunks that stand for cells: no command is refused for damage or for a document that has changed, and no read because a chunk does not fit
+abbrev pub RunsUndamaged : Type 0
+RunsUndamaged = (reads : ReadsCodecs) (old new : World) (requests : List Request) (answers : List Answer) → ReadsGood reads
+    → IsSound reads old → SoundRun reads old requests answers new → AreUndamaged requests answers
+
+-- and so is none of a run whose creates name lossless documents, where no key is foreign of those that its commands may begin an array over
+abbrev pub OwnedRunsUndamaged : Type 0
+OwnedRunsUndamaged = (reads : ReadsCodecs) (old new : World) (requests : List Request) (answers : List Answer) → ReadsGood reads → All (AsksOwned old) requests → AllAskLossless reads requests answers
+    → IsSound reads old → Run reads old requests answers new → AreUndamaged requests answers
+
 -- ---- one array, whatever is stored for the others
 
 -- in a sound world each array is sound alone
@@ -162,18 +184,21 @@ AloneUndamaged = (reads : ReadsCodecs) (old new : World) (request : Request) (n 
 
 -- ---- a session over the store of another one
 
--- a session that was closed in a sound world, and whose store is given to another one: a held path that is reopened there, where the key of its document is no chunk's of an array that is held there, has its document and its cells again, running out of memory and refused store calls aside
+-- a session that was closed while an array was sound, and whose store is given to another one, whatever is stored for the other arrays: where that one reopens the array's path, and the key of its document is no chunk's of an array that is held there, the array has its document and its cells again, running out of memory and refused store calls aside
 abbrev pub ReopensAlike : Type 0
 ReopensAlike = (reads : ReadsCodecs) (closed old new : World) (path : List ℕ) (h : Held) (order : SubchunkWriteOrder) (answer : Answer) → ReadsGood reads
-    → IsSound reads closed → held_at path closed.arrays ≡ Some h → old.store ≡ closed.store → held_at path old.arrays ≡ None
+    → held_at path closed.arrays ≡ Some h → IsSoundAt reads closed.store h → old.store ≡ closed.store → held_at path old.arrays ≡ None
     → (¬ IsChunkKeyIn old.arrays (document_key path ZarrJson)) → Step reads old (reopen path order) answer new → IsReopenedAs h order answer new ⊎ (answer ≡ refused cause.Memory 0) ⊎ (answer ≡ refused cause.Store 0)
+
+-- an array is another one again: with its document and its cells
+abbrev pub IsAgain : Held → Held → Type 0
+IsAgain before h = (h ≡ record before { order = h.order; table = h.table }) × HasCells h (cell before.document.elements.fill before.table)
 
 -- each array of a world is one of another over the same store, with the cells that it had there
 pub record AreReopened (closed new : World) : Type 0 where
   pub apart : AreApart new.arrays
   pub store : new.store ≡ closed.store
-  pub each : (path : List ℕ) (h : Held) → held_at path new.arrays ≡ Some h
-      → (before : Held) × (held_at path closed.arrays ≡ Some before) × (h ≡ record before { order = h.order; table = h.table }) × HasCells h (cell before.document.elements.fill before.table)
+  pub each : (path : List ℕ) (h : Held) → held_at path new.arrays ≡ Some h → (before : Held) × (held_at path closed.arrays ≡ Some before) × IsAgain before h
 
 -- a world whose arrays are those of a sound one, or some of them, each with its cells, over the same store, is sound
 abbrev pub ReopenedSound : Type 0
@@ -199,6 +224,25 @@ RunsReopen = (reads : ReadsCodecs) (closed new : World) (count : ℕ) (requests 
     → Run reads (world_over closed.store count) requests answers new
     → AreReopened closed new × IsSound reads new × All IsAnsweredAgain answers
     × ((n : ℕ) (path : List ℕ) (order : SubchunkWriteOrder) → slice_get requests n ≡ Some (reopen path order) → slice_get answers n ≡ Some done → (h : Held) × (held_at path new.arrays ≡ Some h))
+
+-- a command reopens a path, or names an unrelated one
+abbrev pub AsksBeside : List ℕ → Request → Type 0
+AsksBeside path (reopen other order) = (other ≡ path) ⊎ (is_related path other ≡ false)
+AsksBeside path request = is_related path (path_of request) ≡ false
+
+-- an array is held again, with its document and its cells, and is sound alone
+pub record IsHeldAgain (reads : ReadsCodecs) (path : List ℕ) (before : Held) (world : World) : Type 0 where
+  pub array : Held
+  pub found : held_at path world.arrays ≡ Some array
+  pub again : IsAgain before array
+  pub sound : IsSoundAlone reads world path
+
+-- a session over the store of another one, which was closed while the array at a path was sound, whatever is stored for the other arrays and whatever is done to them: each reopening of the path is done, running out of memory and refused store calls aside; and if one is done, then at the end of the run the array is held again, with its document and its cells
+abbrev pub RunsReopenOne : Type 0
+RunsReopenOne = (reads : ReadsCodecs) (closed new : World) (count : ℕ) (path : List ℕ) (h : Held) (requests : List Request) (answers : List Answer) → ReadsGood reads
+    → held_at path closed.arrays ≡ Some h → IsSoundAt reads closed.store h → All (AsksBeside path) requests → Run reads (world_over closed.store count) requests answers new
+    → (n : ℕ) (order : SubchunkWriteOrder) (answer : Answer) → slice_get requests n ≡ Some (reopen path order) → slice_get answers n ≡ Some answer
+    → IsAnsweredAgain answer × (answer ≡ done → IsHeldAgain reads path h new)
 
 -- a run is one of its first commands, and then one of the others, which goes on from the world that the first lead to
 abbrev pub RunsGoOn : Type 0

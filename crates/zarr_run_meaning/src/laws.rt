@@ -2,6 +2,7 @@
 ghost use Rattle.zarr_run_meaning.specs.Laws.{LawfulGood, TableFound, NoArraysSound, OpensNone, ReadsFit, BeginsAsFill, NeverDamaged, StepsShow, StepsSound};
 ghost use Rattle.zarr_run_meaning.specs.Laws.{EmptyOwned, StepsOwn, RunsOwn, OwnedHasNoChunks, NoChunksAreFill, CreatesCells, CreatesFill, OpensCells};
 ghost use Rattle.zarr_run_meaning.specs.Laws.{RunsSound, OwnedBegins, OwnedRunsSound, ReopensAlike, ReopenedSound, ReopenedOwned, RunsReopen, RunsGoOn};
+ghost use Rattle.zarr_run_meaning.specs.Laws.{RunsUndamaged, OwnedRunsUndamaged, RunsReopenOne};
 ghost use Rattle.zarr_run_meaning.specs.Laws.{SoundAlone, BeginsAlone, StepsKeepSound, AloneUndamaged, RunsPrint, ReadsPrint};
 
 /// Whatever is stored, there is a table of the cells that it shows.
@@ -110,8 +111,20 @@ pub fn owned_runs_sound()
     ensures { OwnedRunsSound }
 {}
 
-/// What a session leaves in a sound world another one opens with the documents and the cells that
-/// were there, running out of memory and refused store calls aside.
+/// In a run from a sound world in which each array begins over chunks that stand for cells, no
+/// command is refused for damage or for a document that has changed, and no read because a chunk does
+/// not fit its codecs.
+pub fn runs_undamaged()
+    ensures { RunsUndamaged }
+{}
+
+/// Nor is one in a run where none of the keys that its commands may begin an array over is foreign.
+pub fn owned_runs_undamaged()
+    ensures { OwnedRunsUndamaged }
+{}
+
+/// An array that was sound when a session was closed is opened by another one with its document and
+/// its cells, whatever is stored for the others, running out of memory and refused store calls aside.
 pub fn reopens_alike()
     ensures { ReopensAlike }
 {}
@@ -131,6 +144,13 @@ pub fn reopened_owned()
 /// aside, the arrays have the documents and the cells that they had, and all is sound.
 pub fn runs_reopen()
     ensures { RunsReopen }
+{}
+
+/// A session over the store of another one, in which one array was sound: each reopening of its path
+/// is done, whatever is stored for the others and whatever is done to them, running out of memory and
+/// refused store calls aside, and the array has its document and its cells.
+pub fn runs_reopen_one()
+    ensures { RunsReopenOne }
 {}
 
 /// A run is one of its first commands, and then one of the others.

@@ -5,6 +5,7 @@ mod arrays;
 mod chunk_keys;
 pub mod creating;
 pub mod held;
+pub mod laws;
 mod opening;
 pub mod reopening;
 mod store_calls;

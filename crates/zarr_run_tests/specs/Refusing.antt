@@ -1,10 +1,11 @@
 -- The codec `x-refuse`, which leaves bytes as they are, and refuses some.
 use Rattle.std.specs.Prelude.{◌≡◌, ℕ, List, [], ◌∷◌, length, codes, bytes_eq, Option, Some, None, if◌then◌else◌}
-use Rattle.std.proofs.Common.{Bool, true, false, ap, ◌∙◌, sym}
+use Rattle.std.proofs.Common.{Bool, true, false, ap, ◌∙◌, sym, subst}
 use Rattle.zarr_grids_metadata.specs.ExtensionPoints.{ExtensionPoint, named}
 use Rattle.zarr_codecs_meaning.specs.Chains.{ByteCodec}
 use Rattle.zarr_codecs_meaning.specs.Fits.{is_size_as}
 use Rattle.zarr_codecs_meaning.specs.Laws.{IsLawful}
+use Rattle.zarr_codecs_meaning.proofs.Lists.{if_some, some_same}
 
 -- bytes other than 7, 8
 abbrev pub unless_stated : List ℕ → Option (List ℕ)
@@ -36,3 +37,7 @@ refusing_lawful = record {
   honest = λ known given made h size. ap (λ ns. is_size_as known (length ns)) (sym (unless_same given made h)) ∙ size;
   monotone = λ known wider within. within;
 }
+
+-- and each that metadata says is this codec
+pub reads_refusing_lawful : (point : ExtensionPoint) (codec : ByteCodec) → reads_refusing point ≡ Some codec → IsLawful codec
+reads_refusing_lawful point codec is = subst IsLawful (some_same (if_some (bytes_eq point.name (codes "x-refuse")) (Some refusing) codec is).1) refusing_lawful

@@ -18,7 +18,7 @@ fn is_refused(bytes: &[u8]) -> bool
 
 impl BytesToBytesCodecTraits for RefusingCodec {
     ghost use Rattle.std.specs.Prelude.{refl};
-    ghost use Rattle.zarr_run_tests.specs.Refusing.{refusing, refusing_point, reads_refusing, refusing_lawful};
+    ghost use Rattle.zarr_run_tests.specs.Refusing.{refusing, refusing_point, reads_refusing, reads_refusing_lawful, refusing_lawful};
 
     ghost meaning = { λ codec. refusing };
 
@@ -60,6 +60,8 @@ impl BytesToBytesCodecTraits for RefusingCodec {
     }
 
     ghost lawful = { λ codec. refusing_lawful };
+
+    ghost reads_lawful = { reads_refusing_lawful };
 
     ghost reads_back = { λ codec. refl };
 }

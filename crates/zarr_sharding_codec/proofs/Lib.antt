@@ -3,3 +3,12 @@ pub mod StoredParts
 pub mod StoredLoop
 pub mod EncodedShard
 pub mod DecodedShard
+pub mod ClosedValues
+pub mod LocatedParts
+pub mod AllThere
+pub mod PlaceCells
+pub mod GroupsRead
+pub mod ShardBounds
+pub mod PartsRead
+pub mod SoFarRead
+pub mod ShardSizes

@@ -3,4 +3,3 @@ pub mod Fitting
 pub mod Slices
 pub mod Assembled
 pub mod Reading
-pub mod Compacted

@@ -1,9 +1,11 @@
 -- What is read of the subchunks of a shard.
-use Rattle.std.specs.Prelude.{◌≡◌, ℕ, Bool, true, false, List, replicate, Option, None, Some, Result, Ok, Err}
+use Rattle.std.specs.Prelude.{◌≡◌, ℕ, Bool, true, false, List, length, map, replicate, Option, None, Some, option_and_then, if◌then◌else◌, Result, Ok, Err}
 use Rattle.zarr_grids_boxes.specs.Boxes.{product}
 use Rattle.zarr_codecs_meaning.specs.Chains.{Chain, Location}
+use Rattle.zarr_codecs_meaning.specs.Decoding.{all_there, cell_at, cell_of_part, is_absent, slice_at}
 use Rattle.zarr_codecs_meaning.specs.Encoding.{Pair}
 use Rattle.zarr_codecs_meaning.specs.Payloads.{cells_in}
+use Rattle.zarr_codecs_meaning.specs.Places.{parts_of}
 use Rattle.zarr_codecs_meaning.specs.Types.{Cell, Elements}
 use Rattle.zarr_codecs_arrays.specs.Outcomes.{IsTooLarge}
 use Rattle.zarr_codecs_arrays.specs.Views.{payload_of}
@@ -11,6 +13,8 @@ use Rattle.zarr_codecs_arrays.specs.declared.array_bytes.ArrayBytes.{ArrayBytes}
 use Rattle.zarr_codecs_arrays.specs.declared.error.CodecError.{CodecError}
 use Rattle.zarr_codecs_arrays.specs.declared.error.CodecError.TheVariants as error
 use Rattle.zarr_sharding_index.specs.Held.{DecodesIndex}
+use Rattle.zarr_sharding_index.specs.Views.{pairs_of}
+use Rattle.zarr_sharding_index.specs.declared.held.FetchedIndex.{FetchedIndex}
 use Rattle.zarr_sharding_index.specs.declared.index.ShardIndex.{ShardIndex}
 use Rattle.zarr_sharding_places.specs.Pieces.{piece_decoded, shard_decoded}
 
@@ -47,3 +51,35 @@ DecodesIndexOf fit index location shape value (Err error.Fit) = fit ≡ false
 DecodesIndexOf fit index location shape value (Err error.Damage) = (fit ≡ true) × DecodesIndex index location shape value (Err error.Damage)
 DecodesIndexOf fit index location shape value (Err error.Memory) = Unit {0}
 DecodesIndexOf fit index location shape value (Err e) = ⊥
+
+-- an index that was fetched, if one was, has so many pairs
+abbrev pub HasPairs : ℕ → Option FetchedIndex → Type 0
+HasPairs count None = Unit {0}
+HasPairs count (Some found) = length (pairs_of found.index) ≡ count
+
+-- ---- places that are read alone
+
+-- the cell at a place of a subchunk of this shape: the fill value where the subchunk is absent, else what its slice has there
+abbrev pub place_decoded : Chain → Elements → List ℕ → List ℕ → Pair → ℕ → Option Cell
+place_decoded inner elements value shape pair place = if is_absent pair then Some elements.fill else option_and_then (λ slice. cell_at inner elements shape slice place) (slice_at value pair)
+
+-- the cells at places of a subchunk, in their order
+abbrev pub places_decoded : Chain → Elements → List ℕ → List ℕ → Pair → List ℕ → Option (List Cell)
+places_decoded inner elements value shape pair places = all_there (map (place_decoded inner elements value shape pair) places)
+
+-- the cells at places of the subchunk that a slice holds, in their order
+abbrev pub slice_cells : Chain → Elements → List ℕ → List ℕ → List ℕ → Option (List Cell)
+slice_cells inner elements shape slice places = all_there (map (cell_at inner elements shape slice) places)
+
+-- the cell at a place of the array of a shard whose index has these pairs: of the subchunks only the place's own is met
+abbrev pub shard_cell : Chain → Elements → List ℕ → List ℕ → List ℕ → List Pair → ℕ → Option Cell
+shard_cell inner elements shape subchunk value pairs place = cell_of_part (cell_at inner elements) elements.fill value place (parts_of shape subchunk) pairs
+
+-- the cells at places of it, in their order
+abbrev pub shard_cells : Chain → Elements → List ℕ → List ℕ → List ℕ → List Pair → List ℕ → Option (List Cell)
+shard_cells inner elements shape subchunk value pairs places = all_there (map (shard_cell inner elements shape subchunk value pairs) places)
+
+-- elements that are read from a source, which are these cells, or why there are none
+abbrev pub ListsRead : Elements → List ℕ → Option (List Cell) → Result ArrayBytes CodecError → Type 0
+ListsRead elements shape found (Err error.Source) = Unit {0}
+ListsRead elements shape found result = Lists elements shape found result

@@ -34,42 +34,12 @@ impl<I: ArrayToBytesCodecTraits, X: ArrayToBytesCodecTraits> ShardingCodec<I, X>
     ghost use Rattle.zarr_codecs_meaning.specs.Encoding.{absent_pair, index_size};
     ghost use Rattle.zarr_codecs_meaning.specs.Fits.{fits};
     ghost use Rattle.zarr_codecs_meaning.specs.Places.{index_shape, parts_of};
-    ghost use Rattle.zarr_codecs_traits.specs.Outcomes.{Decodes};
     ghost use Rattle.zarr_codecs_types.specs.Views.{type_of};
     ghost use Rattle.zarr_sharding_codec.specs.Reading.{DecodesIndexOf, DecodesPiece, DecodesPieces};
     ghost use Rattle.zarr_sharding_codec.specs.Views.{index_of, inner_of, place_of_index, shard_chain, subchunk_of};
     ghost use Rattle.zarr_sharding_index.specs.Held.{DecodesIndex};
     ghost use Rattle.zarr_sharding_index.specs.Stored.{index_fits};
     ghost use Rattle.zarr_sharding_index.specs.Views.{pairs_of};
-
-    /// The elements of an array that a shard is decoded to. `Fit` where the codec doesn't suit the
-    /// array; `Damage` where the value has fewer bytes than its index, or no index is decoded from
-    /// these, a present pair ends past the end of the value, or a slice is not one of the inner
-    /// codecs'; `Size` where the array has 2^63 elements or bytes or more.
-    pub fn decode(
-        &self,
-        alloc: Global,
-        value: Vec<u8>,
-        elements: &Elements,
-        shape: &[u64],
-        options: &CodecOptions,
-    ) -> Result<ArrayBytes, CodecError>
-        ensures { Decodes (shard_chain I.meaning X.meaning self.now) (elements_of elements.now)
-            shape.now value.items result }
-    {
-        let Some(size) = self.suited(alloc, elements.data_type(), shape)? else {
-            return Err(CodecError::Fit);
-        };
-        let value = value.as_slice();
-        match self.index_in(alloc, value, shape, size, options) {
-            Ok(index) => {
-                let index = &index;
-                let array = WholeArray { elements, shape };
-                self.decode_pieces(alloc, Shard { value, index }, array, options)
-            }
-            Err(error) => Err(error),
-        }
-    }
 
     /// The index that a shard holds, of which this is the shape of the array. `Fit` where the codec
     /// doesn't suit the array; `Damage` where the value has fewer bytes than its index, or no index
@@ -94,7 +64,7 @@ impl<I: ArrayToBytesCodecTraits, X: ArrayToBytesCodecTraits> ShardingCodec<I, X>
     }
 
     /// The index that a shard holds, which has so many bytes; this is the shape of the array.
-    fn index_in(
+    pub(crate) fn index_in(
         &self,
         alloc: Global,
         value: &[u8],

@@ -2,3 +2,4 @@ pub mod Placing
 pub mod PutPlaces
 pub mod PartPlaces
 pub mod ReadPieces
+pub mod LocatedPlaces

@@ -1,19 +1,19 @@
 -- Each place of a shape is one place of one subchunk.
-use Rattle.std.proofs.Common.{◌≡◌, ◌≢◌, ◌∙◌, ◌⊎◌, inl, inr, ℕ, zero, suc, ◌+◌, ◌<◌, ◌≤◌, List, [], ◌∷◌, length, map, get_or, refl, sym, ap, arith, subst, Bool, true, false}
+use Rattle.std.proofs.Common.{◌≡◌, ◌∙◌, inl, inr, ℕ, suc, ◌<◌, ◌≤◌, List, [], ◌∷◌, length, map, get_or, refl, sym, ap, arith, Bool, true, false}
 use Rattle.std.specs.Prelude.{nat_lt}
 use Rattle.std.specs.List.{range_with_len}
 use Rattle.std.proofs.Math.ListN.{get_or-eq_default}
 use Rattle.std.proofs.lemmas.Bool.{ltb-false, ltb-true}
-use Rattle.std.proofs.lemmas.List.{get_or-map, length-map}
-use Rattle.std.proofs.lemmas.List.FromFn.{get_or-map-range_with_len, length-map-range_with_len, length-range_with_len}
+use Rattle.std.proofs.lemmas.List.{get_or-map}
+use Rattle.std.proofs.lemmas.List.FromFn.{get_or-map-range_with_len, length-map-range_with_len}
 use Rattle.zarr_grids_boxes.specs.Boxes.{product}
 use Rattle.zarr_codecs_meaning.specs.Fits.{can_cut}
 use Rattle.zarr_codecs_meaning.specs.Keeping.{arranged}
-use Rattle.zarr_codecs_meaning.specs.Places.{Part, gather, parts_of, place_numbers, position_of}
+use Rattle.zarr_codecs_meaning.specs.Places.{Part, parts_of, place_numbers, position_of}
 use Rattle.zarr_codecs_meaning.specs.Types.{Cell, of_bytes, absent, cell_bytes}
 use Rattle.zarr_codecs_meaning.proofs.Parts.{no_part, parts_cover}
 use Rattle.zarr_codecs_meaning.proofs.PartsOnce.{number_in, parts_again}
-use Rattle.zarr_codecs_meaning.proofs.Positions.{IsAmong, among_at, position_found, position_read}
+use Rattle.zarr_codecs_meaning.proofs.Positions.{position_found, position_read}
 use Rattle.zarr_codecs_meaning.proofs.Shards.{IsCovered, part_cells}
 
 -- a place of a part: there is such a part, and it has such a place

@@ -1,2 +1,4 @@
 pub mod Placed
 pub mod Pieces
+pub mod Locating
+pub mod Groups

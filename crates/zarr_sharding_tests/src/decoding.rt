@@ -3,6 +3,7 @@ use crate::shards::{NONE, elements, shards, with_numbers};
 use std::alloc::Global;
 use zarr_codecs_arrays::{ArrayBytes, CodecError};
 use zarr_codecs_options::CodecOptions;
+use zarr_codecs_traits::ArrayToBytesCodecTraits;
 use zarr_codecs_types::FillValue;
 use zarr_codecs_types::data_type::uint8;
 use zarr_sharding_index::ShardingIndexLocation;

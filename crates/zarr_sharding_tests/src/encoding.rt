@@ -4,6 +4,7 @@ use std::alloc::Global;
 use zarr_codecs_arrays::{ArrayBytes, CodecError};
 use zarr_codecs_chains::BytesCodec;
 use zarr_codecs_options::CodecOptions;
+use zarr_codecs_traits::ArrayToBytesCodecTraits;
 use zarr_codecs_types::FillValue;
 use zarr_codecs_types::data_type::{uint8, uint16};
 use zarr_sharding_codec::ShardingCodec;

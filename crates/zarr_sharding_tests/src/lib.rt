@@ -8,4 +8,8 @@ mod decoding;
 #[cfg(test)]
 mod encoding;
 #[cfg(test)]
+mod nested;
+#[cfg(test)]
+mod parts;
+#[cfg(test)]
 mod shards;

@@ -1,15 +1,11 @@
-use Rattle.std.proofs.Common.{◌≡◌, ◌∙◌, ◌+◌, ◌-◌, ◌*◌, ◌<◌, ℕ, List, [], ◌∷◌, ◌++◌, length, take, drop, ap, sym, subst, rules, refl, arith, false, Result, Ok, Err}
-use Rattle.std.proofs.lemmas.List.{append-nil}
-use Rattle.std.specs.Prelude.{IfNone, IfOk, IfSome}
+use Rattle.std.proofs.Common.{◌≡◌, ◌∙◌, ◌*◌, length, take, drop, ap, sym, subst, rules, false}
 use Rattle.std.specs.List.{list_any, flat_map}
 use Rattle.zarr_grids_boxes.specs.Boxes.{Region, product}
 use Rattle.zarr_grids_boxes.specs.Subsets.{region_of}
 use Rattle.zarr_grids_boxes.specs.Walks.{linearised}
-use Rattle.zarr_codecs_traits.specs.Indexers.{numbers_of}
-use Rattle.zarr_codecs_bytes.specs.Lines.{AreLinesInside, AreLineSizes, ArePartRanges, bytes_in_ranges, bytes_of_lines, ends_after, line_starts}
+use Rattle.zarr_codecs_bytes.specs.Lines.{AreLineSizes, bytes_in_ranges, bytes_of_lines, ends_after, line_starts}
 use Rattle.zarr_codecs_bytes.specs.Parts.{part_width}
-use Rattle.zarr_codecs_bytes.specs.declared.lines.PartRanges.{PartRanges}
-use Rattle.zarr_codecs_bytes.proofs.BoxLines.{box_has, lines_extracted, lines_inside, no_numbers}
+use Rattle.zarr_codecs_bytes.proofs.BoxLines.{box_has, lines_extracted, no_numbers}
 use Rattle.zarr_codecs_bytes.proofs.PartRanges.{one_range}
 use Rattle.zarr_codecs_bytes.proofs.lines.box_ranges.Goals as goal
 
@@ -31,12 +27,6 @@ returns-in_default c =
           (ap (bytes_in_ranges value) c.new-ranges.ensures.items ∙ sym (ap (flat_map (λ n. take width (drop (n * width) value))) empty));
     }
 
-pub line_ranges-requires : goal.line_ranges-requires
-line_ranges-requires c =
-    let part = c.args.part in
-    let known : AreLineSizes part c.in-Some.sizes = c.in-Some.ensures.some in
-    subst (λ (r : Region). AreLinesInside r part.shape.now c.in-Some.sizes) (sym c.in_ok-starts.ensures) (lines_inside part c.in-Some.sizes known)
-
 pub returns : goal.returns
 returns c =
     let part = c.args.part in
@@ -44,7 +34,6 @@ returns c =
     let region : Region = region_of part.region.now in
     let sizes = c.in-Some.sizes in
     let known : AreLineSizes part sizes = c.in-Some.ensures.some in
-    let starts : region_of c.in_ok-starts.starts ≡ line_starts region = c.in_ok-starts.ensures in
     let are = c.in_ok-ranges.ensures.are in
     record {
       size = c.requires.size;
@@ -53,6 +42,6 @@ returns c =
       are = λ value whole. record {
         whole = whole ∙ c.requires.size;
         are = λ other. lines_extracted (part_width part) sizes.line value shape region c.in_ok-ranges.ranges.items other known.positive (whole ∙ c.requires.size) part.inside part.region.now.same known.dimensions known.line
-            (are value ∙ (ap (λ (r : Region). bytes_of_lines sizes.width sizes.line value (linearised r shape)) starts ∙ ap (λ n. bytes_of_lines n sizes.line value (linearised (line_starts region) shape)) known.width));
+            (are value ∙ ap (λ n. bytes_of_lines n sizes.line value (linearised (line_starts region) shape)) known.width);
       };
     }

@@ -1,11 +1,10 @@
-use Rattle.std.proofs.Common.{◌≡◌, ◌∙◌, ◌+◌, ◌-◌, ◌*◌, ◌<◌, ◌≤◌, ◌^◌, ℕ, length, get_or, ap, sym, rules, arith, option_and_then}
+use Rattle.std.proofs.Common.{◌≡◌, ◌∙◌, ◌-◌, ◌*◌, ◌<◌, length, get_or, ap, rules, arith, option_and_then}
 use Rattle.zarr_grids_boxes.specs.Boxes.{product}
 use Rattle.zarr_grids_boxes.specs.Subsets.{region_of}
 use Rattle.zarr_codecs_meaning.specs.Types.{byte_width}
 use Rattle.zarr_codecs_types.specs.Parts.{word_sized}
 use Rattle.zarr_codecs_arrays.specs.Views.{elements_of}
 use Rattle.zarr_codecs_bytes.specs.Lines.{line_length}
-use Rattle.zarr_codecs_bytes.specs.Parts.{part_width}
 use Rattle.zarr_codecs_bytes.proofs.BoxLines.{line_fits}
 use Rattle.zarr_codecs_bytes.proofs.PartDecoding.{fixed_width, no_width}
 use Rattle.zarr_codecs_bytes.proofs.lines.line_sizes.Goals as goal

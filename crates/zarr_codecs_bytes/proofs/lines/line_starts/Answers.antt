@@ -1,4 +1,4 @@
-use Rattle.std.proofs.Common.{◌≡◌, ◌∙◌, ℕ, List, ◌+◌, ◌-◌, ◌<◌, ◌^◌, length, set, rules, subst, sym, ap}
+use Rattle.std.proofs.Common.{◌≡◌, ◌-◌, rules, subst}
 use Rattle.std.specs.Prelude.{slice_set}
 use Rattle.zarr_grids_boxes.specs.Boxes.{EndsFit}
 use Rattle.zarr_codecs_bytes.proofs.BoxLines.{starts_fit}

@@ -35,14 +35,14 @@ returns-in_default c =
 pub returns-in-Int16 : goal.returns-in-Int16
 returns-in-Int16 c =
     let is = either c.args.data_type.now Int16 UInt16 signed unsigned 2 refl refl c.in-Int16.is in
-    swapped_as c.args.data_type.now (word 2 is.0) c.args.bytes.items c.as_slice-in-Int16.result.now c.swapped_2.result is.1 c.requires.positive c.requires.whole c.as_slice-in-Int16.ensures.value c.swapped_2.ensures
+    swapped_as c.args.data_type.now (word 2 is.0) c.args.bytes.items c.as_slice-in-Int16.result.now c.swapped_numbers-in-Int16.result is.1 c.requires.positive c.requires.whole c.as_slice-in-Int16.ensures.value c.swapped_numbers-in-Int16.ensures
 
 pub returns-in-Int32 : goal.returns-in-Int32
 returns-in-Int32 c =
     let is = either c.args.data_type.now Int32 UInt32 signed unsigned 4 refl refl c.in-Int32.is in
-    swapped_as c.args.data_type.now (word 4 is.0) c.args.bytes.items c.as_slice-in-Int32.result.now c.swapped_4.result is.1 c.requires.positive c.requires.whole c.as_slice-in-Int32.ensures.value c.swapped_4.ensures
+    swapped_as c.args.data_type.now (word 4 is.0) c.args.bytes.items c.as_slice-in-Int32.result.now c.swapped_numbers-in-Int32.result is.1 c.requires.positive c.requires.whole c.as_slice-in-Int32.ensures.value c.swapped_numbers-in-Int32.ensures
 
 pub returns-in-Int64 : goal.returns-in-Int64
 returns-in-Int64 c =
     let is = either c.args.data_type.now Int64 UInt64 signed unsigned 8 refl refl c.in-Int64.is in
-    swapped_as c.args.data_type.now (word 8 is.0) c.args.bytes.items c.as_slice-in-Int64.result.now c.swapped_8.result is.1 c.requires.positive c.requires.whole c.as_slice-in-Int64.ensures.value c.swapped_8.ensures
+    swapped_as c.args.data_type.now (word 8 is.0) c.args.bytes.items c.as_slice-in-Int64.result.now c.swapped_numbers.result is.1 c.requires.positive c.requires.whole c.as_slice-in-Int64.ensures.value c.swapped_numbers.ensures

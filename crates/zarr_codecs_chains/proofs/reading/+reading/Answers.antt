@@ -1,4 +1,4 @@
-use Rattle.std.proofs.Common.{rules, ◌≡◌, ◌≢◌, ◌∙◌, ℕ, ◌+◌, ◌*◌, ◌<◌, ◌≤◌, List, length, drop, map, ap, refl, sym, subst, arith, true, false, Option, Some, None}
+use Rattle.std.proofs.Common.{rules, ◌≡◌, ◌≢◌, ◌∙◌, ℕ, ◌+◌, ◌*◌, ◌<◌, ◌≤◌, List, [], length, drop, map, ap, refl, sym, subst, arith, true, false, Option, Some, None}
 use Rattle.std.specs.Prelude.{IfOk, IfErr}
 use Rattle.zarr_grids_metadata.specs.ExtensionPoints.{configuration_members}
 use Rattle.zarr_grids_metadata.specs.Views.{point_of}
@@ -8,8 +8,10 @@ use Rattle.zarr_codecs_metadata.specs.Chains.{array_to_bytes_in, chain_of, point
 use Rattle.zarr_codecs_metadata.specs.Sections.{names_optional, names_vlen}
 use Rattle.zarr_codecs_array_to_array.specs.declared.codec.ArrayToArrayCodec.{ArrayToArrayCodec}
 use Rattle.zarr_codecs_configurations.specs.Views.{optional_points, vlen_points}
+use Rattle.zarr_codecs_chains.specs.Names.{ListNames, NameAll, Names, NamesChain}
 use Rattle.zarr_codecs_chains.specs.Views.{bytes_meaning, codec_chain, meaning_of, optional_chain, vlen_chain}
-use Rattle.zarr_codecs_chains.proofs.Nested.{first_less, optional_done, optional_less, optional_none, points_depth, rest_less, vlen_done, vlen_less, vlen_none}
+use Rattle.zarr_codecs_chains.proofs.Names.{names_split}
+use Rattle.zarr_codecs_chains.proofs.Nested.{first_less, optional_done, optional_less, optional_lists, optional_none, points_depth, rest_less, vlen_done, vlen_less, vlen_lists, vlen_none}
 use Rattle.zarr_codecs_chains.proofs.ReadsBack.{bytes_none, bytes_split, chain_split, said_leaf, said_optional, said_vlen}
 use Rattle.zarr_codecs_chains.proofs.reading.+reading.Goals as goal
 
@@ -25,6 +27,11 @@ read_chain-returns-in-Ok-read_bytes_chain-clause-ok g t c =
     let arrays = c.in-Ok.array_to_array.items in
     let rest = c.rest_after.ensures ∙ ap (λ (xs : List ArrayToArrayCodec). drop (length xs) c.args.codecs.now) c.as_slice.ensures.value in
     chain_split b.reads c.args.codecs.now c.rest_after.result.now arrays (Some (bytes_meaning b.meaning c.in-Ok-read_bytes_chain.others)) c.in-Ok.ensures.first rest c.in-Ok-read_bytes_chain.ensures.ok
+
+pub read_chain-returns-in-Ok-read_bytes_chain-clause-names : goal.read_chain-returns-in-Ok-read_bytes_chain-clause-names
+read_chain-returns-in-Ok-read_bytes_chain-clause-names g t c =
+    let rest = c.rest_after.ensures ∙ ap (λ (xs : List ArrayToArrayCodec). drop (length xs) c.args.codecs.now) c.as_slice.ensures.value in
+    names_split c.in-Ok.array_to_array.items (Names c.in-Ok-read_bytes_chain.others.array_to_bytes) c.args.codecs.now c.rest_after.result.now c.in-Ok.ensures.names rest c.in-Ok-read_bytes_chain.ensures.names
 
 pub read_chain-returns-in-Err-read_bytes_chain-clause-err : goal.read_chain-returns-in-Err-read_bytes_chain-clause-err
 read_chain-returns-in-Err-read_bytes_chain-clause-err g t c = λ other.
@@ -44,6 +51,9 @@ read_bytes_chain-returns-in-Ok-read_codecs-clause-ok g t c =
     let b = g.B.BytesToBytesCodecTraits in
     bytes_split b.reads b.meaning c.args.codecs.now c.in-Some.others.now c.in-Some.first.now (codec_chain b.meaning c.in-Ok.codec) (Some (map b.meaning c.in-Ok-read_codecs.bytes_to_bytes.items)) c.in-Some.ensures.cases.0 c.in-Ok.ensures.ok c.in-Ok-read_codecs.ensures.ok
 
+pub read_bytes_chain-returns-in-Ok-read_codecs-clause-names : goal.read_bytes_chain-returns-in-Ok-read_codecs-clause-names
+read_bytes_chain-returns-in-Ok-read_codecs-clause-names g t c = subst (λ (ms : List MetadataV3). NameAll [] (Names c.in-Ok.codec) (map point_of ms)) (sym c.in-Some.ensures.cases.0) c.in-Ok.ensures.names
+
 pub read_bytes_chain-returns-in-Err-read_codecs-clause-err : goal.read_bytes_chain-returns-in-Err-read_codecs-clause-err
 read_bytes_chain-returns-in-Err-read_codecs-clause-err g t c = λ other.
     let b = g.B.BytesToBytesCodecTraits in
@@ -55,6 +65,11 @@ read_codec-returns-then-names_vlen-clause-ok g t c =
     let point = point_of c.args.metadata.now in
     let named = ap names_vlen (sym c.name.ensures) ∙ (sym c.names_vlen.ensures ∙ c.if-names_vlen.true) in
     c.boxed_vlen.ensures.ok (array_to_bytes_in b.reads point) (subst (λ o. IfOk c.read_vlen.result (λ codec. o ≡ Some (vlen_chain b.meaning codec))) (sym (said_vlen b.reads point named)) c.read_vlen.ensures.ok)
+
+pub read_codec-returns-then-names_vlen-clause-names : goal.read_codec-returns-then-names_vlen-clause-names
+read_codec-returns-then-names_vlen-clause-names g t c =
+    let named = ap names_vlen (sym c.name.ensures) ∙ (sym c.names_vlen.ensures ∙ c.if-names_vlen.true) in
+    c.boxed_vlen.ensures.names (point_of c.args.metadata.now) (c.read_vlen.ensures.names named)
 
 pub read_codec-returns-then-names_vlen-clause-err : goal.read_codec-returns-then-names_vlen-clause-err
 read_codec-returns-then-names_vlen-clause-err g t c =
@@ -69,6 +84,11 @@ read_codec-returns-then-names_optional-clause-ok g t c =
     let point = point_of c.args.metadata.now in
     let named = ap names_optional (sym c.name-2.ensures) ∙ (sym c.names_optional.ensures ∙ c.if-names_optional.true) in
     c.boxed_optional.ensures.ok (array_to_bytes_in b.reads point) (subst (λ o. IfOk c.read_optional.result (λ codec. o ≡ Some (optional_chain b.meaning codec))) (sym (said_optional b.reads point named)) c.read_optional.ensures.ok)
+
+pub read_codec-returns-then-names_optional-clause-names : goal.read_codec-returns-then-names_optional-clause-names
+read_codec-returns-then-names_optional-clause-names g t c =
+    let named = ap names_optional (sym c.name-2.ensures) ∙ (sym c.names_optional.ensures ∙ c.if-names_optional.true) in
+    c.boxed_optional.ensures.names (point_of c.args.metadata.now) (c.read_optional.ensures.names named)
 
 pub read_codec-returns-then-names_optional-clause-err : goal.read_codec-returns-then-names_optional-clause-err
 read_codec-returns-then-names_optional-clause-err g t c =
@@ -128,6 +148,18 @@ read_vlen-returns-in-Ok-read_chain-2-clause-ok g t c =
     let two : chain_of b.reads v.content ≡ Some (meaning_of b.meaning c.in-Ok-read_chain-2.data_codecs) = ap (λ (ms : List MetadataV3). chain_of b.reads (map point_of ms)) (sym c.as_slice-2.ensures.value) ∙ c.in-Ok-read_chain-2.ensures.ok in
     vlen_done b.reads (configuration_members (point_of c.args.metadata.now).configuration) v (Some (meaning_of b.meaning c.in-Ok-read_chain.chain)) (Some (meaning_of b.meaning c.in-Ok-read_chain-2.data_codecs)) c.in-Ok.ensures.ok one two
 
+pub read_vlen-returns-in-Ok-read_chain-2-clause-names : goal.read_vlen-returns-in-Ok-read_chain-2-clause-names
+read_vlen-returns-in-Ok-read_chain-2-clause-names g t c = λ named.
+    let one = c.in-Ok-read_chain.chain in
+    let two = c.in-Ok-read_chain-2.data_codecs in
+    let lists = vlen_lists (configuration_members (point_of c.args.metadata.now).configuration) (vlen_points c.in-Ok.configuration) c.in-Ok.ensures.ok in
+    let first = subst (λ (ms : List MetadataV3). NamesChain one (map point_of ms)) c.as_slice.ensures.value c.in-Ok-read_chain.ensures.names in
+    let second = subst (λ (ms : List MetadataV3). NamesChain two (map point_of ms)) c.as_slice-2.ensures.value c.in-Ok-read_chain-2.ensures.names in (
+      c.vlen_name.ensures (ap names_vlen c.name.ensures ∙ named) ∙ c.name.ensures,
+      subst (ListNames one.array_to_array.items (Names one.others.array_to_bytes)) (sym lists.0) first,
+      subst (ListNames two.array_to_array.items (Names two.others.array_to_bytes)) (sym lists.1) second,
+    )
+
 pub read_vlen-returns-clause-err : goal.read_vlen-returns-clause-err
 read_vlen-returns-clause-err g t c = λ other.
     let b = g.B.BytesToBytesCodecTraits in
@@ -170,6 +202,18 @@ read_optional-returns-in-Ok-read_chain-2-clause-ok g t c =
     let one : chain_of b.reads v.mask ≡ Some (meaning_of b.meaning c.in-Ok-read_chain.chain) = ap (λ (ms : List MetadataV3). chain_of b.reads (map point_of ms)) (sym c.as_slice.ensures.value) ∙ c.in-Ok-read_chain.ensures.ok in
     let two : chain_of b.reads v.content ≡ Some (meaning_of b.meaning c.in-Ok-read_chain-2.data_codecs) = ap (λ (ms : List MetadataV3). chain_of b.reads (map point_of ms)) (sym c.as_slice-2.ensures.value) ∙ c.in-Ok-read_chain-2.ensures.ok in
     optional_done b.reads (configuration_members (point_of c.args.metadata.now).configuration) v (Some (meaning_of b.meaning c.in-Ok-read_chain.chain)) (Some (meaning_of b.meaning c.in-Ok-read_chain-2.data_codecs)) c.in-Ok.ensures.ok one two
+
+pub read_optional-returns-in-Ok-read_chain-2-clause-names : goal.read_optional-returns-in-Ok-read_chain-2-clause-names
+read_optional-returns-in-Ok-read_chain-2-clause-names g t c = λ named.
+    let one = c.in-Ok-read_chain.chain in
+    let two = c.in-Ok-read_chain-2.data_codecs in
+    let lists = optional_lists (configuration_members (point_of c.args.metadata.now).configuration) (optional_points c.in-Ok.configuration) c.in-Ok.ensures.ok in
+    let first = subst (λ (ms : List MetadataV3). NamesChain one (map point_of ms)) c.as_slice.ensures.value c.in-Ok-read_chain.ensures.names in
+    let second = subst (λ (ms : List MetadataV3). NamesChain two (map point_of ms)) c.as_slice-2.ensures.value c.in-Ok-read_chain-2.ensures.names in (
+      c.optional_name.ensures (ap names_optional c.name.ensures ∙ named) ∙ c.name.ensures,
+      subst (ListNames one.array_to_array.items (Names one.others.array_to_bytes)) (sym lists.0) first,
+      subst (ListNames two.array_to_array.items (Names two.others.array_to_bytes)) (sym lists.1) second,
+    )
 
 pub read_optional-returns-clause-err : goal.read_optional-returns-clause-err
 read_optional-returns-clause-err g t c = λ other.

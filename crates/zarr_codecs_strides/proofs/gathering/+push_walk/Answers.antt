@@ -1,4 +1,4 @@
-use Rattle.std.proofs.Common.{◌≡◌, ◌+◌, ◌*◌, ◌-◌, ◌≤◌, ◌<◌, ℕ, List, ◌++◌, ◌∷◌, length, refl, sym, ap, ap₂, ◌∙◌, arith, rules, subst}
+use Rattle.std.proofs.Common.{◌≡◌, ◌+◌, ◌*◌, ℕ, ◌++◌, length, sym, ap, ap₂, ◌∙◌, arith, rules}
 use Rattle.std.specs.Prelude.{flat_map}
 use Rattle.std.proofs.Math.Nat.{mul-pos}
 use Rattle.std.specs.List.{range_with_len}

@@ -1,7 +1,7 @@
-use Rattle.std.proofs.Common.{◌≡◌, ◌+◌, ◌*◌, ◌-◌, ◌≤◌, ◌<◌, ℕ, List, ◌++◌, ◌∷◌, length, refl, sym, ap, ap₂, ◌∙◌, arith, rules, subst}
+use Rattle.std.proofs.Common.{◌≡◌, ◌+◌, ◌*◌, ℕ, ◌++◌, length, sym, ap, ap₂, ◌∙◌, arith, rules}
 use Rattle.std.specs.Prelude.{flat_map}
 use Rattle.std.specs.List.{range_with_len}
-use Rattle.zarr_codecs_strides.specs.Strides.{strided, reach, run_at}
+use Rattle.zarr_codecs_strides.specs.Strides.{strided, run_at}
 use Rattle.zarr_codecs_strides.proofs.Walks.{inner_walk, flat_more, runs_walked}
 use Rattle.zarr_codecs_strides.proofs.runs.+push_runs.Goals as goal
 

@@ -1,6 +1,4 @@
-use Rattle.std.proofs.Common.{◌≡◌, ◌∙◌, ◌+◌, ◌-◌, ap, arith, length}
-use Rattle.std.specs.List.{range_with_len}
-use Rattle.zarr_codecs_regions.specs.Updates.{put}
+use Rattle.std.proofs.Common.{arith}
 use Rattle.zarr_codecs_regions.proofs.Puts.{put_more}
 use Rattle.zarr_sharding_places.proofs.placed.renumber.Goals as goal
 

@@ -1,7 +1,7 @@
 use Rattle.std.proofs.Common.{◌≡◌, ◌∙◌, ◌<◌, ℕ, List, None, Ok, length, true, false, ap, sym, subst}
 use Rattle.std.proofs.lemmas.Bool.{false≢true}
 use Rattle.zarr_grids_boxes.specs.Boxes.{Region, product}
-use Rattle.zarr_grids_boxes.specs.Cuts.{overlapped, relative}
+use Rattle.zarr_grids_boxes.specs.Cuts.{IsAtMost, overlapped, relative}
 use Rattle.zarr_grids_boxes.specs.Subsets.{region_of}
 use Rattle.zarr_grids_overlay.specs.Overlays.{extent_of}
 use Rattle.zarr_codecs_arrays.specs.Outcomes.{IsTooLarge, IsCounted}
@@ -16,6 +16,7 @@ use Rattle.zarr_array_elements.proofs.Meeting.{meeting, starts_alike}
 use Rattle.zarr_array_core.proofs.ChunkPayloads.{AreArrayElements}
 use Rattle.zarr_array_elements.proofs.Shared.{large_grows, shared_held, shared_smaller}
 use Rattle.zarr_array_core.proofs.PartPatches.{AreShared, found_patches}
+use Rattle.zarr_array_core.proofs.SeenFrom.{later_start}
 use Rattle.zarr_array_core.proofs.array_core.ArrayCore.chunk_patches.Goals as goal
 use Rattle.zarr_array_core.proofs.array_core.ArrayCore.chunk_patches.Goals.{else-not-empty-via-then-not-empty+else-is_all_fill, else-not-empty-via-else-not-empty}
 
@@ -51,6 +52,13 @@ whole_cells-requires-clause-holds g c =
     let shared : region_of c.in-Ok.shared ≡ overlapped region box = shared_is (region_of c.args.write.now.subset.now) region box (region_of c.in-Ok.shared) c.args.write.now.same_box c.in-Ok.ensures.made in
     subst (λ (r : Region). holds_box region r ≡ true) (sym shared) (shared_held region box c.requires.shares)
 
+pub seen_from-part-requires : goal.seen_from-part-requires
+seen_from-part-requires g c =
+    let region : Region = extent_of c.args.write.now.region in
+    let box : Region = region_of c.args.own.now in
+    let shared : region_of c.in-Ok.shared ≡ overlapped region box = shared_is (region_of c.args.write.now.subset.now) region box (region_of c.in-Ok.shared) c.args.write.now.same_box c.in-Ok.ensures.made in
+    subst (λ (os : List ℕ). IsAtMost os c.in-Ok.shared.start.items) (sym c.start.ensures) (subst (λ (r : Region). IsAtMost box.start r.start) (sym shared) (later_start region.start box.start c.requires.rank))
+
 pub returns-in-Ok-encode_part-clause-ok : goal.returns-in-Ok-encode_part-clause-ok
 returns-in-Ok-encode_part-clause-ok g c =
     let document = document_of g.C.ArrayToBytesCodecTraits.meaning c.args.self.now in
@@ -63,8 +71,8 @@ returns-in-Ok-encode_part-clause-ok g c =
     let fill = document.elements.fill in
     let empty = stores_fill document c.args.write.now.options.now region box in
     let shared : region_of c.in-Ok.shared ≡ overlapped region box = shared_is (region_of c.args.write.now.subset.now) region box (region_of c.in-Ok.shared) c.args.write.now.same_box c.in-Ok.ensures.made in
-    let part : region_of c.in-Ok-relative_to.part ≡ relative (overlapped region box) box.start =
-    c.in-Ok-relative_to.ensures.made ∙ (ap (λ (r : Region). relative r c.start.result.now) shared ∙ ap (relative (overlapped region box)) c.start.ensures) in
+    let part : region_of c.seen_from-part.result ≡ relative (overlapped region box) box.start =
+    c.seen_from-part.ensures ∙ (ap (λ (r : Region). relative r c.start.result.now) shared ∙ ap (relative (overlapped region box)) c.start.ensures) in
     let becomes : CellsBecome document region given None (overlapped region box) sub = subst (λ (r : Region). CellsBecome document region given None r sub) shared (c.in_ok-bytes.ensures.ok None) in
     let counted : IsCounted document.elements.type payload (product (overlapped region box).shape) sub = subst (λ (r : Region). IsCounted document.elements.type payload (product r.shape) sub) shared c.in_ok-bytes.ensures.counted in
     let small : ¬ IsTooLarge document.elements.type (product (overlapped region box).shape) = λ large. c.requires.small (large_grows document.elements.type (product (overlapped region box).shape) (product box.shape) (shared_smaller region box c.requires.shares) large) in

@@ -12,7 +12,7 @@ use Rattle.zarr_array_core.proofs.array_core.ArrayCore.write_region.Goals as goa
 
 pub write_chunks-requires-clause-some : goal.write_chunks-requires-clause-some
 write_chunks-requires-clause-some g c =
-    some_chunk (document_of g.C.ArrayToBytesCodecTraits.meaning c.args.self.now).grid (region_of c.args.region.now) (region_of c.args.chunks.now) c.args.region.now.same (sym c.args.chunks.now.same) c.requires.some c.requires.covered c.requires.intersecting
+    some_chunk (document_of g.C.ArrayToBytesCodecTraits.meaning c.args.self.now).grid (region_of c.args.target.region.now) (region_of c.args.target.chunks.now) c.args.target.region.now.same (sym c.args.target.chunks.now.same) c.requires.some c.requires.covered c.requires.intersecting
 
 pub write_chunks-requires-clause-many : goal.write_chunks-requires-clause-many
 write_chunks-requires-clause-many g c =
@@ -29,5 +29,5 @@ write_chunks-requires-clause-values g c =
 pub returns-clause-counts : goal.returns-clause-counts
 returns-clause-counts g c =
     let counts = c.write_chunks.ensures.counts in
-    let all = length-intersecting (document_of g.C.ArrayToBytesCodecTraits.meaning c.args.self.now).grid (region_of c.args.region.now) (region_of c.args.chunks.now) (sym c.args.chunks.now.same) c.requires.intersecting in
+    let all = length-intersecting (document_of g.C.ArrayToBytesCodecTraits.meaning c.args.self.now).grid (region_of c.args.target.region.now) (region_of c.args.target.chunks.now) (sym c.args.target.chunks.now.same) c.requires.intersecting in
     (counts.0, omega (arith, counts.1, all))

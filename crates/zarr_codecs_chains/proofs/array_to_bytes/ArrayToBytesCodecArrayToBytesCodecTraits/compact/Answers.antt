@@ -2,7 +2,7 @@ use Rattle.std.proofs.Common.{◌∙◌, ap, sym}
 use Rattle.zarr_codecs_meaning.specs.Fits.{fits}
 use Rattle.zarr_sharding_changes.proofs.Compactions.{plain_kept}
 use Rattle.zarr_codecs_chains.specs.Views.{codec_chain}
-use Rattle.zarr_codecs_chains.proofs.Telling.{codec_plain}
+use Rattle.zarr_codecs_chains.specs.Views.{codec_plain}
 use Rattle.zarr_codecs_chains.proofs.array_to_bytes.ArrayToBytesCodecArrayToBytesCodecTraits.compact.Goals as goal
 
 pub returns : goal.returns

@@ -1,8 +1,10 @@
-use Rattle.std.proofs.Common.{◌∙◌, sym, subst}
+use Rattle.std.proofs.Common.{rules, ◌≡◌, ◌∙◌, sym, subst, length}
+use Rattle.std.proofs.lemmas.Bool.{eqb-false}
 use Rattle.zarr_codecs_arrays.specs.Views.{elements_of}
 use Rattle.zarr_codecs_traits.specs.Indexers.{asked_of}
 use Rattle.zarr_codecs_traits.specs.Outcomes.{DecodesPart}
-use Rattle.zarr_codecs_chains.specs.Views.{bytes_meaning}
+use Rattle.zarr_codecs_chains.specs.Views.{bytes_meaning, codec_chain}
+use Rattle.zarr_codecs_chains.proofs.Taken.{codecs_most}
 use Rattle.zarr_codecs_chains.proofs.bytes_chain.BytesChainArrayToBytesCodecTraits.partial_decode.Goals as goal
 
 pub returns-in-Ok-clause-part : goal.returns-in-Ok-clause-part
@@ -12,3 +14,23 @@ returns-in-Ok-clause-part g c = λ honest.
 
 pub returns-in-Ok-clause-refused : goal.returns-in-Ok-clause-refused
 returns-in-Ok-clause-refused g c = c.in-Ok.ensures.refused ∙ sym (c.decode_read.ensures.no_source _)
+
+pub returns-in-Ok-clause-given : goal.returns-in-Ok-clause-given
+returns-in-Ok-clause-given g c = λ plain honest.
+    let meaning = g.B.BytesToBytesCodecTraits.meaning in
+    let D = g.D.BytesPartialDecoderTraits in
+    let chain = c.args.self.now in
+    let codecs = chain.bytes_to_bytes in
+    let some = eqb-false codecs.len 0 (sym c.is_empty.ensures ∙ c.if-is_empty.false) in
+    let same : codecs.len ≡ length codecs.items = search rules in
+    codecs_most (codec_chain meaning chain.array_to_bytes) meaning codecs.items (elements_of c.args.part.elements.now).type c.args.part.shape.now (D.contents c.args.source.now) (asked_of c.args.part.indexer) (D.given_bytes c.args.source.now) (D.given_bytes c.read_value.new.source) (λ e. some (same ∙ e)) (c.in-Ok.ensures.given honest)
+
+pub returns-in-Err-clause-given : goal.returns-in-Err-clause-given
+returns-in-Err-clause-given g c = λ plain honest.
+    let meaning = g.B.BytesToBytesCodecTraits.meaning in
+    let D = g.D.BytesPartialDecoderTraits in
+    let chain = c.args.self.now in
+    let codecs = chain.bytes_to_bytes in
+    let some = eqb-false codecs.len 0 (sym c.is_empty.ensures ∙ c.if-is_empty.false) in
+    let same : codecs.len ≡ length codecs.items = search rules in
+    codecs_most (codec_chain meaning chain.array_to_bytes) meaning codecs.items (elements_of c.args.part.elements.now).type c.args.part.shape.now (D.contents c.args.source.now) (asked_of c.args.part.indexer) (D.given_bytes c.args.source.now) (D.given_bytes c.read_value.new.source) (λ e. some (same ∙ e)) (c.in-Err.ensures.given honest)

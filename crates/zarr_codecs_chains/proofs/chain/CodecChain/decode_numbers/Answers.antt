@@ -1,9 +1,11 @@
-use Rattle.std.proofs.Common.{◌≡◌, ◌∙◌, List, ap, subst, true}
+use Rattle.std.proofs.Common.{◌≡◌, ◌∙◌, ◌≤◌, ◌+◌, List, ap, subst, sym, true}
+use Rattle.zarr_codecs_meaning.specs.Fits.{is_plain}
 use Rattle.zarr_codecs_arrays.specs.Views.{elements_of}
 use Rattle.zarr_codecs_array_to_array.specs.Moving.{are_places}
 use Rattle.zarr_codecs_array_to_array.specs.declared.codec.ArrayToArrayCodec.{ArrayToArrayCodec}
 use Rattle.zarr_codecs_traits.specs.Indexers.{are_inside, asked_of, listed, numbers_asked}
 use Rattle.zarr_codecs_traits.specs.Outcomes.{DecodesPart}
+use Rattle.zarr_codecs_traits.specs.ReadBytes.{most_of_numbers}
 use Rattle.zarr_codecs_chains.specs.Views.{bytes_meaning, codecs_of, meaning_of, with_array_codecs}
 use Rattle.zarr_codecs_chains.proofs.PartChains.{asked_places, asked_by_numbers}
 use Rattle.zarr_codecs_chains.proofs.chain.CodecChain.decode_numbers.Goals as goal
@@ -27,3 +29,16 @@ returns-clause-part g c = λ honest.
     let inside : are_inside shape asked ≡ true = c.in_default.ensures in
     let found = subst (λ (codecs : List ArrayToArrayCodec). DecodesPart (with_array_codecs (codecs_of codecs) rest) elements shape stored (listed c.as_slice.result.now) r) c.as_slice-codecs.ensures.value (c.decode_listed_after.ensures.part honest) in
     asked_by_numbers chain elements shape stored asked r inside (subst (λ ns. DecodesPart chain elements shape stored (listed ns) r) (c.as_slice.ensures.value ∙ c.in_ok-numbers.ensures) found)
+
+pub returns-clause-given : goal.returns-clause-given
+returns-clause-given g c = λ plain honest.
+    let D = g.D.BytesPartialDecoderTraits in
+    let rest = bytes_meaning g.B.BytesToBytesCodecTraits.meaning c.args.self.now.others in
+    let chain = meaning_of g.B.BytesToBytesCodecTraits.meaning c.args.self.now in
+    let type = (elements_of c.args.part.elements.now).type in
+    let shape = c.args.part.shape.now in
+    let stored = D.contents c.args.source.now in
+    let old = D.given_bytes c.args.source.now in
+    let new = D.given_bytes c.decode_listed_after.new.source in
+    let found = subst (λ (codecs : List ArrayToArrayCodec). new ≤ old + most_of_numbers (with_array_codecs (codecs_of codecs) rest) type shape stored c.as_slice.result.now) c.as_slice-codecs.ensures.value (c.decode_listed_after.ensures.given (subst (λ (codecs : List ArrayToArrayCodec). is_plain (with_array_codecs (codecs_of codecs) rest) ≡ true) (sym c.as_slice-codecs.ensures.value) plain) honest) in
+    subst (λ ns. new ≤ old + most_of_numbers chain type shape stored ns) (c.as_slice.ensures.value ∙ c.in_ok-numbers.ensures) found

@@ -3,7 +3,7 @@ use Rattle.zarr_codecs_meaning.specs.Fits.{fits}
 use Rattle.zarr_codecs_arrays.specs.Views.{elements_of}
 use Rattle.zarr_sharding_changes.proofs.Compactions.{plain_kept}
 use Rattle.zarr_codecs_chains.specs.Views.{bytes_meaning, codecs_of, meaning_of}
-use Rattle.zarr_codecs_chains.proofs.Telling.{bytes_plain, plain_before}
+use Rattle.zarr_codecs_chains.specs.Views.{bytes_plain, plain_before}
 use Rattle.zarr_codecs_chains.proofs.chain.CodecChainArrayToBytesCodecTraits.compact.Goals as goal
 
 pub returns : goal.returns

@@ -1,4 +1,4 @@
-use Rattle.std.proofs.Common.{◌≡◌, ◌+◌, length, arith, rules}
+use Rattle.std.proofs.Common.{◌≡◌, ◌+◌, length, rules}
 use Rattle.zarr_codecs_arrays.specs.Views.{elements_of}
 use Rattle.zarr_sharding_places.proofs.Placing.{shows_put}
 use Rattle.zarr_sharding_places.proofs.placed.PlacedElements.put.Goals as goal

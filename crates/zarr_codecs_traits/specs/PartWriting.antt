@@ -1,0 +1,113 @@
+-- What is stored for an array after some of its elements were replaced.
+use Rattle.std.specs.Prelude.{◌≡◌, ◌⊎◌, ℕ, ◌+◌, ◌^◌, ◌≤◌, List, [], ◌∷◌, map, length, get_or, Option, Some, None, unwrap_or, option_map, Result, Ok, Err, Bool, true, false, IsTrue, MatchOption}
+use Rattle.std.specs.Option.{option_map_or}
+use Rattle.zarr_grids_boxes.specs.Boxes.{product}
+use Rattle.zarr_codecs_meaning.specs.Chains.{Chain}
+use Rattle.zarr_codecs_meaning.specs.Chains.Chain.{bytes, packbits, vlen, optional, after_array_codec, then_bytes, sharded}
+use Rattle.zarr_codecs_meaning.specs.Chunks.{chunk_decoded, chunk_part}
+use Rattle.zarr_codecs_meaning.specs.Decoding.{opens}
+use Rattle.zarr_codecs_meaning.specs.Encoding.{Piece, encoded, index_size, joined_slices, pieces_of}
+use Rattle.zarr_codecs_meaning.specs.Fits.{fits, is_lossless, is_plain}
+use Rattle.zarr_codecs_meaning.specs.Laws.{AreCells}
+use Rattle.zarr_codecs_meaning.specs.Payloads.{Payload}
+use Rattle.zarr_codecs_meaning.specs.Places.{encoded_shape, gather, index_shape, parts_of, place_numbers, source_places}
+use Rattle.zarr_codecs_meaning.specs.Refusals.{CodecRefuses, IsMade, PassesIndex}
+use Rattle.zarr_codecs_meaning.specs.Standing.{ChunkStands, Tight}
+use Rattle.zarr_codecs_meaning.specs.Types.{Cell, Elements, is_fill}
+use Rattle.zarr_sharding_changes.specs.Compactions.{compaction, damaged}
+use Rattle.zarr_codecs_arrays.specs.Outcomes.{IsTooLarge, IsInvalid, IsValid}
+use Rattle.zarr_codecs_arrays.specs.declared.error.CodecError.{CodecError}
+use Rattle.zarr_codecs_arrays.specs.declared.error.CodecError.TheVariants as error
+use Rattle.zarr_codecs_traits.specs.Indexers.{Asked, are_inside, numbers_asked, put}
+use Rattle.zarr_codecs_traits.specs.Writes.{accepted_after}
+
+-- ---- what is stored
+
+-- the cell at each place, or that there is none: each place is read by itself
+abbrev pub cells_shown : Chain → Elements → List ℕ → Option (List ℕ) → List (Option (List Cell))
+cells_shown chain elements shape stored = map (λ n. chunk_part chain elements shape stored (n ∷ [])) (place_numbers shape)
+
+-- the cell that was read, or another one where none was
+abbrev pub only_cell : Cell → Option (List Cell) → Cell
+only_cell other read = get_or (unwrap_or read []) 0 other
+
+-- the cells of an array after new ones were put at the places with these numbers: elsewhere what is stored is read, and where that can't be, the fill value stands
+abbrev pub cells_after : Chain → Elements → List ℕ → Option (List ℕ) → List ℕ → List Cell → List Cell
+cells_after chain elements shape stored numbers cells = put numbers cells (map (only_cell elements.fill) (cells_shown chain elements shape stored))
+
+-- what is stored for cells, each slice of a shard as encoding writes it: no value for the fill value alone
+abbrev pub ChunkTight : Chain → Elements → List ℕ → Option (List ℕ) → List Cell → Type 0
+ChunkTight chain elements shape stored cells = MatchOption stored (is_fill elements.fill cells ≡ true) (λ value. Tight chain elements shape value cells)
+
+-- a fact of each list of cells that an array may have
+abbrev pub OnCells : Elements → List ℕ → (List Cell → Type 0) → Type 0
+OnCells elements shape fact = (before : List Cell) → AreCells elements shape before → fact before
+
+-- new cells were put at the places that are asked for: what is stored for the array changed so, whatever was stored
+pub record IsEncodedInto (chain : Chain) (exact : Bool) (elements : Elements) (shape : List ℕ) (asked : Asked) (payload : Payload) (cells : List Cell) (old new : Option (List ℕ)) : Type 0 where
+  pub valid : IsValid elements.type payload (length (numbers_asked shape asked)) cells
+  pub fit : fits chain elements.type shape ≡ true
+  pub inside : are_inside shape asked ≡ true
+  -- a value that can't be read at all is not written over
+  pub opened : MatchOption old (Unit {0}) (λ value. opens chain elements shape value ≡ true)
+  -- what stood for cells stands for the updated ones
+  pub stands : is_lossless chain elements.type ≡ true → OnCells elements shape (λ before. ChunkStands chain elements shape old before → ChunkStands chain elements shape new (put (numbers_asked shape asked) cells before))
+  pub tight : IsTrue exact → is_lossless chain elements.type ≡ true → OnCells elements shape (λ before. ChunkTight chain elements shape old before → ChunkTight chain elements shape new (put (numbers_asked shape asked) cells before))
+  -- a shard that is all fill is taken away
+  pub absent : is_plain chain ≡ false → is_lossless chain elements.type ≡ true → OnCells elements shape (λ before. ChunkStands chain elements shape old before → is_fill elements.fill (put (numbers_asked shape asked) cells before) ≡ true → new ≡ None)
+  -- without shards what is stored is the updated cells encoded, also those of a chain that drops bits; all fill keeps its value
+  pub encodes : IsTrue exact → is_plain chain ≡ true → OnCells elements shape (λ before. chunk_decoded chain elements shape old ≡ Some before
+      → (value : List ℕ) × (new ≡ Some value) × (encoded chain elements shape (put (numbers_asked shape asked) cells before) ≡ Some value))
+  -- each other place is read as before, also where another one can't be
+  pub shows : is_lossless chain elements.type ≡ true → cells_shown chain elements shape new ≡ put (numbers_asked shape asked) (map (λ cell. Some (cell ∷ [])) cells) (cells_shown chain elements shape old)
+
+-- ---- why nothing is written
+
+-- each slice is one that encoding makes of its subchunk; of some subchunks there is none
+abbrev pub AreSlices : (List ℕ → List Cell → List ℕ → Type 0) → List Piece → List (Option (List ℕ)) → Type 0
+AreSlices made [] [] = Unit {0}
+AreSlices made [] (slice ∷ slices) = ⊥
+AreSlices made (piece ∷ pieces) [] = ⊥
+AreSlices made (piece ∷ pieces) (slice ∷ slices) = MatchOption slice (Unit {0}) (made piece.0 piece.1) × AreSlices made pieces slices
+
+-- new slices for the subchunks' cells, put behind what is stored, or behind an index where nothing is, would make 2^63 bytes or more
+abbrev pub PassesLength : Chain → Elements → List ℕ → Option (List ℕ) → List Cell → Type 0
+PassesLength (bytes order) elements shape stored cells = ⊥
+PassesLength (packbits padding first last) elements shape stored cells = ⊥
+PassesLength (vlen index «data» width location) elements shape stored cells = ⊥
+PassesLength (optional mask values) elements shape stored cells = ⊥
+PassesLength (after_array_codec codec chain) elements shape stored cells = PassesLength chain elements (encoded_shape codec shape) stored (gather elements.fill cells (source_places codec shape))
+PassesLength (then_bytes chain codec) elements shape stored cells = ⊥
+PassesLength (sharded subchunk inner index location) elements shape stored cells =
+    (slices : List (Option (List ℕ))) × AreSlices (IsMade inner elements) (pieces_of elements.fill cells (parts_of shape subchunk)) slices
+    × (2 ^ 63 ≤ option_map_or length stored (index_size index (index_shape shape subchunk)) + length (joined_slices slices))
+
+-- valid elements for places of an array that the chain suits are refused, by the cells that the array would have
+pub record IsRefusedInto (chain : Chain) (elements : Elements) (shape : List ℕ) (asked : Asked) (payload : Payload) (stored : Option (List ℕ)) (refuses : List Cell → Type 0) : Type 0 where
+  pub cells : List Cell
+  pub valid : IsValid elements.type payload (length (numbers_asked shape asked)) cells
+  pub fit : fits chain elements.type shape ≡ true
+  pub inside : are_inside shape asked ≡ true
+  pub is : refuses (cells_after chain elements shape stored (numbers_asked shape asked) cells)
+
+-- what is stored isn't decoded, or a present slice of a shard lies outside the data part
+abbrev pub IsDamaged : Chain → Elements → List ℕ → Option (List ℕ) → Type 0
+IsDamaged chain elements shape stored = (chunk_decoded chain elements shape stored ≡ None) ⊎ MatchOption stored ⊥ (λ value. compaction chain shape value ≡ damaged)
+
+-- why new elements are not put at the places that are asked for
+abbrev pub NotEncodedInto : {A : Type 0} → Chain → Elements → List ℕ → Asked → Payload → Option (List ℕ) → Result A CodecError → Type 0
+NotEncodedInto chain elements shape asked payload stored (Ok value) = Unit {0}
+NotEncodedInto chain elements shape asked payload stored (Err error.Fit) = fits chain elements.type shape ≡ false
+NotEncodedInto chain elements shape asked payload stored (Err error.IncompatibleIndexer) = are_inside shape asked ≡ false
+NotEncodedInto chain elements shape asked payload stored (Err error.Size) =
+    IsTooLarge elements.type (product shape) ⊎ IsRefusedInto chain elements shape asked payload stored (λ after. PassesIndex chain elements shape after ⊎ PassesLength chain elements shape stored after)
+NotEncodedInto chain elements shape asked payload stored (Err error.Codec) = IsRefusedInto chain elements shape asked payload stored (CodecRefuses chain elements shape)
+NotEncodedInto chain elements shape asked payload stored (Err error.Damage) = (fits chain elements.type shape ≡ true) × IsDamaged chain elements shape stored
+NotEncodedInto chain elements shape asked payload stored (Err error.Source) = Unit {0}
+NotEncodedInto chain elements shape asked payload stored (Err error.Memory) = Unit {0}
+NotEncodedInto chain elements shape asked payload stored (Err e) = (fits chain elements.type shape ≡ true) × IsInvalid elements.type payload (length (numbers_asked shape asked)) e
+
+-- at most one writing call was accepted, and none where the call is refused (a count stands still at 2^128 - 1)
+abbrev pub WritesOnce : {A : Type 0} → ℕ → ℕ → Result A CodecError → Type 0
+WritesOnce before after (Ok value) = (after ≡ before) ⊎ (after ≡ accepted_after before (Ok value))
+WritesOnce before after (Err e) = after ≡ before

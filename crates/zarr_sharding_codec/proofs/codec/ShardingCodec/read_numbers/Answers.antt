@@ -1,0 +1,164 @@
+use Rattle.std.proofs.Common.{◌∙◌, IsTrue, List, ℕ, [], Err, ap, sym, refl, subst, arith, length, length-append, get_or}
+use Rattle.std.specs.List.Sorted.{IsPermutation}
+use Rattle.zarr_codecs_arrays.specs.Views.{elements_of}
+use Rattle.zarr_codecs_meaning.proofs.Positions.{each_at}
+use Rattle.zarr_codecs_traits.specs.Sources.{refused_after}
+use Rattle.zarr_sharding_index.specs.Views.{location_of, pairs_of}
+use Rattle.zarr_sharding_places.specs.Groups.{no_place}
+use Rattle.zarr_sharding_places.specs.Locating.{asked_places}
+use Rattle.zarr_sharding_places.specs.declared.locating.AskedPlace.{AskedPlace}
+use Rattle.zarr_sharding_codec.proofs.GroupsRead.{AskedShard, IsAsked, insides_below, subchunk_below}
+use Rattle.zarr_sharding_codec.proofs.SoFarRead.{askable, group_asked, group_unread, left_more, none_so_far, so_far_all, so_far_more}
+use Rattle.zarr_sharding_codec.proofs.StoredLoop.{rank_fits}
+use Rattle.zarr_sharding_codec.proofs.codec.ShardingCodec.read_numbers.Goals as goal
+
+pub places_of-requires : goal.places_of-requires
+places_of-requires g c =
+    let self = c.args.self.now in
+    rank_fits self.subchunk_shape (g.I.ArrayToBytesCodecTraits.meaning self.inner_codecs) (g.X.ArrayToBytesCodecTraits.meaning self.index_codecs) (location_of self.index_location) (elements_of c.args.shard.elements.now) c.args.asked.shape.now c.requires.fit
+
+pub loop-rest-init : goal.loop-rest-init
+loop-rest-init g c =
+    let self = c.args.self.now in
+    record {
+      follows = g.met.D.BytesPartialDecoderTraits.stays c.args.source.now;
+      refused = refl;
+      left = record { done = []; split = refl };
+      read = λ honest value held long.
+          let s : AskedShard = record {
+            inner = g.I.ArrayToBytesCodecTraits.meaning self.inner_codecs;
+            elements = elements_of c.args.shard.elements.now;
+            shape = c.args.asked.shape.now;
+            subchunk = self.subchunk_shape;
+            value = value;
+            pairs = pairs_of c.args.shard.fetched.now.index;
+            numbers = c.args.asked.numbers.now;
+          } in
+          none_so_far s c.in_ok-filled.filled c.as_slice-rest.result.now c.in_ok-filled.ensures;
+    }
+
+pub loop-rest-smaller : goal.loop-rest-smaller
+loop-rest-smaller g c =
+    let cut = ap length c.leading_group.ensures.all in
+    let sum = length-append c.leading_group.result.0.now c.leading_group.result.1.now in
+    let some = c.leading_group.ensures.some in
+    omega (arith, cut, sum, some)
+
+pub read_group-requires-clause-pair : goal.read_group-requires-clause-pair
+read_group-requires-clause-pair g c =
+    let self = c.args.self.now in
+    let s : AskedShard = record {
+      inner = g.I.ArrayToBytesCodecTraits.meaning self.inner_codecs;
+      elements = elements_of c.args.shard.elements.now;
+      shape = c.args.asked.shape.now;
+      subchunk = self.subchunk_shape;
+      value = [];
+      pairs = pairs_of c.args.shard.fetched.now.index;
+      numbers = c.args.asked.numbers.now;
+    } in
+    let can = askable s (g.X.ArrayToBytesCodecTraits.meaning self.index_codecs) (location_of self.index_location) c.requires.fit c.requires.many c.requires.below in
+    let moved = subst (λ (ps : List AskedPlace). IsPermutation (asked_places s.shape s.subchunk s.numbers) ps) (sym c.as_slice-rest.ensures.value) c.in_ok-places.ensures in
+    let group = c.leading_group.result.0.now in
+    let asked = group_asked s c.as_slice-rest.result.now c.loop-rest.rest.now group c.leading_group.result.1.now moved c.loop-rest.invariant.left c.leading_group.ensures.all in
+    subchunk_below s (get_or group 0 no_place) can (each_at (IsAsked s) group 0 no_place asked c.leading_group.ensures.some)
+
+pub read_group-requires-clause-inside : goal.read_group-requires-clause-inside
+read_group-requires-clause-inside g c =
+    let self = c.args.self.now in
+    let s : AskedShard = record {
+      inner = g.I.ArrayToBytesCodecTraits.meaning self.inner_codecs;
+      elements = elements_of c.args.shard.elements.now;
+      shape = c.args.asked.shape.now;
+      subchunk = self.subchunk_shape;
+      value = [];
+      pairs = pairs_of c.args.shard.fetched.now.index;
+      numbers = c.args.asked.numbers.now;
+    } in
+    let can = askable s (g.X.ArrayToBytesCodecTraits.meaning self.index_codecs) (location_of self.index_location) c.requires.fit c.requires.many c.requires.below in
+    let moved = subst (λ (ps : List AskedPlace). IsPermutation (asked_places s.shape s.subchunk s.numbers) ps) (sym c.as_slice-rest.ensures.value) c.in_ok-places.ensures in
+    let group = c.leading_group.result.0.now in
+    insides_below s group can (group_asked s c.as_slice-rest.result.now c.loop-rest.rest.now group c.leading_group.result.1.now moved c.loop-rest.invariant.left c.leading_group.ensures.all)
+
+pub loop-rest-preserved : goal.loop-rest-preserved
+loop-rest-preserved g c =
+    let self = c.args.self.now in
+    let laws = g.met.D.BytesPartialDecoderTraits in
+    let inv = c.loop-rest.invariant in
+    let places = c.as_slice-rest.result.now in
+    let group = c.leading_group.result.0.now in
+    let others = c.leading_group.result.1.now in
+    let cut = c.leading_group.ensures.all in
+    record {
+      follows = laws.goes_on _ _ _ inv.follows c.in-Ok.ensures.follows;
+      refused = c.in-Ok.ensures.refused ∙ inv.refused;
+      left = left_more places c.loop-rest.rest.now group others inv.left cut;
+      read = λ honest value held long.
+          let s : AskedShard = record {
+            inner = g.I.ArrayToBytesCodecTraits.meaning self.inner_codecs;
+            elements = elements_of c.args.shard.elements.now;
+            shape = c.args.asked.shape.now;
+            subchunk = self.subchunk_shape;
+            value = value;
+            pairs = pairs_of c.args.shard.fetched.now.index;
+            numbers = c.args.asked.numbers.now;
+          } in
+          let can = askable s (g.X.ArrayToBytesCodecTraits.meaning self.index_codecs) (location_of self.index_location) c.requires.fit c.requires.many c.requires.below in
+          let moved = subst (λ (ps : List AskedPlace). IsPermutation (asked_places s.shape s.subchunk s.numbers) ps) (sym c.as_slice-rest.ensures.value) c.in_ok-places.ensures in
+          let still = subst IsTrue (laws.honest _ _ inv.follows) honest in
+          let found = c.in-Ok.ensures.part still value (sym (laws.same _ _ inv.follows) ∙ held) long in
+          so_far_more s c.loop-rest.all c.in_ok-all-in-Ok.all places c.loop-rest.rest.now group others found.cells can moved (inv.read honest value held long) cut c.leading_group.ensures.one found.is
+          (λ cells shows many. c.in_ok-all-in-Ok.ensures cells found.cells shows found.lists many);
+    }
+
+pub returns-in-Err : goal.returns-in-Err
+returns-in-Err g c =
+    let self = c.args.self.now in
+    let laws = g.met.D.BytesPartialDecoderTraits in
+    let inv = c.loop-rest.invariant in
+    let e = c.in-Err.error in
+    record {
+      part = λ honest value held long.
+          let s : AskedShard = record {
+            inner = g.I.ArrayToBytesCodecTraits.meaning self.inner_codecs;
+            elements = elements_of c.args.shard.elements.now;
+            shape = c.args.asked.shape.now;
+            subchunk = self.subchunk_shape;
+            value = value;
+            pairs = pairs_of c.args.shard.fetched.now.index;
+            numbers = c.args.asked.numbers.now;
+          } in
+          let can = askable s (g.X.ArrayToBytesCodecTraits.meaning self.index_codecs) (location_of self.index_location) c.requires.fit c.requires.many c.requires.below in
+          let moved = subst (λ (ps : List AskedPlace). IsPermutation (asked_places s.shape s.subchunk s.numbers) ps) (sym c.as_slice-rest.ensures.value) c.in_ok-places.ensures in
+          let still = subst IsTrue (laws.honest _ _ inv.follows) honest in
+          let group = c.leading_group.result.0.now in
+          let asked = group_asked s c.as_slice-rest.result.now c.loop-rest.rest.now group c.leading_group.result.1.now moved inv.left c.leading_group.ensures.all in
+          group_unread s group e can asked c.leading_group.ensures.one c.leading_group.ensures.some (c.in-Err.ensures.part still value (sym (laws.same _ _ inv.follows) ∙ held) long);
+      refused = c.in-Err.ensures.refused ∙ ap (λ n. refused_after {A = List ℕ} n (Err e)) inv.refused;
+      follows = laws.goes_on _ _ _ inv.follows c.in-Err.ensures.follows;
+    }
+
+pub returns : goal.returns
+returns g c =
+    let self = c.args.self.now in
+    let inv = c.loop-rest.invariant in
+    record {
+      part = λ honest value held long.
+          let s : AskedShard = record {
+            inner = g.I.ArrayToBytesCodecTraits.meaning self.inner_codecs;
+            elements = elements_of c.args.shard.elements.now;
+            shape = c.args.asked.shape.now;
+            subchunk = self.subchunk_shape;
+            value = value;
+            pairs = pairs_of c.args.shard.fetched.now.index;
+            numbers = c.args.asked.numbers.now;
+          } in
+          let moved = subst (λ (ps : List AskedPlace). IsPermutation (asked_places s.shape s.subchunk s.numbers) ps) (sym c.as_slice-rest.ensures.value) c.in_ok-places.ensures in
+          let so = inv.read honest value held long in
+          record {
+            cells = so.cells;
+            is = so_far_all s c.loop-rest.all c.as_slice-rest.result.now c.loop-rest.rest.now moved so c.loop-rest-test.false;
+            lists = c.in_ok-gather.ensures so.cells so.shows;
+          };
+      refused = inv.refused;
+      follows = inv.follows;
+    }

@@ -1,0 +1,65 @@
+use Rattle.std.proofs.Common.{◌≡◌, ◌∙◌, ap, sym, subst, arith, rules, length, IsTrue, Option, Some, List, ℕ, replicate}
+use Rattle.zarr_codecs_arrays.specs.Views.{elements_of}
+use Rattle.zarr_codecs_meaning.specs.Chains.{sharded}
+use Rattle.zarr_codecs_meaning.specs.Places.{grid_of, index_shape}
+use Rattle.zarr_codecs_meaning.proofs.Parts.{length-parts}
+use Rattle.zarr_codecs_traits.specs.Indexers.{asked_of}
+use Rattle.zarr_codecs_traits.specs.Outcomes.{DecodesPart}
+use Rattle.zarr_grids_boxes.specs.Boxes.{product}
+use Rattle.zarr_sharding_index.specs.Views.{location_of, pairs_of}
+use Rattle.zarr_sharding_codec.specs.Reading.{HasPairs}
+use Rattle.zarr_sharding_codec.proofs.EncodedShard.{index_part}
+use Rattle.zarr_sharding_codec.proofs.PartsRead.{fetched_nothing, fetched_value, part_filled, part_found}
+use Rattle.zarr_sharding_codec.proofs.StoredLoop.{rank_fits}
+use Rattle.zarr_sharding_codec.proofs.codec.ShardingCodec.read_part.Goals as goal
+
+pub open_index-requires-clause-rank : goal.open_index-requires-clause-rank
+open_index-requires-clause-rank g c =
+    let self = c.args.self.now in
+    rank_fits self.subchunk_shape (g.I.ArrayToBytesCodecTraits.meaning self.inner_codecs) (g.X.ArrayToBytesCodecTraits.meaning self.index_codecs) (location_of self.index_location) (elements_of c.args.part.elements.now) c.args.part.shape.now c.requires.fit
+
+pub open_index-requires-clause-fit : goal.open_index-requires-clause-fit
+open_index-requires-clause-fit g c =
+    let self = c.args.self.now in
+    index_part self.subchunk_shape (g.I.ArrayToBytesCodecTraits.meaning self.inner_codecs) (g.X.ArrayToBytesCodecTraits.meaning self.index_codecs) (location_of self.index_location) (elements_of c.args.part.elements.now) c.args.part.shape.now c.requires.fit
+
+pub read_numbers-requires-clause-many : goal.read_numbers-requires-clause-many
+read_numbers-requires-clause-many g c =
+    let self = c.args.self.now in
+    let shape = c.args.part.shape.now in
+    subst (HasPairs (product (grid_of shape self.subchunk_shape))) c.in-Ok-Some.field-0-is c.in-Ok-Some.ensures.many ∙ sym (length-parts shape self.subchunk_shape)
+
+pub returns-in-Ok-Some-clause-part : goal.returns-in-Ok-Some-clause-part
+returns-in-Ok-Some-clause-part g c = λ honest.
+    let self = c.args.self.now in
+    let laws = g.met.D.BytesPartialDecoderTraits in
+    let inner = g.I.ArrayToBytesCodecTraits.meaning self.inner_codecs in
+    let index = g.X.ArrayToBytesCodecTraits.meaning self.index_codecs in
+    let location = location_of self.index_location in
+    let elements = elements_of c.args.part.elements.now in
+    let shape = c.args.part.shape.now in
+    let asked = asked_of c.args.part.indexer in
+    let first = c.in-Ok-Some.ensures in
+    let contents = g.D.BytesPartialDecoderTraits.contents c.args.source.now in
+    let opened = fetched_value index location (index_shape shape self.subchunk_shape) contents c.in-Ok-Some.field-0 c.in-Ok-Some.index c.in-Ok-Some.field-0-is (first.index honest) in
+    let same = laws.same _ _ first.follows in
+    let still = subst IsTrue (laws.honest _ _ first.follows) honest in
+    let found = c.read_numbers.ensures.part still opened.value (sym same ∙ opened.is) opened.total in
+    let numbers = c.as_slice-numbers.ensures.value ∙ c.in_ok-numbers.ensures.numbers in
+    subst (λ (stored : Option (List ℕ)). DecodesPart (sharded self.subchunk_shape inner index location) elements shape stored asked c.read_numbers.result) (sym opened.is)
+    (part_found self.subchunk_shape inner index location elements shape opened.value (pairs_of c.in-Ok-Some.index.index) c.as_slice-numbers.result.now asked c.read_numbers.result c.requires.fit c.requires.inside numbers opened.held found)
+
+pub returns-in-Ok-None-clause-part : goal.returns-in-Ok-None-clause-part
+returns-in-Ok-None-clause-part g c = λ honest.
+    let self = c.args.self.now in
+    let inner = g.I.ArrayToBytesCodecTraits.meaning self.inner_codecs in
+    let index = g.X.ArrayToBytesCodecTraits.meaning self.index_codecs in
+    let location = location_of self.index_location in
+    let shape = c.args.part.shape.now in
+    let contents = g.D.BytesPartialDecoderTraits.contents c.args.source.now in
+    let ok = c.in_ok-numbers.numbers.ok in
+    let many : c.in_ok-numbers.numbers.len ≡ length c.in_ok-numbers.numbers.items = first_of (omega (arith, ok), search rules, cc) in
+    let none = fetched_nothing index location (index_shape shape self.subchunk_shape) contents c.in-Ok-None.field-0 c.in-Ok-None.field-0-is (c.in-Ok-None.ensures.index honest) in
+    part_filled (sharded self.subchunk_shape inner index location) (elements_of c.args.part.elements.now) shape contents c.in_ok-numbers.numbers.items (asked_of c.args.part.indexer) c.in_ok-fill_elements-in-Ok-None.field-0
+    c.requires.fit c.requires.inside c.in_ok-numbers.ensures.numbers none
+    (c.in_ok-fill_elements-in-Ok-None.ensures ∙ ap (λ k. Some (replicate k (elements_of c.args.part.elements.now).fill)) (c.len.ensures ∙ many))

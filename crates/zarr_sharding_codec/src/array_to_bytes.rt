@@ -1,0 +1,188 @@
+//! Shards as values of a codec between arrays and bytes.
+
+use crate::codec::ShardingCodec;
+use crate::decoding::Shard;
+use std::alloc::{AllocError, Global};
+use zarr_codecs_arrays::{ArrayBytes, CodecError, Elements};
+use zarr_codecs_options::{CodecOptions, SubchunkWriteOrder};
+use zarr_codecs_regions::{encode_whole, test_asked};
+use zarr_codecs_traits::{
+    ArrayPart, ArrayToBytesCodecTraits, BytesPartialDecoderTraits, BytesPartialEncoderTraits,
+    BytesRepresentation, ValuePatch, WholeArray,
+};
+use zarr_codecs_types::DataType;
+use zarr_grids_boxes::walk::count_places;
+use zarr_sharding_compaction::{ShardLayout, compact_shard};
+
+impl<I: ArrayToBytesCodecTraits, X: ArrayToBytesCodecTraits> ArrayToBytesCodecTraits
+    for ShardingCodec<I, X> {
+    ghost use Rattle.std.specs.Prelude.{◌≡◌, IfOk};
+    ghost use Rattle.zarr_sharding_codec.specs.Views.{makes_a_function, order_of, shard_chain};
+
+    ghost meaning = { shard_chain I.meaning X.meaning };
+
+    ghost is_function = { makes_a_function I.is_function X.is_function };
+
+    fn encoding_is_function(&self) -> bool {
+        matches!(self.subchunk_write_order, SubchunkWriteOrder::C)
+            && self.inner_codecs.encoding_is_function()
+            && self.index_codecs.encoding_is_function()
+    }
+
+    fn fits(&self, alloc: Global, data_type: &DataType, shape: &[u64]) -> Result<bool, AllocError> {
+        Ok(self.suited(alloc, data_type, shape)?.is_some())
+    }
+
+    fn encode(
+        &self,
+        alloc: Global,
+        bytes: ArrayBytes,
+        elements: &Elements,
+        shape: &[u64],
+        options: &CodecOptions,
+    ) -> Result<Vec<u8>, CodecError> {
+        let data_type = elements.data_type();
+        let Some(size) = self.suited(alloc, data_type, shape)? else {
+            return Err(CodecError::Fit);
+        };
+        let Some(count) = count_places(shape) else {
+            return Err(CodecError::Size);
+        };
+        if let Err(error) = bytes.validate(data_type, count) {
+            return Err(error);
+        }
+        let array = WholeArray { elements, shape };
+        self.encode_valid(alloc, &bytes, array, size, options)
+    }
+
+    fn decode(
+        &self,
+        alloc: Global,
+        value: Vec<u8>,
+        elements: &Elements,
+        shape: &[u64],
+        options: &CodecOptions,
+    ) -> Result<ArrayBytes, CodecError> {
+        let Some(size) = self.suited(alloc, elements.data_type(), shape)? else {
+            return Err(CodecError::Fit);
+        };
+        let value = value.as_slice();
+        match self.index_in(alloc, value, shape, size, options) {
+            Ok(index) => {
+                let index = &index;
+                let array = WholeArray { elements, shape };
+                self.decode_pieces(alloc, Shard { value, index }, array, options)
+            }
+            Err(error) => Err(error),
+        }
+    }
+
+    fn encoded_representation(
+        &self,
+        alloc: Global,
+        data_type: &DataType,
+        shape: &[u64],
+    ) -> Result<BytesRepresentation, CodecError> {
+        let Some(size) = self.suited(alloc, data_type, shape)? else {
+            return Err(CodecError::Fit);
+        };
+        self.represent_fitting(alloc, size, data_type, shape)
+    }
+
+    fn partial_decoder_capability(&self) -> bool {
+        true
+    }
+
+    fn partial_encoder_capability(&self) -> bool {
+        true
+    }
+
+    fn partial_decode_granularity(&self, alloc: Global, _: &[u64]) -> Result<Vec<u64>, AllocError> {
+        self.subchunk_shape.as_slice().to_vec(alloc)
+    }
+
+    fn partial_decode<D: BytesPartialDecoderTraits>(
+        &self,
+        alloc: Global,
+        source: &mut D,
+        part: ArrayPart<'_>,
+        options: &CodecOptions,
+    ) -> Result<ArrayBytes, CodecError> {
+        let Some(size) = self.suited(alloc, part.elements.data_type(), part.shape)? else {
+            return Err(CodecError::Fit);
+        };
+        if count_places(part.shape).is_none() {
+            return Err(CodecError::Size);
+        }
+        if let Err(error) = test_asked(part.shape, part.indexer) {
+            return Err(error);
+        }
+        self.read_part(alloc, source, size, part, options)
+    }
+
+    fn takes_patches(&self, _: &DataType) -> bool {
+        false
+    }
+
+    fn encode_patches(
+        &self,
+        _: Global,
+        _: ArrayBytes,
+        _: ArrayPart<'_>,
+        _: &CodecOptions,
+    ) -> Result<Option<Vec<ValuePatch>>, CodecError> {
+        Ok(None)
+    }
+
+    fn partial_encode<E: BytesPartialEncoderTraits>(
+        &self,
+        alloc: Global,
+        source: &mut E,
+        bytes: ArrayBytes,
+        part: ArrayPart<'_>,
+        options: &CodecOptions,
+    ) -> Result<(), CodecError> {
+        encode_whole(self, alloc, source, bytes, part, options)
+    }
+
+    fn compact(
+        &self,
+        alloc: Global,
+        value: &[u8],
+        elements: &Elements,
+        shape: &[u64],
+        options: &CodecOptions,
+    ) -> Result<Option<Vec<u8>>, CodecError> {
+        let Some(size) = self.suited(alloc, elements.data_type(), shape)? else {
+            return Err(CodecError::Fit);
+        };
+        let layout = ShardLayout {
+            shape,
+            subchunk_shape: &self.subchunk_shape,
+            index_location: self.index_location,
+            index_size: size,
+        };
+        compact_shard(alloc, &self.index_codecs, layout, value, options)
+    }
+
+    fn try_clone(&self, alloc: Global) -> Result<ShardingCodec<I, X>, AllocError>
+        ensures meaning { IfOk result (λ copy. shard_chain I.meaning X.meaning copy
+            ≡ shard_chain I.meaning X.meaning self.now) }
+        ensures function { IfOk result (λ copy. makes_a_function I.is_function X.is_function copy
+            ≡ makes_a_function I.is_function X.is_function self.now) }
+        ensures order { IfOk result (λ copy. order_of copy ≡ order_of self.now) }
+    {
+        let subchunk_shape = self.subchunk_shape.try_clone(alloc)?;
+        let inner_codecs = self.inner_codecs.try_clone(alloc)?;
+        let index_codecs = self.index_codecs.try_clone(alloc)?;
+        Ok(ShardingCodec {
+            subchunk_shape,
+            inner_codecs,
+            index_codecs,
+            index_location: self.index_location,
+            subchunk_write_order: self.subchunk_write_order,
+        })
+    }
+
+    ghost lawful = { λ codec. (I.lawful codec.inner_codecs, X.lawful codec.index_codecs) };
+}

@@ -1,0 +1,305 @@
+//! Parts of an array, read from parts of its shard.
+ghost use Rattle.std.specs.Prelude.{◌≡◌, List, length, map, replicate, Some, IfOk};
+ghost use Rattle.zarr_codecs_arrays.specs.Views.{elements_of, payload_of};
+ghost use Rattle.zarr_codecs_meaning.specs.Payloads.{cells_in};
+ghost use Rattle.zarr_codecs_meaning.specs.Types.{Cell};
+ghost use Rattle.zarr_codecs_regions.specs.Updates.{put};
+ghost use Rattle.zarr_sharding_places.specs.Placed.{Shows};
+
+use crate::codec::ShardingCodec;
+use std::alloc::{AllocError, Global};
+use zarr_codecs_arrays::{ArrayBytes, CodecError, Elements};
+use zarr_codecs_options::CodecOptions;
+use zarr_codecs_regions::numbers_asked;
+use zarr_codecs_traits::{
+    ArrayPart, ArrayToBytesCodecTraits, BytesPartialDecoderTraits, Indexer, MemorySource,
+};
+use zarr_grids_boxes::walk::count_places;
+use zarr_sharding_index::held::{fetch_index, fetch_slice};
+use zarr_sharding_index::pair::is_absent;
+use zarr_sharding_index::shapes::{grid_of, index_shape};
+use zarr_sharding_index::{FetchedIndex, IndexLayout};
+use zarr_sharding_places::{
+    AskedPlace, PlacedElements, insides_of, leading_group, places_by_subchunk, positions_of,
+};
+
+/// A shard of which the index was fetched, and what its elements are.
+#[derive(Clone, Copy)]
+pub(crate) struct OpenedShard<'a> {
+    pub fetched: &'a FetchedIndex,
+    pub elements: &'a Elements,
+}
+
+/// The row-major numbers of places in an array of this shape.
+#[derive(Clone, Copy)]
+pub(crate) struct NumberedPlaces<'a> {
+    pub shape: &'a [u64],
+    pub numbers: &'a [u64],
+}
+
+impl<I: ArrayToBytesCodecTraits, X: ArrayToBytesCodecTraits> ShardingCodec<I, X> {
+    ghost use Rattle.std.specs.Prelude.{◌≡◌, ◌<◌, ◌^◌, ℕ, List, Some, true, length, get_or, map, nat_lt, IsTrue, IfOk};
+    ghost use Rattle.std.specs.List.{list_all};
+    ghost use Rattle.std.specs.List.Sorted.{IsPermutation};
+    ghost use Rattle.zarr_codecs_arrays.specs.Views.{elements_of};
+    ghost use Rattle.zarr_codecs_meaning.specs.Encoding.{absent_pair, index_size};
+    ghost use Rattle.zarr_codecs_meaning.specs.Fits.{fits};
+    ghost use Rattle.zarr_codecs_meaning.specs.Places.{grid_of, index_shape, parts_of};
+    ghost use Rattle.zarr_codecs_traits.specs.Indexers.{are_inside, asked_of};
+    ghost use Rattle.zarr_codecs_traits.specs.Outcomes.{DecodesPart};
+    ghost use Rattle.zarr_codecs_traits.specs.Sources.{refused_after};
+    ghost use Rattle.zarr_grids_boxes.specs.Boxes.{product};
+    ghost use Rattle.zarr_sharding_codec.specs.Reading.{HasPairs, Lists, ListsRead, places_decoded, shard_cells, slice_cells};
+    ghost use Rattle.zarr_sharding_codec.specs.Views.{index_of, inner_of, place_of_index, shard_chain, subchunk_of};
+    ghost use Rattle.zarr_sharding_index.specs.Held.{FetchesIndex};
+    ghost use Rattle.zarr_sharding_index.specs.Stored.{index_fits};
+    ghost use Rattle.zarr_sharding_index.specs.Views.{pairs_of};
+    ghost use Rattle.zarr_sharding_places.specs.Groups.{IsGroup, no_place};
+    ghost use Rattle.zarr_sharding_places.specs.Locating.{asked_places};
+
+    /// The elements at the places that are asked for, which are the array's, of the shard that a
+    /// source holds; its index has so many bytes. Errors as those of `partial_decode`.
+    pub(crate) fn read_part<D: BytesPartialDecoderTraits>(
+        &self,
+        alloc: Global,
+        source: &mut D,
+        size: u64,
+        part: ArrayPart<'_>,
+        options: &CodecOptions,
+    ) -> Result<ArrayBytes, CodecError>
+        requires fit { fits (shard_chain I.meaning X.meaning self.now)
+            (elements_of part.elements.now).type part.shape.now ≡ true }
+        requires size { size ≡ index_size (X.meaning (index_of self.now))
+            (index_shape part.shape.now (subchunk_of self.now)) }
+        requires inside { are_inside part.shape.now (asked_of part.indexer) ≡ true }
+        requires small { product part.shape.now < 2 ^ 63 }
+        ensures part { IsTrue (D.is_honest source.old) → DecodesPart
+            (shard_chain I.meaning X.meaning self.now) (elements_of part.entry.elements.now)
+            part.entry.shape.now (D.contents source.old) (asked_of part.entry.indexer) result }
+        ensures refused { D.refused_calls source.new ≡
+            refused_after (D.refused_calls source.old) result }
+        ensures follows { D.follows source.old source.new }
+    {
+        let numbers = numbers_asked(alloc, part.shape, part.indexer)?;
+        match self.open_index(alloc, source, size, part.shape, options) {
+            Ok(Some(index)) => {
+                let fetched = &index;
+                let elements = part.elements;
+                let shape = part.shape;
+                let numbers = numbers.as_slice();
+                let shard = OpenedShard { fetched, elements };
+                self.read_numbers(
+                    alloc,
+                    source,
+                    shard,
+                    NumberedPlaces { shape, numbers },
+                    options,
+                )
+            }
+            Ok(None) => Ok(fill_elements(alloc, part.elements, numbers.len())?),
+            Err(error) => Err(error),
+        }
+    }
+
+    /// The index of the shard of an array of this shape that a source holds, with a pair for each
+    /// subchunk, or `None` where it holds none; the index has so many bytes. Errors as those of
+    /// `fetch_index`.
+    fn open_index<D: BytesPartialDecoderTraits>(
+        &self,
+        alloc: Global,
+        source: &mut D,
+        size: u64,
+        shape: &[u64],
+        options: &CodecOptions,
+    ) -> Result<Option<FetchedIndex>, CodecError>
+        requires rank { length shape.now ≡ length (subchunk_of self.now) }
+        requires fit { index_fits (X.meaning (index_of self.now))
+            (index_shape shape.now (subchunk_of self.now)) ≡ true }
+        requires size { size ≡ index_size (X.meaning (index_of self.now))
+            (index_shape shape.now (subchunk_of self.now)) }
+        ensures index { IsTrue (D.is_honest source.old) → FetchesIndex
+            (X.meaning (index_of self.now)) (place_of_index self.now)
+            (index_shape shape.now (subchunk_of self.now)) (D.contents source.old) result }
+        ensures many { IfOk result (HasPairs (product (grid_of shape.now (subchunk_of self.now)))) }
+        ensures refused { D.refused_calls source.new ≡
+            refused_after (D.refused_calls source.old) result }
+        ensures follows { D.follows source.old source.new }
+    {
+        let grid = grid_of(alloc, shape, &self.subchunk_shape)?;
+        let Some(count) = count_places(grid.as_slice()) else {
+            return Err(CodecError::Memory);
+        };
+        let pairs_shape = index_shape(alloc, shape, &self.subchunk_shape)?;
+        let layout = IndexLayout {
+            location: self.index_location,
+            shape: pairs_shape.as_slice(),
+            size,
+        };
+        match fetch_index(alloc, &self.index_codecs, source, layout, options) {
+            Ok(Some(found)) => if found.index.len() as u64 == count {
+                Ok(Some(found))
+            } else {
+                Err(CodecError::Memory)
+            },
+            Ok(None) => Ok(None),
+            Err(error) => Err(error),
+        }
+    }
+
+    /// The elements at places of the array of the shard that a source holds, each slice that they
+    /// lie in fetched once. `Damage` where the pair of one of these ends past the end of the value,
+    /// or a place of it cannot be decoded.
+    fn read_numbers<D: BytesPartialDecoderTraits>(
+        &self,
+        alloc: Global,
+        source: &mut D,
+        shard: OpenedShard<'_>,
+        asked: NumberedPlaces<'_>,
+        options: &CodecOptions,
+    ) -> Result<ArrayBytes, CodecError>
+        requires fit { fits (shard_chain I.meaning X.meaning self.now)
+            (elements_of shard.elements.now).type asked.shape.now ≡ true }
+        requires many { length (pairs_of shard.fetched.now.index)
+            ≡ length (parts_of asked.shape.now (subchunk_of self.now)) }
+        requires below { list_all (λ n. nat_lt n (product asked.shape.now)) asked.numbers.now ≡ true }
+        ensures part { IsTrue (D.is_honest source.old) → (value : List ℕ)
+            → D.contents source.old ≡ Some value → shard.entry.fetched.now.total ≡ length value
+            → ListsRead (elements_of shard.entry.elements.now) asked.entry.shape.now
+            (shard_cells (I.meaning (inner_of self.now)) (elements_of shard.entry.elements.now)
+            asked.entry.shape.now (subchunk_of self.now) value
+            (pairs_of shard.entry.fetched.now.index) asked.entry.numbers.now) result }
+        ensures refused { D.refused_calls source.new ≡
+            refused_after (D.refused_calls source.old) result }
+        ensures follows { D.follows source.old source.new }
+    {
+        let places = self.places_of(alloc, asked)?;
+        let filled = PlacedElements::new_fill_value(alloc, asked.numbers.len(), shard.elements)?;
+        let mut all = filled;
+        let mut rest = places.as_slice();
+        while rest.len() > 0 {
+            let (group, others) = leading_group(rest);
+            match self.read_group(alloc, source, shard, group, options) {
+                Ok(piece) => all = put_group(alloc, all, group, &piece, shard.elements)?,
+                Err(error) => return Err(error),
+            }
+            rest = others;
+        }
+        Ok(all.gather(alloc, shard.elements)?)
+    }
+
+    /// The places with these numbers, those of one subchunk side by side.
+    fn places_of(
+        &self,
+        alloc: Global,
+        asked: NumberedPlaces<'_>,
+    ) -> Result<Vec<AskedPlace>, AllocError>
+        requires { length asked.shape.now ≡ length (subchunk_of self.now) }
+        ensures { IfOk result (λ places. IsPermutation (asked_places asked.entry.shape.now
+            (subchunk_of self.now) asked.entry.numbers.now) places.items) }
+    {
+        let edges = self.subchunk_shape.as_slice();
+        let grid = grid_of(alloc, asked.shape, &self.subchunk_shape)?;
+        places_by_subchunk(alloc, asked.numbers, asked.shape, edges, grid.as_slice())
+    }
+
+    /// The elements at places of one subchunk of the shard that a source holds: fill values where
+    /// the subchunk is absent, else those of its slice. There is a place.
+    fn read_group<D: BytesPartialDecoderTraits>(
+        &self,
+        alloc: Global,
+        source: &mut D,
+        shard: OpenedShard<'_>,
+        group: &[AskedPlace],
+        options: &CodecOptions,
+    ) -> Result<ArrayBytes, CodecError>
+        requires fit { fits (I.meaning (inner_of self.now)) (elements_of shard.elements.now).type
+            (subchunk_of self.now) ≡ true }
+        requires some { 0 < length group.now }
+        requires pair { (get_or group.now 0 no_place).subchunk
+            < length (pairs_of shard.fetched.now.index) }
+        requires inside { list_all (λ n. nat_lt n (product (subchunk_of self.now)))
+            (map (λ place. place.inside) group.now) ≡ true }
+        ensures part { IsTrue (D.is_honest source.old) → (value : List ℕ)
+            → D.contents source.old ≡ Some value → shard.entry.fetched.now.total ≡ length value
+            → ListsRead (elements_of shard.entry.elements.now) (subchunk_of self.now)
+            (places_decoded (I.meaning (inner_of self.now)) (elements_of shard.entry.elements.now)
+            value (subchunk_of self.now) (get_or (pairs_of shard.entry.fetched.now.index)
+            (get_or group.now 0 no_place).subchunk absent_pair)
+            (map (λ place. place.inside) group.now)) result }
+        ensures refused { D.refused_calls source.new ≡
+            refused_after (D.refused_calls source.old) result }
+        ensures follows { D.follows source.old source.new }
+    {
+        let pair = shard.fetched.index.get(group[0].subchunk as usize);
+        if is_absent(pair) {
+            return Ok(fill_elements(alloc, shard.elements, group.len())?);
+        }
+        match fetch_slice(alloc, source, shard.fetched.total, pair) {
+            Ok(slice) => {
+                let insides = insides_of(alloc, group)?;
+                self.read_slice(alloc, slice, insides.as_slice(), shard.elements, options)
+            }
+            Err(error) => Err(error),
+        }
+    }
+
+    /// The elements at places of the subchunk that a slice holds. `Damage` where one of them cannot
+    /// be decoded. There is a place.
+    fn read_slice(
+        &self,
+        alloc: Global,
+        slice: Vec<u8>,
+        insides: &[u64],
+        elements: &Elements,
+        options: &CodecOptions,
+    ) -> Result<ArrayBytes, CodecError>
+        requires fit { fits (I.meaning (inner_of self.now)) (elements_of elements.now).type
+            (subchunk_of self.now) ≡ true }
+        requires some { 0 < length insides.now }
+        requires inside { list_all (λ n. nat_lt n (product (subchunk_of self.now))) insides.now
+            ≡ true }
+        ensures part { Lists (elements_of elements.now) (subchunk_of self.now)
+            (slice_cells (I.meaning (inner_of self.now)) (elements_of elements.now)
+            (subchunk_of self.now) slice.items insides.now) result }
+        ensures no_source { (count : ℕ) → refused_after count result ≡ count }
+    {
+        let mut source = MemorySource::new(Some(slice));
+        let part = ArrayPart {
+            elements,
+            shape: self.subchunk_shape.as_slice(),
+            indexer: Indexer::List(insides),
+        };
+        self.inner_codecs
+            .partial_decode(alloc, &mut source, part, options)
+    }
+}
+
+/// The elements after those of places of one subchunk were put where these places stand. `Err` only
+/// where an allocation failed, or one of the places stands past the end.
+fn put_group(
+    alloc: Global,
+    all: PlacedElements,
+    group: &[AskedPlace],
+    piece: &ArrayBytes,
+    elements: &Elements,
+) -> Result<PlacedElements, AllocError>
+    ensures { (before others : List Cell) → Shows (elements_of elements.now) all before
+        → cells_in (elements_of elements.now).type (payload_of piece.now) ≡ Some others
+        → length others ≡ length (map (λ place. place.position) group.now) → IfOk result
+        (λ made. Shows (elements_of elements.now) made
+        (put (map (λ place. place.position) group.now) others before)) }
+{
+    let at = positions_of(alloc, group)?;
+    all.put(alloc, at.as_slice(), piece, elements)
+}
+
+/// So many fill values. `Err` only where an allocation failed, as where they would be too many.
+fn fill_elements(alloc: Global, elements: &Elements, count: usize) -> Result<ArrayBytes, AllocError>
+    ensures { IfOk result (λ bytes. cells_in (elements_of elements.now).type (payload_of bytes)
+        ≡ Some (replicate count (elements_of elements.now).fill)) }
+{
+    match ArrayBytes::new_fill_value(alloc, elements, count as u64) {
+        Ok(bytes) => Ok(bytes),
+        Err(_) => Err(AllocError),
+    }
+}

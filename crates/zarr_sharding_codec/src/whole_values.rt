@@ -1,0 +1,53 @@
+//! What reading and writing values whole needs of shards.
+use crate::codec::ShardingCodec;
+use std::alloc::{AllocError, Global};
+use zarr_codecs_arrays::{ArrayBytes, CodecError, Elements};
+use zarr_codecs_options::CodecOptions;
+use zarr_codecs_regions::WholeValues;
+use zarr_codecs_traits::ArrayToBytesCodecTraits;
+use zarr_codecs_types::DataType;
+
+impl<I: ArrayToBytesCodecTraits, X: ArrayToBytesCodecTraits> WholeValues for ShardingCodec<I, X> {
+    ghost use Rattle.zarr_sharding_codec.specs.Views.{makes_a_function, shard_chain};
+
+    ghost meaning = { shard_chain I.meaning X.meaning };
+
+    ghost is_function = { makes_a_function I.is_function X.is_function };
+
+    fn fits_array(
+        &self,
+        alloc: Global,
+        data_type: &DataType,
+        shape: &[u64],
+    ) -> Result<bool, AllocError> {
+        self.fits(alloc, data_type, shape)
+    }
+
+    fn encode_array(
+        &self,
+        alloc: Global,
+        bytes: ArrayBytes,
+        elements: &Elements,
+        shape: &[u64],
+        options: &CodecOptions,
+    ) -> Result<Vec<u8>, CodecError> {
+        self.encode(alloc, bytes, elements, shape, options)
+    }
+
+    fn decode_value(
+        &self,
+        alloc: Global,
+        value: Vec<u8>,
+        elements: &Elements,
+        shape: &[u64],
+        options: &CodecOptions,
+    ) -> Result<ArrayBytes, CodecError> {
+        self.decode(alloc, value, elements, shape, options)
+    }
+
+    fn keeps_fill(&self) -> bool {
+        false
+    }
+
+    ghost lawful = { λ codec. (I.lawful codec.inner_codecs, X.lawful codec.index_codecs) };
+}

@@ -1,0 +1,11 @@
+-- Places of one subchunk that stand side by side.
+use Rattle.std.specs.Prelude.{◌≡◌, ℕ, ◌<◌, List, length, get_or}
+use Rattle.zarr_sharding_places.specs.declared.locating.AskedPlace.{AskedPlace}
+
+-- no place
+abbrev pub no_place : AskedPlace
+no_place = record { subchunk = 0; inside = 0; position = 0 }
+
+-- places lie in one subchunk, that of the first one
+abbrev pub IsGroup : List AskedPlace → Type 0
+IsGroup places = (m : ℕ) → m < length places → (get_or places m no_place).subchunk ≡ (get_or places 0 no_place).subchunk

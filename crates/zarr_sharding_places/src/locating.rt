@@ -1,0 +1,132 @@
+//! The subchunks that places of an array lie in.
+ghost use Rattle.std.specs.Prelude.{◌≡◌, ◌++◌, IfOk, IfSome, IsPermutation, OnOk};
+ghost use Rattle.zarr_codecs_meaning.specs.Places.{grid_of};
+ghost use Rattle.zarr_grids_boxes.specs.Boxes.{product};
+ghost use Rattle.zarr_sharding_places.specs.Locating.{asked_places, axes_of, located};
+
+use std::alloc::{AllocError, Global};
+use zarr_grids_boxes::walk::count_places;
+
+/// A place of an array that is asked for: the number of the subchunk that it lies in, its number in
+/// that subchunk, both row-major, and where it stands among all places that are asked for.
+#[derive(Clone, Copy, Debug)]
+pub struct AskedPlace {
+    pub subchunk: u64,
+    pub inside: u64,
+    pub position: u64,
+}
+
+/// What one dimension adds to numbers: the edge of a subchunk, and how many places, subchunks, and
+/// places of a subchunk all later dimensions have.
+#[derive(Clone, Copy, Debug)]
+pub(crate) struct Axis {
+    pub edge: u64,
+    pub places: u64,
+    pub subchunks: u64,
+    pub inside: u64,
+}
+
+/// The places with these numbers in an array, those of one subchunk side by side; the array is cut
+/// into subchunks of these edges, as many as the grid says in each dimension. `Err` where an
+/// allocation failed, and where there are 2^63 places or more.
+pub fn places_by_subchunk(
+    alloc: Global,
+    numbers: &[u64],
+    shape: &[u64],
+    edges: &[u64],
+    grid: &[u64],
+) -> Result<Vec<AskedPlace>, AllocError>
+    requires { grid.now ≡ grid_of shape.now edges.now }
+    ensures { IfOk result
+        (λ places. IsPermutation (asked_places shape.now edges.now numbers.now) places.items) }
+{
+    let mut places = locate_all(alloc, numbers, shape, edges, grid)?;
+    places.sort_unstable_by_key(|place| place.subchunk);
+    Ok(places)
+}
+
+/// The places with these numbers, in their order.
+fn locate_all(
+    alloc: Global,
+    numbers: &[u64],
+    shape: &[u64],
+    edges: &[u64],
+    grid: &[u64],
+) -> Result<Vec<AskedPlace>, AllocError>
+    requires { grid.now ≡ grid_of shape.now edges.now }
+    ensures { IfOk result (λ places. places.items ≡ asked_places shape.now edges.now numbers.now) }
+{
+    let mut places = Vec::with_capacity(alloc, numbers.len())?;
+    if numbers.is_empty() {
+        return Ok(places);
+    }
+    let mut axes = Vec::with_capacity(alloc, shape.len())?;
+    push_axes(shape, edges, grid, &mut axes)?;
+    for position in 0..numbers.len() {
+        let Some(found) = locate(axes.as_slice(), numbers[position]) else {
+            return Err(AllocError);
+        };
+        places.push(AskedPlace {
+            subchunk: found.0,
+            inside: found.1,
+            position: position as u64,
+        })?;
+    }
+    Ok(places)
+}
+
+/// Adds what each dimension adds to numbers.
+fn push_axes(
+    shape: &[u64],
+    edges: &[u64],
+    grid: &[u64],
+    axes: &mut Vec<Axis>,
+) -> Result<(), AllocError>
+    ensures { OnOk result (axes.new.items ≡ axes.old.items ++ axes_of shape.now edges.now grid.now) }
+{
+    let Some((_, sizes)) = shape.split_first() else {
+        return Ok(());
+    };
+    let Some((edge, edges)) = edges.split_first() else {
+        return Ok(());
+    };
+    let Some((_, counts)) = grid.split_first() else {
+        return Ok(());
+    };
+    axes.push(Axis {
+        edge: *edge,
+        places: count(sizes)?,
+        subchunks: count(counts)?,
+        inside: count(edges)?,
+    })?;
+    push_axes(sizes, edges, counts, axes)
+}
+
+/// How many places a shape has. `Err` where they are 2^63 or more.
+fn count(shape: &[u64]) -> Result<u64, AllocError>
+    ensures { IfOk result (λ count. count ≡ product shape.now) }
+{
+    match count_places(shape) {
+        Some(count) => Ok(count),
+        None => Err(AllocError),
+    }
+}
+
+/// The numbers of the subchunk that a place lies in and of the place in that subchunk. `None` where
+/// there is no such place, or a number is too large.
+fn locate(axes: &[Axis], n: u64) -> Option<(u64, u64)>
+    ensures { IfSome result (λ found. found ≡ located axes.now n) }
+{
+    let Some((axis, others)) = axes.split_first() else {
+        return Some((0, 0));
+    };
+    let along = n.checked_div(axis.places)?;
+    let rest = n.checked_rem(axis.places)?;
+    let (subchunk, inside) = locate(others, rest)?;
+    let subchunks = along.checked_div(axis.edge)?.checked_mul(axis.subchunks)?;
+    let insides = along.checked_rem(axis.edge)?.checked_mul(axis.inside)?;
+    Some((
+        subchunks.checked_add(subchunk)?,
+        insides.checked_add(inside)?,
+    ))
+}
