@@ -8,6 +8,7 @@ from typing import Dict, List, Optional, Set
 LINE_OF_FUNCTION = re.compile(r"fn \w+::(\S+): (.*)")
 PLACED = re.compile(r"(?:note: )?(?:\./)?(\S+?):(\d+):\d+: (.*)")
 NAME_IS_GONE = re.compile(r"has no field|is not in scope|has no `|was not admitted")
+NOT_TRIED = re.compile(r"\d+ declarations? that depends? on `[^`]*`, which was rejected")
 CANNOT_BE_READ = re.compile(r"is not in scope|has no field|is no name|operand is missing|expected the end|cannot continue")
 
 
@@ -32,7 +33,7 @@ class Placed:
     def cannot_be_read(self) -> bool:
         """Whether it says that the text itself is no text of the language, so that no proof was tried."""
         found = re.match(r"error: (?:(`[^`]*`): )?(.*)", self.text)
-        if not found or not self.file.startswith(("src/", "specs/")):
+        if not found or not self.file.startswith(("src/", "specs/")) or NOT_TRIED.match(found[2]):
             return False
         return not found[1] or bool(CANNOT_BE_READ.search(re.sub(r"`[^`]*`", "", found[2])))
 

@@ -135,6 +135,11 @@ class ReadingOutput(unittest.TestCase):
         self.assertTrue(output.errors[0].cannot_be_read)
         self.assertFalse(self.output.errors[0].cannot_be_read)
 
+    def test_a_law_that_rests_on_a_refused_one_can_be_read(self):
+        said = "1 declaration that depends on `kept`, which was rejected, was not checked: all_kept"
+        output = read_output(1, f"specs/Laws.antt:7:1: error: `kept`: not equal\nspecs/Laws.antt:7:1: error: {said}\nlogic=not-proved\n")
+        self.assertEqual([it.cannot_be_read for it in output.errors], [False, False])
+
 
 class ChoosingBatches(unittest.TestCase):
     def batch_of(self, *edits):
