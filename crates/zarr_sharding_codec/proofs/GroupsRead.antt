@@ -186,12 +186,12 @@ all_asked s places moved =
     record { below = omega (arith, under, at_); is = is ∙ ap f (sym at_) }))
 
 -- a place is one of a list's
-record StandsAt (ps : List AskedPlace) (p : AskedPlace) : Type 0 where
+pub record StandsAt (ps : List AskedPlace) (p : AskedPlace) : Type 0 where
   pub at_ : ℕ
   pub below : at_ < length ps
   pub is : get_or ps at_ p ≡ p
 
-stands_at : {ps : List AskedPlace} {p : AskedPlace} → StandsIn ps p → StandsAt ps p
+pub stands_at : {ps : List AskedPlace} {p : AskedPlace} → StandsIn ps p → StandsAt ps p
 stands_at h = record { at_ = h.1.0; below = h.1.1; is = h.1.2 }
 
 pub all_read : (s : AskedShard) (places : List AskedPlace) (cells : List Cell) → IsPermutation (asked_places s.shape s.subchunk s.numbers) places → length cells ≡ length s.numbers → Each (IsRead s cells) places

@@ -12,3 +12,15 @@ pub mod ShardBounds
 pub mod PartsRead
 pub mod SoFarRead
 pub mod ShardSizes
+pub mod PutPieces
+pub mod PartShown
+pub mod ChangedPairs
+pub mod PartHolds
+pub mod GroupWritten
+pub mod SoFarWritten
+pub mod PartFill
+pub mod PartStands
+pub mod PartKept
+pub mod PartWritten
+pub mod PartAppended
+pub mod GivenSoFar

@@ -84,7 +84,7 @@ slice_unread inner elements value shape pair places e present some lost = absurd
 
 -- ---- a part of a shard
 
-part_is : (subchunk : List ℕ) (inner index : Chain) (location : Location) (elements : Elements) (shape value : List ℕ) (pairs : List Pair) (numbers : List ℕ) → IsIndexHeld index location (index_shape shape subchunk) value pairs
+pub part_is : (subchunk : List ℕ) (inner index : Chain) (location : Location) (elements : Elements) (shape value : List ℕ) (pairs : List Pair) (numbers : List ℕ) → IsIndexHeld index location (index_shape shape subchunk) value pairs
     → part_decoded (sharded subchunk inner index location) elements shape value numbers ≡ shard_cells inner elements shape subchunk value pairs numbers
 part_is subchunk inner index location elements shape value pairs numbers held =
     let meet = λ (n : ℕ). cell_of_part (cell_at inner elements) elements.fill value n (parts_of shape subchunk) in

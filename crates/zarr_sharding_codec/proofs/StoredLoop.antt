@@ -138,3 +138,14 @@ is_subchunk subchunk inner index location elements shape n fit below = record {
 
 pub rank_fits : (subchunk : List ℕ) (inner index : Chain) (location : Location) (elements : Elements) (shape : List ℕ) → fits (sharded subchunk inner index location) elements.type shape ≡ true → length shape ≡ length subchunk
 rank_fits subchunk inner index location elements shape fit = same_length shape subchunk (fitted subchunk inner index location elements shape fit).cuts
+
+-- and its inner chain fits the subchunks
+pub inner_fit : (subchunk : List ℕ) (inner index : Chain) (location : Location) (elements : Elements) (shape : List ℕ) → fits (sharded subchunk inner index location) elements.type shape ≡ true → fits inner elements.type subchunk ≡ true
+inner_fit subchunk inner index location elements shape fit =
+    let last = index_fits index (index_shape shape subchunk) in
+    let parts = parts_fit inner elements.type shape subchunk in
+    let some = fits inner elements.type subchunk in
+    let a = (and_parts (divides shape subchunk) (not (is_some (inner_type elements.type)) && (can_cut shape subchunk && ((some && parts) && last))) fit).1 in
+    let b = (and_parts (not (is_some (inner_type elements.type))) (can_cut shape subchunk && ((some && parts) && last)) a).1 in
+    let c = (and_parts (can_cut shape subchunk) ((some && parts) && last) b).1 in
+    (and_parts some parts (and_parts (some && parts) last c).0).0

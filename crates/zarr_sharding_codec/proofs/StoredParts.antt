@@ -1,5 +1,5 @@
 -- What is stored of a shard's subchunks.
-use Rattle.std.proofs.Common.{◌≡◌, ℕ, zero, suc, ◌+◌, ◌*◌, ◌<◌, List, [], ◌∷◌, ◌++◌, length, get_or, ap, ◌∙◌, sym, arith, subst, inl, inr, Option, Some, option_and_then, ◌%◌, Bool, true, false, Err}
+use Rattle.std.proofs.Common.{◌≡◌, ℕ, zero, suc, ◌+◌, ◌*◌, ◌<◌, List, [], ◌∷◌, ◌++◌, length, get_or, ap, ◌∙◌, sym, refl, arith, subst, inl, inr, Option, Some, option_and_then, ◌%◌, Bool, true, false, Err}
 use Rattle.std.specs.List.{list_all}
 use Rattle.zarr_grids_boxes.specs.Boxes.{product}
 use Rattle.zarr_codecs_meaning.specs.Chains.{Chain}
@@ -16,6 +16,7 @@ use Rattle.zarr_codecs_arrays.specs.Outcomes.{IsValid}
 use Rattle.zarr_codecs_arrays.specs.declared.error.CodecError.{CodecError}
 use Rattle.zarr_codecs_arrays.specs.declared.error.CodecError.TheVariants as error
 use Rattle.zarr_codecs_traits.specs.Outcomes.{Encodes}
+use Rattle.zarr_codecs_traits.specs.Sources.{refused_after}
 use Rattle.zarr_sharding_codec.specs.Slices.{ArePiecesStored, IsPieceStored, StoresPiece}
 
 -- a subchunk that isn't all fill is refused as its chain refuses it
@@ -41,6 +42,11 @@ piece_refused inner exact elements shape payload cells error.CellOutOfRange fit 
     let same : given.1.0 ≡ cells = some_same (sym given.1.1.lists ∙ valid.is.lists) in
     let no = given.1.2 in
     let yes = subst (λ found. list_all (is_value elements.type) found ≡ true) (sym same) valid.values in cc
+
+-- elements are not refused by a source
+pub encodes_unrefused : (A : Type 0) (chain : Chain) (exact : Bool) (elements : Elements) (shape : List ℕ) (payload : Payload) (e : CodecError) (count : ℕ) → Encodes chain exact elements shape payload (Err e) → refused_after {A = A} count (Err e) ≡ count
+encodes_unrefused A chain exact elements shape payload error.Source count h = elim h.1 [ ]
+encodes_unrefused A chain exact elements shape payload e count h = refl
 
 -- ---- one subchunk more
 

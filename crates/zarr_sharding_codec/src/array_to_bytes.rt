@@ -142,7 +142,15 @@ impl<I: ArrayToBytesCodecTraits, X: ArrayToBytesCodecTraits> ArrayToBytesCodecTr
         part: ArrayPart<'_>,
         options: &CodecOptions,
     ) -> Result<(), CodecError> {
-        encode_whole(self, alloc, source, bytes, part, options)
+        let tested = match self.test_part(alloc, &bytes, part) {
+            Ok(tested) => tested,
+            Err(error) => return Err(error),
+        };
+        match self.append_part(alloc, source, &tested, &bytes, part, options) {
+            Ok(true) => Ok(()),
+            Ok(false) => encode_whole(self, alloc, source, bytes, part, options),
+            Err(error) => Err(error),
+        }
     }
 
     fn compact(

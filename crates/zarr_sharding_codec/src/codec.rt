@@ -27,7 +27,7 @@ impl<I: ArrayToBytesCodecTraits, X: ArrayToBytesCodecTraits> ShardingCodec<I, X>
     ghost use Rattle.zarr_codecs_meaning.specs.Chains.{sharded};
     ghost use Rattle.zarr_codecs_options.specs.declared.subchunk_write_order.SubchunkWriteOrder.TheVariants as order;
     ghost use Rattle.zarr_sharding_index.specs.Views.{location_of};
-    ghost use Rattle.zarr_sharding_codec.specs.Views.{order_of, shard_chain};
+    ghost use Rattle.zarr_sharding_codec.specs.Views.{index_of, inner_of, order_of, shard_chain, subchunk_of};
 
     /// Shards of subchunks of this shape. What the index codecs make of an index depends on its
     /// pairs alone. The subchunks are written in any order, without gaps.
@@ -40,6 +40,8 @@ impl<I: ArrayToBytesCodecTraits, X: ArrayToBytesCodecTraits> ShardingCodec<I, X>
         requires { IsTrue (X.is_function index_codecs) }
         ensures meaning { shard_chain I.meaning X.meaning result ≡ sharded subchunk_shape
             (I.meaning inner_codecs) (X.meaning index_codecs) (location_of index_location) }
+        ensures inner { inner_of result ≡ inner_codecs }
+        ensures index { index_of result ≡ index_codecs }
         ensures order { order_of result ≡ order.Unordered }
     {
         ShardingCodec {
@@ -51,10 +53,19 @@ impl<I: ArrayToBytesCodecTraits, X: ArrayToBytesCodecTraits> ShardingCodec<I, X>
         }
     }
 
+    /// The shape of the subchunks.
+    pub fn subchunk_shape(&self) -> &ChunkShape
+        ensures { result.now ≡ subchunk_of self.now }
+    {
+        &self.subchunk_shape
+    }
+
     /// The codec with another order in which the subchunks are written.
     pub fn with_subchunk_write_order(self, order: SubchunkWriteOrder) -> ShardingCodec<I, X>
         ensures meaning { shard_chain I.meaning X.meaning result
             ≡ shard_chain I.meaning X.meaning self }
+        ensures inner { inner_of result ≡ inner_of self }
+        ensures index { index_of result ≡ index_of self }
         ensures order { order_of result ≡ order }
     {
         let mut codec = self;

@@ -161,7 +161,11 @@ impl<I: ArrayToBytesCodecTraits, X: ArrayToBytesCodecTraits> ShardingCodec<I, X>
 }
 
 /// As many fill values as a shape has places.
-fn fill_piece(alloc: Global, elements: &Elements, shape: &[u64]) -> Result<ArrayBytes, CodecError>
+pub(crate) fn fill_piece(
+    alloc: Global,
+    elements: &Elements,
+    shape: &[u64],
+) -> Result<ArrayBytes, CodecError>
     ensures { FillsPiece (elements_of elements.now) shape.now result }
 {
     let Some(count) = count_places(shape) else {

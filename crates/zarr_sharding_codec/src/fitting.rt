@@ -19,7 +19,7 @@ impl<I: ArrayToBytesCodecTraits, X: ArrayToBytesCodecTraits> ShardingCodec<I, X>
     /// How many bytes the index of a shard has, where the codec suits arrays of a data type and a
     /// shape. `Err` where an allocation failed, or the index codec tells only that an index or what
     /// one of its codecs makes is too large.
-    pub(crate) fn suited(
+    pub fn suited(
         &self,
         alloc: Global,
         data_type: &DataType,

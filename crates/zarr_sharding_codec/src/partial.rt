@@ -25,22 +25,22 @@ use zarr_sharding_places::{
 
 /// A shard of which the index was fetched, and what its elements are.
 #[derive(Clone, Copy)]
-pub(crate) struct OpenedShard<'a> {
+pub struct OpenedShard<'a> {
     pub fetched: &'a FetchedIndex,
     pub elements: &'a Elements,
 }
 
 /// The row-major numbers of places in an array of this shape.
 #[derive(Clone, Copy)]
-pub(crate) struct NumberedPlaces<'a> {
+pub struct NumberedPlaces<'a> {
     pub shape: &'a [u64],
     pub numbers: &'a [u64],
 }
 
 impl<I: ArrayToBytesCodecTraits, X: ArrayToBytesCodecTraits> ShardingCodec<I, X> {
-    ghost use Rattle.std.specs.Prelude.{◌≡◌, ◌<◌, ◌^◌, ℕ, List, Some, true, length, get_or, map, nat_lt, IsTrue, IfOk};
+    ghost use Rattle.std.specs.Prelude.{◌≡◌, ◌<◌, ◌≤◌, ◌+◌, ◌^◌, ℕ, List, Some, true, length, get_or, map, nat_lt, IsTrue, IfOk};
     ghost use Rattle.std.specs.List.{list_all};
-    ghost use Rattle.std.specs.List.Sorted.{IsPermutation};
+    ghost use Rattle.std.specs.List.Sorted.{IsNonDecreasingBy, IsPermutation};
     ghost use Rattle.zarr_codecs_arrays.specs.Views.{elements_of};
     ghost use Rattle.zarr_codecs_meaning.specs.Encoding.{absent_pair, index_size};
     ghost use Rattle.zarr_codecs_meaning.specs.Fits.{fits};
@@ -49,12 +49,13 @@ impl<I: ArrayToBytesCodecTraits, X: ArrayToBytesCodecTraits> ShardingCodec<I, X>
     ghost use Rattle.zarr_codecs_traits.specs.Outcomes.{DecodesPart};
     ghost use Rattle.zarr_codecs_traits.specs.Sources.{refused_after};
     ghost use Rattle.zarr_grids_boxes.specs.Boxes.{product};
+    ghost use Rattle.zarr_sharding_codec.specs.BytesMet.{bytes_met, slice_length};
     ghost use Rattle.zarr_sharding_codec.specs.Reading.{HasPairs, Lists, ListsRead, places_decoded, shard_cells, slice_cells};
     ghost use Rattle.zarr_sharding_codec.specs.Views.{index_of, inner_of, place_of_index, shard_chain, subchunk_of};
     ghost use Rattle.zarr_sharding_index.specs.Held.{FetchesIndex};
     ghost use Rattle.zarr_sharding_index.specs.Stored.{index_fits};
     ghost use Rattle.zarr_sharding_index.specs.Views.{pairs_of};
-    ghost use Rattle.zarr_sharding_places.specs.Groups.{IsGroup, no_place};
+    ghost use Rattle.zarr_sharding_places.specs.Groups.{IsGroup, no_place, places_in};
     ghost use Rattle.zarr_sharding_places.specs.Locating.{asked_places};
 
     /// The elements at the places that are asked for, which are the array's, of the shard that a
@@ -104,7 +105,7 @@ impl<I: ArrayToBytesCodecTraits, X: ArrayToBytesCodecTraits> ShardingCodec<I, X>
     /// The index of the shard of an array of this shape that a source holds, with a pair for each
     /// subchunk, or `None` where it holds none; the index has so many bytes. Errors as those of
     /// `fetch_index`.
-    fn open_index<D: BytesPartialDecoderTraits>(
+    pub fn open_index<D: BytesPartialDecoderTraits>(
         &self,
         alloc: Global,
         source: &mut D,
@@ -123,6 +124,8 @@ impl<I: ArrayToBytesCodecTraits, X: ArrayToBytesCodecTraits> ShardingCodec<I, X>
         ensures many { IfOk result (HasPairs (product (grid_of shape.now (subchunk_of self.now)))) }
         ensures refused { D.refused_calls source.new ≡
             refused_after (D.refused_calls source.old) result }
+        ensures given { IsTrue (D.is_honest source.old) →
+            D.given_bytes source.new ≤ D.given_bytes source.old + size }
         ensures follows { D.follows source.old source.new }
     {
         let grid = grid_of(alloc, shape, &self.subchunk_shape)?;
@@ -147,9 +150,9 @@ impl<I: ArrayToBytesCodecTraits, X: ArrayToBytesCodecTraits> ShardingCodec<I, X>
     }
 
     /// The elements at places of the array of the shard that a source holds, each slice that they
-    /// lie in fetched once. `Damage` where the pair of one of these ends past the end of the value,
-    /// or a place of it cannot be decoded.
-    fn read_numbers<D: BytesPartialDecoderTraits>(
+    /// lie in fetched once, and no other. `Damage` where the pair of one of these ends past the end
+    /// of the value, or a place of it cannot be decoded.
+    pub fn read_numbers<D: BytesPartialDecoderTraits>(
         &self,
         alloc: Global,
         source: &mut D,
@@ -170,6 +173,9 @@ impl<I: ArrayToBytesCodecTraits, X: ArrayToBytesCodecTraits> ShardingCodec<I, X>
             (pairs_of shard.entry.fetched.now.index) asked.entry.numbers.now) result }
         ensures refused { D.refused_calls source.new ≡
             refused_after (D.refused_calls source.old) result }
+        ensures given { IsTrue (D.is_honest source.old) → D.given_bytes source.new
+            ≤ D.given_bytes source.old + bytes_met asked.entry.shape.now (subchunk_of self.now)
+            asked.entry.numbers.now (pairs_of shard.entry.fetched.now.index) }
         ensures follows { D.follows source.old source.new }
     {
         let places = self.places_of(alloc, asked)?;
@@ -187,15 +193,20 @@ impl<I: ArrayToBytesCodecTraits, X: ArrayToBytesCodecTraits> ShardingCodec<I, X>
         Ok(all.gather(alloc, shard.elements)?)
     }
 
-    /// The places with these numbers, those of one subchunk side by side.
-    fn places_of(
+    /// The places with these numbers, subchunk by subchunk, those of one subchunk in their order.
+    pub(crate) fn places_of(
         &self,
         alloc: Global,
         asked: NumberedPlaces<'_>,
     ) -> Result<Vec<AskedPlace>, AllocError>
         requires { length asked.shape.now ≡ length (subchunk_of self.now) }
-        ensures { IfOk result (λ places. IsPermutation (asked_places asked.entry.shape.now
+        ensures all { IfOk result (λ places. IsPermutation (asked_places asked.entry.shape.now
             (subchunk_of self.now) asked.entry.numbers.now) places.items) }
+        ensures sorted { IfOk result
+            (λ places. IsNonDecreasingBy (λ place. place.subchunk) places.items) }
+        ensures stable { IfOk result (λ places. (k : ℕ) → places_in k places.items
+            ≡ places_in k (asked_places asked.entry.shape.now (subchunk_of self.now)
+            asked.entry.numbers.now)) }
     {
         let edges = self.subchunk_shape.as_slice();
         let grid = grid_of(alloc, asked.shape, &self.subchunk_shape)?;
@@ -228,6 +239,10 @@ impl<I: ArrayToBytesCodecTraits, X: ArrayToBytesCodecTraits> ShardingCodec<I, X>
             (map (λ place. place.inside) group.now)) result }
         ensures refused { D.refused_calls source.new ≡
             refused_after (D.refused_calls source.old) result }
+        ensures given { IsTrue (D.is_honest source.old) → D.given_bytes source.new
+            ≤ D.given_bytes source.old
+            + slice_length (get_or (pairs_of shard.entry.fetched.now.index)
+            (get_or group.now 0 no_place).subchunk absent_pair) }
         ensures follows { D.follows source.old source.new }
     {
         let pair = shard.fetched.index.get(group[0].subchunk as usize);
@@ -294,7 +309,11 @@ fn put_group(
 }
 
 /// So many fill values. `Err` only where an allocation failed, as where they would be too many.
-fn fill_elements(alloc: Global, elements: &Elements, count: usize) -> Result<ArrayBytes, AllocError>
+pub fn fill_elements(
+    alloc: Global,
+    elements: &Elements,
+    count: usize,
+) -> Result<ArrayBytes, AllocError>
     ensures { IfOk result (λ bytes. cells_in (elements_of elements.now).type (payload_of bytes)
         ≡ Some (replicate count (elements_of elements.now).fill)) }
 {

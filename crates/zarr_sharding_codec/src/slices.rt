@@ -1,10 +1,11 @@
 //! The slices of a shard's subchunks, and how they are laid out.
-ghost use Rattle.std.specs.Prelude.{◌≡◌, ◌^◌, ◌<◌, List, length, true, IfOk};
+ghost use Rattle.std.specs.Prelude.{◌≡◌, ◌^◌, ◌<◌, ℕ, List, length, true, IfOk};
 ghost use Rattle.zarr_codecs_arrays.specs.Outcomes.{IsValid};
 ghost use Rattle.zarr_codecs_arrays.specs.Views.{elements_of, payload_of};
 ghost use Rattle.zarr_codecs_meaning.specs.Encoding.{joined, joined_slices, pairs_from};
 ghost use Rattle.zarr_codecs_meaning.specs.Fits.{fits};
 ghost use Rattle.zarr_codecs_meaning.specs.Types.{Cell};
+ghost use Rattle.zarr_codecs_traits.specs.Sources.{refused_after};
 ghost use Rattle.zarr_grids_boxes.specs.Boxes.{product};
 ghost use Rattle.zarr_sharding_codec.specs.Slices.{StoresPiece, slices_of};
 ghost use Rattle.zarr_sharding_index.specs.Views.{location_of, pairs_of};
@@ -26,10 +27,11 @@ pub(crate) fn store_piece<I: ArrayToBytesCodecTraits>(
     options: &CodecOptions,
 ) -> Result<Option<Vec<u8>>, CodecError>
     requires { fits (I.meaning inner_codecs.now) (elements_of elements.now).type shape.now ≡ true }
-    ensures { (cells : List Cell)
+    ensures stored { (cells : List Cell)
         → IsValid (elements_of elements.now).type (payload_of piece) (product shape.now) cells
         → StoresPiece (I.meaning inner_codecs.now) (I.is_function inner_codecs.now)
         (elements_of elements.now) (shape.now, cells) result }
+    ensures no_source { (count : ℕ) → refused_after count result ≡ count }
 {
     if piece.is_fill_value(elements) {
         return Ok(None);

@@ -1,5 +1,5 @@
 //! The index of a shard as the shard holds it.
-ghost use Rattle.std.specs.Prelude.{◌≡◌, ◌+◌, ◌%◌, ◌∷◌, [], ℕ, List, Some, length, nat_le, true, IsTrue};
+ghost use Rattle.std.specs.Prelude.{◌≡◌, ◌≤◌, ◌+◌, ◌%◌, ◌∷◌, [], ℕ, List, Some, length, nat_le, true, IsTrue};
 ghost use Rattle.zarr_codecs_meaning.specs.Encoding.{index_size};
 ghost use Rattle.zarr_codecs_traits.specs.Sources.{part_lists, refused_after, value_bytes};
 ghost use Rattle.zarr_grids_boxes.specs.Boxes.{product};
@@ -58,7 +58,7 @@ pub fn decode_index<X: ArrayToBytesCodecTraits>(
 }
 
 /// The index of the shard that a source holds, of which nothing else is fetched, or `None` where it
-/// holds none. Errors as those of `decode_index`, and `Source` where the source refuses.
+/// holds none: at most the index's bytes are taken from an honest source. Errors as those of `decode_index`, and `Source` where the source refuses.
 pub fn fetch_index<X: ArrayToBytesCodecTraits, D: BytesPartialDecoderTraits>(
     alloc: Global,
     codec: &X,
@@ -73,6 +73,8 @@ pub fn fetch_index<X: ArrayToBytesCodecTraits, D: BytesPartialDecoderTraits>(
         (location_of layout.entry.location) layout.entry.shape.now (D.contents source.old) result }
     ensures refused { D.refused_calls source.new ≡
         refused_after (D.refused_calls source.old) result }
+    ensures given { IsTrue (D.is_honest source.old) →
+        D.given_bytes source.new ≤ D.given_bytes source.old + layout.entry.size }
     ensures follows { D.follows source.old source.new }
 {
     match source.size() {
@@ -94,8 +96,8 @@ pub fn fetch_index<X: ArrayToBytesCodecTraits, D: BytesPartialDecoderTraits>(
     }
 }
 
-/// The bytes of a pair of the value that a source holds, which has `total` bytes. `Damage` where the
-/// pair ends past the end of the value, and `Source` where the source refuses.
+/// The bytes of a pair of the value that a source holds, which has `total` bytes; an honest source
+/// gives no others. `Damage` where the pair ends past the end of the value, and `Source` where the source refuses.
 pub fn fetch_slice<D: BytesPartialDecoderTraits>(
     alloc: Global,
     source: &mut D,
@@ -107,6 +109,8 @@ pub fn fetch_slice<D: BytesPartialDecoderTraits>(
         → FetchesSlice value (pair_of pair) result }
     ensures refused { D.refused_calls source.new ≡
         refused_after (D.refused_calls source.old) result }
+    ensures given { IsTrue (D.is_honest source.old) →
+        D.given_bytes source.new ≤ D.given_bytes source.old + pair.length }
     ensures follows { D.follows source.old source.new }
 {
     if !ends_within(pair, total) {

@@ -32,6 +32,7 @@ impl ShardingIndexLocation {
         ensures bytes { (value : List ℕ) → length value ≡ total
             → bytes_at value result ≡ index_bytes (location_of self) size value }
         ensures within { result.offset + result.length ≤ total }
+        ensures size { result.length ≡ size }
     {
         let offset = match self {
             ShardingIndexLocation::Start => 0,

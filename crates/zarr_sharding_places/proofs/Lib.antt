@@ -3,3 +3,4 @@ pub mod PutPlaces
 pub mod PartPlaces
 pub mod ReadPieces
 pub mod LocatedPlaces
+pub mod Stable

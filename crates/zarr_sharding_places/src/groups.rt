@@ -1,6 +1,6 @@
 //! Places of one subchunk that stand side by side.
-ghost use Rattle.std.specs.Prelude.{◌≡◌, ℕ, ◌<◌, ◌≤◌, ◌++◌, length, map, get_or, IfOk};
-ghost use Rattle.zarr_sharding_places.specs.Groups.{IsGroup, no_place};
+ghost use Rattle.std.specs.Prelude.{◌≡◌, ◌≢◌, ℕ, ◌<◌, ◌≤◌, ◌++◌, length, map, get_or, IfOk};
+ghost use Rattle.zarr_sharding_places.specs.Groups.{IsGroup, StartsAnother, no_place};
 
 use crate::locating::AskedPlace;
 use std::alloc::{AllocError, Global};
@@ -11,6 +11,7 @@ pub fn leading_group(places: &[AskedPlace]) -> (&[AskedPlace], &[AskedPlace])
     ensures all { result.0.now ++ result.1.now ≡ places.now }
     ensures some { 0 < length result.0.now }
     ensures one { IsGroup result.0.now }
+    ensures next { StartsAnother result.0.now result.1.now }
 {
     places.split_at(leading_count(places))
 }
@@ -22,6 +23,8 @@ fn leading_count(places: &[AskedPlace]) -> usize
     ensures within { result ≤ length places.now }
     ensures one { (m : ℕ) → m < result
         → (get_or places.now m no_place).subchunk ≡ (get_or places.now 0 no_place).subchunk }
+    ensures next { result < length places.now
+        → (get_or places.now result no_place).subchunk ≢ (get_or places.now 0 no_place).subchunk }
 {
     let mut n = 1;
     while n < places.len() && places[n].subchunk == places[0].subchunk {

@@ -1,7 +1,9 @@
 //! The subchunks that places of an array lie in.
-ghost use Rattle.std.specs.Prelude.{◌≡◌, ◌++◌, IfOk, IfSome, IsPermutation, OnOk};
+ghost use Rattle.std.specs.Prelude.{◌≡◌, ◌++◌, ℕ, IfOk, IfSome, IsPermutation, OnOk};
+ghost use Rattle.std.specs.List.Sorted.{IsNonDecreasingBy};
 ghost use Rattle.zarr_codecs_meaning.specs.Places.{grid_of};
 ghost use Rattle.zarr_grids_boxes.specs.Boxes.{product};
+ghost use Rattle.zarr_sharding_places.specs.Groups.{places_in};
 ghost use Rattle.zarr_sharding_places.specs.Locating.{asked_places, axes_of, located};
 
 use std::alloc::{AllocError, Global};
@@ -26,9 +28,10 @@ pub(crate) struct Axis {
     pub inside: u64,
 }
 
-/// The places with these numbers in an array, those of one subchunk side by side; the array is cut
-/// into subchunks of these edges, as many as the grid says in each dimension. `Err` where an
-/// allocation failed, and where there are 2^63 places or more.
+/// The places with these numbers in an array, subchunk by subchunk, those of one subchunk in the
+/// order in which they are asked for; the array is cut into subchunks of these edges, as many as the
+/// grid says in each dimension. `Err` where an allocation failed, and where there are 2^63 places or
+/// more.
 pub fn places_by_subchunk(
     alloc: Global,
     numbers: &[u64],
@@ -37,11 +40,15 @@ pub fn places_by_subchunk(
     grid: &[u64],
 ) -> Result<Vec<AskedPlace>, AllocError>
     requires { grid.now ≡ grid_of shape.now edges.now }
-    ensures { IfOk result
+    ensures all { IfOk result
         (λ places. IsPermutation (asked_places shape.now edges.now numbers.now) places.items) }
+    ensures sorted { IfOk result
+        (λ places. IsNonDecreasingBy (λ place. place.subchunk) places.items) }
+    ensures stable { IfOk result (λ places. (k : ℕ) → places_in k places.items
+        ≡ places_in k (asked_places shape.now edges.now numbers.now)) }
 {
     let mut places = locate_all(alloc, numbers, shape, edges, grid)?;
-    places.sort_unstable_by_key(|place| place.subchunk);
+    places.sort_by_key(|place| place.subchunk)?;
     Ok(places)
 }
 

@@ -2,3 +2,4 @@ pub mod Counts
 pub mod Ranges
 pub mod Stands
 pub mod Opened
+pub mod Reopened

@@ -1,5 +1,5 @@
 -- A shard is known by its fetched index.
-use Rattle.std.proofs.Common.{◌≡◌, ◌⊎◌, inl, inr, ℕ, ◌+◌, ◌-◌, ◌*◌, ◌/◌, ◌%◌, ◌^◌, ◌<◌, ◌≤◌, min, List, length, take, drop, ap, ◌∙◌, sym, refl, subst, arith, Option, Some, None, option_map, Bool, true, false, if◌then◌else◌, length-drop, Result, Ok, Err}
+use Rattle.std.proofs.Common.{◌≡◌, ◌⊎◌, inl, inr, ℕ, ◌+◌, ◌-◌, ◌*◌, ◌/◌, ◌%◌, ◌^◌, ◌<◌, ◌≤◌, min, List, length, take, drop, ap, ◌∙◌, sym, refl, subst, arith, Option, Some, None, option_map, Bool, true, false, if◌then◌else◌, length-drop, Result, Ok, Err, IfErr}
 use Rattle.std.specs.Prelude.{nat_le}
 use Rattle.std.specs.List.{list_all}
 use Rattle.std.proofs.lemmas.Bool.{leb-true, lt-leb}
@@ -18,6 +18,7 @@ use Rattle.zarr_sharding_index.specs.declared.held.FetchedIndex.{FetchedIndex}
 use Rattle.zarr_sharding_index.specs.Held.{FetchesIndex, IsFetched, held_pairs}
 use Rattle.zarr_sharding_index.specs.Views.{pairs_of}
 use Rattle.zarr_sharding_state.specs.Held.{IsOpened, lies_between}
+use Rattle.zarr_sharding_state.specs.declared.known.KnownShard.{KnownShard}
 use Rattle.zarr_sharding_state.specs.Opened.{IsKnown, Misfits, OpenRefused, Opens, data_end}
 
 -- the data part ends where its bytes do
@@ -71,3 +72,9 @@ known_refused index location shape contents fetched error.ExpectedVariableLength
 known_refused index location shape contents fetched error.ExpectedOptionalBytes h k = k
 known_refused index location shape contents fetched error.InvalidNumberOfElements h k = k
 known_refused index location shape contents fetched error.CellOutOfRange h k = k
+
+-- what is known, or why nothing is
+pub known_or_refused : (index : Chain) (location : Location) (shape : List ℕ) (contents : Option (List ℕ)) (fetched : Option FetchedIndex) (result : Result KnownShard CodecError) → IsFetched index location shape contents fetched → Opens location shape (index_size index shape) fetched result
+    → IfErr result (OpenRefused index location shape contents)
+known_or_refused index location shape contents fetched (Ok shard) h k = tt
+known_or_refused index location shape contents fetched (Err e) h k = known_refused index location shape contents fetched e h k

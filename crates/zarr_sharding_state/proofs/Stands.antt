@@ -21,7 +21,7 @@ use Rattle.zarr_sharding_state.specs.Written.{IsAppended, IsChanged, with_slices
 use Rattle.zarr_sharding_state.proofs.Ranges.{slices_first, slices_written}
 
 -- the data part beside an index of this size
-data_read : (location : Location) (size : ℕ) (index «data» value : List ℕ) → length index ≡ size → value ≡ joined location index «data» → data_in location size value ≡ «data»
+pub data_read : (location : Location) (size : ℕ) (index «data» value : List ℕ) → length index ≡ size → value ≡ joined location index «data» → data_in location size value ≡ «data»
 data_read at_start size index «data» value long is = ap (drop size) is ∙ (ap (λ n. drop n (index ++ «data»)) (sym long) ∙ drop-append_seam index «data»)
 data_read at_end size index «data» value long is =
     let count = ap (λ (l : List ℕ). length l) is ∙ length-append «data» index in

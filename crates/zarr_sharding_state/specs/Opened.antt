@@ -12,7 +12,7 @@ use Rattle.zarr_sharding_index.specs.declared.held.FetchedIndex.{FetchedIndex}
 use Rattle.zarr_sharding_index.specs.Held.{held_pairs}
 use Rattle.zarr_sharding_index.specs.Views.{pairs_of}
 use Rattle.zarr_sharding_state.specs.Held.{lies_between}
-use Rattle.zarr_sharding_state.specs.declared.opening.Opened.{Opened}
+use Rattle.zarr_sharding_state.specs.declared.known.KnownShard.{KnownShard}
 
 -- where the data part ends of a shard of so many bytes, if these are as many as those of its index
 abbrev pub data_end : Location → ℕ → ℕ → Option ℕ
@@ -38,7 +38,7 @@ Misfits location shape size found =
     ⊎ ((end : ℕ) × (data_end location size found.total ≡ Some end) × (list_all (lies_between (base_of location size) end) (pairs_of found.index) ≡ false))
 
 -- what is known of a shard by its fetched index, or why nothing is
-abbrev pub Opens : Location → List ℕ → ℕ → Option FetchedIndex → Result Opened CodecError → Type 0
+abbrev pub Opens : Location → List ℕ → ℕ → Option FetchedIndex → Result KnownShard CodecError → Type 0
 Opens location shape size fetched (Ok made) = IsKnown location shape size fetched (pairs_of made.index) made.end
 Opens location shape size fetched (Err error.Damage) = MatchOption fetched ⊥ (λ (found : FetchedIndex). Misfits location shape size found)
 Opens location shape size fetched (Err error.Size) = MatchOption fetched ⊥ (λ (found : FetchedIndex). 2 ^ 63 ≤ found.total)

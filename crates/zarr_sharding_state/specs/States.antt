@@ -1,4 +1,4 @@
--- What a shard in a source is seen as.
+-- What is seen of what is known of a shard in a source.
 use Rattle.std.specs.Prelude.{◌≡◌, ℕ, List, Option, None, Some, true, false, Vec, Result, Ok, Err}
 use Rattle.std.specs.declared.alloc.Global.{Global}
 use Rattle.zarr_codecs_meaning.specs.Decoding.{is_absent, slice_at}
@@ -6,19 +6,15 @@ use Rattle.zarr_codecs_meaning.specs.Encoding.{Pair}
 use Rattle.zarr_codecs_arrays.specs.declared.error.CodecError.{CodecError}
 use Rattle.zarr_codecs_arrays.specs.declared.error.CodecError.TheVariants as error
 use Rattle.zarr_sharding_index.specs.Views.{pairs_of}
-use Rattle.zarr_sharding_state.specs.declared.state.ShardSlices.{ShardSlices}
-
--- the source that holds the shard
-abbrev pub source_of : {E : Type 0} → ShardSlices E → E
-source_of state = state.source
+use Rattle.zarr_sharding_state.specs.declared.known.KnownShard.{KnownShard}
 
 -- the pairs of the shard's index
-abbrev pub pairs_in : {E : Type 0} → ShardSlices E → List Pair
-pairs_in state = pairs_of state.index
+abbrev pub pairs_in : KnownShard → List Pair
+pairs_in shard = pairs_of shard.index
 
 -- where the shard's data part ends
-abbrev pub end_of : {E : Type 0} → ShardSlices E → ℕ
-end_of state = state.end
+abbrev pub end_of : KnownShard → ℕ
+end_of shard = shard.end
 
 -- the slice that a pair has in a value, if it is present, or why there is none: it ends past the value, or the source refuses
 abbrev pub HasSliceAt : List ℕ → Pair → Result (Option (Vec ℕ Global)) CodecError → Type 0

@@ -1,10 +1,10 @@
-//! One shard in a source of bytes, whose subchunks are replaced by one writing call.
+//! What is known of a shard in a source of bytes, whose subchunks are replaced by one writing call.
 #![tactic(auto)]
 
+pub mod known;
 pub mod laws;
 mod opening;
-pub mod state;
 mod writing;
 
-pub use state::ShardSlices;
+pub use known::KnownShard;
 pub use writing::SliceChange;

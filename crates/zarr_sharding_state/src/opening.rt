@@ -5,6 +5,7 @@ ghost use Rattle.zarr_sharding_index.specs.Views.{location_of, pair_of, pairs_of
 ghost use Rattle.zarr_sharding_state.specs.Held.{lies_between};
 ghost use Rattle.zarr_sharding_state.specs.Opened.{Opens, data_end};
 
+use crate::known::KnownShard;
 use std::alloc::Global;
 use zarr_codecs_arrays::CodecError;
 use zarr_codecs_traits::ByteRange;
@@ -13,20 +14,13 @@ use zarr_sharding_index::held::IndexLayout;
 use zarr_sharding_index::pair::is_absent;
 use zarr_sharding_index::{FetchedIndex, ShardIndex, ShardingIndexLocation};
 
-/// The index of a shard, and where its data part ends.
-#[derive(Debug, Drop)]
-pub(crate) struct Opened {
-    pub(crate) index: ShardIndex,
-    pub(crate) end: u64,
-}
-
 /// The index of a shard and where its data part ends, where each present pair lies in that. `Damage`
 /// where one doesn't, and `Size` where the data part ends past 2^63 - 1 bytes.
 pub(crate) fn open_fetched(
     alloc: Global,
     fetched: Option<FetchedIndex>,
     layout: IndexLayout<'_>,
-) -> Result<Opened, CodecError>
+) -> Result<KnownShard, CodecError>
     requires { layout.size < 2 ^ 63 }
     ensures { Opens (location_of layout.entry.location) layout.entry.shape.now layout.entry.size
         fetched result }
@@ -37,7 +31,7 @@ pub(crate) fn open_fetched(
     let base = layout.location.base(layout.size);
     let Some(found) = fetched else {
         let index = ShardIndex::all_absent(alloc, (count / 2) as usize)?;
-        return Ok(Opened { index, end: base });
+        return Ok(KnownShard { index, end: base });
     };
     let Some(end) = data_end(layout.location, layout.size, found.total) else {
         return Err(CodecError::Damage);
@@ -48,7 +42,7 @@ pub(crate) fn open_fetched(
     if end > 0x7fff_ffff_ffff_ffff {
         return Err(CodecError::Size);
     }
-    Ok(Opened {
+    Ok(KnownShard {
         index: found.index,
         end,
     })

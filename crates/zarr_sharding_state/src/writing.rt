@@ -1,5 +1,5 @@
 //! What replaces the slices of some subchunks.
-ghost use Rattle.std.specs.Prelude.{◌≡◌, ◌+◌, ◌^◌, ◌<◌, ◌≤◌, ℕ, List, [], Option, length, true, unwrap_or, IfOk, IsTrue};
+ghost use Rattle.std.specs.Prelude.{◌≡◌, ◌+◌, ◌^◌, ◌<◌, ◌≤◌, ℕ, List, [], Option, length, true, unwrap_or, IfNone, IfOk, IfSome, IsTrue};
 ghost use Rattle.std.specs.List.{list_all};
 ghost use Rattle.zarr_codecs_traits.specs.Patches.{any_too_far, patched_contents};
 ghost use Rattle.zarr_sharding_changes.specs.Changes.{appended, pairs_after};
@@ -32,6 +32,21 @@ pub(crate) fn join_slices(alloc: Global, changes: &[SliceChange]) -> Result<Vec<
         }
     }
     Ok(made)
+}
+
+/// How many bytes the slices of changes have together, if that is below 2^64.
+pub(crate) fn appended_length(changes: &[SliceChange]) -> Option<u64>
+    ensures some { IfSome result (λ count. count ≡ length (appended (changes_of changes.now))) }
+    ensures none { IfNone result (2 ^ 64 ≤ length (appended (changes_of changes.now))) }
+{
+    let Some((change, others)) = changes.split_first() else {
+        return Some(0);
+    };
+    let rest = appended_length(others)?;
+    match &change.slice {
+        Some(bytes) => (bytes.len() as u64).checked_add(rest),
+        None => Some(rest),
+    }
 }
 
 /// An equal index.

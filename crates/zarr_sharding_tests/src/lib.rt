@@ -4,6 +4,8 @@
 #[cfg(test)]
 mod compaction;
 #[cfg(test)]
+mod decoders;
+#[cfg(test)]
 mod decoding;
 #[cfg(test)]
 mod encoding;

@@ -1,5 +1,5 @@
 use Rattle.std.proofs.Common.{◌∙◌, IsTrue, List, ℕ, [], Err, ap, sym, refl, subst, arith, length, length-append, get_or}
-use Rattle.std.specs.List.Sorted.{IsPermutation}
+use Rattle.std.specs.List.Sorted.{IsNonDecreasingBy, IsPermutation}
 use Rattle.zarr_codecs_arrays.specs.Views.{elements_of}
 use Rattle.zarr_codecs_meaning.proofs.Positions.{each_at}
 use Rattle.zarr_codecs_traits.specs.Sources.{refused_after}
@@ -8,6 +8,7 @@ use Rattle.zarr_sharding_places.specs.Groups.{no_place}
 use Rattle.zarr_sharding_places.specs.Locating.{asked_places}
 use Rattle.zarr_sharding_places.specs.declared.locating.AskedPlace.{AskedPlace}
 use Rattle.zarr_sharding_codec.proofs.GroupsRead.{AskedShard, IsAsked, insides_below, subchunk_below}
+use Rattle.zarr_sharding_codec.proofs.GivenSoFar.{GivenSoFar, given_all, given_more, given_refused, none_given, rest_sorted}
 use Rattle.zarr_sharding_codec.proofs.SoFarRead.{askable, group_asked, group_unread, left_more, none_so_far, so_far_all, so_far_more}
 use Rattle.zarr_sharding_codec.proofs.StoredLoop.{rank_fits}
 use Rattle.zarr_sharding_codec.proofs.codec.ShardingCodec.read_numbers.Goals as goal
@@ -35,6 +36,18 @@ loop-rest-init g c =
             numbers = c.args.asked.numbers.now;
           } in
           none_so_far s c.in_ok-filled.filled c.as_slice-rest.result.now c.in_ok-filled.ensures;
+      sorted = subst (λ (ps : List AskedPlace). IsNonDecreasingBy (λ (place : AskedPlace). place.subchunk) ps) (sym c.as_slice-rest.ensures.value) c.in_ok-places.ensures.sorted;
+      given = λ honest.
+          let s : AskedShard = record {
+            inner = g.I.ArrayToBytesCodecTraits.meaning self.inner_codecs;
+            elements = elements_of c.args.shard.elements.now;
+            shape = c.args.asked.shape.now;
+            subchunk = self.subchunk_shape;
+            value = [];
+            pairs = pairs_of c.args.shard.fetched.now.index;
+            numbers = c.args.asked.numbers.now;
+          } in
+          none_given s (g.D.BytesPartialDecoderTraits.given_bytes c.args.source.now) c.as_slice-rest.result.now;
     }
 
 pub loop-rest-smaller : goal.loop-rest-smaller
@@ -57,7 +70,7 @@ read_group-requires-clause-pair g c =
       numbers = c.args.asked.numbers.now;
     } in
     let can = askable s (g.X.ArrayToBytesCodecTraits.meaning self.index_codecs) (location_of self.index_location) c.requires.fit c.requires.many c.requires.below in
-    let moved = subst (λ (ps : List AskedPlace). IsPermutation (asked_places s.shape s.subchunk s.numbers) ps) (sym c.as_slice-rest.ensures.value) c.in_ok-places.ensures in
+    let moved = subst (λ (ps : List AskedPlace). IsPermutation (asked_places s.shape s.subchunk s.numbers) ps) (sym c.as_slice-rest.ensures.value) c.in_ok-places.ensures.all in
     let group = c.leading_group.result.0.now in
     let asked = group_asked s c.as_slice-rest.result.now c.loop-rest.rest.now group c.leading_group.result.1.now moved c.loop-rest.invariant.left c.leading_group.ensures.all in
     subchunk_below s (get_or group 0 no_place) can (each_at (IsAsked s) group 0 no_place asked c.leading_group.ensures.some)
@@ -75,7 +88,7 @@ read_group-requires-clause-inside g c =
       numbers = c.args.asked.numbers.now;
     } in
     let can = askable s (g.X.ArrayToBytesCodecTraits.meaning self.index_codecs) (location_of self.index_location) c.requires.fit c.requires.many c.requires.below in
-    let moved = subst (λ (ps : List AskedPlace). IsPermutation (asked_places s.shape s.subchunk s.numbers) ps) (sym c.as_slice-rest.ensures.value) c.in_ok-places.ensures in
+    let moved = subst (λ (ps : List AskedPlace). IsPermutation (asked_places s.shape s.subchunk s.numbers) ps) (sym c.as_slice-rest.ensures.value) c.in_ok-places.ensures.all in
     let group = c.leading_group.result.0.now in
     insides_below s group can (group_asked s c.as_slice-rest.result.now c.loop-rest.rest.now group c.leading_group.result.1.now moved c.loop-rest.invariant.left c.leading_group.ensures.all)
 
@@ -103,11 +116,30 @@ loop-rest-preserved g c =
             numbers = c.args.asked.numbers.now;
           } in
           let can = askable s (g.X.ArrayToBytesCodecTraits.meaning self.index_codecs) (location_of self.index_location) c.requires.fit c.requires.many c.requires.below in
-          let moved = subst (λ (ps : List AskedPlace). IsPermutation (asked_places s.shape s.subchunk s.numbers) ps) (sym c.as_slice-rest.ensures.value) c.in_ok-places.ensures in
+          let moved = subst (λ (ps : List AskedPlace). IsPermutation (asked_places s.shape s.subchunk s.numbers) ps) (sym c.as_slice-rest.ensures.value) c.in_ok-places.ensures.all in
           let still = subst IsTrue (laws.honest _ _ inv.follows) honest in
           let found = c.in-Ok.ensures.part still value (sym (laws.same _ _ inv.follows) ∙ held) long in
           so_far_more s c.loop-rest.all c.in_ok-all-in-Ok.all places c.loop-rest.rest.now group others found.cells can moved (inv.read honest value held long) cut c.leading_group.ensures.one found.is
           (λ cells shows many. c.in_ok-all-in-Ok.ensures cells found.cells shows found.lists many);
+      sorted = rest_sorted c.loop-rest.rest.now group others cut inv.sorted;
+      given = λ honest.
+          let s : AskedShard = record {
+            inner = g.I.ArrayToBytesCodecTraits.meaning self.inner_codecs;
+            elements = elements_of c.args.shard.elements.now;
+            shape = c.args.asked.shape.now;
+            subchunk = self.subchunk_shape;
+            value = [];
+            pairs = pairs_of c.args.shard.fetched.now.index;
+            numbers = c.args.asked.numbers.now;
+          } in
+          let can = askable s (g.X.ArrayToBytesCodecTraits.meaning self.index_codecs) (location_of self.index_location) c.requires.fit c.requires.many c.requires.below in
+          let moved = subst (λ (ps : List AskedPlace). IsPermutation (asked_places s.shape s.subchunk s.numbers) ps) (sym c.as_slice-rest.ensures.value) c.in_ok-places.ensures.all in
+          let asked = group_asked s c.as_slice-rest.result.now c.loop-rest.rest.now group c.leading_group.result.1.now moved inv.left c.leading_group.ensures.all in
+          let sorted = subst (λ (ps : List AskedPlace). IsNonDecreasingBy (λ (place : AskedPlace). place.subchunk) ps) (sym c.leading_group.ensures.all) inv.sorted in
+          let count = g.D.BytesPartialDecoderTraits.given_bytes in
+          let was = subst (λ (ps : List AskedPlace). GivenSoFar s (count c.args.source.now) (count c.loop-rest.source) ps) (sym c.leading_group.ensures.all) (inv.given honest) in
+          given_more s (count c.args.source.now) (count c.loop-rest.source) (count c.read_group.new.source) group others can asked c.leading_group.ensures.some c.leading_group.ensures.next sorted was
+          (c.in-Ok.ensures.given (subst IsTrue (laws.honest _ _ inv.follows) honest));
     }
 
 pub returns-in-Err : goal.returns-in-Err
@@ -128,12 +160,32 @@ returns-in-Err g c =
             numbers = c.args.asked.numbers.now;
           } in
           let can = askable s (g.X.ArrayToBytesCodecTraits.meaning self.index_codecs) (location_of self.index_location) c.requires.fit c.requires.many c.requires.below in
-          let moved = subst (λ (ps : List AskedPlace). IsPermutation (asked_places s.shape s.subchunk s.numbers) ps) (sym c.as_slice-rest.ensures.value) c.in_ok-places.ensures in
+          let moved = subst (λ (ps : List AskedPlace). IsPermutation (asked_places s.shape s.subchunk s.numbers) ps) (sym c.as_slice-rest.ensures.value) c.in_ok-places.ensures.all in
           let still = subst IsTrue (laws.honest _ _ inv.follows) honest in
           let group = c.leading_group.result.0.now in
           let asked = group_asked s c.as_slice-rest.result.now c.loop-rest.rest.now group c.leading_group.result.1.now moved inv.left c.leading_group.ensures.all in
           group_unread s group e can asked c.leading_group.ensures.one c.leading_group.ensures.some (c.in-Err.ensures.part still value (sym (laws.same _ _ inv.follows) ∙ held) long);
       refused = c.in-Err.ensures.refused ∙ ap (λ n. refused_after {A = List ℕ} n (Err e)) inv.refused;
+      given = λ honest.
+          let s : AskedShard = record {
+            inner = g.I.ArrayToBytesCodecTraits.meaning self.inner_codecs;
+            elements = elements_of c.args.shard.elements.now;
+            shape = c.args.asked.shape.now;
+            subchunk = self.subchunk_shape;
+            value = [];
+            pairs = pairs_of c.args.shard.fetched.now.index;
+            numbers = c.args.asked.numbers.now;
+          } in
+          let can = askable s (g.X.ArrayToBytesCodecTraits.meaning self.index_codecs) (location_of self.index_location) c.requires.fit c.requires.many c.requires.below in
+          let moved = subst (λ (ps : List AskedPlace). IsPermutation (asked_places s.shape s.subchunk s.numbers) ps) (sym c.as_slice-rest.ensures.value) c.in_ok-places.ensures.all in
+          let group = c.leading_group.result.0.now in
+          let others = c.leading_group.result.1.now in
+          let asked = group_asked s c.as_slice-rest.result.now c.loop-rest.rest.now group c.leading_group.result.1.now moved inv.left c.leading_group.ensures.all in
+          let sorted = subst (λ (ps : List AskedPlace). IsNonDecreasingBy (λ (place : AskedPlace). place.subchunk) ps) (sym c.leading_group.ensures.all) inv.sorted in
+          let count = g.D.BytesPartialDecoderTraits.given_bytes in
+          let was = subst (λ (ps : List AskedPlace). GivenSoFar s (count c.args.source.now) (count c.loop-rest.source) ps) (sym c.leading_group.ensures.all) (inv.given honest) in
+          given_refused s (count c.args.source.now) (count c.loop-rest.source) (count c.read_group.new.source) group others can asked c.leading_group.ensures.some c.leading_group.ensures.next sorted was
+          (c.in-Err.ensures.given (subst IsTrue (laws.honest _ _ inv.follows) honest));
       follows = laws.goes_on _ _ _ inv.follows c.in-Err.ensures.follows;
     }
 
@@ -152,7 +204,7 @@ returns g c =
             pairs = pairs_of c.args.shard.fetched.now.index;
             numbers = c.args.asked.numbers.now;
           } in
-          let moved = subst (λ (ps : List AskedPlace). IsPermutation (asked_places s.shape s.subchunk s.numbers) ps) (sym c.as_slice-rest.ensures.value) c.in_ok-places.ensures in
+          let moved = subst (λ (ps : List AskedPlace). IsPermutation (asked_places s.shape s.subchunk s.numbers) ps) (sym c.as_slice-rest.ensures.value) c.in_ok-places.ensures.all in
           let so = inv.read honest value held long in
           record {
             cells = so.cells;
@@ -160,5 +212,58 @@ returns g c =
             lists = c.in_ok-gather.ensures so.cells so.shows;
           };
       refused = inv.refused;
+      given = λ honest.
+          let s : AskedShard = record {
+            inner = g.I.ArrayToBytesCodecTraits.meaning self.inner_codecs;
+            elements = elements_of c.args.shard.elements.now;
+            shape = c.args.asked.shape.now;
+            subchunk = self.subchunk_shape;
+            value = [];
+            pairs = pairs_of c.args.shard.fetched.now.index;
+            numbers = c.args.asked.numbers.now;
+          } in
+          given_all s (g.D.BytesPartialDecoderTraits.given_bytes c.args.source.now) (g.D.BytesPartialDecoderTraits.given_bytes c.loop-rest.source) c.loop-rest.rest.now (inv.given honest);
       follows = inv.follows;
     }
+
+pub returns-in_err-all-in-Ok-clause-follows : goal.returns-in_err-all-in-Ok-clause-follows
+returns-in_err-all-in-Ok-clause-follows g c = g.met.D.BytesPartialDecoderTraits.goes_on _ _ _ c.loop-rest.invariant.follows c.in-Ok.ensures.follows
+
+pub returns-in_err-all-in-Ok-clause-given : goal.returns-in_err-all-in-Ok-clause-given
+returns-in_err-all-in-Ok-clause-given g c = λ honest.
+    let self = c.args.self.now in
+    let laws = g.met.D.BytesPartialDecoderTraits in
+    let inv = c.loop-rest.invariant in
+    let group = c.leading_group.result.0.now in
+    let others = c.leading_group.result.1.now in
+    let s : AskedShard = record {
+      inner = g.I.ArrayToBytesCodecTraits.meaning self.inner_codecs;
+      elements = elements_of c.args.shard.elements.now;
+      shape = c.args.asked.shape.now;
+      subchunk = self.subchunk_shape;
+      value = [];
+      pairs = pairs_of c.args.shard.fetched.now.index;
+      numbers = c.args.asked.numbers.now;
+    } in
+    let can = askable s (g.X.ArrayToBytesCodecTraits.meaning self.index_codecs) (location_of self.index_location) c.requires.fit c.requires.many c.requires.below in
+    let moved = subst (λ (ps : List AskedPlace). IsPermutation (asked_places s.shape s.subchunk s.numbers) ps) (sym c.as_slice-rest.ensures.value) c.in_ok-places.ensures.all in
+    let asked = group_asked s c.as_slice-rest.result.now c.loop-rest.rest.now group others moved inv.left c.leading_group.ensures.all in
+    let sorted = subst (λ (ps : List AskedPlace). IsNonDecreasingBy (λ (place : AskedPlace). place.subchunk) ps) (sym c.leading_group.ensures.all) inv.sorted in
+    let count = g.D.BytesPartialDecoderTraits.given_bytes in
+    let was = subst (λ (ps : List AskedPlace). GivenSoFar s (count c.args.source.now) (count c.loop-rest.source) ps) (sym c.leading_group.ensures.all) (inv.given honest) in
+    given_refused s (count c.args.source.now) (count c.loop-rest.source) (count c.read_group.new.source) group others can asked c.leading_group.ensures.some c.leading_group.ensures.next sorted was
+    (c.in-Ok.ensures.given (subst IsTrue (laws.honest _ _ inv.follows) honest))
+
+pub returns-in_err-gather-clause-given : goal.returns-in_err-gather-clause-given
+returns-in_err-gather-clause-given g c = λ honest.
+    let self = c.args.self.now in
+    let s : AskedShard = record {
+      inner = g.I.ArrayToBytesCodecTraits.meaning self.inner_codecs;
+      elements = elements_of c.args.shard.elements.now;
+      shape = c.args.asked.shape.now;
+      subchunk = self.subchunk_shape;
+      value = [];
+      pairs = pairs_of c.args.shard.fetched.now.index;
+      numbers = c.args.asked.numbers.now;
+    } in
+    given_all s (g.D.BytesPartialDecoderTraits.given_bytes c.args.source.now) (g.D.BytesPartialDecoderTraits.given_bytes c.loop-rest.source) c.loop-rest.rest.now (c.loop-rest.invariant.given honest)

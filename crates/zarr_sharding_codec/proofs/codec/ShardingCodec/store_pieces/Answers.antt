@@ -32,7 +32,7 @@ returns-in-Err g c = λ cells valid.
     let are = region_numbers shape subchunk c.as_slice-in-loop-n.result.now edges c.in_ok-region.region.start.items c.in_ok-region.region.shape.items n is.cuts is.even is.below grid same c.in_ok-region.ensures.start c.in_ok-region.ensures.shape in
     let taken = c.in_ok-piece.ensures cells valid.is in
     let whole = piece_valid elements shape subchunk edges numbers n cells (payload_of c.args.bytes.now) (payload_of c.in_ok-piece.piece) c.args.array.elements.now.fills is valid same are taken in
-    refused_step inner exact elements shape subchunk edges n cells c.in-Err.error is same (c.in-Err.ensures (gather elements.fill cells (part_at shape subchunk n).places) whole)
+    refused_step inner exact elements shape subchunk edges n cells c.in-Err.error is same (c.in-Err.ensures.stored (gather elements.fill cells (part_at shape subchunk n).places) whole)
 
 pub loop-n-preserved : goal.loop-n-preserved
 loop-n-preserved g c = λ cells valid.
@@ -52,7 +52,7 @@ loop-n-preserved g c = λ cells valid.
     let are = region_numbers shape subchunk c.as_slice-in-loop-n.result.now edges c.in_ok-region.region.start.items c.in_ok-region.region.shape.items n is.cuts is.even is.below grid same c.in_ok-region.ensures.start c.in_ok-region.ensures.shape in
     let taken = c.in_ok-piece.ensures cells valid.is in
     let whole = piece_valid elements shape subchunk edges numbers n cells (payload_of c.args.bytes.now) (payload_of c.in_ok-piece.piece) c.args.array.elements.now.fills is valid same are taken in
-    let one = c.in-Ok.ensures (gather elements.fill cells (part_at shape subchunk n).places) whole in
+    let one = c.in-Ok.ensures.stored (gather elements.fill cells (part_at shape subchunk n).places) whole in
     stored_step inner exact elements shape subchunk edges n cells c.loop-n.slices.items c.push.new.self.items c.in-Ok.slice is same (c.loop-n.invariant cells valid) one c.in_ok-push-in-Ok.ensures.items
 
 pub returns : goal.returns

@@ -1,33 +1,38 @@
-//! A shard in a source.
+//! What is known of a shard in a source.
 ghost use Rattle.std.specs.Prelude.{◌^◌, ◌<◌};
 
 use crate::opening::open_fetched;
-use crate::writing::{SliceChange, are_absent, changed_index, join_slices, slice_patches};
+use crate::writing::{
+    SliceChange, appended_length, are_absent, changed_index, join_slices, slice_patches,
+};
 use std::alloc::Global;
 use zarr_codecs_arrays::CodecError;
 use zarr_codecs_options::CodecOptions;
-use zarr_codecs_traits::{ArrayToBytesCodecTraits, BytesPartialEncoderTraits};
+use zarr_codecs_traits::{
+    ArrayToBytesCodecTraits, BytesPartialDecoderTraits, BytesPartialEncoderTraits,
+};
 use zarr_sharding_index::held::{IndexLayout, fetch_index, fetch_slice};
 use zarr_sharding_index::pair::is_absent;
 use zarr_sharding_index::stored::write_index;
 use zarr_sharding_index::{ShardIndex, ShardingIndexLocation};
 
-/// One shard in a source of bytes, with its index and the place where its data part ends. Slices of
-/// subchunks are read by their pairs, and replaced by one writing call of the source (this project's
-/// profile). A contract sees the pairs of its index and the end of its data part.
+/// What is known of one shard in a source of bytes, which each call is lent: its index, and the
+/// place where its data part ends. Slices of subchunks are read by their pairs, and replaced by one
+/// writing call of the source (this project's profile). A contract sees the pairs of the index and
+/// the end of the data part.
 #[derive(Debug, Drop)]
-pub struct ShardSlices<E> {
-    pub(crate) source: E,
+pub struct KnownShard {
     pub(crate) index: ShardIndex,
     pub(crate) end: u64,
     ghost small: { end < 2 ^ 63 },
 }
 
-impl<E: BytesPartialEncoderTraits> ShardSlices<E> {
-    ghost use Rattle.std.specs.Prelude.{◌≡◌, ◌+◌, ◌*◌, ◌/◌, ◌%◌, ◌<◌, ◌^◌, [], ℕ, List, get_or, length, replicate, true, None, Some, Ok, unwrap_or, IfOk, IfErr, OnOk, OnErr, IsTrue};
+impl KnownShard {
+    ghost use Rattle.std.specs.Prelude.{◌≡◌, ◌+◌, ◌*◌, ◌/◌, ◌%◌, ◌<◌, ◌^◌, [], ℕ, List, get_or, length, nat_lt, replicate, true, None, Some, Ok, unwrap_or, IfOk, IfErr, OnOk, OnErr, IsTrue};
     ghost use Rattle.std.specs.List.{list_all};
     ghost use Rattle.zarr_codecs_meaning.specs.Decoding.{is_absent};
     ghost use Rattle.zarr_codecs_meaning.specs.Encoding.{absent_pair, base_of, index_size};
+    ghost use Rattle.zarr_codecs_traits.specs.Sources.{refused_after};
     ghost use Rattle.zarr_codecs_traits.specs.Writes.{WriteRefused, accepted_after};
     ghost use Rattle.zarr_grids_boxes.specs.Boxes.{product};
     ghost use Rattle.zarr_sharding_changes.specs.Changes.{appended, pairs_after};
@@ -35,49 +40,42 @@ impl<E: BytesPartialEncoderTraits> ShardSlices<E> {
     ghost use Rattle.zarr_sharding_index.specs.Views.{location_of, pairs_of};
     ghost use Rattle.zarr_sharding_state.specs.Held.{IsOpened, shard_length};
     ghost use Rattle.zarr_sharding_state.specs.Opened.{OpenRefused};
-    ghost use Rattle.zarr_sharding_state.specs.States.{HasSliceAt, end_of, pairs_in, source_of};
+    ghost use Rattle.zarr_sharding_state.specs.States.{HasSliceAt, end_of, pairs_in};
     ghost use Rattle.zarr_sharding_state.specs.Views.{changes_of, is_below};
     ghost use Rattle.zarr_sharding_state.specs.Written.{AppendRefused, ChangesRefused, IsChanged, with_slices};
 
-    /// The shard in a source, whose index these codecs read, of which this is the shape and how many
-    /// bytes it has. Where the source holds no value, each subchunk is absent. A refusal gives the
-    /// source back: `Damage` where the value is shorter than the index, the index isn't decoded, or a
-    /// present pair lies outside the data part; `Size` where the value has 2^63 bytes or more;
-    /// `Source` where the source refuses.
-    pub fn open<X: ArrayToBytesCodecTraits>(
+    /// What is known of the shard in a source, whose index these codecs read, of which this is the
+    /// shape and how many bytes it has. Where the source holds no value, each subchunk is absent.
+    /// `Damage` where the value is shorter than the index, the index isn't decoded, or a present
+    /// pair lies outside the data part; `Size` where the value has 2^63 bytes or more; `Source` where
+    /// the source refuses.
+    pub fn open<X: ArrayToBytesCodecTraits, D: BytesPartialDecoderTraits>(
         alloc: Global,
-        source: E,
+        source: &mut D,
         codecs: &X,
         layout: IndexLayout<'_>,
         options: &CodecOptions,
-    ) -> Result<ShardSlices<E>, (E, CodecError)>
+    ) -> Result<KnownShard, CodecError>
         requires fit { index_fits (X.meaning codecs.now) layout.shape.now ≡ true }
         requires even { product layout.shape.now % 2 ≡ 0 }
         requires size { layout.size ≡ index_size (X.meaning codecs.now) layout.shape.now }
         requires low { layout.size < 2 ^ 63 }
-        ensures opened { IsTrue (E.is_honest source) → IfOk result
-            (λ state. IsOpened (X.meaning codecs.now) (location_of layout.entry.location)
-            layout.entry.shape.now (product layout.entry.shape.now / 2) (E.contents source)
-            (pairs_in state) (end_of state)) }
+        ensures opened { IsTrue (D.is_honest source.old) → IfOk result
+            (λ shard. IsOpened (X.meaning codecs.now) (location_of layout.entry.location)
+            layout.entry.shape.now (product layout.entry.shape.now / 2) (D.contents source.old)
+            (pairs_in shard) (end_of shard)) }
         ensures many { IfOk result
-            (λ state. product layout.entry.shape.now ≡ 2 * length (pairs_in state)) }
-        ensures follows { IfOk result (λ state. E.follows source (source_of state)) }
-        ensures back { IfErr result (λ refused. E.follows source refused.0) }
-        ensures cause { IsTrue (E.is_honest source) → IfErr result
-            (λ refused. OpenRefused (X.meaning codecs.now) (location_of layout.entry.location)
-            layout.entry.shape.now (E.contents source) refused.1) }
+            (λ shard. product layout.entry.shape.now ≡ 2 * length (pairs_in shard)) }
+        ensures cause { IsTrue (D.is_honest source.old) → IfErr result
+            (OpenRefused (X.meaning codecs.now) (location_of layout.entry.location)
+            layout.entry.shape.now (D.contents source.old)) }
+        ensures refused { D.refused_calls source.new ≡
+            refused_after (D.refused_calls source.old) result }
+        ensures follows { D.follows source.old source.new }
     {
-        let mut source = source;
-        match fetch_index(alloc, codecs, &mut source, layout, options) {
-            Ok(fetched) => match open_fetched(alloc, fetched, layout) {
-                Ok(found) => Ok(ShardSlices {
-                    source,
-                    index: found.index,
-                    end: found.end,
-                }),
-                Err(error) => Err((source, error)),
-            },
-            Err(error) => Err((source, error)),
+        match fetch_index(alloc, codecs, source, layout, options) {
+            Ok(fetched) => open_fetched(alloc, fetched, layout),
+            Err(error) => Err(error),
         }
     }
 
@@ -88,33 +86,26 @@ impl<E: BytesPartialEncoderTraits> ShardSlices<E> {
         self.index.len()
     }
 
-    /// The source.
-    pub fn into_source(self) -> E
-        ensures { result ≡ source_of self }
-    {
-        self.source
-    }
-
-    /// The encoded bytes of a subchunk, by its row-major number, or `None` where it is absent. What is
-    /// known of the shard stays. `Source` where the source refuses; `Damage` where the source no
-    /// longer holds the slice.
-    pub fn retrieve_subchunk_encoded(
-        &mut self,
+    /// The encoded bytes of a subchunk, by its row-major number, or `None` where it is absent.
+    /// `Source` where the source refuses; `Damage` where the source no longer holds the slice.
+    pub fn retrieve_subchunk_encoded<D: BytesPartialDecoderTraits>(
+        &self,
         alloc: Global,
+        source: &mut D,
         layout: IndexLayout<'_>,
         n: usize,
     ) -> Result<Option<Vec<u8>>, CodecError>
-        requires below { n < length (pairs_in self.old) }
+        requires below { n < length (pairs_in self.now) }
         requires low { layout.size < 2 ^ 63 }
-        ensures absent { is_absent (get_or (pairs_in self.old) n absent_pair) ≡ true →
+        ensures absent { is_absent (get_or (pairs_in self.now) n absent_pair) ≡ true →
             result ≡ Ok None }
-        ensures slice { IsTrue (E.is_honest (source_of self.old)) → (value : List ℕ)
-            → E.contents (source_of self.old) ≡ Some value → length value ≡ shard_length
-            (location_of layout.entry.location) layout.entry.size (end_of self.old)
-            → HasSliceAt value (get_or (pairs_in self.old) n absent_pair) result }
-        ensures same { (pairs_in self.new ≡ pairs_in self.old)
-            × (end_of self.new ≡ end_of self.old) }
-        ensures follows { E.follows (source_of self.old) (source_of self.new) }
+        ensures slice { IsTrue (D.is_honest source.old) → (value : List ℕ)
+            → D.contents source.old ≡ Some value → length value ≡ shard_length
+            (location_of layout.entry.location) layout.entry.size (end_of self.now)
+            → HasSliceAt value (get_or (pairs_in self.now) n absent_pair) result }
+        ensures refused { D.refused_calls source.new ≡
+            refused_after (D.refused_calls source.old) result }
+        ensures follows { D.follows source.old source.new }
     {
         let pair = self.index.get(n);
         if is_absent(pair) {
@@ -124,7 +115,7 @@ impl<E: BytesPartialEncoderTraits> ShardSlices<E> {
             ShardingIndexLocation::Start => self.end,
             ShardingIndexLocation::End => self.end + layout.size,
         };
-        match fetch_slice(alloc, &mut self.source, total, pair) {
+        match fetch_slice(alloc, source, total, pair) {
             Ok(bytes) => Ok(Some(bytes)),
             Err(error) => Err(error),
         }
@@ -132,24 +123,31 @@ impl<E: BytesPartialEncoderTraits> ShardSlices<E> {
 
     /// Takes the shard away, so that each subchunk is absent. An `Err` leaves the shard and what is
     /// known of it as they were. `Source` where the source refuses.
-    pub fn erase(&mut self, alloc: Global, layout: IndexLayout<'_>) -> Result<(), CodecError>
+    pub fn erase<E: BytesPartialEncoderTraits>(
+        &mut self,
+        alloc: Global,
+        source: &mut E,
+        layout: IndexLayout<'_>,
+    ) -> Result<(), CodecError>
         requires { layout.size < 2 ^ 63 }
         ensures ok { OnOk result ((pairs_in self.new
             ≡ replicate (length (pairs_in self.old)) absent_pair)
             × (end_of self.new ≡ base_of (location_of layout.entry.location) layout.entry.size)) }
-        ensures erased { IsTrue (E.is_honest (source_of self.old)) →
-            OnOk result (E.contents (source_of self.new) ≡ None) }
-        ensures err { IsTrue (E.is_honest (source_of self.old)) →
-            OnErr result (E.contents (source_of self.new) ≡ E.contents (source_of self.old)) }
+        ensures erased { IsTrue (E.is_honest source.old) →
+            OnOk result (E.contents source.new ≡ None) }
+        ensures err { IsTrue (E.is_honest source.old) →
+            OnErr result (E.contents source.new ≡ E.contents source.old) }
         ensures same { OnErr result ((pairs_in self.new ≡ pairs_in self.old)
             × (end_of self.new ≡ end_of self.old)) }
         ensures cause { WriteRefused result }
-        ensures accepted { E.accepted_writes (source_of self.new) ≡
-            accepted_after (E.accepted_writes (source_of self.old)) result }
-        ensures rewrites { E.rewrites (source_of self.old) (source_of self.new) }
+        ensures refused { E.refused_calls source.new ≡
+            refused_after (E.refused_calls source.old) result }
+        ensures accepted { E.accepted_writes source.new ≡
+            accepted_after (E.accepted_writes source.old) result }
+        ensures rewrites { E.rewrites source.old source.new }
     {
         let index = ShardIndex::all_absent(alloc, self.index.len())?;
-        match self.source.erase() {
+        match source.erase() {
             Ok(()) => {
                 self.index = index;
                 self.end = layout.location.base(layout.size);
@@ -159,14 +157,36 @@ impl<E: BytesPartialEncoderTraits> ShardSlices<E> {
         }
     }
 
+    /// Whether the shard has fewer than 2^63 bytes after the slices of changes were appended.
+    pub fn has_room(&self, layout: IndexLayout<'_>, changes: &[SliceChange]) -> bool
+        ensures { result ≡ nat_lt (shard_length (location_of layout.entry.location)
+            layout.entry.size (end_of self.now + length (appended (changes_of changes.now))))
+            (2 ^ 63) }
+    {
+        let Some(slices) = appended_length(changes) else {
+            return false;
+        };
+        let Some(end) = self.end.checked_add(slices) else {
+            return false;
+        };
+        match layout.location {
+            ShardingIndexLocation::Start => end <= 0x7fff_ffff_ffff_ffff,
+            ShardingIndexLocation::End => match end.checked_add(layout.size) {
+                Some(total) => total <= 0x7fff_ffff_ffff_ffff,
+                None => false,
+            },
+        }
+    }
+
     /// Replaces the slices of some subchunks: the new ones are appended to the data part, and a
     /// subchunk that became all fill becomes absent. Slices and index go out in one writing call of
     /// the source; where no subchunk is left, the shard is erased. An `Err` leaves the shard and what
     /// is known of it as they were: `Codec` where a caller's codec refuses the new index, `Size` where
     /// the shard would have 2^63 bytes or more, and `Source` where the source refuses.
-    pub fn write_slices<X: ArrayToBytesCodecTraits>(
+    pub fn write_slices<X: ArrayToBytesCodecTraits, E: BytesPartialEncoderTraits>(
         &mut self,
         alloc: Global,
+        source: &mut E,
         codecs: &X,
         layout: IndexLayout<'_>,
         changes: &[SliceChange],
@@ -180,22 +200,24 @@ impl<E: BytesPartialEncoderTraits> ShardSlices<E> {
             ≡ pairs_after (end_of self.old) (changes_of changes.now) (pairs_in self.old)) }
         ensures room { OnOk result
             (end_of self.old + length (appended (changes_of changes.now)) < 2 ^ 63) }
-        ensures ok { IsTrue (E.is_honest (source_of self.old)) → OnOk result
+        ensures ok { IsTrue (E.is_honest source.old) → OnOk result
             (IsChanged (X.meaning codecs.now) (X.is_function codecs.now)
             (location_of layout.entry.location) layout.entry.shape.now (changes_of changes.now)
-            (end_of self.old) (pairs_in self.new) (E.contents (source_of self.old))
-            (E.contents (source_of self.new)) (end_of self.new)) }
-        ensures err { IsTrue (E.is_honest (source_of self.old)) →
-            OnErr result (E.contents (source_of self.new) ≡ E.contents (source_of self.old)) }
+            (end_of self.old) (pairs_in self.new) (E.contents source.old)
+            (E.contents source.new) (end_of self.new)) }
+        ensures err { IsTrue (E.is_honest source.old) →
+            OnErr result (E.contents source.new ≡ E.contents source.old) }
         ensures same { OnErr result ((pairs_in self.new ≡ pairs_in self.old)
             × (end_of self.new ≡ end_of self.old)) }
-        ensures cause { IsTrue (E.is_honest (source_of self.old)) → ChangesRefused
+        ensures cause { IsTrue (E.is_honest source.old) → ChangesRefused
             (X.meaning codecs.now) (location_of layout.entry.location) layout.entry.shape.now
             (changes_of changes.now) (end_of self.old)
             (pairs_after (end_of self.old) (changes_of changes.now) (pairs_in self.old)) result }
-        ensures accepted { E.accepted_writes (source_of self.new) ≡
-            accepted_after (E.accepted_writes (source_of self.old)) result }
-        ensures rewrites { E.rewrites (source_of self.old) (source_of self.new) }
+        ensures refused { E.refused_calls source.new ≡
+            refused_after (E.refused_calls source.old) result }
+        ensures accepted { E.accepted_writes source.new ≡
+            accepted_after (E.accepted_writes source.old) result }
+        ensures rewrites { E.rewrites source.old source.new }
     {
         let slices = join_slices(alloc, changes)?;
         if slices.len() as u64 > 0x7fff_ffff_ffff_ffff - self.end {
@@ -203,7 +225,7 @@ impl<E: BytesPartialEncoderTraits> ShardSlices<E> {
         }
         let index = changed_index(alloc, &self.index, changes, self.end)?;
         if are_absent(&index) {
-            match self.source.erase() {
+            match source.erase() {
                 Ok(()) => {
                     self.index = index;
                     self.end = layout.location.base(layout.size);
@@ -213,7 +235,7 @@ impl<E: BytesPartialEncoderTraits> ShardSlices<E> {
             }
         } else {
             match write_index(alloc, codecs, &index, layout.shape, options) {
-                Ok(stored) => self.append(alloc, layout.location, index, stored, slices),
+                Ok(stored) => self.append(alloc, source, layout.location, index, stored, slices),
                 Err(error) => Err(error),
             }
         }
@@ -221,9 +243,10 @@ impl<E: BytesPartialEncoderTraits> ShardSlices<E> {
 
     /// Appends slices to the data part, and puts another index in the place of the one that was
     /// there. An `Err` leaves the shard and what is known of it as they were.
-    fn append(
+    fn append<E: BytesPartialEncoderTraits>(
         &mut self,
         alloc: Global,
+        source: &mut E,
         location: ShardingIndexLocation,
         index: ShardIndex,
         stored: Vec<u8>,
@@ -232,24 +255,26 @@ impl<E: BytesPartialEncoderTraits> ShardSlices<E> {
         requires { end_of self.old + length slices.items < 2 ^ 63 }
         ensures index { OnOk result ((pairs_in self.new ≡ pairs_of index)
             × (end_of self.new ≡ end_of self.old + length slices.items)) }
-        ensures ok { IsTrue (E.is_honest (source_of self.old)) → OnOk result
-            (E.contents (source_of self.new) ≡ Some (with_slices (location_of location)
+        ensures ok { IsTrue (E.is_honest source.old) → OnOk result
+            (E.contents source.new ≡ Some (with_slices (location_of location)
             (end_of self.old) stored.items slices.items
-            (unwrap_or (E.contents (source_of self.old)) []))) }
-        ensures err { IsTrue (E.is_honest (source_of self.old)) →
-            OnErr result (E.contents (source_of self.new) ≡ E.contents (source_of self.old)) }
+            (unwrap_or (E.contents source.old) []))) }
+        ensures err { IsTrue (E.is_honest source.old) →
+            OnErr result (E.contents source.new ≡ E.contents source.old) }
         ensures same { OnErr result ((pairs_in self.new ≡ pairs_in self.old)
             × (end_of self.new ≡ end_of self.old)) }
-        ensures cause { IsTrue (E.is_honest (source_of self.old)) → AppendRefused
+        ensures cause { IsTrue (E.is_honest source.old) → AppendRefused
             (shard_length (location_of location) (length stored.items)
             (end_of self.old + length slices.items)) result }
-        ensures accepted { E.accepted_writes (source_of self.new) ≡
-            accepted_after (E.accepted_writes (source_of self.old)) result }
-        ensures rewrites { E.rewrites (source_of self.old) (source_of self.new) }
+        ensures refused { E.refused_calls source.new ≡
+            refused_after (E.refused_calls source.old) result }
+        ensures accepted { E.accepted_writes source.new ≡
+            accepted_after (E.accepted_writes source.old) result }
+        ensures rewrites { E.rewrites source.old source.new }
     {
         let end = self.end + slices.len() as u64;
         let patches = slice_patches(alloc, location, self.end, stored, slices)?;
-        match self.source.partial_encode(alloc, patches) {
+        match source.partial_encode(alloc, patches) {
             Ok(()) => {
                 self.index = index;
                 self.end = end;

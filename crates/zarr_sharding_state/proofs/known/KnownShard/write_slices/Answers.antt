@@ -3,7 +3,7 @@ use Rattle.zarr_codecs_meaning.specs.Encoding.{Pair}
 use Rattle.zarr_sharding_state.specs.States.{end_of, pairs_in}
 use Rattle.zarr_sharding_state.specs.Views.{changes_of}
 use Rattle.zarr_sharding_state.proofs.Counts.{changed_count}
-use Rattle.zarr_sharding_state.proofs.state.ShardSlices.write_slices.Goals as goal
+use Rattle.zarr_sharding_state.proofs.known.KnownShard.write_slices.Goals as goal
 
 pub write_index-requires-clause-many : goal.write_index-requires-clause-many
 write_index-requires-clause-many g c =

@@ -1,0 +1,89 @@
+-- A part of an array is appended to its shard: what was read, and what is written then.
+use Rattle.std.proofs.Common.{◌≡◌, ◌∙◌, ℕ, ◌*◌, ◌/◌, List, length, ap, sym, subst, arith, Bool, true, Option, IsTrue, IfOk, Result, Ok, Err, Vec, Global}
+use Rattle.zarr_grids_boxes.specs.Boxes.{product}
+use Rattle.zarr_codecs_arrays.specs.Outcomes.{IsValid}
+use Rattle.zarr_codecs_arrays.specs.declared.error.CodecError.{CodecError}
+use Rattle.zarr_codecs_meaning.specs.Chains.{Chain, Location, sharded}
+use Rattle.zarr_codecs_meaning.specs.Encoding.{Pair, index_size}
+use Rattle.zarr_codecs_meaning.specs.Laws.{IsLawfulChain}
+use Rattle.zarr_codecs_meaning.specs.Payloads.{Payload}
+use Rattle.zarr_codecs_meaning.specs.Places.{index_shape, parts_of}
+use Rattle.zarr_codecs_meaning.specs.Types.{Cell, Elements, is_value}
+use Rattle.zarr_codecs_meaning.proofs.Parts.{index_product}
+use Rattle.zarr_codecs_traits.specs.Indexers.{Asked}
+use Rattle.zarr_codecs_traits.specs.PartWriting.{NotEncodedInto}
+use Rattle.zarr_sharding_changes.specs.Changes.{Change, pairs_after}
+use Rattle.zarr_sharding_state.specs.Held.{IsOpened}
+use Rattle.zarr_sharding_state.specs.Opened.{OpenRefused}
+use Rattle.zarr_sharding_state.specs.Views.{changes_of}
+use Rattle.zarr_sharding_state.specs.declared.writing.SliceChange.{SliceChange}
+use Rattle.zarr_sharding_state.proofs.Counts.{changed_count}
+use Rattle.zarr_sharding_codec.specs.Appending.{AppendsChanges, AppendsPart, ChangesUnwritten, IsTestedPart}
+use Rattle.zarr_sharding_codec.specs.PartWriting.{AreChanged, IsOf, UpdatesSlices, put_at, stored_in}
+use Rattle.zarr_sharding_codec.proofs.PartWritten.{IsReady, opened_of, part_appended, part_not_updated, part_not_written, part_unopened, ready_opened}
+
+-- an index that was opened, by the shape that it was read with
+pub record IsRead (subchunk : List ℕ) (inner index : Chain) (location : Location) (elements : Elements) (shape : List ℕ) (asked : Asked) (payload : Payload) (size : ℕ) (numbers pairs_shape given : List ℕ) (old : Option (List ℕ)) (pairs : List Pair) (end : ℕ) : Type 0 where
+  pub lawful : IsLawfulChain (sharded subchunk inner index location)
+  pub fill : is_value elements.type elements.fill ≡ true
+  pub tested : IsTestedPart (sharded subchunk inner index location) elements shape asked payload size numbers
+  pub shape_is : pairs_shape ≡ index_shape shape subchunk
+  pub given_is : given ≡ numbers
+  pub opened : IsOpened index location pairs_shape (product pairs_shape / 2) old pairs end
+  pub many : product pairs_shape ≡ 2 * length pairs
+
+module _ (subchunk : List ℕ) (inner index : Chain) (location : Location) (exact : Bool) (elements : Elements) (shape : List ℕ) (asked : Asked) (payload : Payload) (size : ℕ) (numbers pairs_shape given : List ℕ) (old later : Option (List ℕ)) (pairs : List Pair) (end : ℕ)
+    (h : IsRead subchunk inner index location elements shape asked payload size numbers pairs_shape given old pairs end) (same : old ≡ later) where
+  read_opened : IsOpened index location (index_shape shape subchunk) (product (index_shape shape subchunk) / 2) old pairs end
+  read_opened = subst (λ (s : List ℕ). IsOpened index location s (product s / 2) old pairs end) h.shape_is h.opened
+
+  pub read_count : length pairs ≡ length (parts_of shape subchunk)
+  read_count =
+      let two = index_product shape subchunk in
+      let many = h.many in
+      let is = ap product h.shape_is in
+      omega (arith, two, many, is)
+
+  pub read_of : IsOf location size later pairs end
+  read_of =
+      subst (λ (o : Option (List ℕ)). IsOf location size o pairs end) same
+      (subst (λ n. IsOf location n old pairs end) (sym h.tested.size_is) (opened_of index location (index_shape shape subchunk) (product (index_shape shape subchunk) / 2) end old pairs read_opened))
+
+  pub read_valid : IsValid elements.type payload (length given) h.tested.cells
+  read_valid = subst (λ n. IsValid elements.type payload n h.tested.cells) (ap (λ (ns : List ℕ). length ns) (sym (h.given_is ∙ h.tested.numbers_are))) h.tested.valid
+
+  pub ready_read : (changes : List Change) → AreChanged (stored_in inner exact elements later pairs) (put_at shape subchunk given h.tested.cells) changes → IsReady subchunk inner index location exact elements shape asked payload size numbers old pairs end changes
+  ready_read changes changed = record {
+    lawful = h.lawful;
+    fill = h.fill;
+    tested = h.tested;
+    count = read_count;
+    opened = read_opened;
+    changed = subst (λ (o : Option (List ℕ)). AreChanged (stored_in inner exact elements o pairs) (put_at shape subchunk numbers h.tested.cells) changes) (sym same)
+        (subst (λ (ns : List ℕ). AreChanged (stored_in inner exact elements later pairs) (put_at shape subchunk ns h.tested.cells) changes) h.given_is changed);
+  }
+
+  pub not_updated : (A : Type 0) (e : CodecError) → UpdatesSlices (stored_in inner exact elements later pairs) (put_at shape subchunk given h.tested.cells) (Err e) → NotEncodedInto {A = A} (sharded subchunk inner index location) elements shape asked payload old (Err e)
+  not_updated A e why =
+      part_not_updated A subchunk inner index location exact elements shape asked payload size numbers old pairs h.tested (ready_opened subchunk inner index location elements shape asked payload size numbers old pairs end h.tested read_count read_opened) h.tested.below e
+      (subst (λ (o : Option (List ℕ)). UpdatesSlices (stored_in inner exact elements o pairs) (put_at shape subchunk numbers h.tested.cells) (Err e)) (sym same)
+      (subst (λ (ns : List ℕ). UpdatesSlices (stored_in inner exact elements later pairs) (put_at shape subchunk ns h.tested.cells) (Err e)) h.given_is why))
+
+  pub appended_read : (one whole : Bool) (new : Option (List ℕ)) (changes lent : List SliceChange) (result : Result Bool CodecError) → lent ≡ changes → (IsTrue whole → IsTrue exact) → AreChanged (stored_in inner exact elements later pairs) (put_at shape subchunk given h.tested.cells) (changes_of changes)
+      → (last : Option (List ℕ)) → old ≡ last → IfOk result (AppendsChanges index one location pairs_shape (changes_of lent) end pairs last new) → IfOk result (AppendsPart (sharded subchunk inner index location) whole elements shape asked payload old new)
+  appended_read one whole new changes lent result are to_exact changed last kept made =
+      part_appended subchunk inner index location exact one whole elements shape asked payload size numbers old new pairs end (changes_of changes) result (ready_read (changes_of changes) changed) to_exact
+      (subst (λ (o : Option (List ℕ)). IfOk result (AppendsChanges index one location (index_shape shape subchunk) (changes_of changes) end pairs o new)) (sym kept)
+      (subst (λ (cs : List SliceChange). IfOk result (AppendsChanges index one location (index_shape shape subchunk) (changes_of cs) end pairs last new)) are
+      (subst (λ (s : List ℕ). IfOk result (AppendsChanges index one location s (changes_of lent) end pairs last new)) h.shape_is made)))
+
+  pub not_written : (changes : List Change) (result : Result Bool CodecError) → ChangesUnwritten index pairs_shape (pairs_after end changes pairs) result → NotEncodedInto (sharded subchunk inner index location) elements shape asked payload old result
+  not_written changes result why =
+      part_not_written Bool subchunk inner index location exact elements shape asked payload size numbers old pairs h.tested (ready_opened subchunk inner index location elements shape asked payload size numbers old pairs end h.tested read_count read_opened) h.tested.below (pairs_after end changes pairs) result
+      (changed_count end changes pairs ∙ read_count) (subst (λ (s : List ℕ). ChangesUnwritten index s (pairs_after end changes pairs) result) h.shape_is why)
+
+-- what isn't opened, by the shape that it is read with
+pub not_opened : (A : Type 0) (subchunk : List ℕ) (inner index : Chain) (location : Location) (elements : Elements) (shape : List ℕ) (asked : Asked) (payload : Payload) (size : ℕ) (numbers pairs_shape : List ℕ) (old : Option (List ℕ)) (e : CodecError)
+    → IsTestedPart (sharded subchunk inner index location) elements shape asked payload size numbers → pairs_shape ≡ index_shape shape subchunk → OpenRefused index location pairs_shape old e → NotEncodedInto {A = A} (sharded subchunk inner index location) elements shape asked payload old (Err e)
+not_opened A subchunk inner index location elements shape asked payload size numbers pairs_shape old e tested is why =
+    part_unopened A subchunk inner index location elements shape asked payload size numbers old e tested (subst (λ (s : List ℕ). OpenRefused index location s old e) is why)

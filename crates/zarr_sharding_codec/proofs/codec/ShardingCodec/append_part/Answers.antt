@@ -1,0 +1,278 @@
+use Rattle.std.proofs.Common.{◌≡◌, ◌∙◌, ◌%◌, ap, sym, subst, arith, length, Bool, true, IsTrue, Option, List, ℕ, OnErr}
+use Rattle.std.proofs.lemmas.Bool.{and_parts}
+use Rattle.zarr_grids_boxes.specs.Boxes.{product}
+use Rattle.zarr_codecs_arrays.specs.Views.{elements_of, payload_of}
+use Rattle.zarr_codecs_meaning.specs.Encoding.{index_size}
+use Rattle.zarr_codecs_meaning.proofs.Parts.{index_product}
+use Rattle.zarr_codecs_traits.specs.Indexers.{asked_of}
+use Rattle.std.specs.Prelude.{nat_lt, ◌&&◌}
+use Rattle.std.specs.List.{list_all}
+use Rattle.zarr_sharding_index.specs.Stored.{index_fits}
+use Rattle.zarr_sharding_index.specs.Views.{location_of}
+use Rattle.zarr_sharding_state.specs.States.{end_of, pairs_in}
+use Rattle.zarr_sharding_state.specs.Views.{changes_of, is_below}
+use Rattle.zarr_codecs_traits.specs.Sources.{refused_after}
+use Rattle.zarr_sharding_codec.specs.Appending.{accepted_by}
+use Rattle.zarr_sharding_codec.specs.Views.{is_row_major, makes_a_function}
+use Rattle.zarr_sharding_codec.proofs.DecodedShard.{even_index}
+use Rattle.zarr_sharding_codec.proofs.EncodedShard.{index_part}
+use Rattle.zarr_sharding_codec.proofs.PartAppended.{IsRead, appended_read, not_opened, not_updated, not_written, read_of, read_valid}
+use Rattle.zarr_sharding_codec.proofs.StoredLoop.{rank_fits}
+use Rattle.zarr_sharding_codec.proofs.codec.ShardingCodec.append_part.Goals as goal
+
+pub index_shape-requires : goal.index_shape-requires
+index_shape-requires g c =
+    let self = c.args.self.now in
+    rank_fits self.subchunk_shape (g.I.ArrayToBytesCodecTraits.meaning self.inner_codecs) (g.X.ArrayToBytesCodecTraits.meaning self.index_codecs) (location_of self.index_location) (elements_of c.args.part.elements.now) c.args.part.shape.now c.requires.tested.fit
+
+pub open-requires-clause-fit : goal.open-requires-clause-fit
+open-requires-clause-fit g c =
+    let self = c.args.self.now in
+    let subchunk = self.subchunk_shape in
+    let inner = g.I.ArrayToBytesCodecTraits.meaning self.inner_codecs in
+    let index = g.X.ArrayToBytesCodecTraits.meaning self.index_codecs in
+    let location = location_of self.index_location in
+    let elements = elements_of c.args.part.elements.now in
+    let shape = c.args.part.shape.now in
+    let tested = c.requires.tested in
+    let shape_is = c.as_slice.ensures.value ∙ c.in_ok-pairs_shape.ensures in
+    ap (index_fits index) shape_is ∙ index_part subchunk inner index location elements shape tested.fit
+
+pub open-requires-clause-even : goal.open-requires-clause-even
+open-requires-clause-even g c =
+    let self = c.args.self.now in
+    let subchunk = self.subchunk_shape in
+    let inner = g.I.ArrayToBytesCodecTraits.meaning self.inner_codecs in
+    let index = g.X.ArrayToBytesCodecTraits.meaning self.index_codecs in
+    let location = location_of self.index_location in
+    let elements = elements_of c.args.part.elements.now in
+    let shape = c.args.part.shape.now in
+    let tested = c.requires.tested in
+    let shape_is = c.as_slice.ensures.value ∙ c.in_ok-pairs_shape.ensures in
+    ap (λ s. product s % 2) shape_is ∙ even_index shape subchunk
+
+pub open-requires-clause-size : goal.open-requires-clause-size
+open-requires-clause-size g c =
+    let self = c.args.self.now in
+    let subchunk = self.subchunk_shape in
+    let inner = g.I.ArrayToBytesCodecTraits.meaning self.inner_codecs in
+    let index = g.X.ArrayToBytesCodecTraits.meaning self.index_codecs in
+    let location = location_of self.index_location in
+    let elements = elements_of c.args.part.elements.now in
+    let shape = c.args.part.shape.now in
+    let tested = c.requires.tested in
+    let shape_is = c.as_slice.ensures.value ∙ c.in_ok-pairs_shape.ensures in
+    tested.size_is ∙ ap (index_size index) (sym shape_is)
+
+pub update_slices-requires-clause-many : goal.update_slices-requires-clause-many
+update_slices-requires-clause-many g c =
+    let self = c.args.self.now in
+    let subchunk = self.subchunk_shape in
+    let inner = g.I.ArrayToBytesCodecTraits.meaning self.inner_codecs in
+    let index = g.X.ArrayToBytesCodecTraits.meaning self.index_codecs in
+    let location = location_of self.index_location in
+    let elements = elements_of c.args.part.elements.now in
+    let shape = c.args.part.shape.now in
+    let tested = c.requires.tested in
+    let shape_is = c.as_slice.ensures.value ∙ c.in_ok-pairs_shape.ensures in
+    let two = index_product shape subchunk in
+    let many = c.in-Ok.ensures.many in
+    let is = ap product shape_is in
+    omega (arith, two, many, is)
+
+pub update_slices-requires-clause-below : goal.update_slices-requires-clause-below
+update_slices-requires-clause-below g c = ap (list_all (λ n. nat_lt n (product c.args.part.shape.now))) c.as_slice-in-Ok.ensures.value ∙ c.requires.tested.below
+
+pub append_changes-requires-clause-fit : goal.append_changes-requires-clause-fit
+append_changes-requires-clause-fit g c =
+    let self = c.args.self.now in
+    let subchunk = self.subchunk_shape in
+    let inner = g.I.ArrayToBytesCodecTraits.meaning self.inner_codecs in
+    let index = g.X.ArrayToBytesCodecTraits.meaning self.index_codecs in
+    let location = location_of self.index_location in
+    let elements = elements_of c.args.part.elements.now in
+    let shape = c.args.part.shape.now in
+    let tested = c.requires.tested in
+    let shape_is = c.as_slice.ensures.value ∙ c.in_ok-pairs_shape.ensures in
+    ap (index_fits index) shape_is ∙ index_part subchunk inner index location elements shape tested.fit
+
+pub append_changes-requires-clause-size : goal.append_changes-requires-clause-size
+append_changes-requires-clause-size g c =
+    let self = c.args.self.now in
+    let subchunk = self.subchunk_shape in
+    let inner = g.I.ArrayToBytesCodecTraits.meaning self.inner_codecs in
+    let index = g.X.ArrayToBytesCodecTraits.meaning self.index_codecs in
+    let location = location_of self.index_location in
+    let elements = elements_of c.args.part.elements.now in
+    let shape = c.args.part.shape.now in
+    let tested = c.requires.tested in
+    let shape_is = c.as_slice.ensures.value ∙ c.in_ok-pairs_shape.ensures in
+    tested.size_is ∙ ap (index_size index) (sym shape_is)
+
+pub append_changes-requires-clause-many : goal.append_changes-requires-clause-many
+append_changes-requires-clause-many g c = c.in-Ok.ensures.many
+
+pub append_changes-requires-clause-below : goal.append_changes-requires-clause-below
+append_changes-requires-clause-below g c = ap (list_all (is_below (length (pairs_in c.in-Ok.known)))) c.deref.ensures.value ∙ c.in-Ok-update_slices.ensures.below
+
+pub returns-clause-cause : goal.returns-clause-cause
+returns-clause-cause g c = λ honest.
+    let self = c.args.self.now in
+    let subchunk = self.subchunk_shape in
+    let inner = g.I.ArrayToBytesCodecTraits.meaning self.inner_codecs in
+    let index = g.X.ArrayToBytesCodecTraits.meaning self.index_codecs in
+    let location = location_of self.index_location in
+    let elements = elements_of c.args.part.elements.now in
+    let shape = c.args.part.shape.now in
+    let tested = c.requires.tested in
+    let shape_is = c.as_slice.ensures.value ∙ c.in_ok-pairs_shape.ensures in
+    let asked = asked_of c.args.part.indexer in
+    let payload = payload_of c.args.bytes.now in
+    let size = c.args.tested.now.size in
+    let numbers = c.args.tested.now.numbers.items in
+    let exact = g.I.ArrayToBytesCodecTraits.is_function self.inner_codecs in
+    let laws = g.met.E.BytesPartialDecoderTraits in
+    let old = g.E.BytesPartialDecoderTraits.contents c.args.source.now in
+    not_opened Bool subchunk inner index location elements shape asked payload size numbers c.as_slice.result.now old c.in-Err.error tested shape_is (c.in-Err.ensures.cause honest)
+
+pub returns-in-Ok-clause-cause : goal.returns-in-Ok-clause-cause
+returns-in-Ok-clause-cause g c = λ honest.
+    let self = c.args.self.now in
+    let subchunk = self.subchunk_shape in
+    let inner = g.I.ArrayToBytesCodecTraits.meaning self.inner_codecs in
+    let index = g.X.ArrayToBytesCodecTraits.meaning self.index_codecs in
+    let location = location_of self.index_location in
+    let elements = elements_of c.args.part.elements.now in
+    let shape = c.args.part.shape.now in
+    let tested = c.requires.tested in
+    let shape_is = c.as_slice.ensures.value ∙ c.in_ok-pairs_shape.ensures in
+    let asked = asked_of c.args.part.indexer in
+    let payload = payload_of c.args.bytes.now in
+    let size = c.args.tested.now.size in
+    let numbers = c.args.tested.now.numbers.items in
+    let exact = g.I.ArrayToBytesCodecTraits.is_function self.inner_codecs in
+    let laws = g.met.E.BytesPartialDecoderTraits in
+    let old = g.E.BytesPartialDecoderTraits.contents c.args.source.now in
+    let pairs_shape = c.as_slice.result.now in
+    let given = c.as_slice-in-Ok.result.now in
+    let pairs = pairs_in c.in-Ok.known in
+    let end = end_of c.in-Ok.known in
+    let later = g.E.BytesPartialDecoderTraits.contents c.open.new.source in
+    let same = laws.same _ _ c.in-Ok.ensures.follows in
+    let still = subst IsTrue (laws.honest _ _ c.in-Ok.ensures.follows) honest in
+    let h : IsRead subchunk inner index location elements shape asked payload size numbers pairs_shape given old pairs end = record {
+      lawful = (g.met.I.ArrayToBytesCodecTraits.lawful self.inner_codecs, g.met.X.ArrayToBytesCodecTraits.lawful self.index_codecs);
+      fill = c.args.part.elements.now.fills;
+      tested = tested;
+      shape_is = shape_is;
+      given_is = c.as_slice-in-Ok.ensures.value;
+      opened = c.in-Ok.ensures.opened honest;
+      many = c.in-Ok.ensures.many;
+    } in
+    let of = read_of subchunk inner index location exact elements shape asked payload size numbers pairs_shape given old later pairs end h same in
+    let valid = read_valid subchunk inner index location exact elements shape asked payload size numbers pairs_shape given old later pairs end h same in
+    not_updated subchunk inner index location exact elements shape asked payload size numbers pairs_shape given old later pairs end h same Bool c.in-Err-update_slices.error (c.in-Err-update_slices.ensures.changes still of tested.cells valid)
+
+pub returns-in-Ok-update_slices-clause-ok : goal.returns-in-Ok-update_slices-clause-ok
+returns-in-Ok-update_slices-clause-ok g c = λ honest.
+    let self = c.args.self.now in
+    let subchunk = self.subchunk_shape in
+    let inner = g.I.ArrayToBytesCodecTraits.meaning self.inner_codecs in
+    let index = g.X.ArrayToBytesCodecTraits.meaning self.index_codecs in
+    let location = location_of self.index_location in
+    let elements = elements_of c.args.part.elements.now in
+    let shape = c.args.part.shape.now in
+    let tested = c.requires.tested in
+    let shape_is = c.as_slice.ensures.value ∙ c.in_ok-pairs_shape.ensures in
+    let asked = asked_of c.args.part.indexer in
+    let payload = payload_of c.args.bytes.now in
+    let size = c.args.tested.now.size in
+    let numbers = c.args.tested.now.numbers.items in
+    let exact = g.I.ArrayToBytesCodecTraits.is_function self.inner_codecs in
+    let laws = g.met.E.BytesPartialDecoderTraits in
+    let old = g.E.BytesPartialDecoderTraits.contents c.args.source.now in
+    let pairs_shape = c.as_slice.result.now in
+    let given = c.as_slice-in-Ok.result.now in
+    let pairs = pairs_in c.in-Ok.known in
+    let end = end_of c.in-Ok.known in
+    let later = g.E.BytesPartialDecoderTraits.contents c.open.new.source in
+    let same = laws.same _ _ c.in-Ok.ensures.follows in
+    let still = subst IsTrue (laws.honest _ _ c.in-Ok.ensures.follows) honest in
+    let h : IsRead subchunk inner index location elements shape asked payload size numbers pairs_shape given old pairs end = record {
+      lawful = (g.met.I.ArrayToBytesCodecTraits.lawful self.inner_codecs, g.met.X.ArrayToBytesCodecTraits.lawful self.index_codecs);
+      fill = c.args.part.elements.now.fills;
+      tested = tested;
+      shape_is = shape_is;
+      given_is = c.as_slice-in-Ok.ensures.value;
+      opened = c.in-Ok.ensures.opened honest;
+      many = c.in-Ok.ensures.many;
+    } in
+    let of = read_of subchunk inner index location exact elements shape asked payload size numbers pairs_shape given old later pairs end h same in
+    let valid = read_valid subchunk inner index location exact elements shape asked payload size numbers pairs_shape given old later pairs end h same in
+    let whole = makes_a_function g.I.ArrayToBytesCodecTraits.is_function g.X.ArrayToBytesCodecTraits.is_function self in
+    let one = g.X.ArrayToBytesCodecTraits.is_function self.index_codecs in
+    let to_exact : IsTrue whole → IsTrue exact = λ e. (and_parts exact one (and_parts (is_row_major self.subchunk_write_order) (exact && one) e).1).0 in
+    let both = laws.goes_on _ _ _ c.in-Ok.ensures.follows c.in-Ok-update_slices.ensures.follows in
+    let last = g.E.BytesPartialDecoderTraits.contents c.update_slices.new.source in
+    appended_read subchunk inner index location exact elements shape asked payload size numbers pairs_shape given old later pairs end h same one whole (g.E.BytesPartialDecoderTraits.contents c.append_changes.new.source) c.in-Ok-update_slices.changes.items c.deref.result.now c.append_changes.result c.deref.ensures.value to_exact
+    (c.in-Ok-update_slices.ensures.changes still of tested.cells valid) last (laws.same _ _ both) (c.append_changes.ensures.ok (subst IsTrue (laws.honest _ _ both) honest))
+
+pub returns-in-Ok-update_slices-clause-err : goal.returns-in-Ok-update_slices-clause-err
+returns-in-Ok-update_slices-clause-err g c = λ honest.
+    let laws = g.met.E.BytesPartialDecoderTraits in
+    let both = laws.goes_on _ _ _ c.in-Ok.ensures.follows c.in-Ok-update_slices.ensures.follows in
+    subst (λ (o : Option (List ℕ)). OnErr c.append_changes.result (g.E.BytesPartialDecoderTraits.contents c.append_changes.new.source ≡ o)) (sym (laws.same _ _ both)) (c.append_changes.ensures.err (subst IsTrue (laws.honest _ _ both) honest))
+
+pub returns-in-Ok-update_slices-clause-cause : goal.returns-in-Ok-update_slices-clause-cause
+returns-in-Ok-update_slices-clause-cause g c = λ honest.
+    let self = c.args.self.now in
+    let subchunk = self.subchunk_shape in
+    let inner = g.I.ArrayToBytesCodecTraits.meaning self.inner_codecs in
+    let index = g.X.ArrayToBytesCodecTraits.meaning self.index_codecs in
+    let location = location_of self.index_location in
+    let elements = elements_of c.args.part.elements.now in
+    let shape = c.args.part.shape.now in
+    let tested = c.requires.tested in
+    let shape_is = c.as_slice.ensures.value ∙ c.in_ok-pairs_shape.ensures in
+    let asked = asked_of c.args.part.indexer in
+    let payload = payload_of c.args.bytes.now in
+    let size = c.args.tested.now.size in
+    let numbers = c.args.tested.now.numbers.items in
+    let exact = g.I.ArrayToBytesCodecTraits.is_function self.inner_codecs in
+    let laws = g.met.E.BytesPartialDecoderTraits in
+    let old = g.E.BytesPartialDecoderTraits.contents c.args.source.now in
+    let pairs_shape = c.as_slice.result.now in
+    let given = c.as_slice-in-Ok.result.now in
+    let pairs = pairs_in c.in-Ok.known in
+    let end = end_of c.in-Ok.known in
+    let later = g.E.BytesPartialDecoderTraits.contents c.open.new.source in
+    let same = laws.same _ _ c.in-Ok.ensures.follows in
+    let still = subst IsTrue (laws.honest _ _ c.in-Ok.ensures.follows) honest in
+    let h : IsRead subchunk inner index location elements shape asked payload size numbers pairs_shape given old pairs end = record {
+      lawful = (g.met.I.ArrayToBytesCodecTraits.lawful self.inner_codecs, g.met.X.ArrayToBytesCodecTraits.lawful self.index_codecs);
+      fill = c.args.part.elements.now.fills;
+      tested = tested;
+      shape_is = shape_is;
+      given_is = c.as_slice-in-Ok.ensures.value;
+      opened = c.in-Ok.ensures.opened honest;
+      many = c.in-Ok.ensures.many;
+    } in
+    let of = read_of subchunk inner index location exact elements shape asked payload size numbers pairs_shape given old later pairs end h same in
+    let valid = read_valid subchunk inner index location exact elements shape asked payload size numbers pairs_shape given old later pairs end h same in
+    let both = laws.goes_on _ _ _ c.in-Ok.ensures.follows c.in-Ok-update_slices.ensures.follows in
+    not_written subchunk inner index location exact elements shape asked payload size numbers pairs_shape given old later pairs end h same (changes_of c.deref.result.now) c.append_changes.result (c.append_changes.ensures.cause (subst IsTrue (laws.honest _ _ both) honest))
+
+pub returns-in-Ok-update_slices-clause-refused : goal.returns-in-Ok-update_slices-clause-refused
+returns-in-Ok-update_slices-clause-refused g c = c.append_changes.ensures.refused ∙ ap (λ n. refused_after n c.append_changes.result) (c.in-Ok-update_slices.ensures.refused ∙ c.in-Ok.ensures.refused)
+
+pub returns-in-Ok-update_slices-clause-accepted : goal.returns-in-Ok-update_slices-clause-accepted
+returns-in-Ok-update_slices-clause-accepted g c =
+    let laws = g.met.E.BytesPartialDecoderTraits in
+    let both = laws.goes_on _ _ _ c.in-Ok.ensures.follows c.in-Ok-update_slices.ensures.follows in
+    c.append_changes.ensures.accepted ∙ ap (λ n. accepted_by n c.append_changes.result) (sym (g.met.E.BytesPartialEncoderTraits.unwritten _ _ both))
+
+pub returns-in-Ok-update_slices-clause-rewrites : goal.returns-in-Ok-update_slices-clause-rewrites
+returns-in-Ok-update_slices-clause-rewrites g c =
+    let laws = g.met.E.BytesPartialDecoderTraits in
+    let both = laws.goes_on _ _ _ c.in-Ok.ensures.follows c.in-Ok-update_slices.ensures.follows in
+    g.met.E.BytesPartialEncoderTraits.writes_on _ _ _ (g.met.E.BytesPartialEncoderTraits.reads _ _ both) c.append_changes.ensures.rewrites

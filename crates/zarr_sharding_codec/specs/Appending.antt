@@ -1,0 +1,55 @@
+-- What is written of a part of an array by appending to its shard.
+use Rattle.std.specs.Prelude.{◌≡◌, ℕ, ◌+◌, ◌^◌, ◌<◌, List, length, Option, Bool, true, false, MatchBool, nat_lt, Result, Ok, Err}
+use Rattle.std.specs.List.{list_all}
+use Rattle.zarr_grids_boxes.specs.Boxes.{product}
+use Rattle.zarr_codecs_meaning.specs.Chains.{Chain, Location}
+use Rattle.zarr_codecs_meaning.specs.Encoding.{Pair, pair_cells}
+use Rattle.zarr_codecs_meaning.specs.Fits.{fits}
+use Rattle.zarr_codecs_meaning.specs.Payloads.{Payload}
+use Rattle.zarr_codecs_meaning.specs.Refusals.{CodecRefuses, PassesIndex}
+use Rattle.zarr_codecs_meaning.specs.Types.{Cell, Elements, uint64, zero_filled}
+use Rattle.zarr_codecs_arrays.specs.Outcomes.{IsValid}
+use Rattle.zarr_codecs_arrays.specs.declared.error.CodecError.{CodecError}
+use Rattle.zarr_codecs_arrays.specs.declared.error.CodecError.TheVariants as error
+use Rattle.zarr_codecs_traits.specs.Indexers.{Asked, are_inside, numbers_asked}
+use Rattle.zarr_codecs_traits.specs.PartWriting.{IsEncodedInto}
+use Rattle.zarr_codecs_traits.specs.Writes.{accepted_after}
+use Rattle.zarr_sharding_changes.specs.Changes.{Change, appended, pairs_after}
+use Rattle.zarr_sharding_state.specs.Written.{IsChanged}
+use Rattle.zarr_sharding_codec.specs.Fitting.{index_length}
+
+-- a payload has a valid element for each place that is asked for of an array that the chain suits; the places have these numbers, and the index of a shard that many bytes
+pub record IsTestedPart (chain : Chain) (elements : Elements) (shape : List ℕ) (asked : Asked) (payload : Payload) (size : ℕ) (numbers : List ℕ) : Type 0 where
+  pub cells : List Cell
+  pub valid : IsValid elements.type payload (length (numbers_asked shape asked)) cells
+  pub fit : fits chain elements.type shape ≡ true
+  pub inside : are_inside shape asked ≡ true
+  pub small : product shape < 2 ^ 63
+  pub numbers_are : numbers ≡ numbers_asked shape asked
+  pub below : list_all (λ n. nat_lt n (product shape)) numbers ≡ true
+  pub size_is : size ≡ index_length chain shape
+
+-- new cells were put at the places that are asked for, or nothing was written
+abbrev pub AppendsPart : Chain → Bool → Elements → List ℕ → Asked → Payload → Option (List ℕ) → Option (List ℕ) → Bool → Type 0
+AppendsPart chain exact elements shape asked payload old new written =
+    MatchBool written ((cells : List Cell) × IsEncodedInto chain exact elements shape asked payload cells old new) (new ≡ old)
+
+-- changes were written, or nothing was
+abbrev pub AppendsChanges : Chain → Bool → Location → List ℕ → List Change → ℕ → List Pair → Option (List ℕ) → Option (List ℕ) → Bool → Type 0
+AppendsChanges index exact location shape changes end pairs old new written =
+    MatchBool written ((end + length (appended changes) < 2 ^ 63) × ((ended : ℕ) × IsChanged index exact location shape changes end (pairs_after end changes pairs) old new ended)) (new ≡ old)
+
+-- the count of accepted writing calls after a call: one more where something was written
+abbrev pub accepted_by : ℕ → Result Bool CodecError → ℕ
+accepted_by count (Ok true) = accepted_after {A = Bool} count (Ok true)
+accepted_by count (Ok false) = count
+accepted_by count (Err e) = count
+
+-- why changes are not written that there is room for: the index of the pairs after them is refused, or the source refuses
+abbrev pub ChangesUnwritten : Chain → List ℕ → List Pair → Result Bool CodecError → Type 0
+ChangesUnwritten index shape pairs (Ok written) = Unit {0}
+ChangesUnwritten index shape pairs (Err error.Codec) = CodecRefuses index (zero_filled uint64) shape (pair_cells pairs)
+ChangesUnwritten index shape pairs (Err error.Size) = PassesIndex index (zero_filled uint64) shape (pair_cells pairs)
+ChangesUnwritten index shape pairs (Err error.Source) = Unit {0}
+ChangesUnwritten index shape pairs (Err error.Memory) = Unit {0}
+ChangesUnwritten index shape pairs (Err e) = ⊥

@@ -1,0 +1,180 @@
+//! Parts of an array, written into its shard.
+
+use crate::codec::ShardingCodec;
+use crate::updating::{NumberedElements, ShardInSource};
+use std::alloc::Global;
+use zarr_codecs_arrays::{ArrayBytes, CodecError};
+use zarr_codecs_options::CodecOptions;
+use zarr_codecs_regions::{numbers_asked, test_asked};
+use zarr_codecs_traits::{ArrayPart, ArrayToBytesCodecTraits, BytesPartialEncoderTraits};
+use zarr_grids_boxes::walk::count_places;
+use zarr_sharding_index::IndexLayout;
+use zarr_sharding_index::shapes::index_shape;
+use zarr_sharding_state::{KnownShard, SliceChange};
+
+/// The places of an array that are asked for, by their row-major numbers, and how many bytes the
+/// index of the array's shard has.
+#[derive(Debug, Drop)]
+pub struct TestedPart {
+    pub size: u64,
+    pub numbers: Vec<u64>,
+}
+
+impl<I: ArrayToBytesCodecTraits, X: ArrayToBytesCodecTraits> ShardingCodec<I, X> {
+    ghost use Rattle.std.specs.Prelude.{◌≡◌, ◌+◌, ◌*◌, ◌<◌, ◌^◌, ℕ, List, Option, Some, true, length, nat_lt, unwrap_or, IsTrue, IfOk, OnErr};
+    ghost use Rattle.std.specs.List.{list_all};
+    ghost use Rattle.zarr_codecs_arrays.specs.Views.{elements_of, payload_of};
+    ghost use Rattle.zarr_codecs_meaning.specs.Encoding.{index_size};
+    ghost use Rattle.zarr_codecs_traits.specs.Indexers.{asked_of};
+    ghost use Rattle.zarr_codecs_traits.specs.PartWriting.{NotEncodedInto};
+    ghost use Rattle.zarr_codecs_traits.specs.Sources.{refused_after};
+    ghost use Rattle.zarr_grids_boxes.specs.Boxes.{product};
+    ghost use Rattle.zarr_sharding_changes.specs.Changes.{appended, pairs_after};
+    ghost use Rattle.zarr_sharding_codec.specs.Appending.{AppendsChanges, AppendsPart, IsTestedPart, ChangesUnwritten, accepted_by};
+    ghost use Rattle.zarr_sharding_codec.specs.Views.{index_of, makes_a_function, place_of_index, shard_chain, subchunk_of};
+    ghost use Rattle.zarr_sharding_index.specs.Stored.{index_fits};
+    ghost use Rattle.zarr_sharding_index.specs.Views.{location_of};
+    ghost use Rattle.zarr_sharding_state.specs.States.{end_of, pairs_in};
+    ghost use Rattle.zarr_sharding_state.specs.Views.{changes_of, is_below};
+
+    /// The places that are asked for, where elements can be put at them. `Fit` where the codec
+    /// doesn't suit the array; `IncompatibleIndexer` where a place isn't one of the array's;
+    /// `InvalidNumberOfElements`, `Expected..` or `CellOutOfRange` where these are not elements, one
+    /// for each place; `Size` where the array has 2^63 places or more.
+    pub fn test_part(
+        &self,
+        alloc: Global,
+        bytes: &ArrayBytes,
+        part: ArrayPart<'_>,
+    ) -> Result<TestedPart, CodecError>
+        ensures ok { IfOk result (λ tested. IsTestedPart
+            (shard_chain I.meaning X.meaning self.now) (elements_of part.entry.elements.now)
+            part.entry.shape.now (asked_of part.entry.indexer) (payload_of bytes.now) tested.size
+            tested.numbers.items) }
+        ensures cause { (stored : Option (List ℕ)) → NotEncodedInto
+            (shard_chain I.meaning X.meaning self.now) (elements_of part.entry.elements.now)
+            part.entry.shape.now (asked_of part.entry.indexer) (payload_of bytes.now) stored
+            result }
+        ensures no_source { (count : ℕ) → refused_after count result ≡ count }
+    {
+        let data_type = part.elements.data_type();
+        let Some(size) = self.suited(alloc, data_type, part.shape)? else {
+            return Err(CodecError::Fit);
+        };
+        if count_places(part.shape).is_none() {
+            return Err(CodecError::Size);
+        }
+        if let Err(error) = test_asked(part.shape, part.indexer) {
+            return Err(error);
+        }
+        let numbers = numbers_asked(alloc, part.shape, part.indexer)?;
+        match bytes.validate(data_type, numbers.len() as u64) {
+            Ok(()) => Ok(TestedPart { size, numbers }),
+            Err(error) => Err(error),
+        }
+    }
+
+    /// Puts elements at places of the array of the shard that a source holds: the new slices of the
+    /// subchunks that the places lie in are appended to the data part, and go out together with the
+    /// index in one writing call. `false`, with nothing written, where the shard would then have 2^63
+    /// bytes or more. Errors as those of `partial_encode`.
+    pub(crate) fn append_part<E: BytesPartialEncoderTraits>(
+        &self,
+        alloc: Global,
+        source: &mut E,
+        tested: &TestedPart,
+        bytes: &ArrayBytes,
+        part: ArrayPart<'_>,
+        options: &CodecOptions,
+    ) -> Result<bool, CodecError>
+        requires tested { IsTestedPart (shard_chain I.meaning X.meaning self.now)
+            (elements_of part.elements.now) part.shape.now (asked_of part.indexer)
+            (payload_of bytes.now) tested.now.size tested.now.numbers.items }
+        ensures ok { IsTrue (E.is_honest source.old) → IfOk result
+            (AppendsPart (shard_chain I.meaning X.meaning self.now)
+            (makes_a_function I.is_function X.is_function self.now)
+            (elements_of part.entry.elements.now) part.entry.shape.now
+            (asked_of part.entry.indexer) (payload_of bytes.now) (E.contents source.old)
+            (E.contents source.new)) }
+        ensures err { IsTrue (E.is_honest source.old) →
+            OnErr result (E.contents source.new ≡ E.contents source.old) }
+        ensures cause { IsTrue (E.is_honest source.old) → NotEncodedInto
+            (shard_chain I.meaning X.meaning self.now) (elements_of part.entry.elements.now)
+            part.entry.shape.now (asked_of part.entry.indexer) (payload_of bytes.now)
+            (E.contents source.old) result }
+        ensures refused { E.refused_calls source.new ≡
+            refused_after (E.refused_calls source.old) result }
+        ensures accepted { E.accepted_writes source.new ≡
+            accepted_by (E.accepted_writes source.old) result }
+        ensures rewrites { E.rewrites source.old source.new }
+    {
+        let pairs_shape = index_shape(alloc, part.shape, &self.subchunk_shape)?;
+        let layout = IndexLayout {
+            location: self.index_location,
+            shape: pairs_shape.as_slice(),
+            size: tested.size,
+        };
+        match KnownShard::open(alloc, source, &self.index_codecs, layout, options) {
+            Ok(known) => {
+                let shard = ShardInSource {
+                    known: &known,
+                    layout,
+                    elements: part.elements,
+                };
+                let given = NumberedElements {
+                    shape: part.shape,
+                    numbers: tested.numbers.as_slice(),
+                    bytes,
+                };
+                match self.update_slices(alloc, source, shard, given, options) {
+                    Ok(changes) => {
+                        self.append_changes(alloc, source, known, layout, &changes, options)
+                    }
+                    Err(error) => Err(error),
+                }
+            }
+            Err(error) => Err(error),
+        }
+    }
+
+    /// Replaces the slices of some subchunks of a shard, as `KnownShard::write_slices` does. `false`,
+    /// with nothing written, where the shard would then have 2^63 bytes or more.
+    fn append_changes<E: BytesPartialEncoderTraits>(
+        &self,
+        alloc: Global,
+        source: &mut E,
+        known: KnownShard,
+        layout: IndexLayout<'_>,
+        changes: &[SliceChange],
+        options: &CodecOptions,
+    ) -> Result<bool, CodecError>
+        requires fit { index_fits (X.meaning (index_of self.now)) layout.shape.now ≡ true }
+        requires size { layout.size ≡ index_size (X.meaning (index_of self.now))
+            layout.shape.now }
+        requires many { product layout.shape.now ≡ 2 * length (pairs_in known) }
+        requires below { list_all (is_below (length (pairs_in known))) changes.now ≡ true }
+        ensures ok { IsTrue (E.is_honest source.old) → IfOk result
+            (AppendsChanges (X.meaning (index_of self.now)) (X.is_function (index_of self.now))
+            (location_of layout.entry.location) layout.entry.shape.now (changes_of changes.now)
+            (end_of known) (pairs_in known) (E.contents source.old) (E.contents source.new)) }
+        ensures err { IsTrue (E.is_honest source.old) →
+            OnErr result (E.contents source.new ≡ E.contents source.old) }
+        ensures cause { IsTrue (E.is_honest source.old) → ChangesUnwritten
+            (X.meaning (index_of self.now)) layout.entry.shape.now
+            (pairs_after (end_of known) (changes_of changes.now) (pairs_in known)) result }
+        ensures refused { E.refused_calls source.new ≡
+            refused_after (E.refused_calls source.old) result }
+        ensures accepted { E.accepted_writes source.new ≡
+            accepted_by (E.accepted_writes source.old) result }
+        ensures rewrites { E.rewrites source.old source.new }
+    {
+        if !known.has_room(layout, changes) {
+            return Ok(false);
+        }
+        let mut known = known;
+        match known.write_slices(alloc, source, &self.index_codecs, layout, changes, options) {
+            Ok(()) => Ok(true),
+            Err(error) => Err(error),
+        }
+    }
+}

@@ -1,0 +1,227 @@
+//! Subchunks of a shard in a source, encoded anew where elements are put at places in them.
+ghost use Rattle.std.specs.Prelude.{◌≡◌, ◌<◌, List, length, Some, true, get_or, nat_lt, IfOk};
+ghost use Rattle.std.specs.List.{list_all};
+ghost use Rattle.zarr_codecs_arrays.specs.Outcomes.{IsCounted};
+ghost use Rattle.zarr_codecs_arrays.specs.Views.{elements_of, payload_of};
+ghost use Rattle.zarr_codecs_meaning.specs.Payloads.{cells_in};
+ghost use Rattle.zarr_codecs_meaning.specs.Types.{Cell};
+ghost use Rattle.zarr_grids_boxes.specs.Boxes.{product};
+ghost use Rattle.zarr_sharding_codec.specs.PartWriting.{group_put, insides, positions};
+
+use crate::codec::ShardingCodec;
+use crate::decoding::fill_piece;
+use crate::partial::NumberedPlaces;
+use crate::slices::store_piece;
+use std::alloc::{AllocError, Global};
+use zarr_codecs_arrays::{ArrayBytes, CodecError, Elements};
+use zarr_codecs_options::CodecOptions;
+use zarr_codecs_regions::{gather_elements, update_array_bytes};
+use zarr_codecs_traits::{ArrayToBytesCodecTraits, BytesPartialDecoderTraits, Indexer};
+use zarr_sharding_index::IndexLayout;
+use zarr_sharding_places::{AskedPlace, insides_of, leading_group, positions_of};
+use zarr_sharding_state::{KnownShard, SliceChange};
+
+/// What is known of the shard of an array in a source: its index and where that stands, and what its
+/// elements are.
+#[derive(Clone, Copy)]
+pub struct ShardInSource<'a> {
+    pub known: &'a KnownShard,
+    pub layout: IndexLayout<'a>,
+    pub elements: &'a Elements,
+}
+
+/// New elements for the places with these row-major numbers in an array of this shape, one for each
+/// place.
+#[derive(Clone, Copy)]
+pub struct NumberedElements<'a> {
+    pub shape: &'a [u64],
+    pub numbers: &'a [u64],
+    pub bytes: &'a ArrayBytes,
+}
+
+impl<I: ArrayToBytesCodecTraits, X: ArrayToBytesCodecTraits> ShardingCodec<I, X> {
+    ghost use Rattle.std.specs.Prelude.{◌≡◌, ◌<◌, ◌^◌, ℕ, List, Some, true, length, get_or, nat_lt, unwrap_or, [], IsTrue, IfOk};
+    ghost use Rattle.std.specs.List.{list_all};
+    ghost use Rattle.zarr_codecs_arrays.specs.Outcomes.{IsValid};
+    ghost use Rattle.zarr_codecs_arrays.specs.Views.{elements_of, payload_of};
+    ghost use Rattle.zarr_codecs_meaning.specs.Encoding.{absent_pair};
+    ghost use Rattle.zarr_codecs_meaning.specs.Fits.{fits};
+    ghost use Rattle.zarr_codecs_meaning.specs.Places.{parts_of};
+    ghost use Rattle.zarr_codecs_meaning.specs.Types.{Cell};
+    ghost use Rattle.zarr_codecs_traits.specs.Sources.{refused_after};
+    ghost use Rattle.zarr_grids_boxes.specs.Boxes.{product};
+    ghost use Rattle.zarr_sharding_codec.specs.PartWriting.{IsOf, UpdatesGroup, UpdatesSlices, insides, positions, put_at, stored_in};
+    ghost use Rattle.zarr_sharding_codec.specs.Reading.{ListsRead};
+    ghost use Rattle.zarr_sharding_codec.specs.Views.{inner_of, shard_chain, subchunk_of};
+    ghost use Rattle.zarr_sharding_index.specs.Views.{location_of};
+    ghost use Rattle.zarr_sharding_places.specs.Groups.{no_place};
+    ghost use Rattle.zarr_sharding_places.specs.Pieces.{piece_decoded};
+    ghost use Rattle.zarr_sharding_state.specs.States.{end_of, pairs_in};
+    ghost use Rattle.zarr_sharding_state.specs.Views.{is_below};
+
+    /// The new slices of the subchunks that places lie in: each of these is decoded, the elements
+    /// are put at the places in it, and it is encoded anew and whole; one that became all fill gets
+    /// no slice. Nothing is written. `Damage` where the slice of one of them isn't decoded; `Codec`
+    /// where the caller's codec refuses; `Size` where an offset, a length or a subchunk is too large;
+    /// `Source` where the source refuses.
+    pub fn update_slices<D: BytesPartialDecoderTraits>(
+        &self,
+        alloc: Global,
+        source: &mut D,
+        shard: ShardInSource<'_>,
+        given: NumberedElements<'_>,
+        options: &CodecOptions,
+    ) -> Result<Vec<SliceChange>, CodecError>
+        requires fit { fits (shard_chain I.meaning X.meaning self.now)
+            (elements_of shard.elements.now).type given.shape.now ≡ true }
+        requires many { length (pairs_in shard.known.now)
+            ≡ length (parts_of given.shape.now (subchunk_of self.now)) }
+        requires below { list_all (λ n. nat_lt n (product given.shape.now)) given.numbers.now
+            ≡ true }
+        requires low { shard.layout.size < 2 ^ 63 }
+        ensures changes { IsTrue (D.is_honest source.old) → IsOf
+            (location_of shard.entry.layout.location) shard.entry.layout.size
+            (D.contents source.old) (pairs_in shard.entry.known.now) (end_of shard.entry.known.now)
+            → (cells : List Cell) → IsValid (elements_of shard.entry.elements.now).type
+            (payload_of given.entry.bytes.now) (length given.entry.numbers.now) cells
+            → UpdatesSlices (stored_in (I.meaning (inner_of self.now))
+            (I.is_function (inner_of self.now)) (elements_of shard.entry.elements.now)
+            (D.contents source.old) (pairs_in shard.entry.known.now))
+            (put_at given.entry.shape.now (subchunk_of self.now) given.entry.numbers.now cells)
+            result }
+        ensures below { IfOk result (λ changes. list_all
+            (is_below (length (pairs_in shard.entry.known.now))) changes.items ≡ true) }
+        ensures refused { D.refused_calls source.new ≡
+            refused_after (D.refused_calls source.old) result }
+        ensures follows { D.follows source.old source.new }
+    {
+        let shape = given.shape;
+        let numbers = given.numbers;
+        let places = self.places_of(alloc, NumberedPlaces { shape, numbers })?;
+        let mut changes = Vec::new(alloc);
+        let mut rest = places.as_slice();
+        while rest.len() > 0 {
+            let (group, others) = leading_group(rest);
+            match self.update_group(alloc, source, shard, given.bytes, group, options) {
+                Ok(change) => changes.push(change)?,
+                Err(error) => return Err(error),
+            }
+            rest = others;
+        }
+        Ok(changes)
+    }
+
+    /// The new slice of the subchunk that places lie in. There is a place.
+    fn update_group<D: BytesPartialDecoderTraits>(
+        &self,
+        alloc: Global,
+        source: &mut D,
+        shard: ShardInSource<'_>,
+        given: &ArrayBytes,
+        group: &[AskedPlace],
+        options: &CodecOptions,
+    ) -> Result<SliceChange, CodecError>
+        requires fit { fits (I.meaning (inner_of self.now)) (elements_of shard.elements.now).type
+            (subchunk_of self.now) ≡ true }
+        requires some { 0 < length group.now }
+        requires pair { (get_or group.now 0 no_place).subchunk
+            < length (pairs_in shard.known.now) }
+        requires low { shard.layout.size < 2 ^ 63 }
+        ensures change { IsTrue (D.is_honest source.old) → IsOf
+            (location_of shard.entry.layout.location) shard.entry.layout.size
+            (D.contents source.old) (pairs_in shard.entry.known.now) (end_of shard.entry.known.now)
+            → (cells : List Cell) (count : ℕ) → IsValid (elements_of shard.entry.elements.now).type
+            (payload_of given.now) count cells
+            → list_all (λ n. nat_lt n count) (positions group.now) ≡ true
+            → list_all (λ n. nat_lt n (product (subchunk_of self.now))) (insides group.now) ≡ true
+            → UpdatesGroup (stored_in (I.meaning (inner_of self.now))
+            (I.is_function (inner_of self.now)) (elements_of shard.entry.elements.now)
+            (D.contents source.old) (pairs_in shard.entry.known.now)) (subchunk_of self.now)
+            (get_or group.now 0 no_place).subchunk group.now cells result }
+        ensures number { IfOk result
+            (λ change. change.number ≡ (get_or group.now 0 no_place).subchunk) }
+        ensures refused { D.refused_calls source.new ≡
+            refused_after (D.refused_calls source.old) result }
+        ensures follows { D.follows source.old source.new }
+    {
+        let number = group[0].subchunk as usize;
+        let elements = shard.elements;
+        let edges = self.subchunk_shape.as_slice();
+        match self.read_subchunk(alloc, source, shard, number, options) {
+            Ok(piece) => {
+                let updated = put_given(alloc, piece, edges, group, given, elements)?;
+                match store_piece(alloc, &self.inner_codecs, updated, elements, edges, options) {
+                    Ok(slice) => Ok(SliceChange { number, slice }),
+                    Err(error) => Err(error),
+                }
+            }
+            Err(error) => Err(error),
+        }
+    }
+
+    /// The elements of the subchunk with this number: fill values where it is absent. `Damage` where
+    /// its slice is not one of the inner codecs', and `Source` where the source refuses.
+    pub fn read_subchunk<D: BytesPartialDecoderTraits>(
+        &self,
+        alloc: Global,
+        source: &mut D,
+        shard: ShardInSource<'_>,
+        number: usize,
+        options: &CodecOptions,
+    ) -> Result<ArrayBytes, CodecError>
+        requires fit { fits (I.meaning (inner_of self.now)) (elements_of shard.elements.now).type
+            (subchunk_of self.now) ≡ true }
+        requires below { number < length (pairs_in shard.known.now) }
+        requires low { shard.layout.size < 2 ^ 63 }
+        ensures elements { IsTrue (D.is_honest source.old) → IsOf
+            (location_of shard.entry.layout.location) shard.entry.layout.size
+            (D.contents source.old) (pairs_in shard.entry.known.now) (end_of shard.entry.known.now)
+            → ListsRead (elements_of shard.entry.elements.now) (subchunk_of self.now)
+            (piece_decoded (I.meaning (inner_of self.now)) (elements_of shard.entry.elements.now)
+            (unwrap_or (D.contents source.old) []) (subchunk_of self.now)
+            (get_or (pairs_in shard.entry.known.now) number absent_pair)) result }
+        ensures refused { D.refused_calls source.new ≡
+            refused_after (D.refused_calls source.old) result }
+        ensures follows { D.follows source.old source.new }
+    {
+        let edges = self.subchunk_shape.as_slice();
+        let known = shard.known;
+        match known.retrieve_subchunk_encoded(alloc, source, shard.layout, number) {
+            Ok(Some(slice)) => {
+                self.inner_codecs
+                    .decode(alloc, slice, shard.elements, edges, options)
+            }
+            Ok(None) => fill_piece(alloc, shard.elements, edges),
+            Err(error) => Err(error),
+        }
+    }
+}
+
+/// The elements of a subchunk of this shape after those for places in it were put, as they stand
+/// among all new ones. `Err` where an allocation failed, and where these are no elements of the
+/// subchunk, or no places of it or of the new ones.
+fn put_given(
+    alloc: Global,
+    piece: ArrayBytes,
+    edges: &[u64],
+    group: &[AskedPlace],
+    given: &ArrayBytes,
+    elements: &Elements,
+) -> Result<ArrayBytes, AllocError>
+    ensures { (before cells : List Cell) → IsCounted (elements_of elements.now).type
+        (payload_of piece) (product edges.now) before
+        → cells_in (elements_of elements.now).type (payload_of given.now) ≡ Some cells
+        → list_all (λ n. nat_lt n (length cells)) (positions group.now) ≡ true
+        → list_all (λ n. nat_lt n (product edges.now)) (insides group.now) ≡ true
+        → IfOk result (λ made. cells_in (elements_of elements.now).type (payload_of made)
+        ≡ Some (group_put (elements_of elements.now).fill group.now cells before)) }
+{
+    let at = positions_of(alloc, group)?;
+    let new = gather_elements(alloc, given, elements, at.as_slice())?;
+    let inside = insides_of(alloc, group)?;
+    let indexer = Indexer::List(inside.as_slice());
+    match update_array_bytes(alloc, piece, edges, indexer, &new, elements.data_type()) {
+        Ok(updated) => Ok(updated),
+        Err(_) => Err(AllocError),
+    }
+}

@@ -1,0 +1,55 @@
+use Rattle.std.proofs.Common.{◌≡◌, ◌∙◌, ◌*◌, ap, sym, subst, arith, rules, length, Option, Some, List, ℕ, replicate}
+use Rattle.zarr_codecs_arrays.specs.Views.{elements_of}
+use Rattle.zarr_codecs_meaning.specs.Chains.{sharded}
+use Rattle.zarr_codecs_meaning.specs.Places.{grid_of, index_shape, parts_of}
+use Rattle.zarr_codecs_meaning.proofs.Parts.{index_product, length-parts}
+use Rattle.zarr_codecs_traits.specs.Indexers.{asked_of}
+use Rattle.zarr_codecs_traits.specs.Outcomes.{DecodesPart}
+use Rattle.zarr_grids_boxes.specs.Boxes.{product}
+use Rattle.zarr_sharding_index.specs.Held.{IsIndexHeld}
+use Rattle.zarr_sharding_index.specs.Views.{location_of, pairs_of}
+use Rattle.zarr_sharding_codec.proofs.PartsRead.{part_filled, part_found}
+use Rattle.zarr_sharding_decoder.proofs.Opened.{held_count, held_nothing, held_value}
+use Rattle.zarr_sharding_decoder.proofs.partial_decoder.ShardingPartialDecoder.partial_decode.Goals as goal
+
+pub returns-in_default-held-clause-part : goal.returns-in_default-held-clause-part
+returns-in_default-held-clause-part g c = λ honest.
+    let self = c.args.self.now in
+    let codec = self.codec.now in
+    let inner = g.I.ArrayToBytesCodecTraits.meaning codec.inner_codecs in
+    let index = g.X.ArrayToBytesCodecTraits.meaning codec.index_codecs in
+    let location = location_of codec.index_location in
+    let elements = elements_of self.elements.now in
+    let contents = g.D.BytesPartialDecoderTraits.contents self.source.now in
+    let ok = c.in_ok-numbers.numbers.ok in
+    let many : c.in_ok-numbers.numbers.len ≡ length c.in_ok-numbers.numbers.items = first_of (omega (arith, ok), search rules, cc) in
+    let none = held_nothing contents self.held c.in_default-held.is (self.told honest) in
+    part_filled (sharded codec.subchunk_shape inner index location) elements self.shape.now contents c.in_ok-numbers.numbers.items (asked_of c.args.indexer) c.in_ok-fill_elements.field-0
+    self.fit c.in_default.ensures c.in_ok-numbers.ensures.numbers none
+    (c.in_ok-fill_elements.ensures ∙ ap (λ k. Some (replicate k elements.fill)) (c.len.ensures ∙ many))
+
+pub read_numbers-requires-clause-many : goal.read_numbers-requires-clause-many
+read_numbers-requires-clause-many g c =
+    let self = c.args.self.now in
+    let subchunk = self.codec.now.subchunk_shape in
+    held_count (product (grid_of self.shape.now subchunk)) self.held c.in-Some.fetched c.in-Some.is self.many ∙ sym (length-parts self.shape.now subchunk)
+
+pub returns-clause-part : goal.returns-clause-part
+returns-clause-part g c = λ honest.
+    let self = c.args.self.now in
+    let codec = self.codec.now in
+    let subchunk = codec.subchunk_shape in
+    let inner = g.I.ArrayToBytesCodecTraits.meaning codec.inner_codecs in
+    let index = g.X.ArrayToBytesCodecTraits.meaning codec.index_codecs in
+    let location = location_of codec.index_location in
+    let elements = elements_of self.elements.now in
+    let shape = self.shape.now in
+    let asked = asked_of c.args.indexer in
+    let contents = g.D.BytesPartialDecoderTraits.contents self.source.now in
+    let pairs = pairs_of c.in-Some.fetched.index in
+    let count : length pairs ≡ length (parts_of shape subchunk) = held_count (product (grid_of shape subchunk)) self.held c.in-Some.fetched c.in-Some.is self.many ∙ sym (length-parts shape subchunk) in
+    let found = held_value index location (index_shape shape subchunk) contents self.held c.in-Some.fetched c.in-Some.is (self.told honest) (self.opened honest) in
+    let held : IsIndexHeld index location (index_shape shape subchunk) found.value pairs = record { is = found.pairs; many = index_product shape subchunk ∙ ap (λ n. 2 * n) (sym count) } in
+    let read = c.read_numbers.ensures.part honest found.value found.is found.total in
+    subst (λ (stored : Option (List ℕ)). DecodesPart (sharded subchunk inner index location) elements shape stored asked c.read_numbers.result) (sym found.is)
+    (part_found subchunk inner index location elements shape found.value pairs c.as_slice.result.now asked c.read_numbers.result self.fit c.in_default.ensures (c.as_slice.ensures.value ∙ c.in_ok-numbers.ensures.numbers) held read)

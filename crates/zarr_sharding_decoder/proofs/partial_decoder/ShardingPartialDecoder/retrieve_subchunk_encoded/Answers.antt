@@ -1,0 +1,22 @@
+use Rattle.std.proofs.Common.{◌∙◌, ap, sym, subst, IsTrue, length, option_and_then, option_map}
+use Rattle.zarr_codecs_meaning.specs.Places.{index_shape}
+use Rattle.zarr_sharding_index.specs.Held.{held_pairs}
+use Rattle.zarr_sharding_index.specs.Views.{location_of}
+use Rattle.zarr_sharding_decoder.proofs.partial_decoder.ShardingPartialDecoder.retrieve_subchunk_encoded.Goals as goal
+
+pub invariant_of-self-2 : goal.invariant_of-self-2
+invariant_of-self-2 g c =
+    let self = c.args.self.now in
+    let laws = g.met.D.BytesPartialDecoderTraits in
+    let same = laws.same _ _ c.fetch_slice.ensures.follows in
+    let still = laws.honest _ _ c.fetch_slice.ensures.follows in
+    let held = held_pairs (g.X.ArrayToBytesCodecTraits.meaning self.codec.now.index_codecs) (location_of self.codec.now.index_location) (index_shape self.shape.now self.codec.now.subchunk_shape) in
+    record {
+      fit = self.fit;
+      told = λ honest. ap (option_map length) (sym same) ∙ self.told (subst IsTrue (sym still) honest);
+      opened = λ honest. ap (option_and_then held) (sym same) ∙ self.opened (subst IsTrue (sym still) honest);
+      many = self.many;
+      cut = self.cut;
+      few = self.few;
+      sized = self.sized;
+    }

@@ -1,0 +1,29 @@
+-- Elements read from the shard that a source holds.
+use Rattle.std.specs.Prelude.{◌⊎◌, ℕ, List, Option, None, Some, Result, Ok, Err}
+use Rattle.zarr_codecs_meaning.specs.Encoding.{Pair}
+use Rattle.zarr_codecs_meaning.specs.Payloads.{Payload}
+use Rattle.zarr_codecs_arrays.specs.declared.array_bytes.ArrayBytes.{ArrayBytes}
+use Rattle.zarr_codecs_arrays.specs.declared.error.CodecError.{CodecError}
+use Rattle.zarr_codecs_traits.specs.Indexers.{Asked, numbers_asked}
+use Rattle.zarr_codecs_traits.specs.Outcomes.{DecodesPart, IsPart}
+use Rattle.zarr_sharding_codec.specs.BytesMet.{bytes_met}
+use Rattle.zarr_sharding_decoder.specs.Shards.{ShardOf, chain_of}
+
+-- the elements at the places that are asked for, of what is stored, or why there are none
+abbrev pub ReadsPart : ShardOf → Option (List ℕ) → Asked → Result ArrayBytes CodecError → Type 0
+ReadsPart s contents asked result = DecodesPart (chain_of s) s.elements s.shape contents asked result
+
+-- how many bytes the slices have of the subchunks that the places lie in, each slice counted once
+abbrev pub slices_met : ShardOf → Option (List Pair) → Asked → ℕ
+slices_met s None asked = 0
+slices_met s (Some pairs) asked = bytes_met s.shape s.subchunk (numbers_asked s.shape asked) pairs
+
+-- the elements at the places that are asked for were put over those of a target
+pub record IsPartInto (s : ShardOf) (contents : Option (List ℕ)) (asked : Asked) (puts : Payload → Type 0) : Type 0 where
+  pub payload : Payload
+  pub is : IsPart (chain_of s) s.elements s.shape contents asked payload
+  pub put : puts payload
+
+-- why elements are not put over those of a target: they are not read, or the target refuses them
+abbrev pub NotPartInto : ShardOf → Option (List ℕ) → Asked → (Payload → CodecError → Type 0) → CodecError → Type 0
+NotPartInto s contents asked misfits e = ReadsPart s contents asked (Err e) ⊎ ((payload : Payload) × IsPart (chain_of s) s.elements s.shape contents asked payload × misfits payload e)

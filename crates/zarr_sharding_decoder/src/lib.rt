@@ -1,0 +1,10 @@
+//! The shard that a lent source holds, of which the index is kept and all else is read in part.
+#![tactic(auto)]
+
+pub mod laws;
+mod opening;
+pub mod partial_decoder;
+mod reading;
+mod slices;
+
+pub use partial_decoder::ShardingPartialDecoder;

@@ -1,0 +1,104 @@
+//! Elements read from a shard.
+use crate::partial_decoder::ShardingPartialDecoder;
+use std::alloc::Global;
+use zarr_codecs_arrays::{ArrayBytes, CodecError};
+use zarr_codecs_options::CodecOptions;
+use zarr_codecs_regions::{numbers_asked, test_asked};
+use zarr_codecs_traits::{
+    ArrayBytesDecodeIntoTarget, ArrayToBytesCodecTraits, BytesPartialDecoderTraits, Indexer,
+};
+use zarr_grids_boxes::walk::count_places;
+use zarr_sharding_codec::partial::fill_elements;
+use zarr_sharding_codec::{NumberedPlaces, OpenedShard};
+
+impl<
+    'a,
+    I: ArrayToBytesCodecTraits,
+    X: ArrayToBytesCodecTraits,
+    D: BytesPartialDecoderTraits,
+> ShardingPartialDecoder<'a, I, X, D> {
+    ghost use Rattle.std.specs.Prelude.{◌≡◌, ◌≤◌, ◌+◌, IfErr, IsTrue, OnErr, OnOk};
+    ghost use Rattle.zarr_codecs_traits.specs.Indexers.{asked_of};
+    ghost use Rattle.zarr_codecs_traits.specs.Sources.{refused_after};
+    ghost use Rattle.zarr_sharding_decoder.specs.Parts.{IsPartInto, NotPartInto, ReadsPart, slices_met};
+    ghost use Rattle.zarr_sharding_decoder.specs.Views.{pairs_held, shard_of, source_of};
+
+    /// The elements at the places that are asked for, in their order; each is the fill value where
+    /// the source holds no value, or its subchunk is absent. Each slice that the places lie in is
+    /// fetched once, and nothing else. `IncompatibleIndexer` where a place isn't one of the array's;
+    /// `Damage` where the pair of a subchunk that is met ends past the end of the shard, or a place
+    /// that is asked for cannot be decoded; `Size` where the array has 2^63 elements or bytes or
+    /// more; `Source` where the source refuses.
+    pub fn partial_decode(
+        &mut self,
+        alloc: Global,
+        indexer: Indexer<'_>,
+        options: &CodecOptions,
+    ) -> Result<ArrayBytes, CodecError>
+        ensures part { IsTrue (D.is_honest (source_of self.old)) → ReadsPart
+            (shard_of I.meaning X.meaning self.old) (D.contents (source_of self.old))
+            (asked_of indexer.entry) result }
+        ensures refused { D.refused_calls (source_of self.new) ≡
+            refused_after (D.refused_calls (source_of self.old)) result }
+        ensures given { IsTrue (D.is_honest (source_of self.old)) →
+            D.given_bytes (source_of self.new) ≤ D.given_bytes (source_of self.old) + slices_met
+            (shard_of I.meaning X.meaning self.old) (pairs_held self.old)
+            (asked_of indexer.entry) }
+        ensures follows { D.follows (source_of self.old) (source_of self.new) }
+        ensures same_reference { self.new.source.ghost_name ≡ self.old.source.ghost_name }
+        ensures shard { shard_of I.meaning X.meaning self.new
+            ≡ shard_of I.meaning X.meaning self.old }
+        ensures pairs { pairs_held self.new ≡ pairs_held self.old }
+    {
+        if let Err(error) = test_asked(self.shape, indexer) {
+            return Err(error);
+        }
+        if count_places(self.shape).is_none() {
+            return Err(CodecError::Size);
+        }
+        let numbers = numbers_asked(alloc, self.shape, indexer)?;
+        let Some(fetched) = &self.held else {
+            return Ok(fill_elements(alloc, self.elements, numbers.len())?);
+        };
+        let elements = self.elements;
+        let asked = NumberedPlaces {
+            shape: self.shape,
+            numbers: numbers.as_slice(),
+        };
+        let shard = OpenedShard { fetched, elements };
+        self.codec
+            .read_numbers(alloc, self.source, shard, asked, options)
+    }
+
+    /// Reads as `partial_decode` does, and puts the elements over those of a target. A refusal leaves
+    /// the target as it was. Errors as those of `partial_decode`, and of the target's `put`.
+    pub fn partial_decode_into<T: ArrayBytesDecodeIntoTarget>(
+        &mut self,
+        alloc: Global,
+        indexer: Indexer<'_>,
+        target: &mut T,
+        options: &CodecOptions,
+    ) -> Result<(), CodecError>
+        ensures ok { IsTrue (D.is_honest (source_of self.old)) → OnOk result (IsPartInto
+            (shard_of I.meaning X.meaning self.old) (D.contents (source_of self.old))
+            (asked_of indexer.entry) (λ payload. T.puts target.old payload target.new)) }
+        ensures err { OnErr result (target.new ≡ target.old) }
+        ensures cause { IsTrue (D.is_honest (source_of self.old)) → IfErr result (NotPartInto
+            (shard_of I.meaning X.meaning self.old) (D.contents (source_of self.old))
+            (asked_of indexer.entry) (T.misfits target.old)) }
+        ensures follows { D.follows (source_of self.old) (source_of self.new) }
+        ensures given { IsTrue (D.is_honest (source_of self.old)) →
+            D.given_bytes (source_of self.new) ≤ D.given_bytes (source_of self.old) + slices_met
+            (shard_of I.meaning X.meaning self.old) (pairs_held self.old)
+            (asked_of indexer.entry) }
+        ensures same_reference { self.new.source.ghost_name ≡ self.old.source.ghost_name }
+        ensures shard { shard_of I.meaning X.meaning self.new
+            ≡ shard_of I.meaning X.meaning self.old }
+        ensures pairs { pairs_held self.new ≡ pairs_held self.old }
+    {
+        match self.partial_decode(alloc, indexer, options) {
+            Ok(elements) => target.put(alloc, &elements),
+            Err(error) => Err(error),
+        }
+    }
+}
