@@ -9,6 +9,9 @@ LINE_OF_FUNCTION = re.compile(r"fn \w+::(\S+): (.*)")
 PLACED = re.compile(r"(?:note: )?(?:\./)?(\S+?):(\d+):\d+: (.*)")
 NAME_IS_GONE = re.compile(r"has no field|is not in scope|has no `|was not admitted")
 NOT_TRIED = re.compile(r"\d+ declarations? that depends? on `[^`]*`, which was rejected")
+# A declaration that is refused on purpose wherever it stands (edit_copies.py), and that no verdict rests on.
+ON_PURPOSE = "no-answers-offered"
+RESTS_ON = re.compile(r"depends? on `([^`]*)`, which was")
 CANNOT_BE_READ = re.compile(r"is not in scope|has no field|is no name|operand is missing|expected the end|cannot continue")
 
 
@@ -23,6 +26,12 @@ class Placed:
     @property
     def is_error(self) -> bool:
         return self.text.startswith("error")
+
+    @property
+    def goal(self) -> str:
+        """The goal or the declaration that it speaks of, as far as it names one."""
+        found = re.match(r"error: `([^`]*)`: ", self.text) or re.search(r"\(`([^`]*)`\)", self.text)
+        return found[1] if found else ""
 
     @property
     def is_of_shape(self) -> bool:
@@ -109,8 +118,18 @@ class CheckOutput:
         own = "proofs/" + path.replace("::", "/") + "/"
         notes = [note for it in self.of_function(path) for note in it.notes]
         faults = [it for it in self.errors if it.file.startswith(own)]
-        lemmas = {name for it in faults for name in re.findall(r"depends? on `([^`]*)`, which was", it.text)}
-        return faults + [it for it in self.errors if re.match(r"error: `([^`]*)`: ", it.text) and it.text.split("`")[1] in lemmas] + notes
+        return faults + self._errors_of_lemmas(faults) + notes
+
+    def _errors_of_lemmas(self, faults: List[Placed]) -> List[Placed]:
+        """The errors of the lemmas that these errors say their declarations rest on, and of those that these lemmas rest on in turn."""
+        lemmas = {name for it in faults for name in RESTS_ON.findall(it.text)}
+        rests = [(RESTS_ON.findall(it.text), set(re.findall(r"[^\s,()]+", it.text.partition("not checked: ")[2]))) for it in self.errors]
+        while True:
+            more = {name for names, unchecked in rests if unchecked & lemmas for name in names} - lemmas
+            if not more:
+                break
+            lemmas |= more
+        return [it for it in self.errors if re.match(r"error: `([^`]*)`: ", it.text) and it.text.split("`")[1] in lemmas]
 
 
 def is_in(name: str, path: str) -> bool:
@@ -132,6 +151,8 @@ def read_output(status: int, text: str) -> CheckOutput:
             # What a record lacks stands on the line after it.
             more = " " + after.strip() if after.startswith("  has no ") else ""
             found = Placed(placed[1], int(placed[2]), placed[3] + more)
+            if f"`{ON_PURPOSE}`" in found.text:
+                continue
             if found.is_error:
                 output.errors.append(found)
             elif line.startswith("note: "):

@@ -3,20 +3,39 @@ function as it was: nothing calls the copy, so edits of one function, and of tho
 copies of the function's proof files, which name nothing of the function but its own goals.
 
 Functions that call one another have one proof. A copy of one of them calls the others as they were, so it is in no cycle, and its
-proof is the part of theirs that is the function's own. Such a copy is only believed where a copy with no edit is proved."""
+proof is the part of theirs that is the function's own. Such a copy is only believed where a copy with no edit is proved.
+
+A check ends by offering answers for each function that lacks nothing but answers, and for that it searches for each open goal once
+more, which takes as long as the first time. So among the answers of an edited function there is first a declaration that is refused
+on purpose: the function then lacks more than answers, its goals are told all the same, and nothing is offered.
+
+Most of the time goes to searching for goals that have no answer, those that hold and those that don't. So where an edit names the goal
+that it makes false, the copy is first checked with the answer of that goal alone, and no search: the function's own answer, or, where the
+check finds one by its search, the one that the edit gives, which a copy with no edit must take. Else a copy of a function with answers is
+first checked by its answers alone. Where each is still taken, the goals without answers are searched for, and where each of them holds
+too, the edit is tried once more without what is refused on purpose."""
 from __future__ import annotations
 
 import os
 import re
-from dataclasses import dataclass
+from dataclasses import dataclass, replace
 from typing import Dict, List, Optional, Tuple
 
+from check_output import ON_PURPOSE
 from edit_files import Edit, apply_edit
 from rattle_sources import Function, Sources, start_with_attributes
 
+UNOFFERED = f"\n{ON_PURPOSE} : Type 0\n{ON_PURPOSE} = Type 0\n"
+
+# What the answer that an edit gives may name: the sets of lemmas that the check's own search goes by.
+SETS = """use Rattle.std.proofs.Common.{rules, arith, tests}
+use Rattle.std.proofs.lemmas.Grind.{common_steps, elements, not_there, pieces}
+"""
+ANSWER = "\npub {goal} : goal.{goal}\n{goal} c = {by}\n"
 
 GOAL = re.compile(r"(?:(?:abbrev|pub) )*([^\s:]+) : goal\.")
 GOAL_LINE = re.compile(rf"(?m)^{GOAL.pattern}")
+PART = re.compile(r"(?m)^(?=(?:(?:abbrev|pub) )*[^\s:]+ : )")
 
 
 @dataclass(frozen=True)
@@ -27,6 +46,90 @@ class Copy:
     text: str
     proofs: Dict[str, str]
     control: Optional[Copy] = None
+
+    @property
+    def file(self) -> str:
+        """The file of its answers."""
+        return f"proofs/{self.path.replace('::', '/')}/Answers.antt"
+
+    @property
+    def has_answers(self) -> bool:
+        return bool(goals_answered(self.answers))
+
+    @property
+    def answers(self) -> str:
+        return self.proofs.get(self.file, "")
+
+    def answering(self, text: str) -> Copy:
+        """The copy with this text of answers."""
+        return replace(self, proofs={**self.proofs, self.file: text})
+
+    def unoffered(self) -> Copy:
+        """The copy with what is refused on purpose among its answers."""
+        return self.answering(self.answers + UNOFFERED)
+
+    def unsearched(self) -> Copy:
+        """The copy with no search for the goals that have no answer."""
+        return replace(self, text=unsearched(self.text, self.path.split("::")[-1]))
+
+
+def unsearched(text: str, name: str) -> str:
+    """The text of a function with no search for the goals that have no answer."""
+    text = re.sub(r"(?m)^[ ]*#!?\[tactic\(.*\)\]\n", "", text)
+    return re.sub(rf"(?m)^([ ]*)(?=(?:pub(?:\([^)]*\))?[ ]+)?fn[ ]+{name}\b)", r"\1#[tactic(none)]\n\1", text, count=1)
+
+
+def goals_answered(text: str) -> List[str]:
+    """The goals that a file of answers has an answer to."""
+    return [it[1] for it in GOAL_LINE.finditer(text)]
+
+
+def answer_alone(text: str, goal: str) -> str:
+    """A file of answers with what one of its answers needs, and no other answer."""
+    parts = PART.split(text)
+    kept = [it for it in parts if not GOAL.match(it)]
+    answers = {GOAL.match(it)[1]: it for it in parts if GOAL.match(it)}
+    left = [goal]
+    while left:
+        part = answers.pop(left.pop(), "")
+        kept.append(part)
+        left += {*re.findall(r"[^\s(){}\[\],;]+", part)} & {*answers}
+    return "".join(kept)
+
+
+def answers_given(crate: str, path: str, given: Dict[str, str]) -> str:
+    """A file of answers to some goals of the function with this path, each with what proves it."""
+    answers = [ANSWER.format(goal=goal, by=by) for goal, by in given.items()]
+    return f"{SETS}use Rattle.{crate}.proofs.{path.replace('::', '.')}.Goals as goal\n{''.join(answers)}"
+
+
+def unoffered(function: Function, texts: Dict[str, str], sources: Sources) -> Dict[str, str]:
+    """The answers of a function that is edited in its place, with what is refused on purpose; none where its proof has no such file."""
+    if not has_answers_of_its_own(function, sources):
+        return {}
+    file = answers_of(function)
+    return {file: texts.get(file, sources.texts.get(file, "")) + UNOFFERED}
+
+
+def answers_of(function: Function) -> str:
+    """The file of a function's answers."""
+    return f"proofs/{function.path.replace('::', '/')}/Answers.antt"
+
+
+def has_answers_of_its_own(function: Function, sources: Sources) -> bool:
+    """Whether the proof of a function is one of goals, of that function alone."""
+    is_by_goals = sources.is_proved(function) and not sources.cycle_of(function)
+    return is_by_goals and answers_of(function).replace("/Answers.", "/Proof.") not in sources.texts
+
+
+def tried_by_name(function: Function, text: str, texts: Dict[str, str], sources: Sources) -> Dict[str, str]:
+    """The texts where a function that stands in its place has these answers alone, and no search."""
+    texts = {**texts, answers_of(function): text + UNOFFERED}
+    code = texts.get(function.file, sources.texts[function.file])
+    found = next(it for it in Sources({**sources.texts, **texts}).functions if it.path == function.path)
+    start = start_with_attributes(code, found.start)
+    texts[function.file] = code[:start] + unsearched(code[start : found.end], function.name) + code[found.end :]
+    return texts
 
 
 def can_be_copied(function: Function, cycle: Optional[str], sources: Sources) -> bool:
@@ -51,7 +154,7 @@ def own_part(text: str, member: str) -> str:
     """The part of a proof file of several functions that is one's own, as in a proof of that one alone; with no member named, that of
     a function that calls itself."""
     parts = []
-    for part in re.split(r"(?m)^(?=(?:(?:abbrev|pub) )*[^\s:]+ : )", text):
+    for part in PART.split(text):
         goal = GOAL.match(part)
         name = goal[1] if goal else ""
         own = re.sub(rf"^(invariant-|){re.escape(member)}-", r"\1", name) if member else name
@@ -74,8 +177,13 @@ def copy_of(edit: Edit, function: Function, number: int, sources: Sources) -> Op
     edited = next((it for it in Sources({**sources.texts, **texts}).functions if it.path == function.path), None)
     if not edited:
         return None
-    control = named_copy(function, function, f"{function.name}_with_no_edit", cycle, sources.texts[function.file], sources) if cycle else None
+    control = copy_with_no_edit(function, sources) if cycle else None
     return named_copy(function, edited, f"{function.name}_edit_{number}", cycle, texts[function.file], sources, control)
+
+
+def copy_with_no_edit(function: Function, sources: Sources) -> Copy:
+    """A copy of a function as it stands."""
+    return named_copy(function, function, f"{function.name}_with_no_edit", sources.cycle_of(function), sources.texts[function.file], sources)
 
 
 def named_copy(function: Function, edited: Function, name: str, cycle: Optional[str], text: str, sources: Sources, control: Optional[Copy] = None) -> Copy:

@@ -1,5 +1,7 @@
 """Reads must-fail edits: files with a line `file: PATH` and pairs of lines `old: TEXT` and `new: TEXT`, and perhaps a line `law: FUNCTION`,
-where an edit of a definition is one of a certain function's contract: it is tried in that function first.
+where an edit of a definition is one of a certain function's contract: it is tried in that function first. A line `goal: NAME` may name the
+goal of the function that the edit makes false: the edit is then tried by that goal's answer first. Where the function's proof files have no
+answer for it, a line `by: TERM` may say what proves that goal of the function as it stands, in place of what usually does.
 
 PATH is below src/, specs/ or proofs/ of the crate, and each TEXT under `old:` stands in that file exactly once.
 All other lines are comments. An edit lies right in crates/NAME/must-fail/ as NAME.edit, where `rt ci` tries it
@@ -9,6 +11,10 @@ from __future__ import annotations
 import os
 from dataclasses import dataclass
 from typing import Callable, Dict, List, Tuple
+
+
+# What usually proves a goal for which a function's proof files have no answer.
+USUAL = "grind (arith, common_steps)"
 
 
 class DoesNotApply(Exception):
@@ -26,12 +32,15 @@ class Change:
 
 @dataclass(frozen=True)
 class Edit:
-    """A must-fail edit: its crate, its name and its changes, in order, and the function that it names, if it names one."""
+    """A must-fail edit: its crate, its name and its changes, in order; the function that it names, if it names one; and the goal that it
+    names, and what proves that goal without the edit, if it says so."""
 
     crate: str
     name: str
     changes: Tuple[Change, ...]
     law: str = ""
+    goal: str = ""
+    by: str = ""
 
     @property
     def label(self) -> str:
@@ -40,15 +49,17 @@ class Edit:
 
 def parse_edit(crate: str, name: str, text: str) -> Edit:
     """The edit that a file's text holds."""
-    path = old = law = ""
+    path = old = ""
+    named = {"law": "", "goal": "", "by": ""}
     changes: List[Change] = []
     for line in text.split("\n"):
         if line.startswith("file: "):
             path = line[len("file: ") :].strip()
             if os.path.normpath(path) != path or not path.startswith(("src/", "specs/", "proofs/")):
                 raise DoesNotApply("a 'file:' line names no file below src/, specs/ or proofs/")
-        elif line.startswith("law: "):
-            law = line[len("law: ") :].strip()
+        elif line.partition(": ")[0] in named:
+            word, _, rest = line.partition(": ")
+            named[word] = rest.strip()
         elif line.startswith("old: "):
             old = line[len("old: ") :]
         elif line.startswith("new:"):
@@ -59,7 +70,7 @@ def parse_edit(crate: str, name: str, text: str) -> Edit:
             old = ""
     if not changes:
         raise DoesNotApply("it has no 'old:' and 'new:' pair")
-    return Edit(crate, name, tuple(changes), law)
+    return Edit(crate, name, tuple(changes), **named)
 
 
 def apply_edit(edit: Edit, text_of: Callable[[str], str]) -> Dict[str, str]:
@@ -73,6 +84,14 @@ def apply_edit(edit: Edit, text_of: Callable[[str], str]) -> Dict[str, str]:
             raise DoesNotApply(f"an 'old:' text is in {change.path} {found} times, and not once")
         texts[change.path] = texts[change.path].replace(change.old, change.new)
     return texts
+
+
+def with_names(text: str, edit: Edit) -> str:
+    """The text of an edit's file with the goal that the edit names, and what proves it where that is not what usually does."""
+    lines = [it for it in text.split("\n") if not it.startswith(("goal: ", "by: "))]
+    place = next(n for n, it in enumerate(lines) if it.startswith("file: ")) + 1
+    lines[place:place] = [f"{word}: {it}" for word, it in (("goal", edit.goal), ("by", edit.by)) if it not in ("", USUAL)]
+    return "\n".join(lines)
 
 
 def edit_files(folder: str) -> List[Tuple[str, str]]:

@@ -85,7 +85,7 @@ class Sources:
     """The texts of a crate and its functions."""
 
     def __init__(self, texts: Dict[str, str]):
-        self.texts, self.shared = texts, None
+        self.texts = texts
         self.modules = self._modules_of_types()
         self.functions = [it for file in sorted(texts) if file.startswith("src/") and file.endswith(".rt") for it in self._functions_in(file)]
 
@@ -209,29 +209,7 @@ class Sources:
         begun = re.findall(rf"(?m)^{WORDS_BEFORE}([^\s:(){{}},]+)", text[above[-1].start() : (text + "\n").index("\n", start)])
         return above[-1][1] if {*begun} == {above[-1][1]} else None
 
-    def resting_on(self, definition: str) -> Set[str]:
-        """The functions that rest on a definition: by their contracts, by what they are proved with, or by other definitions and lemmas.
-        A name is taken for each definition that has it, and a file's path stands for what in it is in no function."""
-        found, known = {definition}, set()
-        while found != known:
-            known = {*found}
-            found |= {name for name, words in self._shared() if words & known}
-        resting = {it.path for it in self.functions if words_of(self.texts[it.file][it.start : it.end]) & found}
-        for file, text in self.texts.items():
-            if file.startswith("src/") and words_of(self._outside(file)) & found:
-                resting.add(file)
-            if is_of_function(file) and words_of(text) & found:
-                resting.add("::".join(file.split("/")[1:-1]))
-        return resting
-
-    def _shared(self) -> List[Tuple[str, Set[str]]]:
-        """The definitions and lemmas that stand in no function's own files, each with the words that it is made of."""
-        if self.shared is None:
-            files = [it for it in self.texts if it.endswith(".antt") and not is_of_function(it)]
-            self.shared = [(name, words_of(part)) for it in files for name, part in definitions_in(self.texts[it])]
-        return self.shared
-
-    def _outside(self, file: str) -> str:
+    def outside(self, file: str) -> str:
         """The text of a file that is in no function."""
         text = self.texts[file]
         for it in sorted((it for it in self.functions if it.file == file), key=lambda it: -it.start):

@@ -1,4 +1,5 @@
 mod KeyLemmas
 pub mod PartialDecoderLemmas
 pub mod PartialEncoderLemmas
+mod SortedKeyLemmas
 mod ValueMapLemmas

@@ -9,7 +9,7 @@ ghost use Rattle.zarr_codecs_traits.specs.Patches.{any_too_far};
 ghost use Rattle.zarr_codecs_traits.specs.Sources.{value_lent};
 
 use std::alloc::{AllocError, Global};
-use std::collections::BTreeMap;
+use std::collections::HashMap;
 use std::marker::Model;
 use zarr_codecs_traits::ValuePatch;
 use zarr_codecs_traits::value_patch::{any_ends_past, overwrite_each, patched};
@@ -17,7 +17,7 @@ use zarr_codecs_traits::value_patch::{any_ends_past, overwrite_each, patched};
 /// Values in memory, each at a key of its own.
 #[derive(Drop)]
 pub(crate) struct ValueMap {
-    values: BTreeMap<String, Vec<u8>>,
+    values: HashMap<String, Vec<u8>>,
     alloc: Global,
 }
 
@@ -49,7 +49,7 @@ impl ValueMap {
         ensures { result ≡ map.empty }
     {
         ValueMap {
-            values: BTreeMap::new(alloc),
+            values: HashMap::new(alloc),
             alloc,
         }
     }
@@ -83,6 +83,7 @@ impl ValueMap {
         for key in self.values.keys() {
             keys.push(key.clone()?)?;
         }
+        keys.sort()?;
         Ok(keys)
     }
 

@@ -24,22 +24,6 @@ pub(crate) fn value_of(alloc: Global, text: &str) -> Result<Value, DocumentError
     }
 }
 
-/// The plain document with the members that a text says put in.
-pub(crate) fn plain_with(alloc: Global, members: &str) -> Result<Value, DocumentError> {
-    with_members(alloc, PLAIN, members)
-}
-
-/// The document that a text says with the members that another text says put in.
-pub(crate) fn with_members(
-    alloc: Global,
-    document: &str,
-    members: &str,
-) -> Result<Value, DocumentError> {
-    let mut document = value_of(alloc, document)?;
-    put_members(alloc, &mut document, value_of(alloc, members)?)?;
-    Ok(document)
-}
-
 /// Puts the members of an object into a document.
 pub(crate) fn put_members(
     alloc: Global,
@@ -53,15 +37,6 @@ pub(crate) fn put_members(
         put(fields, alloc, name.as_str(), value.clone()?)?;
     }
     Ok(())
-}
-
-/// The plain document without this member.
-pub(crate) fn plain_without(alloc: Global, name: &str) -> Result<Value, DocumentError> {
-    let mut document = value_of(alloc, PLAIN)?;
-    if let Some(members) = document.as_object_mut() {
-        members.remove(name);
-    }
-    Ok(document)
 }
 
 /// An object with one member.

@@ -10,7 +10,9 @@
 //! - Chains: a `CodecChain` is array to array codecs, an array to bytes codec and bytes to bytes codecs. It encodes and decodes by
 //!   `ArrayToBytesCodecTraits`, whole or in part.
 //! - Sources: `BytesPartialDecoderTraits` is what a stored value is read by in part, `BytesPartialEncoderTraits` what it is written
-//!   by. A `MemorySource` is one in memory.
+//!   by. A `MemorySource` is one in memory, and an `IntervalSource` is a part of another one's value.
+//! - Coders: a `CodecPartialDecoder` and a `CodecPartialEncoder` are a codec, an array and a lent source, whose parts they decode and
+//!   encode; `partial_decoder` and `partial_encoder` of a chain give them.
 //! - Targets: `ArrayBytesDecodeIntoTarget` takes decoded elements into a box of lent bytes.
 //! - Options: `CodecOptions` of calls that encode and decode, all false by default.
 //! - Errors: a `CodecError` says why a codec refuses, a `PluginCreateError` why none is made of metadata.
@@ -24,6 +26,7 @@ pub use zarr_codecs_array_to_array::{
 pub use zarr_codecs_arrays::{ArrayBytes, ArrayBytesOffsets, CodecError, Elements};
 pub use zarr_codecs_bytes::{BytesCodec, BytesCodecConfiguration, Endianness};
 pub use zarr_codecs_chains::{ArrayToBytesCodec, CodecChain, OptionalCodec, VlenCodec};
+pub use zarr_codecs_coders::{CodecPartialDecoder, CodecPartialEncoder};
 pub use zarr_codecs_configurations::{OptionalCodecConfiguration, VlenCodecConfiguration};
 pub use zarr_codecs_options::{CodecMetadataOptions, CodecOptions};
 pub use zarr_codecs_packbits::{
@@ -34,8 +37,8 @@ pub use zarr_codecs_sections::{VlenIndexDataType, VlenIndexLocation};
 pub use zarr_codecs_traits::{
     ArrayBytesDecodeIntoTarget, ArrayPart, ArrayToArrayCodecTraits, ArrayToBytesCodecTraits,
     ByteRange, BytesPartialDecoderTraits, BytesPartialEncoderTraits, BytesRepresentation,
-    BytesToBytesCodecTraits, Indexer, MemorySource, OptionalTarget, TargetBytes, ValuePatch,
-    WholeArray,
+    BytesToBytesCodecTraits, Indexer, IntervalSource, MemorySource, OptionalTarget, TargetBytes,
+    ValuePatch, WholeArray,
 };
 pub use zarr_codecs_types::{
     Cell, Component, DataType, DataTypeError, FillValue, FillValueError, Sign, data_type,

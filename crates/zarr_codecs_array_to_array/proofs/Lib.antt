@@ -2,3 +2,4 @@ pub mod Routes
 pub mod ReadsBack
 pub mod NewSizes
 pub mod Distances
+pub mod Inverses

@@ -5,3 +5,4 @@ pub mod Written
 pub mod Sizes
 pub mod Strided
 pub mod Names
+pub mod Refusals

@@ -24,6 +24,7 @@ impl ArrayToArrayCodec {
     ghost use Rattle.zarr_codecs_metadata.specs.ArrayCodecs.{array_codec_in};
     ghost use Rattle.zarr_codecs_array_to_array.specs.Moving.{are_places, moved_numbers};
     ghost use Rattle.zarr_codecs_array_to_array.specs.Names.{written_codec};
+    ghost use Rattle.zarr_codecs_array_to_array.specs.Refusals.{cause_of, names_array_codec};
     ghost use Rattle.zarr_codecs_array_to_array.specs.Views.{codec_of};
 
     /// The numbers that places have after the codec, of the numbers that they have before it.
@@ -50,8 +51,8 @@ impl ArrayToArrayCodec {
     }
 
     /// The codec that metadata describes, under the name that it has there. `NameUnsupported` where
-    /// this is that of none, `MetadataInvalid` where its configuration is not one of the name's; `Memory` where an
-    /// allocation failed.
+    /// this is that of none, `MetadataInvalid` where its configuration is not one of the name's;
+    /// `Memory` where an allocation failed.
     pub fn from_metadata(
         alloc: Global,
         metadata: &MetadataV3,
@@ -62,6 +63,8 @@ impl ArrayToArrayCodec {
             (λ codec. (written_codec codec).name ≡ (point_of metadata.now).name) }
         ensures err { IfErr result (λ e. e ≢ PluginCreateError.Memory
             → array_codec_in (point_of metadata.now) ≡ None) }
+        ensures cause { IfErr result (λ e. e ≢ PluginCreateError.Memory
+            → e ≡ cause_of (names_array_codec (point_of metadata.now).name)) }
     {
         match metadata.name() {
             "transpose" => match TransposeCodec::from_metadata(alloc, metadata) {

@@ -59,6 +59,8 @@ pub(crate) fn configured_order(
     ensures err { IfErr result (λ e. e ≢ PluginCreateError.Memory → transpose_of
         (configuration_members
         (option_map (λ members. members_view members.now.entries) configuration.entry)) ≡ None) }
+    ensures cause { IfErr result
+        (λ e. e ≢ PluginCreateError.Memory → e ≡ PluginCreateError.MetadataInvalid) }
 {
     let Some(value) = only_member(configuration, "order") else {
         return Err(PluginCreateError::MetadataInvalid);
@@ -72,9 +74,10 @@ pub(crate) fn configured_order(
     let Some(dimensions) = read else {
         return Err(PluginCreateError::MetadataInvalid);
     };
-    match TransposeOrder::new(dimensions) {
-        Some(order) => Ok(order),
-        None => Err(PluginCreateError::MetadataInvalid),
+    match TransposeOrder::new(alloc, dimensions) {
+        Ok(Some(order)) => Ok(order),
+        Ok(None) => Err(PluginCreateError::MetadataInvalid),
+        Err(_failed) => Err(PluginCreateError::Memory),
     }
 }
 
@@ -112,6 +115,8 @@ pub(crate) fn configured_shape(
     ensures err { IfErr result (λ e. e ≢ PluginCreateError.Memory → reshape_of
         (configuration_members
         (option_map (λ members. members_view members.now.entries) configuration.entry)) ≡ None) }
+    ensures cause { IfErr result
+        (λ e. e ≢ PluginCreateError.Memory → e ≡ PluginCreateError.MetadataInvalid) }
 {
     let Some(value) = only_member(configuration, "shape") else {
         return Err(PluginCreateError::MetadataInvalid);

@@ -1,8 +1,8 @@
 //! Orders of dimensions.
-ghost use Rattle.std.specs.Prelude.{◌≡◌, ◌==◌, true};
-ghost use Rattle.std.specs.List.{list_all, list_any, range_with_len};
+ghost use Rattle.std.specs.Prelude.{◌≡◌, IfOk, true};
 ghost use Rattle.zarr_codecs_meaning.specs.Fits.{is_permutation};
 
+use crate::walks::inverse;
 use std::alloc::{AllocError, Global};
 use zarr_codecs_regions::are_below;
 
@@ -18,15 +18,18 @@ impl TransposeOrder {
     ghost use Rattle.zarr_codecs_meaning.specs.Fits.{is_permutation};
     ghost use Rattle.zarr_codecs_array_to_array.specs.Views.{order_of};
 
-    /// The order, or `None` where a dimension is missing or stands in it twice.
-    pub fn new(dimensions: Vec<u64>) -> Option<TransposeOrder>
-        ensures some { IfSome result (λ order. order_of order ≡ dimensions.items) }
-        ensures none { IfNone result (is_permutation dimensions.items ≡ false) }
+    /// The order, or `None` where a dimension is missing or stands in it twice. `Err` only where an
+    /// allocation failed.
+    pub fn new(alloc: Global, dimensions: Vec<u64>) -> Result<Option<TransposeOrder>, AllocError>
+        ensures some { IfOk result
+            (λ found. IfSome found (λ order. order_of order ≡ dimensions.items)) }
+        ensures none { IfOk result
+            (λ found. IfNone found (is_permutation dimensions.items ≡ false)) }
     {
-        if !is_permutation(dimensions.as_slice()) {
-            return None;
+        if !is_permutation(alloc, dimensions.as_slice())? {
+            return Ok(None);
         }
-        Some(TransposeOrder { dimensions })
+        Ok(Some(TransposeOrder { dimensions }))
     }
 
     /// The dimensions in their order.
@@ -46,32 +49,13 @@ impl TransposeOrder {
 }
 
 /// Whether each number is below their count, and each number below it is one of them.
-fn is_permutation(order: &[u64]) -> bool
-    ensures { result ≡ is_permutation order.now }
+fn is_permutation(alloc: Global, order: &[u64]) -> Result<bool, AllocError>
+    ensures { IfOk result (λ is. is ≡ is_permutation order.now) }
 {
     let count = order.len() as u64;
-    are_below(order, count) && each_is_among(order, count)
-}
-
-fn each_is_among(order: &[u64], count: u64) -> bool
-    ensures { result
-        ≡ list_all (λ d. list_any (λ m. m == d) order.now) (range_with_len 0 count) }
-{
-    for dimension in 0..count {
-        if !is_among(order, dimension) {
-            return false;
-        }
+    if !are_below(order, count) {
+        return Ok(false);
     }
-    true
-}
-
-fn is_among(order: &[u64], dimension: u64) -> bool
-    ensures { result ≡ list_any (λ m. m == dimension) order.now }
-{
-    for named in order {
-        if *named == dimension {
-            return true;
-        }
-    }
-    false
+    let positions = inverse(alloc, order)?;
+    Ok(are_below(positions.as_slice(), count))
 }

@@ -24,12 +24,13 @@ pub struct ReshapeCodecConfiguration {
 }
 
 impl ReshapeCodec {
-    ghost use Rattle.std.specs.Prelude.{◌≡◌, ◌≢◌, ◌<◌, ◌^◌, true, Some, None, IfOk, IfErr};
+    ghost use Rattle.std.specs.Prelude.{◌≡◌, ◌≢◌, ◌<◌, ◌^◌, bytes_eq, codes, true, Some, None, IfOk, IfErr};
     ghost use Rattle.zarr_grids_boxes.specs.Boxes.{product};
     ghost use Rattle.zarr_grids_metadata.specs.Views.{point_of};
     ghost use Rattle.zarr_codecs_meaning.specs.Fits.{array_codec_fits};
     ghost use Rattle.zarr_codecs_meaning.specs.Places.{encoded_shape};
     ghost use Rattle.zarr_codecs_array_to_array.specs.Moving.{are_places, moved_numbers};
+    ghost use Rattle.zarr_codecs_array_to_array.specs.Refusals.{cause_of};
     ghost use Rattle.zarr_codecs_array_to_array.specs.Written.{array_codec_point, reshape_in};
     ghost use Rattle.zarr_codecs_array_to_array.specs.Views.{entries_of, reshape_of};
     ghost use Rattle.zarr_codecs_meaning.specs.Chains.ArrayCodec.{reshape};
@@ -93,6 +94,8 @@ impl ReshapeCodec {
             (λ codec. reshape_in (point_of metadata.now) ≡ Some (reshape_of codec)) }
         ensures err { IfErr result (λ e. e ≢ PluginCreateError.Memory
             → reshape_in (point_of metadata.now) ≡ None) }
+        ensures cause { IfErr result (λ e. e ≢ PluginCreateError.Memory
+            → e ≡ cause_of (bytes_eq (point_of metadata.now).name (codes "reshape"))) }
     {
         if metadata.name() != "reshape" {
             return Err(PluginCreateError::NameUnsupported);

@@ -34,6 +34,8 @@ impl SqueezeCodec {
     ghost use Rattle.zarr_codecs_array_to_array.specs.Written.{squeeze_in};
     ghost use Rattle.zarr_codecs_array_to_array.specs.Views.{squeeze_of};
     ghost use Rattle.zarr_codecs_array_to_array.specs.Names.{squeeze_name};
+    ghost use Rattle.zarr_codecs_array_to_array.specs.Refusals.{cause_of};
+    ghost use Rattle.zarr_codecs_metadata.specs.ArrayCodecs.{names_squeeze};
     ghost use Rattle.zarr_codecs_meaning.specs.Chains.ArrayCodec.{squeeze};
 
     /// `squeeze` under its default name.
@@ -82,7 +84,7 @@ impl SqueezeCodec {
 
     /// The codec that metadata describes, under the name that it has there. `NameUnsupported` where
     /// this is neither `squeeze` nor `zarrs.squeeze`, `MetadataInvalid` where its configuration has a
-    /// member; `Memory` where an allocation failed.
+    /// member.
     pub fn from_metadata(metadata: &MetadataV3) -> Result<SqueezeCodec, PluginCreateError>
         ensures ok { IfOk result
             (λ codec. squeeze_in (point_of metadata.now) ≡ Some (squeeze_of codec)) }
@@ -90,6 +92,8 @@ impl SqueezeCodec {
             (λ codec. squeeze_name codec ≡ (point_of metadata.now).name) }
         ensures err { IfErr result (λ e. e ≢ PluginCreateError.Memory
             → squeeze_in (point_of metadata.now) ≡ None) }
+        ensures cause { IfErr result
+            (λ e. e ≡ cause_of (names_squeeze (point_of metadata.now).name)) }
     {
         let name = match metadata.name() {
             "squeeze" => CodecName::Default,

@@ -22,8 +22,9 @@ pub struct TransposeCodecConfiguration {
 }
 
 impl TransposeCodec {
-    ghost use Rattle.std.specs.Prelude.{◌≡◌, ◌≢◌, ◌<◌, ◌^◌, true, Some, None, IfOk, IfErr};
+    ghost use Rattle.std.specs.Prelude.{◌≡◌, ◌≢◌, ◌<◌, ◌^◌, bytes_eq, codes, true, Some, None, IfOk, IfErr};
     ghost use Rattle.zarr_grids_boxes.specs.Boxes.{product};
+    ghost use Rattle.zarr_codecs_array_to_array.specs.Refusals.{cause_of};
     ghost use Rattle.zarr_grids_metadata.specs.Views.{point_of};
     ghost use Rattle.zarr_codecs_meaning.specs.Fits.{array_codec_fits};
     ghost use Rattle.zarr_codecs_meaning.specs.Places.{encoded_shape};
@@ -98,6 +99,8 @@ impl TransposeCodec {
             (λ codec. transpose_in (point_of metadata.now) ≡ Some (transpose_of codec)) }
         ensures err { IfErr result (λ e. e ≢ PluginCreateError.Memory
             → transpose_in (point_of metadata.now) ≡ None) }
+        ensures cause { IfErr result (λ e. e ≢ PluginCreateError.Memory
+            → e ≡ cause_of (bytes_eq (point_of metadata.now).name (codes "transpose"))) }
     {
         if metadata.name() != "transpose" {
             return Err(PluginCreateError::NameUnsupported);

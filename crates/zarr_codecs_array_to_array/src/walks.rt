@@ -208,29 +208,22 @@ pub(crate) fn permuted(alloc: Global, shape: &[u64], order: &[u64]) -> Result<Ve
     Ok(sizes)
 }
 
-/// Where each number below the length of an order stands in it.
+/// Where each number below the length of an order stands in it, or else the length. Of a number that
+/// stands in it twice this is the first place.
 pub(crate) fn inverse(alloc: Global, order: &[u64]) -> Result<Vec<u64>, AllocError>
     ensures { IfOk result (λ v. v.items
         ≡ map (λ d. position_of d order.now) (range_with_len 0 (length order.now))) }
 {
-    let mut positions = Vec::with_capacity(alloc, order.len())?;
-    for dimension in 0..order.len() {
-        positions.push(position(order, dimension as u64))?;
+    let count = order.len();
+    let mut positions = vec![in alloc; count as u64; count]?;
+    for step in 0..count {
+        let place = count - 1 - step;
+        let number = order[place] as usize;
+        if number < count {
+            positions[number] = place as u64;
+        }
     }
     Ok(positions)
-}
-
-fn position(order: &[u64], dimension: u64) -> u64
-    ensures { result ≡ position_of dimension order.now }
-{
-    let mut position: u64 = 0;
-    for named in order {
-        if *named == dimension {
-            return position;
-        }
-        position += 1;
-    }
-    position
 }
 
 /// The same numbers, in memory of their own.

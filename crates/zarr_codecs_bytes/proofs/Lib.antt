@@ -12,3 +12,6 @@ pub mod Encoding
 mod ListedParts
 mod PartBytes
 mod OneLine
+pub mod ElementWrites
+pub mod ElementsPut
+pub mod AskedRanges

@@ -11,6 +11,7 @@ use Rattle.zarr_codecs_meaning.specs.Chains.{Endianness}
 use Rattle.zarr_codecs_meaning.specs.Chains.Endianness.{little, big}
 use Rattle.zarr_codecs_meaning.specs.Encoding.{in_order, ordered}
 use Rattle.zarr_codecs_meaning.specs.Payloads.{fixed_cells}
+use Rattle.zarr_codecs_meaning.proofs.Elements.{ordered_twice}
 use Rattle.zarr_codecs_meaning.proofs.Lists.{Each, every}
 use Rattle.zarr_codecs_meaning.proofs.Values.{length-ordered}
 use Rattle.zarr_codecs_arrays.proofs.FixedCells.{fixed_cells-cons, fixed_cells-nil}
@@ -64,6 +65,22 @@ cells_ordered order parts (suc count) value h long =
     ∙ (fixed_cells-cons width (ordered order parts front) (all_ordered order parts back) h (length-ordered order parts front m.one)
     ∙ (ap (λ cells. of_bytes (ordered order parts front) ∷ cells) (cells_ordered order parts count back h m.rest)
     ∙ sym (ap (λ ns. map step (fixed_cells width ns)) (sym m.is) ∙ ap (map step) (fixed_cells-cons width front back h m.one)))))
+
+-- the same function undoes it
+pub all_ordered_twice : (order : Option Endianness) (parts : List Component) (count : ℕ) (value : List ℕ) → 0 < bytes_in parts → length value ≡ count * bytes_in parts → all_ordered order parts (all_ordered order parts value) ≡ value
+all_ordered_twice order parts zero value h long =
+    let empty = none (bytes_in parts) value long in
+    ap (λ ns. all_ordered order parts (all_ordered order parts ns)) empty ∙ (ap (all_ordered order parts) (all_ordered-nil order parts) ∙ (all_ordered-nil order parts ∙ sym empty))
+all_ordered_twice order parts (suc count) value h long =
+    let width = bytes_in parts in
+    let m = more width count value long in
+    let front = take width value in
+    let back = drop width value in
+    ap (λ ns. all_ordered order parts (all_ordered order parts ns)) (sym m.is)
+    ∙ (ap (all_ordered order parts) (all_ordered-cons order parts front back h m.one)
+    ∙ (all_ordered-cons order parts (ordered order parts front) (all_ordered order parts back) h (length-ordered order parts front m.one)
+    ∙ (ap (λ ns. ns ++ all_ordered order parts (all_ordered order parts back)) (ordered_twice order parts front m.one)
+    ∙ (ap (λ ns. front ++ ns) (all_ordered_twice order parts count back h m.rest) ∙ m.is))))
 
 pub length-all_ordered : (order : Option Endianness) (parts : List Component) (count : ℕ) (value : List ℕ) → 0 < bytes_in parts → length value ≡ count * bytes_in parts
     → length (all_ordered order parts value) ≡ count * bytes_in parts

@@ -218,7 +218,7 @@ value_length order elements shape value cells is =
     eqb-true (length value) (width * product shape) (whole_where_decoded (is_whole elements.type shape value) (all_there (map (element_at order elements.type value) (place_numbers shape))) cells is) ∙ sym turned
 
 -- the elements before are those that the value's bytes are in the other order
-before_are : (order : Option Endianness) (elements : Elements) (shape value : List ℕ) (cells : List Cell) → fits (bytes order) elements.type [] ≡ true → 0 < bytes_in (components elements.type) → decoded (bytes order) elements shape value ≡ Some cells
+pub before_are : (order : Option Endianness) (elements : Elements) (shape value : List ℕ) (cells : List Cell) → fits (bytes order) elements.type [] ≡ true → 0 < bytes_in (components elements.type) → decoded (bytes order) elements shape value ≡ Some cells
     → cells ≡ fixed_cells (bytes_in (components elements.type)) (all_ordered order (components elements.type) value)
 before_are order elements shape value cells fit some is =
     let width = bytes_in (components elements.type) in

@@ -6,10 +6,11 @@ use crate::patches::replace_part;
 use crate::reading::read_part;
 use crate::sizes::{byte_count, have_one_byte, whole_count};
 use crate::swapping::swapped;
+use crate::writing::write_asked;
 use std::alloc::{AllocError, Global};
 use zarr_codecs_arrays::{ArrayBytes, CodecError, Elements, takes_all_bytes};
 use zarr_codecs_options::CodecOptions;
-use zarr_codecs_regions::{WholeValues, are_below, encode_whole, is_inside};
+use zarr_codecs_regions::{WholeValues, are_below, is_inside};
 use zarr_codecs_traits::{
     ArrayPart, ArrayToBytesCodecTraits, BytesPartialDecoderTraits, BytesPartialEncoderTraits,
     BytesRepresentation, Indexer, ValuePatch,
@@ -376,7 +377,7 @@ impl ArrayToBytesCodecTraits for BytesCodec {
         part: ArrayPart<'_>,
         options: &CodecOptions,
     ) -> Result<(), CodecError> {
-        encode_whole(self, alloc, source, bytes, part, options)
+        write_asked(alloc, source, *self, bytes, part, options)
     }
 
     fn compact(

@@ -13,5 +13,6 @@ mod patches;
 mod reading;
 mod sizes;
 mod swapping;
+mod writing;
 
 pub use bytes::{BytesCodec, BytesCodecConfiguration, Endianness};

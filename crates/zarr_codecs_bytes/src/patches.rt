@@ -70,7 +70,7 @@ pub(crate) fn part_patches(
 }
 
 /// Bytes that are to be written into ranges, in their order.
-fn patches_of(
+pub(crate) fn patches_of(
     alloc: Global,
     ranges: &[ByteRange],
     bytes: &[u8],

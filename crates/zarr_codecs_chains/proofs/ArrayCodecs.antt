@@ -1,14 +1,13 @@
 -- Chains with array codecs before them.
-use Rattle.std.proofs.Common.{◌≡◌, ◌∙◌, ℕ, ◌^◌, ◌<◌, List, [], ◌∷◌, length, map, ap, sym, refl, subst, Bool, true, false, ◌&&◌, if◌then◌else◌, inl, inr, Option, Some, None, option_map, Result, Ok, Err, Vec, Global}
-use Rattle.std.specs.Prelude.{nat_lt}
+use Rattle.std.proofs.Common.{◌≡◌, ◌∙◌, ℕ, List, ap, sym, subst, Bool, true, false, ◌&&◌, if◌then◌else◌, inl, inr, Option, Some, None, option_map, Result, Ok, Err, Vec, Global}
 use Rattle.std.specs.List.{list_all}
-use Rattle.std.proofs.lemmas.Bool.{and_from, and_left, and_right, and_parts}
+use Rattle.std.proofs.lemmas.Bool.{and_from, and_left, and_right}
 use Rattle.std.proofs.lemmas.Simd.{map-map}
 use Rattle.zarr_grids_boxes.specs.Boxes.{product}
 use Rattle.zarr_codecs_meaning.specs.Chains.{ArrayCodec, Chain}
 use Rattle.zarr_codecs_meaning.specs.Chains.Chain.{after_array_codec}
 use Rattle.zarr_codecs_meaning.specs.Chunks.{chunk_part}
-use Rattle.zarr_codecs_meaning.specs.Decoding.{all_there, cell_at, opens, decoded, part_decoded}
+use Rattle.zarr_codecs_meaning.specs.Decoding.{all_there, cell_at, opens, part_decoded}
 use Rattle.zarr_codecs_meaning.specs.Encoding.{encoded}
 use Rattle.zarr_codecs_meaning.specs.Fits.{array_codec_fits, fits}
 use Rattle.zarr_codecs_meaning.specs.Payloads.{Payload}
@@ -34,14 +33,14 @@ use Rattle.zarr_codecs_chains.proofs.Counts.{array_codec_places}
 -- ---- what an array codec does not suit
 
 -- a chain whose first codec does not suit a shape
-unfit_first : (codec : ArrayCodec) (chain : Chain) (type : DataType) (shape : List ℕ) → array_codec_fits codec shape ≡ false → fits (after_array_codec codec chain) type shape ≡ false
+pub unfit_first : (codec : ArrayCodec) (chain : Chain) (type : DataType) (shape : List ℕ) → array_codec_fits codec shape ≡ false → fits (after_array_codec codec chain) type shape ≡ false
 unfit_first codec chain type shape h = and_left (array_codec_fits codec shape) (fits chain type (encoded_shape codec shape)) h
 
 -- or whose other codecs do not suit what the first makes of it
-unfit_after : (codec : ArrayCodec) (chain : Chain) (type : DataType) (shape : List ℕ) → fits chain type (encoded_shape codec shape) ≡ false → fits (after_array_codec codec chain) type shape ≡ false
+pub unfit_after : (codec : ArrayCodec) (chain : Chain) (type : DataType) (shape : List ℕ) → fits chain type (encoded_shape codec shape) ≡ false → fits (after_array_codec codec chain) type shape ≡ false
 unfit_after codec chain type shape h = and_right (array_codec_fits codec shape) (fits chain type (encoded_shape codec shape)) h
 
-fit_after : (codec : ArrayCodec) (chain : Chain) (type : DataType) (shape : List ℕ) → array_codec_fits codec shape ≡ true → fits chain type (encoded_shape codec shape) ≡ true → fits (after_array_codec codec chain) type shape ≡ true
+pub fit_after : (codec : ArrayCodec) (chain : Chain) (type : DataType) (shape : List ℕ) → array_codec_fits codec shape ≡ true → fits chain type (encoded_shape codec shape) ≡ true → fits (after_array_codec codec chain) type shape ≡ true
 fit_after codec chain type shape first others = and_from (array_codec_fits codec shape) (fits chain type (encoded_shape codec shape)) first others
 
 -- whether a chain suits an array, by what its first codec makes of the shape
@@ -52,7 +51,7 @@ pub never_fits : (codec : ArrayCodec) (chain : Chain) (type : DataType) (shape :
 never_fits codec chain type shape h = sym (unfit_first codec chain type shape h)
 
 -- as many elements are too large before an array codec where they are after it
-larger_before : (codec : ArrayCodec) (type : DataType) (shape : List ℕ) → array_codec_fits codec shape ≡ true → IsTooLarge type (product (encoded_shape codec shape)) → IsTooLarge type (product shape)
+pub larger_before : (codec : ArrayCodec) (type : DataType) (shape : List ℕ) → array_codec_fits codec shape ≡ true → IsTooLarge type (product (encoded_shape codec shape)) → IsTooLarge type (product shape)
 larger_before codec type shape fit large = subst (IsTooLarge type) (array_codec_places codec shape fit) large
 
 -- ---- elements that are moved are elements still
@@ -178,7 +177,7 @@ part_after codec chain elements shape value numbers =
     ap (λ cells. if opens chain elements (encoded_shape codec shape) value then all_there cells else None)
     (sym (map-map (cell_at chain elements (encoded_shape codec shape) value) (λ n. position_of n (source_places codec shape)) numbers))
 
-same_part : (codec : ArrayCodec) (chain : Chain) (elements : Elements) (shape : List ℕ) (stored : Option (List ℕ)) (numbers : List ℕ) →
+pub same_part : (codec : ArrayCodec) (chain : Chain) (elements : Elements) (shape : List ℕ) (stored : Option (List ℕ)) (numbers : List ℕ) →
     chunk_part (after_array_codec codec chain) elements shape stored numbers ≡ chunk_part chain elements (encoded_shape codec shape) stored (moved_numbers codec shape numbers)
 same_part codec chain elements shape None numbers = ap Some (sym (map-map (λ place. elements.fill) (λ n. position_of n (source_places codec shape)) numbers))
 same_part codec chain elements shape (Some value) numbers = part_after codec chain elements shape value numbers

@@ -17,3 +17,6 @@ pub mod Allowed
 pub mod Taken
 pub mod Names
 pub mod Configured
+pub mod WritingAfter
+pub mod Refused
+pub mod LongIndex

@@ -15,7 +15,7 @@ use Rattle.zarr_codecs_arrays.specs.declared.error.CodecError.TheVariants as err
 use Rattle.zarr_codecs_traits.specs.Indexers.{Asked, in_box, listed, are_inside, numbers_asked}
 use Rattle.zarr_codecs_traits.specs.Outcomes.{DecodesPart, UndoesBytes}
 use Rattle.zarr_codecs_traits.specs.Sources.{refused_after}
-use Rattle.zarr_codecs_chains.specs.Asking.{TestsAsked}
+use Rattle.zarr_codecs_regions.specs.Asking.{TestsAsked}
 use Rattle.zarr_codecs_chains.specs.Codecs.{all_decoded}
 use Rattle.zarr_codecs_chains.specs.Views.{with_codecs}
 use Rattle.zarr_codecs_regions.proofs.InsideArray.{inside_places}

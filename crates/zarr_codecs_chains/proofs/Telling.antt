@@ -51,6 +51,15 @@ too_long_with chain (codec ∷ codecs) type shape =
     let told = codec.representation (representation_of chain type shape) in
     or_both (tells_too_long chain type shape) (is_too_long told) (any_too_long codecs told) ∙ too_long_with (then_bytes chain codec) codecs type shape
 
+-- too long a size is told where the chain tells one, or one of the codecs after it does
+pub tells_first : (chain : Chain) (codecs : List ByteCodec) (type : DataType) (shape : List ℕ) → tells_too_long chain type shape ≡ true → tells_too_long (with_codecs chain codecs) type shape ≡ true
+tells_first chain codecs type shape long = sym (too_long_with chain codecs type shape) ∙ or_first (tells_too_long chain type shape) (any_too_long codecs (representation_of chain type shape)) long
+
+pub tells_with : (chain : Chain) (codecs : List ByteCodec) (type : DataType) (shape : List ℕ) (known : BytesRepresentation) → IsRepresented chain type shape known → any_too_long codecs (known_size known) ≡ true
+    → tells_too_long (with_codecs chain codecs) type shape ≡ true
+tells_with chain codecs type shape known done h =
+    sym (too_long_with chain codecs type shape) ∙ or_second (tells_too_long chain type shape) (any_too_long codecs (representation_of chain type shape)) (ap (any_too_long codecs) (sym done.is) ∙ h)
+
 -- what is told after the codecs
 pub represents_with : (chain : Chain) (codecs : List ByteCodec) (type : DataType) (shape : List ℕ) (known : BytesRepresentation) (r : Result BytesRepresentation CodecError) → IsRepresented chain type shape known → RepresentsAll codecs (known_size known) r
     → RepresentsArray (with_codecs chain codecs) type shape r

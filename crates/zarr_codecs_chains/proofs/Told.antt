@@ -1,22 +1,26 @@
 -- What chains tell of the sizes of what they make, by the chains inside of them.
-use Rattle.std.proofs.Common.{◌≡◌, ◌∙◌, ◌⊎◌, ℕ, ◌^◌, ◌≤◌, List, [], ◌∷◌, Bool, true, false, ◌||◌, refl, inl, inr, arith, Result, Ok, Err}
-use Rattle.std.specs.Prelude.{IsTrue}
-use Rattle.std.proofs.lemmas.Bool.{and_left, and_parts}
+use Rattle.std.proofs.Common.{rules, ◌≡◌, ◌∙◌, ◌⊎◌, ℕ, ◌*◌, ◌^◌, ◌<◌, ◌≤◌, List, [], ◌∷◌, Bool, true, false, ◌||◌, ◌&&◌, nat_le, if◌then◌else◌, ap, sym, subst, refl, inl, inr, arith, Option, Some, None, Result, Ok, Err}
+use Rattle.std.specs.Prelude.{IfErr, IsTrue, MatchOption, unwrap_or}
+use Rattle.std.proofs.lemmas.Bool.{and_left, and_parts, true≢false}
 use Rattle.zarr_grids_boxes.specs.Boxes.{product}
-use Rattle.zarr_codecs_meaning.specs.Types.{DataType, bool}
-use Rattle.zarr_codecs_meaning.specs.Chains.{ArrayCodec, Chain}
-use Rattle.zarr_codecs_meaning.specs.Chains.Chain.{optional}
-use Rattle.zarr_codecs_meaning.specs.Fits.{array_codec_fits, fits}
+use Rattle.zarr_codecs_meaning.specs.Types.{DataType, bool, bytes_in, components, inner_type, is_fixed}
+use Rattle.zarr_codecs_meaning.specs.Chains.{ArrayCodec, ByteCodec, Chain, Endianness}
+use Rattle.zarr_codecs_meaning.specs.Chains.Chain.{bytes, optional}
+use Rattle.zarr_codecs_meaning.specs.Fits.{array_codec_fits, fits, takes_each_shape}
+use Rattle.zarr_codecs_meaning.proofs.KeptOptions.{options_fit}
+use Rattle.zarr_codecs_packbits.specs.Told.{RefusesToldSizes}
 use Rattle.zarr_codecs_meaning.specs.Places.{encoded_shape}
 use Rattle.zarr_codecs_arrays.specs.Outcomes.{IsTooLarge}
 use Rattle.zarr_codecs_arrays.specs.declared.error.CodecError.{CodecError}
 use Rattle.zarr_codecs_arrays.specs.declared.error.CodecError.TheVariants as error
-use Rattle.zarr_codecs_traits.specs.Representations.{RepresentsArray, tells_too_long}
+use Rattle.zarr_codecs_traits.specs.Representations.{IsRepresented, RepresentsArray, known_size, tells_too_long}
 use Rattle.zarr_codecs_traits.specs.declared.bytes_representation.BytesRepresentation.{BytesRepresentation}
 use Rattle.zarr_codecs_chains.specs.ArrayCodecs.{EncodesShapes, all_fit, shape_after}
-use Rattle.zarr_codecs_chains.specs.Views.{with_array_codecs}
+use Rattle.zarr_codecs_chains.specs.Codecs.{RepresentsAll}
+use Rattle.zarr_codecs_chains.specs.Views.{with_array_codecs, with_codecs}
 use Rattle.zarr_codecs_chains.proofs.AllArrayCodecs.{fits_all}
 use Rattle.zarr_codecs_chains.proofs.ArrayCodecs.{represents_after}
+use Rattle.zarr_codecs_chains.proofs.Telling.{tells_first, tells_with}
 
 -- what is told of the array after array codecs, is told of the array before
 pub told_before : (codecs : List ArrayCodec) (chain : Chain) (type : DataType) (shape : List ℕ) (r : Result BytesRepresentation CodecError) → all_fit codecs shape ≡ true
@@ -41,3 +45,92 @@ pub mask_too_long : (mask values : Chain) (type : DataType) (shape : List ℕ) �
 mask_too_long mask values type shape (inl (inl large)) = inl (inl large)
 mask_too_long mask values type shape (inl (inr large)) = inl (inl (omega (arith, large)))
 mask_too_long mask values type shape (inr long) = inr (or_first (tells_too_long mask bool shape) _ long)
+
+-- ---- sizes that are refused for what is told alone
+
+or_second : (a b : Bool) → b ≡ true → (a || b) ≡ true
+or_second true b h = refl
+or_second false b h = h
+
+-- `bytes` refuses few elements only where it tells too long a size
+bytes_too_large : (order : Option Endianness) (type : DataType) (shape : List ℕ) → product shape < 2 ^ 63 → IsTooLarge type (product shape) → tells_too_long (bytes order) type shape ≡ true
+bytes_too_large order type shape few (inl large) = absurd (omega (arith, few, large))
+bytes_too_large order type shape few (inr large) = at (is_fixed type) large where
+  at : (b : Bool) → MatchOption (if b then Some (bytes_in (components type)) else None) ⊥ (λ width. 2 ^ 63 ≤ product shape * width) → nat_le (2 ^ 63) (bytes_in (components type) * product shape) ≡ true
+  at true large = let turned : product shape * bytes_in (components type) ≡ bytes_in (components type) * product shape = omega arith in search (rules, large, turned)
+  at false large = absurd large
+
+pub bytes_told : (order : Option Endianness) (type : DataType) (shape : List ℕ) (r : Result BytesRepresentation CodecError) → RepresentsArray (bytes order) type shape r → RefusesToldSizes (bytes order) type shape r
+bytes_told order type shape (Ok known) h = λ few. tt
+bytes_told order type shape (Err e) h = λ few is. at few (subst (λ e. RepresentsArray (bytes order) type shape (Err e)) is h) where
+  at : product shape < 2 ^ 63 → IsTooLarge type (product shape) ⊎ IsTrue (tells_too_long (bytes order) type shape) → tells_too_long (bytes order) type shape ≡ true
+  at few (inl large) = bytes_too_large order type shape few large
+  at few (inr long) = long
+
+-- array codecs before a chain tell what it tells of the shape that they make
+pub tells_before : (codecs : List ArrayCodec) (chain : Chain) (type : DataType) (shape : List ℕ) → tells_too_long (with_array_codecs codecs chain) type shape ≡ tells_too_long chain type (shape_after codecs shape)
+tells_before [] chain type shape = refl
+tells_before (codec ∷ codecs) chain type shape = tells_before codecs chain type (encoded_shape codec shape)
+
+-- a chain that takes each shape has none
+pub few_after : (codecs : List ArrayCodec) (chain : Chain) (shape : List ℕ) → takes_each_shape (with_array_codecs codecs chain) ≡ true → product shape < 2 ^ 63 → product (shape_after codecs shape) < 2 ^ 63
+few_after [] chain shape takes few = few
+few_after (codec ∷ codecs) chain shape takes few = absurd (cc)
+
+-- a refusal by array codecs is none of a size
+pub untold_size : (codecs : List ArrayCodec) (shape : List ℕ) (e : CodecError) → EncodesShapes codecs shape (Err e) → e ≡ error.Size → ⊥
+untold_size codecs shape e h is = subst (λ e. EncodesShapes codecs shape (Err e)) is h
+
+-- what codecs after a chain tell, and what it tells itself
+pub all_told : (before : List ArrayCodec) (chain : Chain) (codecs : List ByteCodec) (type : DataType) (shape : List ℕ) (known : BytesRepresentation) (r : Result BytesRepresentation CodecError)
+    → IsRepresented chain type (shape_after before shape) known → RepresentsAll codecs (known_size known) r → IfErr r (λ e. e ≡ error.Size → tells_too_long (with_array_codecs before (with_codecs chain codecs)) type shape ≡ true)
+all_told before chain codecs type shape known (Ok told) done h = tt
+all_told before chain codecs type shape known (Err e) done h = λ is.
+    tells_before before (with_codecs chain codecs) type shape ∙ tells_with chain codecs type (shape_after before shape) known done (subst (λ e. RepresentsAll codecs (known_size known) (Err e)) is h)
+
+pub codec_told : (before : List ArrayCodec) (chain : Chain) (codecs : List ByteCodec) (type : DataType) (shape last : List ℕ) (e : CodecError) → takes_each_shape (with_array_codecs before (with_codecs chain codecs)) ≡ true → product shape < 2 ^ 63
+    → last ≡ shape_after before shape → RefusesToldSizes chain type last (Err e) → e ≡ error.Size → tells_too_long (with_array_codecs before (with_codecs chain codecs)) type shape ≡ true
+codec_told before chain codecs type shape last e takes few same told is =
+    let small = few_after before (with_codecs chain codecs) shape takes few in
+    let long = subst (λ s. RefusesToldSizes chain type s (Err e)) same told small is in
+    tells_before before (with_codecs chain codecs) type shape ∙ tells_first chain codecs type (shape_after before shape) long
+
+-- ---- the sections of `optional`
+
+-- what is refused of the mask is refused of the whole
+pub mask_refused : (mask values : Chain) (type : DataType) (shape : List ℕ) (e : CodecError) → RepresentsArray mask bool shape (Err e) → RepresentsArray (optional mask values) type shape (Err e)
+mask_refused mask values type shape error.Fit none = at (inner_type type) where
+  at : (o : Option DataType) → elim o [ None ↦ false | Some inner ↦ fits mask bool shape && (takes_each_shape values && fits values inner (0 ∷ [])) ] ≡ false
+  at None = refl
+  at (Some inner) = ap (λ (b : Bool). b && (takes_each_shape values && fits values inner (0 ∷ []))) none
+mask_refused mask values type shape error.Size h = mask_too_long mask values type shape h
+mask_refused mask values type shape error.Memory h = tt
+mask_refused mask values type shape e h = absurd h
+
+-- a mask of few elements is refused as too large only where too long a size is told
+pub mask_told : (mask values : Chain) (type : DataType) (shape : List ℕ) (e : CodecError) → RepresentsArray mask bool shape (Err e) → product shape < 2 ^ 63 → e ≡ error.Size → tells_too_long (optional mask values) type shape ≡ true
+mask_told mask values type shape e h few is = at (subst (λ e. RepresentsArray mask bool shape (Err e)) is h) where
+  at : IsTooLarge bool (product shape) ⊎ IsTrue (tells_too_long mask bool shape) → tells_too_long (optional mask values) type shape ≡ true
+  at (inl (inl large)) = absurd (omega (arith, few, large))
+  at (inl (inr large)) = absurd (omega (arith, few, large))
+  at (inr long) = or_first (tells_too_long mask bool shape) _ long
+
+-- elements are refused as too large only where too long a size is told
+pub values_told : (mask values : Chain) (type inner : DataType) (shape : List ℕ) (count : ℕ) (e : CodecError) → inner_type type ≡ Some inner → count ≡ product shape → product shape < 2 ^ 63
+    → RefusesToldSizes values inner (count ∷ []) (Err e) → e ≡ error.Size → tells_too_long (optional mask values) type shape ≡ true
+values_told mask values type inner shape count e is same few told size =
+    let small : product (count ∷ []) < 2 ^ 63 = search (rules, same, few) in
+    let other : unwrap_or (inner_type type) type ≡ inner = ap (λ o. unwrap_or o type) is in
+    let long : tells_too_long values (unwrap_or (inner_type type) type) (product shape ∷ []) ≡ true = subst (λ n. tells_too_long values (unwrap_or (inner_type type) type) (n ∷ []) ≡ true) same (subst (λ t. tells_too_long values t (count ∷ []) ≡ true) (sym other) (told small size)) in
+    or_second (tells_too_long mask bool shape) _ (or_first (tells_too_long values (unwrap_or (inner_type type) type) (product shape ∷ [])) _ long)
+
+-- what is refused of the elements
+pub values_refused : (mask values : Chain) (type inner : DataType) (shape : List ℕ) (count : ℕ) (e : CodecError) → fits (optional mask values) type shape ≡ true → inner_type type ≡ Some inner → count ≡ product shape → product shape < 2 ^ 63
+    → RepresentsArray values inner (count ∷ []) (Err e) → RefusesToldSizes values inner (count ∷ []) (Err e) → RepresentsArray (optional mask values) type shape (Err e)
+values_refused mask values type inner shape count error.Fit fit is same few h told =
+    let o = options_fit mask values type shape fit in
+    let other : unwrap_or (inner_type type) type ≡ inner = ap (λ o. unwrap_or o type) is in
+    absurd (true≢false (sym (subst (λ t. fits values t (count ∷ []) ≡ true) other (o.values_fit (count ∷ []))) ∙ h))
+values_refused mask values type inner shape count error.Size fit is same few h told = inr (values_told mask values type inner shape count error.Size is same few told refl)
+values_refused mask values type inner shape count error.Memory fit is same few h told = tt
+values_refused mask values type inner shape count e fit is same few h told = absurd h

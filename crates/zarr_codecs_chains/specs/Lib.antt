@@ -1,6 +1,5 @@
 pub mod Views
 pub mod Codecs
-pub mod Asking
 pub mod ArrayCodecs
 pub mod Inside
 pub mod Selecting
@@ -8,3 +7,4 @@ pub mod Reading
 pub mod Parts
 pub mod Names
 pub mod Configured
+pub mod Refusals

@@ -39,14 +39,15 @@ impl<B: BytesToBytesCodecTraits> ArrayToBytesCodec<B> {
     ghost use Rattle.zarr_codecs_metadata.specs.Allowed.{allowed, is_allowed};
     ghost use Rattle.zarr_codecs_metadata.specs.Chains.{array_to_bytes_in};
     ghost use Rattle.zarr_codecs_chains.specs.Names.{Names};
+    ghost use Rattle.zarr_codecs_chains.specs.Refusals.{RefusesCodec};
     ghost use Rattle.zarr_codecs_chains.specs.Views.{codec_chain, codec_point};
 
     /// The codec that metadata describes, with all chains inside of it, each codec under the name that
-    /// it has there. `NameUnsupported` where its name is that of none, `MetadataInvalid` where its configuration is not one of the name's, or
-    /// where an array to array codec stands in it where none may: in the data chain of `vlen` or
-    /// `optional`, or in any chain inside that of `optional` (this project's profile). Codecs inside
-    /// of it are refused as they are elsewhere. `Memory` where an allocation failed. It goes as deep
-    /// as chains nest.
+    /// it has there. `NameUnsupported` where its name is that of none, `MetadataInvalid` where its
+    /// configuration is not one of the name's, or where an array to array codec stands in it where
+    /// none may: in the data chain of `vlen` or `optional`, or in any chain inside that of `optional`
+    /// (this project's profile). Codecs inside of it are refused as they are elsewhere. `Memory` where
+    /// an allocation failed. It goes as deep as chains nest.
     pub fn from_metadata(
         alloc: Global,
         metadata: &MetadataV3,
@@ -58,6 +59,8 @@ impl<B: BytesToBytesCodecTraits> ArrayToBytesCodec<B> {
         ensures err { IfErr result (λ e. e ≢ PluginCreateError.Memory →
             option_and_then allowed (array_to_bytes_in B.reads (point_of metadata.now))
             ≡ None) }
+        ensures refused { IfErr result (λ e. e ≢ PluginCreateError.Memory →
+            RefusesCodec B.reads (point_of metadata.now) e) }
     {
         match read_codec(alloc, metadata) {
             Ok(codec) => if codec_is_allowed(&codec) {

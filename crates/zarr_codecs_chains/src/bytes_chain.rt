@@ -7,12 +7,11 @@ ghost use Rattle.zarr_codecs_traits.specs.Sources.{refused_after, value_bytes};
 ghost use Rattle.zarr_codecs_chains.specs.Views.{codec_chain};
 
 use crate::array_to_bytes::ArrayToBytesCodec;
-use crate::asked::test_asked;
 use crate::byte_codecs::{copies, decode_all, encode_all, represent_all};
 use std::alloc::{AllocError, Global};
 use zarr_codecs_arrays::{ArrayBytes, CodecError, Elements};
 use zarr_codecs_options::CodecOptions;
-use zarr_codecs_regions::encode_whole;
+use zarr_codecs_regions::{encode_whole, test_asked};
 use zarr_codecs_traits::{
     ArrayPart, ArrayToBytesCodecTraits, BytesPartialDecoderTraits, BytesPartialEncoderTraits,
     BytesRepresentation, BytesToBytesCodecTraits, MemorySource, ValuePatch, read_value,

@@ -2,7 +2,6 @@
 use crate::allowing::is_allowed;
 use crate::array_metadata::array_copies;
 use crate::array_to_bytes::ArrayToBytesCodec;
-use crate::asked::{numbers_asked, test_asked};
 use crate::bytes_chain::BytesChain;
 use crate::decoding::decode_chain;
 use crate::encoding::encode_chain;
@@ -15,7 +14,7 @@ use zarr_codecs_arrays::{ArrayBytes, CodecError, Elements};
 use zarr_codecs_bytes::BytesCodec;
 use zarr_codecs_bytes::part::ListedPart;
 use zarr_codecs_options::CodecOptions;
-use zarr_codecs_regions::encode_whole;
+use zarr_codecs_regions::{numbers_asked, test_asked};
 use zarr_codecs_traits::{
     ArrayPart, ArrayToBytesCodecTraits, BytesPartialDecoderTraits, BytesPartialEncoderTraits,
     BytesRepresentation, BytesToBytesCodecTraits, ValuePatch, WholeArray,
@@ -34,19 +33,22 @@ pub struct CodecChain<B: BytesToBytesCodecTraits> {
 }
 
 impl<B: BytesToBytesCodecTraits> CodecChain<B> {
-    ghost use Rattle.std.specs.Prelude.{◌≡◌, ◌≢◌, ◌≤◌, ◌+◌, Some, None, map, IfOk, IfErr, IsTrue, true};
-    ghost use Rattle.zarr_codecs_arrays.specs.Views.{elements_of};
+    ghost use Rattle.std.specs.Prelude.{◌≡◌, ◌≢◌, ◌≤◌, ◌+◌, List, Some, None, map, IfOk, IfErr, IsTrue, OnErr, OnOk, true};
+    ghost use Rattle.zarr_codecs_meaning.specs.Types.{Cell};
+    ghost use Rattle.zarr_codecs_arrays.specs.Views.{elements_of, payload_of};
+    ghost use Rattle.zarr_codecs_traits.specs.PartWriting.{IsEncodedInto, NotEncodedInto, WritesOnce};
     ghost use Rattle.zarr_codecs_traits.specs.Indexers.{asked_of};
     ghost use Rattle.zarr_codecs_traits.specs.Outcomes.{DecodesPart};
     ghost use Rattle.zarr_codecs_traits.specs.ReadBytes.{most_read};
     ghost use Rattle.zarr_codecs_meaning.specs.Fits.{is_plain};
     ghost use Rattle.zarr_codecs_traits.specs.Sources.{refused_after};
     ghost use Rattle.zarr_codecs_chains.specs.Parts.{arrays_of, bytes_of, codec_of};
-    ghost use Rattle.zarr_codecs_chains.specs.Views.{meaning_of, points_of};
+    ghost use Rattle.zarr_codecs_chains.specs.Views.{codec_chain, meaning_of, points_of};
     ghost use Rattle.zarr_codecs_metadata.specs.Allowed.{is_allowed};
     ghost use Rattle.zarr_codecs_metadata.specs.Chains.{allowed_chain, chain_of};
     ghost use Rattle.zarr_codecs_chains.specs.Configured.{little_bytes};
     ghost use Rattle.zarr_codecs_chains.specs.Names.{NamesChain};
+    ghost use Rattle.zarr_codecs_chains.specs.Refusals.{RefusesChain};
     ghost use Rattle.zarr_grids_metadata.specs.Views.{point_of};
 
     /// The chain of array to array codecs, of an array to bytes codec, and of bytes to bytes codecs,
@@ -59,6 +61,8 @@ impl<B: BytesToBytesCodecTraits> CodecChain<B> {
         ensures arrays { arrays_of result ≡ array_to_array.items }
         ensures codec { codec_of result ≡ array_to_bytes }
         ensures bytes { bytes_of result ≡ bytes_to_bytes.items }
+        ensures allowed { is_allowed (meaning_of B.meaning result)
+            ≡ is_allowed (codec_chain B.meaning array_to_bytes) }
     {
         let others = BytesChain {
             array_to_bytes,
@@ -100,10 +104,14 @@ impl<B: BytesToBytesCodecTraits> CodecChain<B> {
     }
 
     /// The chain that the metadata of its codecs names and describes, in their order, with all
-    /// chains inside of them, each codec under the name that it has there. `NameUnsupported` or `MetadataInvalid` where there is none;
-    /// `MetadataInvalid` where an array to array codec stands where none may: in the data chain of
-    /// `vlen` or `optional`, or in any chain inside that of `optional` (this project's profile).
-    /// `Memory` where an allocation failed. It goes as deep as chains nest.
+    /// chains inside of them, each codec under the name that it has there. The first codec that is
+    /// refused decides: `NameUnsupported` where its name is that of none, as that of a shard is here;
+    /// `MetadataInvalid` where its configuration is not one of its name's, or where no array to bytes
+    /// codec stands after the array to array codecs; a caller's codec is refused as its `create`
+    /// answers. `MetadataInvalid` also where an array to array codec stands where none may: in the
+    /// data chain of `vlen` or `optional`, or in any chain inside that of `optional` (this project's
+    /// profile). `Memory` where an allocation failed. It goes as deep as chains nest, and no codec but
+    /// a caller's is `TooDeep`.
     pub fn from_metadata(
         alloc: Global,
         codecs: &[MetadataV3],
@@ -113,6 +121,8 @@ impl<B: BytesToBytesCodecTraits> CodecChain<B> {
         ensures names { IfOk result (λ chain. NamesChain chain (map point_of codecs.now)) }
         ensures err { IfErr result (λ e. e ≢ PluginCreateError.Memory →
             allowed_chain B.reads (map point_of codecs.now) ≡ None) }
+        ensures refused { IfErr result (λ e. e ≢ PluginCreateError.Memory →
+            RefusesChain B.reads (map point_of codecs.now) e) }
     {
         match read_chain(alloc, codecs) {
             Ok(chain) => if is_allowed(&chain) {
@@ -125,8 +135,9 @@ impl<B: BytesToBytesCodecTraits> CodecChain<B> {
     }
 
     /// The metadata of the codecs under the names that they keep, of which `from_metadata` makes an
-    /// equal chain where array to array codecs stand only where they may, as in any chain that it
-    /// made. `Err` only where an allocation failed.
+    /// equal chain where array to array codecs stand only where they may: in any chain that it made,
+    /// and in any that is made by `new` with codecs that it or their own `new` made. `Err` only where
+    /// an allocation failed.
     pub fn create_metadatas(&self, alloc: Global) -> Result<Vec<MetadataV3>, AllocError>
         ensures written { IfOk result
             (λ codecs. map point_of codecs.items ≡ points_of B.described self.now) }
@@ -175,6 +186,51 @@ impl<B: BytesToBytesCodecTraits> CodecChain<B> {
         };
         self.others
             .decode_listed_after(alloc, codecs, source, listed, options)
+    }
+
+    /// Puts elements in the place of those at the places that are asked for, each of which goes
+    /// through the array codecs.
+    fn encode_numbers<E: BytesPartialEncoderTraits>(
+        &self,
+        alloc: Global,
+        source: &mut E,
+        bytes: ArrayBytes,
+        part: ArrayPart<'_>,
+        options: &CodecOptions,
+    ) -> Result<(), CodecError>
+        ensures ok { IsTrue (E.is_honest source.old) → OnOk result ((cells : List Cell)
+            × IsEncodedInto (meaning_of B.meaning self.now) true
+            (elements_of part.entry.elements.now) part.entry.shape.now
+            (asked_of part.entry.indexer) (payload_of bytes) cells (E.contents source.old)
+            (E.contents source.new)) }
+        ensures err { IsTrue (E.is_honest source.old) →
+            OnErr result (E.contents source.new ≡ E.contents source.old) }
+        ensures cause { IsTrue (E.is_honest source.old) → NotEncodedInto
+            (meaning_of B.meaning self.now) (elements_of part.entry.elements.now)
+            part.entry.shape.now (asked_of part.entry.indexer) (payload_of bytes)
+            (E.contents source.old) result }
+        ensures refused { E.refused_calls source.new ≡
+            refused_after (E.refused_calls source.old) result }
+        ensures once { WritesOnce (E.accepted_writes source.old) (E.accepted_writes source.new)
+            result }
+        ensures rewrites { E.rewrites source.old source.new }
+    {
+        let (elements, shape) = (part.elements, part.shape);
+        if let Err(error) = test_asked(shape, part.indexer) {
+            return Err(error);
+        }
+        if count_places(shape).is_none() {
+            return Err(CodecError::Size);
+        }
+        let numbers = numbers_asked(alloc, shape, part.indexer)?;
+        let codecs = self.array_to_array.as_slice();
+        let listed = ListedPart {
+            elements,
+            shape,
+            numbers: numbers.as_slice(),
+        };
+        self.others
+            .encode_listed_after(alloc, codecs, source, bytes, listed, options)
     }
 }
 
@@ -290,7 +346,7 @@ impl<B: BytesToBytesCodecTraits> ArrayToBytesCodecTraits for CodecChain<B> {
                 .others
                 .partial_encode(alloc, source, bytes, part, options);
         }
-        encode_whole(self, alloc, source, bytes, part, options)
+        self.encode_numbers(alloc, source, bytes, part, options)
     }
 
     fn compact(

@@ -1,6 +1,9 @@
 //! Which arrays a chain suits.
-ghost use Rattle.std.specs.Prelude.{◌≡◌, IfOk, [], ◌∷◌, ◌&&◌};
+ghost use Rattle.std.specs.Prelude.{◌≡◌, ◌<◌, ◌≤◌, ◌+◌, ◌^◌, IfOk, [], ◌∷◌, ◌&&◌};
+ghost use Rattle.zarr_grids_boxes.specs.Boxes.{product};
 ghost use Rattle.zarr_codecs_meaning.specs.Fits.{fits, takes_each_shape};
+ghost use Rattle.zarr_codecs_meaning.specs.Types.{integer, unsigned};
+ghost use Rattle.zarr_codecs_sections.specs.Views.{width_of};
 ghost use Rattle.zarr_codecs_types.specs.Views.{type_of};
 ghost use Rattle.zarr_codecs_chains.specs.Views.{codec_chain, meaning_of, optional_chain, vlen_chain};
 
@@ -11,6 +14,7 @@ use crate::optional::OptionalCodec;
 use crate::vlen::VlenCodec;
 use std::alloc::{AllocError, Global};
 use zarr_codecs_arrays::CodecError;
+use zarr_codecs_sections::VlenIndexDataType;
 use zarr_codecs_traits::{ArrayToBytesCodecTraits, BytesToBytesCodecTraits};
 use zarr_codecs_types::DataType;
 use zarr_grids_boxes::walk::count_places;
@@ -71,14 +75,37 @@ pub(crate) fn fits_vlen<B: BytesToBytesCodecTraits>(
     if !data_type.is_variable() {
         return Ok(false);
     }
-    let Some(count) = count_places(shape) else {
-        return Err(AllocError);
-    };
-    let offsets = codec.index_data_type.data_type();
-    if !fits_chain(&codec.index_codecs, alloc, &offsets, &[count + 1])? {
+    if !fits_offsets(&codec.index_codecs, alloc, codec.index_data_type, shape)? {
         return Ok(false);
     }
     fits_each_shape(&codec.data_codecs, alloc, &DataType::UInt8)
+}
+
+/// Whether a chain suits the offsets of an array's elements, which are one more than these.
+#[cycle(fitting)]
+fn fits_offsets<B: BytesToBytesCodecTraits>(
+    chain: &CodecChain<B>,
+    alloc: Global,
+    index_data_type: VlenIndexDataType,
+    shape: &[u64],
+) -> Result<bool, AllocError>
+    ensures { IfOk result (λ fit. fit ≡ fits (meaning_of B.meaning chain.now)
+        (integer unsigned (width_of index_data_type)) ((product shape.now + 1) ∷ [])) }
+{
+    let offsets = index_data_type.data_type();
+    fits_chain(chain, alloc, &offsets, &[count_offsets(shape)])
+}
+
+/// How many offsets `vlen` keeps for an array: one more than there are elements. 2^63 stands for
+/// each larger number, since chains suit these alike.
+fn count_offsets(shape: &[u64]) -> u64
+    ensures few { product shape.now < 2 ^ 63 → result ≡ product shape.now + 1 }
+    ensures many { 2 ^ 63 ≤ product shape.now → result ≡ 2 ^ 63 }
+{
+    match count_places(shape) {
+        Some(count) => count + 1,
+        None => 1 << 63,
+    }
 }
 
 /// Whether `optional` suits them.

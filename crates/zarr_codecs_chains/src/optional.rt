@@ -26,6 +26,7 @@ impl<B: BytesToBytesCodecTraits> OptionalCodec<B> {
     ghost use Rattle.zarr_codecs_configurations.specs.Views.{optional_points};
     ghost use Rattle.zarr_codecs_chains.specs.Configured.{configured_optional};
     ghost use Rattle.zarr_codecs_chains.specs.Names.{NamesChain, optional_name};
+    ghost use Rattle.zarr_codecs_chains.specs.Refusals.{RefusesOptional};
     ghost use Rattle.zarr_codecs_chains.specs.Views.{given_to_optional, meaning_of, optional_chain};
     ghost use Rattle.zarr_codecs_chains.specs.Parts.{optional_data, optional_mask};
 
@@ -41,6 +42,8 @@ impl<B: BytesToBytesCodecTraits> OptionalCodec<B> {
         ensures name { IfOk result (λ codec. optional_name codec ≡ codes "optional") }
         ensures allowed { IfOk result
             (λ codec. takes_each_shape (meaning_of B.meaning data_codecs) ≡ true) }
+        ensures whole { is_allowed (meaning_of B.meaning mask_codecs) ≡ true
+            → IfOk result (λ codec. is_allowed (optional_chain B.meaning codec) ≡ true) }
         ensures err { IfErr result (λ e. (e ≡ PluginCreateError.MetadataInvalid)
             × (takes_each_shape (meaning_of B.meaning data_codecs) ≡ false)) }
     {
@@ -72,6 +75,8 @@ impl<B: BytesToBytesCodecTraits> OptionalCodec<B> {
             (λ codec. NamesChain (optional_data codec) (optional_points configuration.now).content) }
         ensures err { IfErr result (λ e. e ≢ PluginCreateError.Memory
             → configured_optional B.reads (optional_points configuration.now) ≡ None) }
+        ensures refused { IfErr result (λ e. e ≢ PluginCreateError.Memory
+            → RefusesOptional B.reads (optional_points configuration.now) e) }
     {
         let mask = configuration.mask_codecs.as_slice();
         let mask_codecs = match CodecChain::from_metadata(alloc, mask) {

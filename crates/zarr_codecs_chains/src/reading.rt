@@ -1,5 +1,5 @@
 //! Chains read from the metadata of their codecs.
-ghost use Rattle.std.specs.Prelude.{◌≡◌, ◌≢◌, ◌≤◌, ℕ, List, [], bytes_eq, codes, drop, length, map, take, true, Option, Some, None, IfOk, IfErr};
+ghost use Rattle.std.specs.Prelude.{◌≡◌, ◌≢◌, ◌≤◌, ℕ, List, [], bytes_eq, codes, drop, length, map, take, true, false, Option, Some, None, IfOk, IfErr};
 ghost use Rattle.zarr_grids_metadata.specs.ExtensionPoints.{configuration_members};
 ghost use Rattle.zarr_grids_metadata.specs.Views.{point_of};
 ghost use Rattle.zarr_codecs_meaning.specs.Chains.{Chain};
@@ -10,6 +10,8 @@ ghost use Rattle.zarr_grids_metadata.specs.ExtensionPoints.{ExtensionPoint};
 ghost use Rattle.zarr_codecs_array_to_array.specs.Names.{written_codec};
 ghost use Rattle.zarr_codecs_chains.specs.Names.{NameAll, Names, NamesChain, NamesOptional, NamesVlen, name_of_optional, name_of_vlen};
 ghost use Rattle.zarr_codecs_chains.specs.Reading.{array_codecs_of, leaf_in};
+ghost use Rattle.zarr_codecs_array_to_array.specs.Refusals.{cause_of};
+ghost use Rattle.zarr_codecs_chains.specs.Refusals.{RefusedChain, RefusedCodec, begins_with_array_codec, is_array_codec_misconfigured, names_leaf};
 ghost use Rattle.zarr_codecs_chains.specs.Views.{bytes_meaning, codec_chain, codecs_of, meaning_of, optional_chain, vlen_chain};
 
 use crate::array_to_bytes::ArrayToBytesCodec;
@@ -37,10 +39,12 @@ pub(crate) fn read_chain<B: BytesToBytesCodecTraits>(
     ensures names { IfOk result (λ chain. NamesChain chain (map point_of codecs.now)) }
     ensures err { IfErr result (λ e. e ≢ PluginCreateError.Memory →
         chain_of B.reads (map point_of codecs.now) ≡ None) }
+    ensures refused { IfErr result (λ e. e ≢ PluginCreateError.Memory →
+        RefusedChain B.reads (map point_of codecs.now) e) }
 {
     let array_to_array = match first_array_codecs(alloc, codecs) {
         Ok(array_to_array) => array_to_array,
-        Err(_failed) => return Err(PluginCreateError::Memory),
+        Err(error) => return Err(error),
     };
     match read_bytes_chain(alloc, rest_after(codecs, array_to_array.as_slice())) {
         Ok(others) => Ok(CodecChain {
@@ -63,6 +67,9 @@ fn read_bytes_chain<B: BytesToBytesCodecTraits>(
         (λ chain. NameAll [] (Names chain.array_to_bytes) (map point_of codecs.now)) }
     ensures err { IfErr result (λ e. e ≢ PluginCreateError.Memory →
         bytes_chain_of B.reads (map point_of codecs.now) ≡ None) }
+    ensures refused { begins_with_array_codec (map point_of codecs.now) ≡ false
+        → IfErr result (λ e. e ≢ PluginCreateError.Memory →
+        RefusedChain B.reads (map point_of codecs.now) e) }
 {
     let Some((first, others)) = codecs.split_first() else {
         return Err(PluginCreateError::MetadataInvalid);
@@ -91,6 +98,8 @@ pub(crate) fn read_codec<B: BytesToBytesCodecTraits>(
     ensures names { IfOk result (λ codec. Names codec (point_of metadata.now)) }
     ensures err { IfErr result (λ e. e ≢ PluginCreateError.Memory →
         array_to_bytes_in B.reads (point_of metadata.now) ≡ None) }
+    ensures refused { IfErr result (λ e. e ≢ PluginCreateError.Memory →
+        RefusedCodec B.reads (point_of metadata.now) e) }
 {
     if names_vlen(metadata.name()) {
         return boxed_vlen(alloc, read_vlen(alloc, metadata));
@@ -115,6 +124,9 @@ fn read_vlen<B: BytesToBytesCodecTraits>(
     ensures err { IfErr result (λ e. e ≢ PluginCreateError.Memory →
         vlen_of (listed_chain B.reads)
         (configuration_members (point_of metadata.now).configuration) ≡ None) }
+    ensures refused { names_vlen (point_of metadata.now).name ≡ true
+        → IfErr result (λ e. e ≢ PluginCreateError.Memory →
+        RefusedCodec B.reads (point_of metadata.now) e) }
 {
     let configuration = match VlenCodecConfiguration::from_metadata(alloc, metadata) {
         Ok(configuration) => configuration,
@@ -150,6 +162,9 @@ fn read_optional<B: BytesToBytesCodecTraits>(
     ensures err { IfErr result (λ e. e ≢ PluginCreateError.Memory →
         optional_of (listed_chain B.reads)
         (configuration_members (point_of metadata.now).configuration) ≡ None) }
+    ensures refused { names_optional (point_of metadata.now).name ≡ true
+        → IfErr result (λ e. e ≢ PluginCreateError.Memory →
+        RefusedCodec B.reads (point_of metadata.now) e) }
 {
     let configuration = match OptionalCodecConfiguration::from_metadata(alloc, metadata) {
         Ok(configuration) => configuration,
@@ -169,23 +184,32 @@ fn read_optional<B: BytesToBytesCodecTraits>(
     }
 }
 
-/// The array to array codecs that metadata begins with.
+/// The array to array codecs that metadata begins with. `MetadataInvalid` where the configuration of
+/// one of them is not one of its name's.
 fn first_array_codecs(
     alloc: Global,
     codecs: &[MetadataV3],
-) -> Result<Vec<ArrayToArrayCodec>, AllocError>
+) -> Result<Vec<ArrayToArrayCodec>, PluginCreateError>
     ensures first { IfOk result
         (λ found. codecs_of found.items ≡ array_codecs_of (map point_of codecs.now)) }
     ensures few { IfOk result (λ found. length found.items ≤ length codecs.now) }
     ensures names { IfOk result (λ found. map (λ codec. (written_codec codec).name) found.items
         ≡ map (λ metadata. (point_of metadata).name) (take (length found.items) codecs.now)) }
+    ensures all { IfOk result
+        (λ found. is_array_codec_misconfigured (map point_of codecs.now) ≡ false) }
+    ensures cause { IfErr result
+        (λ e. e ≢ PluginCreateError.Memory → e ≡ PluginCreateError.MetadataInvalid) }
+    ensures refused { IfErr result (λ e. e ≢ PluginCreateError.Memory
+        → is_array_codec_misconfigured (map point_of codecs.now) ≡ true) }
 {
     let mut array_to_array = Vec::new(alloc);
     for metadata in codecs {
         match ArrayToArrayCodec::from_metadata(alloc, metadata) {
-            Ok(codec) => array_to_array.push(codec)?,
-            Err(PluginCreateError::Memory) => return Err(AllocError),
-            Err(_) => return Ok(array_to_array),
+            Ok(codec) => if let Err(_failed) = array_to_array.push(codec) {
+                return Err(PluginCreateError::Memory);
+            },
+            Err(PluginCreateError::NameUnsupported) => return Ok(array_to_array),
+            Err(error) => return Err(error),
         }
     }
     Ok(array_to_array)
@@ -211,6 +235,9 @@ fn boxed_vlen<B: BytesToBytesCodecTraits>(
     ensures err { (said : Option Chain) →
         IfErr read (λ e. e ≢ PluginCreateError.Memory → said ≡ None)
         → IfErr result (λ e. e ≢ PluginCreateError.Memory → said ≡ None) }
+    ensures refused { (point : ExtensionPoint) →
+        IfErr read (λ e. e ≢ PluginCreateError.Memory → RefusedCodec B.reads point e)
+        → IfErr result (λ e. e ≢ PluginCreateError.Memory → RefusedCodec B.reads point e) }
 {
     match read {
         Ok(codec) => match Box::new(alloc, codec) {
@@ -234,6 +261,9 @@ fn boxed_optional<B: BytesToBytesCodecTraits>(
     ensures err { (said : Option Chain) →
         IfErr read (λ e. e ≢ PluginCreateError.Memory → said ≡ None)
         → IfErr result (λ e. e ≢ PluginCreateError.Memory → said ≡ None) }
+    ensures refused { (point : ExtensionPoint) →
+        IfErr read (λ e. e ≢ PluginCreateError.Memory → RefusedCodec B.reads point e)
+        → IfErr result (λ e. e ≢ PluginCreateError.Memory → RefusedCodec B.reads point e) }
 {
     match read {
         Ok(codec) => match Box::new(alloc, codec) {
@@ -251,44 +281,47 @@ fn read_leaf<B: BytesToBytesCodecTraits>(
     ensures ok { IfOk result
         (λ codec. leaf_in (point_of metadata.now) ≡ Some (codec_chain B.meaning codec)) }
     ensures names { IfOk result (λ codec. Names codec (point_of metadata.now)) }
-    ensures err { IfErr result (λ e. e ≢ PluginCreateError.Memory
-        → leaf_in (point_of metadata.now) ≡ None) }
+    ensures err { IfErr result (λ e. leaf_in (point_of metadata.now) ≡ None) }
+    ensures cause { IfErr result (λ e. e ≡ cause_of (names_leaf (point_of metadata.now).name)) }
 {
     if names_packbits(metadata.name()) {
         return read_packbits(metadata);
     }
-    read_bytes(metadata)
+    if names_bytes(metadata.name()) {
+        return read_bytes(metadata);
+    }
+    Err(PluginCreateError::NameUnsupported)
 }
 
-/// The codec `packbits` that metadata describes.
+/// The codec `packbits` that metadata describes. `MetadataInvalid` where it describes none.
 fn read_packbits<B: BytesToBytesCodecTraits>(
     metadata: &MetadataV3,
 ) -> Result<ArrayToBytesCodec<B>, PluginCreateError>
     ensures ok { IfOk result
         (λ codec. packbits_in (point_of metadata.now) ≡ Some (codec_chain B.meaning codec)) }
     ensures names { IfOk result (λ codec. Names codec (point_of metadata.now)) }
-    ensures err { IfErr result (λ e. e ≢ PluginCreateError.Memory
-        → packbits_in (point_of metadata.now) ≡ None) }
+    ensures err { IfErr result (λ e. packbits_in (point_of metadata.now) ≡ None) }
+    ensures cause { IfErr result (λ e. e ≡ PluginCreateError.MetadataInvalid) }
 {
     match PackBitsCodec::from_metadata(metadata) {
         Ok(codec) => Ok(ArrayToBytesCodec::PackBits(codec)),
-        Err(error) => Err(error),
+        Err(_none) => Err(PluginCreateError::MetadataInvalid),
     }
 }
 
-/// The codec `bytes` that metadata describes.
+/// The codec `bytes` that metadata describes. `MetadataInvalid` where it describes none.
 fn read_bytes<B: BytesToBytesCodecTraits>(
     metadata: &MetadataV3,
 ) -> Result<ArrayToBytesCodec<B>, PluginCreateError>
     ensures ok { IfOk result
         (λ codec. bytes_in (point_of metadata.now) ≡ Some (codec_chain B.meaning codec)) }
     ensures names { IfOk result (λ codec. Names codec (point_of metadata.now)) }
-    ensures err { IfErr result (λ e. e ≢ PluginCreateError.Memory
-        → bytes_in (point_of metadata.now) ≡ None) }
+    ensures err { IfErr result (λ e. bytes_in (point_of metadata.now) ≡ None) }
+    ensures cause { IfErr result (λ e. e ≡ PluginCreateError.MetadataInvalid) }
 {
     match BytesCodec::from_metadata(metadata) {
         Ok(codec) => Ok(ArrayToBytesCodec::Bytes(codec)),
-        Err(error) => Err(error),
+        Err(_none) => Err(PluginCreateError::MetadataInvalid),
     }
 }
 
@@ -322,6 +355,12 @@ fn optional_name(name: &str) -> CodecName
         "zarrs.optional" => CodecName::Alias,
         _ => CodecName::Default,
     }
+}
+
+fn names_bytes(name: &str) -> bool
+    ensures { result ≡ bytes_eq name.now (codes "bytes") }
+{
+    name == "bytes"
 }
 
 fn names_packbits(name: &str) -> bool

@@ -1,6 +1,7 @@
 //! What a chain, and the chains inside of it, tell of the size of what they make.
-ghost use Rattle.std.specs.Prelude.{◌≡◌, [], ◌∷◌, Some};
-ghost use Rattle.zarr_codecs_meaning.specs.Fits.{at_most, bound_of, sum_of_bounds};
+ghost use Rattle.std.specs.Prelude.{◌≡◌, ◌≢◌, [], ◌∷◌, Some, IfErr, true};
+ghost use Rattle.zarr_codecs_meaning.specs.Fits.{at_most, bound_of, sum_of_bounds, takes_each_shape};
+ghost use Rattle.zarr_codecs_packbits.specs.Told.{RefusesToldSizes};
 ghost use Rattle.zarr_codecs_types.specs.Views.{type_of};
 ghost use Rattle.zarr_codecs_traits.specs.Representations.{Represents, RepresentsArray, known_size};
 ghost use Rattle.zarr_codecs_chains.specs.Views.{codec_chain, meaning_of, optional_chain, vlen_chain};
@@ -26,7 +27,10 @@ fn represent_chain<B: BytesToBytesCodecTraits>(
     data_type: &DataType,
     shape: &[u64],
 ) -> Result<BytesRepresentation, CodecError>
-    ensures { RepresentsArray (meaning_of B.meaning chain.now) (type_of data_type.now) shape.now
+    ensures represents { RepresentsArray (meaning_of B.meaning chain.now) (type_of data_type.now)
+        shape.now result }
+    ensures told { takes_each_shape (meaning_of B.meaning chain.now) ≡ true
+        → RefusesToldSizes (meaning_of B.meaning chain.now) (type_of data_type.now) shape.now
         result }
 {
     let codecs = chain.array_to_array.as_slice();
@@ -50,8 +54,10 @@ pub(crate) fn represent_codec<B: BytesToBytesCodecTraits>(
     data_type: &DataType,
     shape: &[u64],
 ) -> Result<BytesRepresentation, CodecError>
-    ensures { RepresentsArray (codec_chain B.meaning codec.now) (type_of data_type.now) shape.now
-        result }
+    ensures represents { RepresentsArray (codec_chain B.meaning codec.now)
+        (type_of data_type.now) shape.now result }
+    ensures told { RefusesToldSizes (codec_chain B.meaning codec.now) (type_of data_type.now)
+        shape.now result }
 {
     match codec {
         ArrayToBytesCodec::Bytes(codec) => codec.encoded_representation(alloc, data_type, shape),
@@ -70,8 +76,9 @@ fn represent_vlen<B: BytesToBytesCodecTraits>(
     data_type: &DataType,
     shape: &[u64],
 ) -> Result<BytesRepresentation, CodecError>
-    ensures { RepresentsArray (vlen_chain B.meaning codec.now) (type_of data_type.now) shape.now
-        result }
+    ensures represents { RepresentsArray (vlen_chain B.meaning codec.now) (type_of data_type.now)
+        shape.now result }
+    ensures told { IfErr result (λ e. e ≢ CodecError.Size) }
 {
     if !fits_vlen(codec, alloc, data_type, shape)? {
         return Err(CodecError::Fit);
@@ -87,7 +94,9 @@ fn represent_optional<B: BytesToBytesCodecTraits>(
     data_type: &DataType,
     shape: &[u64],
 ) -> Result<BytesRepresentation, CodecError>
-    ensures { RepresentsArray (optional_chain B.meaning codec.now) (type_of data_type.now)
+    ensures represents { RepresentsArray (optional_chain B.meaning codec.now)
+        (type_of data_type.now) shape.now result }
+    ensures told { RefusesToldSizes (optional_chain B.meaning codec.now) (type_of data_type.now)
         shape.now result }
 {
     if !fits_optional(codec, alloc, data_type, shape)? {
@@ -101,13 +110,12 @@ fn represent_optional<B: BytesToBytesCodecTraits>(
     };
     let mask = match represent_chain(&codec.mask_codecs, alloc, &DataType::Bool, shape) {
         Ok(mask) => mask,
-        Err(CodecError::Size) => return Err(CodecError::Size),
-        Err(_) => return Err(CodecError::Memory),
+        Err(error) => return Err(error),
     };
-    let Ok(values) = represent_chain(&codec.data_codecs, alloc, of_type, &[count]) else {
-        return Err(CodecError::Memory);
-    };
-    sum_of_sections(mask, values)
+    match represent_chain(&codec.data_codecs, alloc, of_type, &[count]) {
+        Ok(values) => sum_of_sections(mask, values),
+        Err(error) => Err(error),
+    }
 }
 
 /// Two lengths, and at most as much as is known of two sections.

@@ -29,6 +29,7 @@ impl<B: BytesToBytesCodecTraits> VlenCodec<B> {
     ghost use Rattle.zarr_codecs_configurations.specs.Views.{vlen_points};
     ghost use Rattle.zarr_codecs_chains.specs.Configured.{configured_vlen, little_bytes};
     ghost use Rattle.zarr_codecs_chains.specs.Names.{NamesChain, vlen_name};
+    ghost use Rattle.zarr_codecs_chains.specs.Refusals.{RefusesVlen};
     ghost use Rattle.zarr_codecs_chains.specs.Views.{given_to_vlen, meaning_of, vlen_chain};
     ghost use Rattle.zarr_codecs_chains.specs.Parts.{vlen_data_type, vlen_data, vlen_index, vlen_location};
 
@@ -47,6 +48,9 @@ impl<B: BytesToBytesCodecTraits> VlenCodec<B> {
         ensures name { IfOk result (λ codec. vlen_name codec ≡ codes "vlen") }
         ensures allowed { IfOk result
             (λ codec. has_no_array_codec (meaning_of B.meaning data_codecs) ≡ true) }
+        ensures whole { is_allowed (meaning_of B.meaning index_codecs) ≡ true
+            → is_allowed (meaning_of B.meaning data_codecs) ≡ true
+            → IfOk result (λ codec. is_allowed (vlen_chain B.meaning codec) ≡ true) }
         ensures err { IfErr result (λ e. (e ≡ PluginCreateError.MetadataInvalid)
             × (has_no_array_codec (meaning_of B.meaning data_codecs) ≡ false)) }
     {
@@ -95,6 +99,8 @@ impl<B: BytesToBytesCodecTraits> VlenCodec<B> {
             (λ codec. NamesChain (vlen_data codec) (vlen_points configuration.now).content) }
         ensures err { IfErr result (λ e. e ≢ PluginCreateError.Memory
             → configured_vlen B.reads (vlen_points configuration.now) ≡ None) }
+        ensures refused { IfErr result (λ e. e ≢ PluginCreateError.Memory
+            → RefusesVlen B.reads (vlen_points configuration.now) e) }
     {
         let index = configuration.index_codecs.as_slice();
         let index_codecs = match CodecChain::from_metadata(alloc, index) {

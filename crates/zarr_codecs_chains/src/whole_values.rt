@@ -1,7 +1,6 @@
 //! What reading and writing values whole needs of chains and of the codecs in them.
 use crate::array_to_bytes::ArrayToBytesCodec;
 use crate::bytes_chain::BytesChain;
-use crate::chain::CodecChain;
 use std::alloc::{AllocError, Global};
 use zarr_codecs_arrays::{ArrayBytes, CodecError, Elements};
 use zarr_codecs_options::CodecOptions;
@@ -99,50 +98,4 @@ impl<B: BytesToBytesCodecTraits> WholeValues for BytesChain<B> {
     }
 
     ghost lawful = { bytes_lawful B.meaning B.lawful };
-}
-
-impl<B: BytesToBytesCodecTraits> WholeValues for CodecChain<B> {
-    ghost use Rattle.std.specs.Prelude.{true};
-    ghost use Rattle.zarr_codecs_chains.specs.Views.{meaning_of, lawful_of};
-
-    ghost meaning = { meaning_of B.meaning };
-
-    ghost is_function = { λ codec. true };
-
-    fn fits_array(
-        &self,
-        alloc: Global,
-        data_type: &DataType,
-        shape: &[u64],
-    ) -> Result<bool, AllocError> {
-        self.fits(alloc, data_type, shape)
-    }
-
-    fn encode_array(
-        &self,
-        alloc: Global,
-        bytes: ArrayBytes,
-        elements: &Elements,
-        shape: &[u64],
-        options: &CodecOptions,
-    ) -> Result<Vec<u8>, CodecError> {
-        self.encode(alloc, bytes, elements, shape, options)
-    }
-
-    fn decode_value(
-        &self,
-        alloc: Global,
-        value: Vec<u8>,
-        elements: &Elements,
-        shape: &[u64],
-        options: &CodecOptions,
-    ) -> Result<ArrayBytes, CodecError> {
-        self.decode(alloc, value, elements, shape, options)
-    }
-
-    fn keeps_fill(&self) -> bool {
-        true
-    }
-
-    ghost lawful = { lawful_of B.meaning B.lawful };
 }

@@ -39,6 +39,8 @@ impl OptionalCodecConfiguration {
         ensures err { IfErr result (λ e. e ≢ PluginCreateError.Memory →
             optional_points_in (configuration_members (point_of metadata.now).configuration)
             ≡ None) }
+        ensures cause { IfErr result
+            (λ e. e ≢ PluginCreateError.Memory → e ≡ PluginCreateError.MetadataInvalid) }
     {
         match metadata.configuration() {
             Some(members) => read_members(alloc, members),
@@ -71,6 +73,8 @@ fn read_members(
         ≡ Some (optional_points configuration)) }
     ensures err { IfErr result (λ e. e ≢ PluginCreateError.Memory →
         optional_points_in (members_view members.now.entries) ≡ None) }
+    ensures cause { IfErr result
+        (λ e. e ≢ PluginCreateError.Memory → e ≡ PluginCreateError.MetadataInvalid) }
 {
     if !has_only(members, &["mask_codecs", "data_codecs"]) {
         return Err(PluginCreateError::MetadataInvalid);

@@ -46,6 +46,8 @@ impl VlenCodecConfiguration {
         ensures err { IfErr result (λ e. e ≢ PluginCreateError.Memory →
             vlen_points_in (configuration_members (point_of metadata.now).configuration)
             ≡ None) }
+        ensures cause { IfErr result
+            (λ e. e ≢ PluginCreateError.Memory → e ≡ PluginCreateError.MetadataInvalid) }
     {
         match metadata.configuration() {
             Some(members) => read_members(alloc, members),
@@ -77,6 +79,8 @@ fn read_members(
         ≡ Some (vlen_points configuration)) }
     ensures err { IfErr result (λ e. e ≢ PluginCreateError.Memory →
         vlen_points_in (members_view members.now.entries) ≡ None) }
+    ensures cause { IfErr result
+        (λ e. e ≢ PluginCreateError.Memory → e ≡ PluginCreateError.MetadataInvalid) }
 {
     let Some((index_data_type, index_location)) = index_in(members) else {
         return Err(PluginCreateError::MetadataInvalid);

@@ -2,3 +2,4 @@ pub mod ReadLists
 pub mod Valid
 pub mod PrintedTexts
 pub mod PrintedCells
+pub mod NumberLists

@@ -1,3 +1,4 @@
 pub mod Inside
 pub mod Texts
 pub mod Outcomes
+pub mod Numbers

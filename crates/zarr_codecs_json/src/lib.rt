@@ -6,6 +6,8 @@ mod inside;
 mod numbers;
 pub mod printing;
 pub mod reading;
+pub mod whole_numbers;
 
 pub use printing::{Printed, push_elements};
 pub use reading::elements_in;
+pub use whole_numbers::elements_of_numbers;

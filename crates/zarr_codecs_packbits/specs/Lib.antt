@@ -2,3 +2,4 @@ pub mod Views
 pub mod Turning
 pub mod Packing
 pub mod Metadata
+pub mod Told

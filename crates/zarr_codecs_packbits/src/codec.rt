@@ -148,6 +148,9 @@ impl Default for PackBitsCodec {
 
 impl ArrayToBytesCodecTraits for PackBitsCodec {
     ghost use Rattle.std.specs.Prelude.{true};
+    ghost use Rattle.zarr_codecs_types.specs.Views.{type_of};
+    ghost use Rattle.zarr_codecs_traits.specs.Representations.{RepresentsArray};
+    ghost use Rattle.zarr_codecs_packbits.specs.Told.{RefusesToldSizes};
     ghost use Rattle.zarr_codecs_packbits.specs.Views.{packbits_chain};
 
     ghost meaning = { packbits_chain };
@@ -227,7 +230,12 @@ impl ArrayToBytesCodecTraits for PackBitsCodec {
         alloc: Global,
         data_type: &DataType,
         shape: &[u64],
-    ) -> Result<BytesRepresentation, CodecError> {
+    ) -> Result<BytesRepresentation, CodecError>
+        ensures represents { RepresentsArray (packbits_chain self.now) (type_of data_type.now)
+            shape.now result }
+        ensures told { RefusesToldSizes (packbits_chain self.now) (type_of data_type.now) shape.now
+            result }
+    {
         let Some(parts) = self.suited(alloc, data_type)? else {
             return Err(CodecError::Fit);
         };

@@ -56,8 +56,11 @@ pub fn encode_whole<C: WholeValues, E: BytesPartialEncoderTraits>(
     }
 }
 
-/// Nothing, where elements can be put at the places that are asked for.
-fn test_given<C: WholeValues>(
+/// Nothing, where elements can be put at the places that are asked for. `Fit` where the codec doesn't
+/// suit the array; `IncompatibleIndexer` where a place isn't one of the array's;
+/// `InvalidNumberOfElements`, `Expected..` or `CellOutOfRange` where these are not elements, one for
+/// each place; `Size` where the array has 2^63 elements or more.
+pub fn test_given<C: WholeValues>(
     codec: &C,
     alloc: Global,
     bytes: &ArrayBytes,

@@ -1,21 +1,17 @@
-//! Tests of data types, fill values, elements and codec chains, using only public names.
+//! Tests of data types, fill values, elements and codecs by their constructors, using only public names. What calls make of values is
+//! in the files of calls/.
 #![tactic(auto)]
 
 #[cfg(test)]
-mod array_codecs;
-pub mod byte_codecs;
+mod bytes;
 #[cfg(test)]
-mod chain_metadata;
-#[cfg(test)]
-mod chains;
+mod coders;
 #[cfg(test)]
 mod counting_source;
 #[cfg(test)]
-mod elements;
-#[cfg(test)]
 mod fill_values;
 #[cfg(test)]
-mod json;
+mod intervals;
 #[cfg(test)]
 mod made;
 #[cfg(test)]
@@ -25,22 +21,14 @@ mod options;
 #[cfg(test)]
 mod packed;
 #[cfg(test)]
-mod part_writing;
-#[cfg(test)]
-mod parts;
-#[cfg(test)]
-mod put_parts;
-#[cfg(test)]
 mod regions;
 #[cfg(test)]
 mod samples;
 #[cfg(test)]
-mod taken;
+mod sources;
 #[cfg(test)]
 mod targets;
 #[cfg(test)]
-mod telling;
+mod two_numbers;
 #[cfg(test)]
-mod types;
-#[cfg(test)]
-mod written_parts;
+mod worked;

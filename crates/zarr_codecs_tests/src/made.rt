@@ -1,5 +1,4 @@
 //! Codecs with chains inside of them, made by their constructors.
-use crate::byte_codecs::TestCodec;
 use crate::samples::{chain_of, elements_of, is};
 use std::alloc::{AllocError, Global};
 use zarr_codecs_arrays::{ArrayBytes, ArrayBytesOffsets, CodecError};
@@ -7,6 +6,7 @@ use zarr_codecs_chains::{
     ArrayToBytesCodec, OptionalCodec, VlenCodec, VlenIndexDataType, VlenIndexLocation,
 };
 use zarr_codecs_options::CodecOptions;
+use zarr_codecs_reverse::ReverseCodec;
 use zarr_codecs_traits::ArrayToBytesCodecTraits;
 use zarr_grids_metadata::PluginCreateError;
 
@@ -22,15 +22,15 @@ const MASKED: [&str; 1] = [
 /// `vlen` as any codec.
 fn boxed_vlen(
     alloc: Global,
-    codec: VlenCodec<TestCodec>,
-) -> Result<ArrayToBytesCodec<TestCodec>, AllocError> {
+    codec: VlenCodec<ReverseCodec>,
+) -> Result<ArrayToBytesCodec<ReverseCodec>, AllocError> {
     Ok(ArrayToBytesCodec::Vlen(Box::new(alloc, codec)?))
 }
 
 /// Whether the metadata of a codec has this text.
 fn is_written(
     alloc: Global,
-    codec: &ArrayToBytesCodec<TestCodec>,
+    codec: &ArrayToBytesCodec<ReverseCodec>,
     want: &str,
 ) -> Result<bool, AllocError> {
     let text = codec.metadata(alloc)?.to_value(alloc)?.to_string(alloc)?;
@@ -77,7 +77,7 @@ fn vlen_of(
     alloc: Global,
     index: &[&str],
     content: &[&str],
-) -> Result<VlenCodec<TestCodec>, PluginCreateError> {
+) -> Result<VlenCodec<ReverseCodec>, PluginCreateError> {
     let index = chain_of(alloc, index)?;
     let content = chain_of(alloc, content)?;
     let codec = VlenCodec::new(index, content, VlenIndexDataType::UInt32)?;
@@ -89,7 +89,7 @@ fn vlen_again(
     alloc: Global,
     index: &[&str],
     content: &[&str],
-) -> Result<VlenCodec<TestCodec>, PluginCreateError> {
+) -> Result<VlenCodec<ReverseCodec>, PluginCreateError> {
     let configuration = vlen_of(alloc, index, content)?.configuration(alloc)?;
     VlenCodec::new_with_configuration(alloc, &configuration)
 }
@@ -120,8 +120,11 @@ fn optional_again(
     alloc: Global,
     mask: &[&str],
     content: &[&str],
-) -> Result<ArrayToBytesCodec<TestCodec>, PluginCreateError> {
-    let made = OptionalCodec::<TestCodec>::new(chain_of(alloc, mask)?, chain_of(alloc, content)?)?;
+) -> Result<ArrayToBytesCodec<ReverseCodec>, PluginCreateError> {
+    let made = OptionalCodec::<ReverseCodec>::new(
+        chain_of(alloc, mask)?,
+        chain_of(alloc, content)?,
+    )?;
     let configuration = made.configuration(alloc)?;
     let again = OptionalCodec::new_with_configuration(alloc, &configuration)?;
     Ok(ArrayToBytesCodec::Optional(Box::new(alloc, again).map_err(AllocError::from)?))

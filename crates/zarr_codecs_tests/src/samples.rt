@@ -1,19 +1,14 @@
 //! Types and fill values that the tests share.
-use crate::byte_codecs::TestCodec;
 use serde_json::Value;
 use std::alloc::{AllocError, Global};
 use zarr_codecs_arrays::{ArrayBytes, CodecError, Elements};
 use zarr_codecs_chains::CodecChain;
-use zarr_codecs_traits::{ArrayPart, Indexer};
-use zarr_codecs_types::{Component, DataType, DataTypeError, FillValue, FillValueError, Sign};
-use zarr_grids_boxes::ArraySubset;
+use zarr_codecs_reverse::ReverseCodec;
+use zarr_codecs_types::{DataType, DataTypeError, FillValue, FillValueError};
 use zarr_grids_metadata::{MetadataV3, PluginCreateError};
 
 pub(crate) const OPTIONAL: &str =
     r#"{"name": "zarrs.optional", "configuration": {"name": "uint8"}}"#;
-
-pub(crate) const TWICE: &str =
-    r#"{"name": "optional", "configuration": {"name": "optional", "configuration": {"name": "uint8"}}}"#;
 
 /// The type that a text says.
 pub(crate) fn type_of(alloc: Global, text: &str) -> Result<DataType, DataTypeError> {
@@ -57,7 +52,7 @@ pub(crate) fn elements_of(
 pub(crate) fn chain_of(
     alloc: Global,
     texts: &[&str],
-) -> Result<CodecChain<TestCodec>, PluginCreateError> {
+) -> Result<CodecChain<ReverseCodec>, PluginCreateError> {
     let mut metadatas = Vec::new(alloc);
     for text in texts {
         metadatas
@@ -68,7 +63,7 @@ pub(crate) fn chain_of(
 }
 
 /// The same chain, where one is made.
-pub(crate) fn chain(alloc: Global, texts: &[&str]) -> Result<CodecChain<TestCodec>, CodecError> {
+pub(crate) fn chain(alloc: Global, texts: &[&str]) -> Result<CodecChain<ReverseCodec>, CodecError> {
     match chain_of(alloc, texts) {
         Ok(chain) => Ok(chain),
         Err(_error) => Err(CodecError::Unsupported),
@@ -94,36 +89,5 @@ pub(crate) fn is(made: Result<Vec<u8>, CodecError>, want: &[u8]) -> bool {
     match made {
         Ok(bytes) => bytes.as_slice() == want,
         Err(_) => false,
-    }
-}
-
-/// A 16-bit number without a sign and a 4-bit one with a sign, in three bytes.
-pub(crate) fn two_numbers(alloc: Global) -> Result<DataType, AllocError> {
-    let parts = [
-        Component {
-            width: 16,
-            byte_count: 2,
-            sign: Sign::Unsigned,
-        },
-        Component {
-            width: 4,
-            byte_count: 1,
-            sign: Sign::Signed,
-        },
-    ];
-    Ok(DataType::Custom(parts.to_vec(alloc)?))
-}
-
-/// The part of an array that a box of its places is.
-pub(crate) fn box_part<'x>(
-    elements: &'x Elements,
-    shape: &'x [u64],
-    region: &'x ArraySubset,
-) -> ArrayPart<'x> {
-    let indexer = Indexer::Subset(region);
-    ArrayPart {
-        elements,
-        shape,
-        indexer,
     }
 }

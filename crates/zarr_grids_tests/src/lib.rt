@@ -1,9 +1,7 @@
-//! Tests of boxes, chunk grids, chunk keys and the metadata of both, using only the public names of
-//! `zarr_grids`.
+//! Tests of boxes, and of chunk grids, chunk keys and metadata by their constructors, using only the public names of
+//! `zarr_grids`. What calls make of metadata is in the files of calls/.
 #![tactic(auto)]
 
-#[cfg(test)]
-mod asks;
 #[cfg(test)]
 mod boxes;
 #[cfg(test)]
@@ -14,5 +12,3 @@ mod keys;
 mod metadata;
 #[cfg(test)]
 mod samples;
-#[cfg(test)]
-mod scans;

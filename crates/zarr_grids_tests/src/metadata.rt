@@ -1,4 +1,4 @@
-//! Metadata with values typed in by hand.
+//! Metadata made by its constructors, its members and its refusals, with values typed in by hand.
 use crate::samples::{is_written, says};
 use serde_json::{Map, Value};
 use std::alloc::{AllocError, Global};
@@ -6,91 +6,9 @@ use zarr_grids::{MetadataV3, PluginCreateError};
 
 const REGULAR: &str = r#"{"name":"regular","configuration":{"chunk_shape":[2,2]}}"#;
 
-const REGULAR_WRITTEN: &str = r#"{"configuration":{"chunk_shape":[2,2]},"name":"regular"}"#;
-
 const BYTES: &str = r#""bytes""#;
 
 const CONFIGURED: &str = r#"{"configuration":{},"name":"x"}"#;
-
-const OTHER_FLAG: &str = r#"{"must_understand":false,"name":"x"}"#;
-
-/// Whether the metadata that a text says is written as this text, and so are its copy and what is
-/// made of its point.
-fn is_written_as(alloc: Global, text: &str, want: &str) -> Result<bool, PluginCreateError> {
-    let metadata = MetadataV3::from_text(alloc, text)?;
-    let copy = metadata.try_clone(alloc)?;
-    let point = MetadataV3::from_point(alloc, metadata.as_point())?;
-    Ok(
-        is_written(alloc, &metadata, want)?
-            && is_written(alloc, &copy, want)?
-            && is_written(alloc, &point, want)?,
-    )
-}
-
-/// Texts of metadata, and how they are written.
-const WRITTEN: [(&str, &str); 6] = [
-    (r#""bytes""#, BYTES),
-    (r#"{"name": "bytes"}"#, BYTES),
-    (r#"{"name": "bytes", "must_understand": true}"#, BYTES),
-    (REGULAR, REGULAR_WRITTEN),
-    (r#"{"name": "x", "configuration": {}}"#, CONFIGURED),
-    (r#"{"name": "x", "must_understand": false}"#, OTHER_FLAG),
-];
-
-/// The first of these texts that is written in another way.
-fn first_unwritten<'x>(alloc: Global, rows: &[(&'x str, &str)]) -> Option<&'x str> {
-    for (text, want) in rows {
-        if is_written_as(alloc, text, want) != Ok(true) {
-            return Some(text);
-        }
-    }
-    None
-}
-
-#[test]
-fn metadata_is_written_with_its_members_in_order(rt: HostRuntime) {
-    assert!(rt; first_unwritten(rt.alloc(), &WRITTEN) == None);
-}
-
-/// The error that refuses the metadata that a text says.
-fn refusal(alloc: Global, text: &str) -> Option<PluginCreateError> {
-    match MetadataV3::from_text(alloc, text) {
-        Ok(_) => None,
-        Err(error) => Some(error),
-    }
-}
-
-/// Texts that are no metadata.
-const INVALID: [&str; 13] = [
-    "5",
-    "{}",
-    "null",
-    r#"["x"]"#,
-    r#"{"name":5}"#,
-    r#"{"configuration":{}}"#,
-    r#"{"name":"x","more":1}"#,
-    r#"{"name":"x","configuration":{},"must_understand":true,"more":1}"#,
-    r#"{"name":"x","configuration":null}"#,
-    r#"{"name":"x","must_understand":1}"#,
-    "regular",
-    "{",
-    "",
-];
-
-/// The first of these texts that is not refused as metadata that is not valid.
-fn first_valid<'x>(alloc: Global, texts: &[&'x str]) -> Option<&'x str> {
-    for text in texts {
-        if refusal(alloc, text) != Some(PluginCreateError::MetadataInvalid) {
-            return Some(text);
-        }
-    }
-    None
-}
-
-#[test]
-fn other_texts_are_refused(rt: HostRuntime) {
-    assert!(rt; first_valid(rt.alloc(), &INVALID) == None);
-}
 
 /// Whether metadata has a name, has to be understood, and has a configuration of one member.
 fn has_one_member(alloc: Global, text: &str, name: &str) -> Result<bool, PluginCreateError> {
@@ -191,48 +109,4 @@ fn first_unsaid<'x>(alloc: Global, rows: &[(PluginCreateError, &'x str)]) -> Opt
 #[test]
 fn a_refusal_of_metadata_is_said(rt: HostRuntime) {
     assert!(rt; first_unsaid(rt.alloc(), &SAID) == None);
-}
-
-/// Whether the metadata that two texts say is equal, from either side. `None` where one side says
-/// otherwise than the other.
-fn are_equal(alloc: Global, text: &str, other: &str) -> Result<Option<bool>, PluginCreateError> {
-    let one = MetadataV3::from_text(alloc, text)?;
-    let two = MetadataV3::from_text(alloc, other)?;
-    let (is_equal, is_unequal) = (one == two && two == one, one != two && two != one);
-    Ok((is_equal != is_unequal).then_some(is_equal))
-}
-
-#[test]
-fn metadata_is_equal_whatever_the_order_of_members(rt: HostRuntime) {
-    let text = r#"{"name":"x","configuration":{"a":[1,null,true],"b":-1.5}}"#;
-    let other = r#"{"configuration":{"b":-1.5,"a":[1,null,true]},"name":"x"}"#;
-    assert!(rt; are_equal(rt.alloc(), text, other) == Ok(Some(true)));
-}
-
-const ONE: &str = r#"{"name":"x","configuration":{"a":[1.5]}}"#;
-
-/// Metadata that differs from that one.
-const OTHERS: [&str; 7] = [
-    r#""x""#,
-    r#"{"name":"y","configuration":{"a":[1.5]}}"#,
-    r#"{"name":"x","configuration":{"a":[1.5]},"must_understand":false}"#,
-    r#"{"name":"x","configuration":{}}"#,
-    r#"{"name":"x","configuration":{"a":[2.5]}}"#,
-    r#"{"name":"x","configuration":{"a":[1]}}"#,
-    r#"{"name":"x","configuration":{"a":[1.5,2]}}"#,
-];
-
-/// The first of these texts that does not differ from another one.
-fn first_equal<'x>(alloc: Global, one: &str, others: &[&'x str]) -> Option<&'x str> {
-    for text in others {
-        if are_equal(alloc, one, text) != Ok(Some(false)) {
-            return Some(text);
-        }
-    }
-    None
-}
-
-#[test]
-fn metadata_differs_by_each_of_its_members(rt: HostRuntime) {
-    assert!(rt; first_equal(rt.alloc(), ONE, &OTHERS) == None);
 }

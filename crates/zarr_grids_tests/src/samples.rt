@@ -1,16 +1,10 @@
 //! What the tests share.
 use std::alloc::{AllocError, Global};
 use std::fmt::Display;
-use zarr_grids::{
-    ArraySubset, ArraySubsetError, ChunkGrid, ChunkKeyEncoding, ChunkShape, GridError, LookupError,
-    MetadataV3, PluginCreateError,
-};
+use zarr_grids::{ArraySubset, ArraySubsetError, ChunkShape, GridError, LookupError, MetadataV3};
 
 /// The last number of 64 bits.
 pub(crate) const LAST: u64 = 18446744073709551615;
-
-/// A quarter of 2^64.
-pub(crate) const QUARTER: u64 = 4611686018427387904;
 
 /// The box with this start and shape.
 pub(crate) fn area(
@@ -28,22 +22,6 @@ pub(crate) fn edges(alloc: Global, edges: &[u64]) -> Result<ChunkShape, GridErro
         Ok(shape) => Ok(shape),
         Err(_) => Err(GridError::ZeroEdge),
     }
-}
-
-/// The grid that a text says, of an array of this shape.
-pub(crate) fn grid_of(
-    alloc: Global,
-    text: &str,
-    shape: &[u64],
-) -> Result<ChunkGrid, PluginCreateError> {
-    let metadata = MetadataV3::from_text(alloc, text)?;
-    ChunkGrid::from_metadata(alloc, &metadata, shape)
-}
-
-/// The chunk key encoding that a text says.
-pub(crate) fn keys_of(alloc: Global, text: &str) -> Result<ChunkKeyEncoding, PluginCreateError> {
-    let metadata = MetadataV3::from_text(alloc, text)?;
-    ChunkKeyEncoding::from_metadata(alloc, &metadata)
 }
 
 /// Whether metadata is written as this text.
@@ -76,11 +54,6 @@ pub(crate) fn is_found(found: Result<Option<Vec<u64>>, LookupError>, want: &[u64
     }
 }
 
-/// Whether a look-up found that there is nothing.
-pub(crate) fn is_nothing(found: Result<Option<Vec<u64>>, LookupError>) -> bool {
-    matches!(found, Ok(None))
-}
-
 /// Whether a walk goes on with these numbers.
 pub(crate) fn is_next(item: Option<Result<Vec<u64>, AllocError>>, want: &[u64]) -> bool {
     match item {
@@ -92,16 +65,4 @@ pub(crate) fn is_next(item: Option<Result<Vec<u64>, AllocError>>, want: &[u64]) 
 /// Whether a box has this start and shape.
 pub(crate) fn is_area(subset: &ArraySubset, start: &[u64], shape: &[u64]) -> bool {
     subset.start() == start && subset.shape() == shape
-}
-
-/// Whether a look-up found the box with this start and shape.
-pub(crate) fn is_found_area(
-    found: Result<Option<ArraySubset>, LookupError>,
-    start: &[u64],
-    shape: &[u64],
-) -> bool {
-    match found {
-        Ok(Some(subset)) => is_area(&subset, start, shape),
-        _ => false,
-    }
 }

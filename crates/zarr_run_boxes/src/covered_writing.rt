@@ -11,6 +11,7 @@ ghost use Rattle.zarr_codecs_types.specs.Given.{given_bytes, given_in, given_jso
 ghost use Rattle.zarr_array_core.specs.Views.{document_of, path_of};
 ghost use Rattle.zarr_run_boxes.specs.Outcomes.{AreValuesOf, CoveredWriteRefused, ElementsRefused, JsonRefused, WritesCovered, refused_by};
 ghost use Rattle.zarr_run_commands.specs.Commands.{given};
+ghost use Rattle.zarr_run_commands.specs.LineCells.{number_list};
 
 use crate::refusal::Refusal;
 use crate::targets::small_chunks_intersecting;
@@ -19,7 +20,7 @@ use std::alloc::Global;
 use zarr_array_core::{ArrayCore, RegionChunks};
 use zarr_array_storage::WritableStorageTraits;
 use zarr_codecs_arrays::ArrayBytes;
-use zarr_codecs_json::elements_in;
+use zarr_codecs_json::{elements_in, elements_of_numbers};
 use zarr_codecs_options::CodecOptions;
 use zarr_codecs_traits::ArrayToBytesCodecTraits;
 use zarr_grids_boxes::ArraySubset;
@@ -54,6 +55,10 @@ pub(crate) fn write_covered<C: ArrayToBytesCodecTraits, S: WritableStorageTraits
             Ok(bytes) => write_elements(alloc, array, store, region, &bytes, options),
             Err(cause) => Err(Refusal::whole(cause)),
         },
+        CommandCells::Numbers(numbers) => match number_elements(alloc, array, numbers.as_slice()) {
+            Ok(bytes) => write_elements(alloc, array, store, region, &bytes, options),
+            Err(cause) => Err(Refusal::whole(cause)),
+        },
     }
 }
 
@@ -74,6 +79,25 @@ fn json_elements<C: ArrayToBytesCodecTraits>(
         return Err(Cause::Data);
     };
     match elements_in(alloc, array.elements().data_type(), values.as_slice()) {
+        Ok(Some(elements)) => Ok(elements),
+        Ok(None) => Err(Cause::Data),
+        Err(_) => Err(Cause::Memory),
+    }
+}
+
+/// The elements of the array's data type that whole numbers say, as a JSON list of them does.
+fn number_elements<C: ArrayToBytesCodecTraits>(
+    alloc: Global,
+    array: &ArrayCore<C>,
+    numbers: &[u64],
+) -> Result<ArrayBytes, Cause>
+    ensures ok { IfOk result (λ bytes. given_in (document_of C.meaning array.now).elements.type
+        (given_json (number_list numbers.now))
+        ≡ values_in (document_of C.meaning array.now).elements.type (payload_of bytes)) }
+    ensures err { IfErr result (JsonRefused (document_of C.meaning array.now).elements.type
+        (number_list numbers.now)) }
+{
+    match elements_of_numbers(alloc, array.elements().data_type(), numbers) {
         Ok(Some(elements)) => Ok(elements),
         Ok(None) => Err(Cause::Data),
         Err(_) => Err(Cause::Memory),

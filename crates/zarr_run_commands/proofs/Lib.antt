@@ -3,3 +3,5 @@ pub mod Pairs
 pub mod Printed
 pub mod Appended
 pub mod Listed
+pub mod Turns
+pub mod Asked

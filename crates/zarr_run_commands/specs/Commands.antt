@@ -1,12 +1,14 @@
 -- Commands and replies without the memory that holds them.
 use Rattle.std.specs.Prelude.{string_bytes}
+use Rattle.serde_json.specs.Data.{array}
 use Rattle.serde_json.specs.View.{view}
 use Rattle.zarr_grids_boxes.specs.Subsets.{region_of}
 use Rattle.zarr_codecs_arrays.specs.Views.{payload_of}
+use Rattle.zarr_codecs_json.specs.Numbers.{number_items}
 use Rattle.zarr_codecs_types.specs.Given.{GivenCells, given_bytes, given_json}
 use Rattle.zarr_run_meaning.specs.Requests.{in_box, in_chunk, Request, create, reopen, write, read, erase, Answer, done, cells, refused}
 use Rattle.zarr_run_commands.specs.declared.command.CommandCells.{CommandCells}
-use Rattle.zarr_run_commands.specs.declared.command.CommandCells.TheVariants.{Bytes, Json}
+use Rattle.zarr_run_commands.specs.declared.command.CommandCells.TheVariants.{Bytes, Json, Numbers}
 use Rattle.zarr_run_commands.specs.declared.command.Command.{Command}
 use Rattle.zarr_run_commands.specs.declared.command.Command.TheVariants.{Create, Reopen, WriteBox, WriteChunk, ReadBox, ReadChunk, EraseChunks}
 use Rattle.zarr_run_commands.specs.declared.command.Reply.{Reply}
@@ -16,6 +18,7 @@ use Rattle.zarr_run_commands.specs.declared.command.Reply.TheVariants.{Done, Cel
 abbrev pub given : CommandCells → GivenCells
 given (Bytes bytes) = given_bytes (payload_of bytes)
 given (Json value) = given_json (view value)
+given (Numbers numbers) = given_json (array (number_items numbers.items))
 
 -- what a command asks
 abbrev pub asked : Command → Request

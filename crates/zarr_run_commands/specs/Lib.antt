@@ -3,3 +3,4 @@ pub mod Lines
 pub mod Answers
 pub mod Texts
 pub mod Laws
+pub mod LineCells

@@ -12,6 +12,8 @@ pub enum CommandCells {
     Bytes(ArrayBytes),
     /// A JSON list of cells. Another value is refused when the command runs.
     Json(Value),
+    /// The JSON list of these whole numbers.
+    Numbers(Vec<u64>),
 }
 
 /// What a session is asked to do.

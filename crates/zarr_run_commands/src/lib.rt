@@ -8,7 +8,8 @@ pub mod laws;
 pub mod line;
 mod members;
 mod operation;
+mod tokens;
 
 pub use answer::push_answer;
 pub use command::{Command, CommandCells, Reply};
-pub use line::read_command;
+pub use line::{CommandReader, read_command};

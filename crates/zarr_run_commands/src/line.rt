@@ -1,20 +1,69 @@
 //! The commands of lines.
-ghost use Rattle.std.specs.Prelude.{◌≡◌, IfOk, option_map};
+ghost use Rattle.std.specs.Prelude.{◌≡◌, codes, IfOk, option_and_then, option_map};
+ghost use Rattle.serde_json.specs.Data.{put};
+ghost use Rattle.serde_json.specs.Read.{read as json_of};
 ghost use Rattle.serde_json.specs.View.{view, members_view};
 ghost use Rattle.zarr_run_commands.specs.Commands.{asked};
 ghost use Rattle.zarr_run_commands.specs.Lines.{Says, request_in, request_of, request_by};
+ghost use Rattle.zarr_run_commands.specs.LineCells.{asks_with, line_members, number_list};
 
 use crate::command::{Command, CommandCells};
 use crate::operation::Operation;
+use crate::tokens::{Line, NotRead, read_line};
 use crate::{field, members};
+use json::Scratch;
 use serde_json::{Map, Value};
 use std::alloc::{AllocError, Global};
+
+/// Reads the commands of lines. The memory that reading takes is kept from line to line.
+#[derive(Drop)]
+pub struct CommandReader {
+    alloc: Global,
+    scratch: Scratch,
+}
+
+impl CommandReader {
+    ghost use Rattle.std.specs.Prelude.{IfOk, option_map};
+    ghost use Rattle.zarr_run_commands.specs.Commands.{asked};
+    ghost use Rattle.zarr_run_commands.specs.Lines.{Says};
+
+    /// A reader that has no memory yet.
+    pub fn new(alloc: Global) -> CommandReader {
+        CommandReader {
+            alloc,
+            scratch: Scratch::new(alloc),
+        }
+    }
+
+    /// The command of a line, or `None` where the line is no command.
+    pub fn read(&mut self, line: &[u8]) -> Result<Option<Command>, AllocError>
+        ensures { IfOk result (λ said. Says line.now (option_map asked said)) }
+    {
+        let Ok(text) = simdutf8::basic::from_utf8(line) else {
+            return Ok(None);
+        };
+        match read_line(self.alloc, &mut self.scratch, text) {
+            Ok(line) => command_of_line(self.alloc, line),
+            Err(NotRead::Memory) => Err(AllocError),
+            Err(NotRead::Other) => command_of_text(self.alloc, text),
+        }
+    }
+}
 
 /// The command of a line, or `None` where the line is no command.
 pub fn read_command(alloc: Global, line: &[u8]) -> Result<Option<Command>, AllocError>
     ensures { IfOk result (λ said. Says line.now (option_map asked said)) }
 {
-    match Value::from_slice(alloc, line) {
+    let mut reader = CommandReader::new(alloc);
+    reader.read(line)
+}
+
+/// The command that a text asks, whatever its members are.
+fn command_of_text(alloc: Global, text: &str) -> Result<Option<Command>, AllocError>
+    ensures { IfOk result (λ said. option_map asked said
+        ≡ option_and_then request_in (json_of text.now)) }
+{
+    match Value::from_str(alloc, text) {
         Ok(value) => command_in(alloc, value),
         Err(e) => {
             if e.is_memory() {
@@ -22,6 +71,67 @@ pub fn read_command(alloc: Global, line: &[u8]) -> Result<Option<Command>, Alloc
             }
             Ok(None)
         }
+    }
+}
+
+/// The command that a line's members ask.
+fn command_of_line(alloc: Global, line: Line) -> Result<Option<Command>, AllocError>
+    ensures { IfOk result (λ said. option_map asked said ≡ request_of (line_members line)) }
+{
+    let Line { members, cells } = line;
+    match cells {
+        Some(numbers) => command_with(alloc, members, numbers),
+        None => command_of(alloc, members),
+    }
+}
+
+/// The command that members and whole numbers for `cells` ask.
+fn command_with(
+    alloc: Global,
+    mut members: Map<String, Value>,
+    numbers: Vec<u64>,
+) -> Result<Option<Command>, AllocError>
+    ensures { IfOk result (λ said. option_map asked said
+        ≡ request_of (put (codes "cells") (number_list numbers.items)
+        (members_view members.entries))) }
+{
+    let key = String::from_str(alloc, "cells")?;
+    drop(members.insert(key, Value::Null)?);
+    match command_of(alloc, members)? {
+        Some(command) => Ok(Some(with_numbers(command, numbers))),
+        None => Ok(None),
+    }
+}
+
+/// A command with whole numbers for its cells.
+fn with_numbers(command: Command, numbers: Vec<u64>) -> Command
+    ensures { asked result ≡ asks_with (number_list numbers.items) (asked command) }
+{
+    let cells = CommandCells::Numbers(numbers);
+    match command {
+        Command::WriteBox {
+            path,
+            region,
+            options,
+            ..
+        } => Command::WriteBox {
+            path,
+            region,
+            cells,
+            options,
+        },
+        Command::WriteChunk {
+            path,
+            chunk,
+            options,
+            ..
+        } => Command::WriteChunk {
+            path,
+            chunk,
+            cells,
+            options,
+        },
+        other => other,
     }
 }
 

@@ -6,7 +6,7 @@ ghost use Rattle.zarr_run_commands.specs.Lines.{needed};
 
 use serde_json::{Map, Value};
 
-/// Takes the member with this name out.
+/// Takes the value of the member with this name; null stays in its place.
 pub(crate) fn take(members: &mut Map<String, Value>, name: &str) -> Option<Value>
     ensures value { option_map view result
         ≡ get_member name.now (members_view members.old.entries) }
@@ -14,7 +14,10 @@ pub(crate) fn take(members: &mut Map<String, Value>, name: &str) -> Option<Value
         → get_member other (members_view members.new.entries)
         ≡ get_member other (members_view members.old.entries) }
 {
-    members.remove(name)
+    match members.get_mut(name) {
+        Some(value) => Some(value.take()),
+        None => None,
+    }
 }
 
 /// Takes the member with this name out, where it is a text.

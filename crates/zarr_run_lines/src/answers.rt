@@ -1,10 +1,11 @@
 //! Answers that wait to be written.
-ghost use Rattle.std.specs.Prelude.{◌≡◌, [], ◌∷◌, ◌++◌, IsTrue, IfErr, OnOk, OnErr, option_copied, option_map};
+ghost use Rattle.std.specs.Prelude.{◌≡◌, [], ◌∷◌, ◌++◌, IsTrue, IfOk, IfErr, OnOk, OnErr, option_copied, option_map};
 ghost use Rattle.std.specs.Io.KnownBytes.{Keeps, append_known};
 ghost use Rattle.serde_json.specs.Written.{compact_text};
 ghost use Rattle.zarr_codecs_types.specs.Views.{type_of};
 ghost use Rattle.zarr_run_commands.specs.Answers.{answer_json};
-ghost use Rattle.zarr_run_commands.specs.Commands.{answered};
+ghost use Rattle.zarr_run_commands.specs.Commands.{answered, asked};
+ghost use Rattle.zarr_run_commands.specs.Lines.{Says};
 ghost use Rattle.zarr_run_session.specs.Sessions.{state_of, store_of};
 ghost use Rattle.zarr_run_lines.specs.Lines.{Answers, Leaves};
 ghost use Rattle.zarr_run_lines.specs.Sessions.{LeadsTo};
@@ -15,11 +16,14 @@ use std::io::{BufReader, Read, Write};
 use zarr_array_storage::WritableStorageTraits;
 use zarr_codecs_traits::BytesToBytesCodecTraits;
 use zarr_codecs_types::DataType;
-use zarr_run_commands::{Reply, push_answer, read_command};
+use zarr_run_commands::{Command, CommandReader, Reply, push_answer};
 use zarr_run_session::Session;
 
 /// How many bytes of answers wait at most before they are written.
 const PENDING_BYTES: usize = 65_536;
+
+/// A line of more bytes isn't kept beside the command that is read from it.
+const LONG_LINE_BYTES: usize = 1_048_576;
 
 /// Appends the line of a reply. After an error a part of it may stand there.
 fn append_reply(
@@ -36,25 +40,43 @@ fn append_reply(
     Ok(())
 }
 
+/// The command of a line. The text of a long line is let go once it is read, with the memory that
+/// reading it took.
+fn take_command(
+    alloc: Global,
+    commands: &mut CommandReader,
+    line: &mut Vec<u8>,
+) -> Result<Option<Command>, AllocError>
+    ensures { IfOk result (λ said. Says line.old.items (option_map asked said)) }
+{
+    let command = commands.read(line.as_slice())?;
+    if line.len() > LONG_LINE_BYTES {
+        *line = Vec::new(alloc);
+        *commands = CommandReader::new(alloc);
+    }
+    Ok(command)
+}
+
 /// Runs the command of a line, and appends the line of its answer. After an error a part of it may
 /// stand there.
 fn run_command<S: WritableStorageTraits, B: BytesToBytesCodecTraits>(
     alloc: Global,
+    commands: &mut CommandReader,
     session: &mut Session<S, B>,
-    line: &[u8],
+    line: &mut Vec<u8>,
     pending: &mut Vec<u8>,
 ) -> Result<(), AllocError>
     ensures ok { IsTrue (S.is_honest (store_of session.old)) → OnOk result
         (LeadsTo B.meaning B.reads (state_of S.held S.refused_calls session.old)
         (state_of S.held S.refused_calls session.new)
-        (λ old new. Answers B.reads old line.now new pending.old.items pending.new.items)) }
+        (λ old new. Answers B.reads old line.old.items new pending.old.items pending.new.items)) }
     ensures err { IsTrue (S.is_honest (store_of session.old)) → OnErr result
         (LeadsTo B.meaning B.reads (state_of S.held S.refused_calls session.old)
         (state_of S.held S.refused_calls session.new)
-        (λ old new. Leaves B.reads old line.now new)) }
+        (λ old new. Leaves B.reads old line.old.items new)) }
     ensures honest { S.is_honest (store_of session.new) ≡ S.is_honest (store_of session.old) }
 {
-    let Some(command) = read_command(alloc, line)? else {
+    let Some(command) = take_command(alloc, commands, line)? else {
         return pending.extend_from_slice(b"{\"fault\":\"line\"}\n");
     };
     let reply = session.step(&command);
@@ -65,26 +87,28 @@ fn run_command<S: WritableStorageTraits, B: BytesToBytesCodecTraits>(
     }
 }
 
-/// Runs a line, and appends the line of its answer.
+/// Runs a line, and appends the line of its answer. The text of a long line is let go once it is
+/// read.
 pub(crate) fn answer_line<S: WritableStorageTraits, B: BytesToBytesCodecTraits>(
     alloc: Global,
+    commands: &mut CommandReader,
     session: &mut Session<S, B>,
-    line: &[u8],
+    line: &mut Vec<u8>,
     pending: &mut Vec<u8>,
 ) -> Result<(), LinesFault>
     ensures ok { IsTrue (S.is_honest (store_of session.old)) → OnOk result
         (LeadsTo B.meaning B.reads (state_of S.held S.refused_calls session.old)
         (state_of S.held S.refused_calls session.new)
-        (λ old new. Answers B.reads old line.now new pending.old.items pending.new.items)) }
+        (λ old new. Answers B.reads old line.old.items new pending.old.items pending.new.items)) }
     ensures err { IsTrue (S.is_honest (store_of session.old)) → OnErr result
         (LeadsTo B.meaning B.reads (state_of S.held S.refused_calls session.old)
         (state_of S.held S.refused_calls session.new)
-        (λ old new. Leaves B.reads old line.now new)) }
+        (λ old new. Leaves B.reads old line.old.items new)) }
     ensures honest { S.is_honest (store_of session.new) ≡ S.is_honest (store_of session.old) }
     ensures fault { IfErr result (λ fault. fault ≡ LinesFault.Memory) }
 {
     let before = pending.len();
-    match run_command(alloc, session, line, pending) {
+    match run_command(alloc, commands, session, line, pending) {
         Ok(()) => Ok(()),
         Err(_) => {
             pending.truncate(before);

@@ -11,6 +11,7 @@ use std::alloc::Global;
 use std::io::{Read, Write};
 use zarr_array_storage::WritableStorageTraits;
 use zarr_codecs_traits::BytesToBytesCodecTraits;
+use zarr_run_commands::CommandReader;
 use zarr_run_session::Session;
 
 /// Why lines were not run to their end.
@@ -90,9 +91,10 @@ fn answer_lines<R: Read + Drop, W: Write, S: WritableStorageTraits, B: BytesToBy
 {
     let mut reader = limited(alloc, reader)?;
     let mut limits = Limits::new();
+    let mut commands = CommandReader::new(alloc);
     let mut line = Vec::new(alloc);
     while next_line(&mut reader, &mut limits, &mut line)? {
-        answer_line(alloc, session, line.as_slice(), pending)?;
+        answer_line(alloc, &mut commands, session, &mut line, pending)?;
         write_before_wait(&reader, writer, pending)?;
     }
     Ok(())

@@ -1,7 +1,8 @@
 //! How a script ends before its end.
 
 use serde_json::Error;
-use std::alloc::AllocError;
+use std::alloc::{AllocError, AllocFailed};
+use zarr_codecs::CodecError;
 use zarr_codecs_types::{DataTypeError, FillValueError};
 use zarr_grids::{
     ChunkShapeError, GridError, LookupError, PluginCreateError, RectangularChunkGridCreateError,
@@ -35,6 +36,12 @@ fn refused(is_memory: bool) -> Stop {
 
 impl From<AllocError> for Stop {
     fn from(_error: AllocError) -> Stop {
+        Stop::Short
+    }
+}
+
+impl<T: Drop> From<AllocFailed<T>> for Stop {
+    fn from(_error: AllocFailed<T>) -> Stop {
         Stop::Short
     }
 }
@@ -90,6 +97,12 @@ impl From<DataTypeError> for Stop {
 impl From<FillValueError> for Stop {
     fn from(error: FillValueError) -> Stop {
         refused(matches!(error, FillValueError::Memory))
+    }
+}
+
+impl From<CodecError> for Stop {
+    fn from(error: CodecError) -> Stop {
+        refused(matches!(error, CodecError::Memory))
     }
 }
 

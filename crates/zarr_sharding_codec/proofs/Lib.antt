@@ -1,3 +1,4 @@
+pub mod Configured
 pub mod EvenParts
 pub mod StoredParts
 pub mod StoredLoop

@@ -6,3 +6,4 @@ pub mod Reading
 pub mod PartWriting
 pub mod Appending
 pub mod BytesMet
+pub mod Configured

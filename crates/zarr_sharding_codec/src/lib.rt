@@ -4,7 +4,9 @@
 
 mod array_to_bytes;
 mod assembling;
+pub mod chain_metadata;
 pub mod codec;
+pub mod configuration;
 mod decoding;
 mod encoding;
 mod fitting;
@@ -12,6 +14,7 @@ pub mod options;
 pub mod part_writing;
 pub mod partial;
 pub mod parts;
+mod plain_codecs;
 mod representing;
 mod slices;
 mod storing;
@@ -19,8 +22,10 @@ mod subchunks;
 pub mod updating;
 mod whole_values;
 
+pub use chain_metadata::ChainOfMetadata;
 pub use codec::ShardingCodec;
 pub use options::{ShardingCodecOptions, TakesShardingOptions};
 pub use part_writing::TestedPart;
 pub use partial::{NumberedPlaces, OpenedShard};
 pub use updating::{NumberedElements, ShardInSource};
+pub use zarr_sharding_configurations::ShardingCodecConfiguration;

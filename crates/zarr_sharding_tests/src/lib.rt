@@ -14,4 +14,8 @@ mod nested;
 #[cfg(test)]
 mod parts;
 #[cfg(test)]
+mod refusing_source;
+#[cfg(test)]
 mod shards;
+#[cfg(test)]
+mod states;

@@ -11,10 +11,10 @@ use zarr_grids_boxes::ChunkShape;
 use zarr_sharding_codec::ShardingCodec;
 use zarr_sharding_index::ShardingIndexLocation;
 
-type Nested = ShardingCodec<ShardingCodec<BytesCodec, BytesCodec>, BytesCodec>;
+pub(crate) type Nested = ShardingCodec<ShardingCodec<BytesCodec, BytesCodec>, BytesCodec>;
 
 /// Shards of [2,2] whose subchunks are shards of [1,2].
-fn nested(alloc: Global) -> Result<Nested, CodecError> {
+pub(crate) fn nested(alloc: Global) -> Result<Nested, CodecError> {
     let inner = shards(alloc, &[1, 2], ShardingIndexLocation::End)?;
     match ChunkShape::new([2u64, 2].to_vec(alloc)?) {
         Ok(shape) => {

@@ -1,7 +1,7 @@
-use Rattle.std.proofs.Common.{◌≡◌, map}
-use Rattle.std.specs.List.{range_with_len}
-use Rattle.zarr_codecs_meaning.specs.Places.{position_of}
+use Rattle.std.proofs.Common.{◌≡◌, ◌-◌, drop, length}
+use Rattle.zarr_codecs_array_to_array.proofs.Inverses.{positions_from}
 use Rattle.zarr_codecs_array_to_array.proofs.walks.inverse.Given as goal
 
-abbrev pub invariant-loop-dimension : goal.invariant-loop-dimension
-invariant-loop-dimension l = l.positions.items ≡ map (λ d. position_of d l.order) (range_with_len 0 l.dimension)
+-- the places so far are those of numbers that stand in what has been passed, from the end on
+abbrev pub invariant-loop-step : goal.invariant-loop-step
+invariant-loop-step l = l.positions.items ≡ positions_from (length l.order - l.step) (drop (length l.order - l.step) l.order) (length l.order)

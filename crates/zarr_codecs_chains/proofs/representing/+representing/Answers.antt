@@ -1,17 +1,21 @@
-use Rattle.std.proofs.Common.{◌≡◌, ◌∙◌, List, ap, map, sym, subst, true, Ok, Err}
+use Rattle.std.proofs.Common.{rules, ◌≡◌, ◌<◌, ◌^◌, ◌∙◌, List, ap, map, sym, subst, true, Some, Ok, Err}
+use Rattle.zarr_grids_boxes.specs.Boxes.{product}
+use Rattle.zarr_codecs_meaning.specs.Chains.Chain.{optional}
+use Rattle.zarr_codecs_meaning.specs.Fits.{fits}
+use Rattle.zarr_codecs_meaning.specs.Types.{inner_type}
+use Rattle.zarr_codecs_meaning.proofs.KeptOptions.{options_fit}
 use Rattle.zarr_codecs_types.specs.Views.{type_of}
 use Rattle.zarr_codecs_array_to_array.specs.declared.codec.ArrayToArrayCodec.{ArrayToArrayCodec}
 use Rattle.zarr_codecs_traits.specs.Representations.{RepresentsArray, known_size}
 use Rattle.zarr_codecs_chains.specs.ArrayCodecs.{EncodesShapes, all_fit, shape_after}
 use Rattle.zarr_codecs_chains.specs.Codecs.{RepresentsAll}
-use Rattle.zarr_codecs_meaning.specs.Types.{bool}
 use Rattle.zarr_codecs_chains.specs.Views.{codec_chain, codecs_of, meaning_of, with_codecs}
 use Rattle.zarr_codecs_chains.proofs.Telling.{represents_with, unrepresented_with}
-use Rattle.zarr_codecs_chains.proofs.Told.{mask_too_long, told_before, untold_before}
+use Rattle.zarr_codecs_chains.proofs.Told.{all_told, codec_told, mask_refused, mask_told, values_refused, told_before, untold_before, untold_size}
 use Rattle.zarr_codecs_chains.proofs.representing.+representing.Goals as goal
 
-pub represent_chain-returns-in-Err : goal.represent_chain-returns-in-Err
-represent_chain-returns-in-Err g t c =
+pub represent_chain-returns-in-Err-clause-represents : goal.represent_chain-returns-in-Err-clause-represents
+represent_chain-returns-in-Err-clause-represents g t c =
     let meaning = g.B.BytesToBytesCodecTraits.meaning in
     let own = c.args.chain.now in
     let chain = codec_chain meaning own.others.array_to_bytes in
@@ -21,8 +25,8 @@ represent_chain-returns-in-Err g t c =
     let refused = subst (λ (codecs : List ArrayToArrayCodec). EncodesShapes (codecs_of codecs) shape (Err e)) c.as_slice-codecs.ensures.value c.in-Err.ensures in
     untold_before (codecs_of own.array_to_array.items) (with_codecs chain after) (type_of c.args.data_type.now) shape e refused
 
-pub represent_chain-returns-in-Ok-represent_codec : goal.represent_chain-returns-in-Ok-represent_codec
-represent_chain-returns-in-Ok-represent_codec g t c =
+pub represent_chain-returns-in-Ok-represent_codec-clause-represents : goal.represent_chain-returns-in-Ok-represent_codec-clause-represents
+represent_chain-returns-in-Ok-represent_codec-clause-represents g t c =
     let meaning = g.B.BytesToBytesCodecTraits.meaning in
     let own = c.args.chain.now in
     let before = own.array_to_array.items in
@@ -34,12 +38,12 @@ represent_chain-returns-in-Ok-represent_codec g t c =
     let made : c.in-Ok.last.items ≡ shape_after (codecs_of before) shape = c.in-Ok.ensures.1 ∙ ap (λ (codecs : List ArrayToArrayCodec). shape_after (codecs_of codecs) shape) c.as_slice-codecs.ensures.value in
     let size = c.in-Ok-represent_codec.size in
     let r = c.represent_all.result in
-    let inner = subst (λ es. RepresentsArray chain type es (Ok size)) (c.as_slice.ensures.value ∙ made) c.in-Ok-represent_codec.ensures in
+    let inner = subst (λ es. RepresentsArray chain type es (Ok size)) (c.as_slice.ensures.value ∙ made) c.in-Ok-represent_codec.ensures.represents in
     let told = subst (λ xs. RepresentsAll (map meaning xs) (known_size size) r) c.as_slice-others.ensures.value c.represent_all.ensures in
     told_before (codecs_of before) (with_codecs chain after) type shape r all (represents_with chain after type (shape_after (codecs_of before) shape) size r inner told)
 
-pub represent_chain-returns : goal.represent_chain-returns
-represent_chain-returns g t c =
+pub represent_chain-returns-clause-represents : goal.represent_chain-returns-clause-represents
+represent_chain-returns-clause-represents g t c =
     let meaning = g.B.BytesToBytesCodecTraits.meaning in
     let own = c.args.chain.now in
     let before = own.array_to_array.items in
@@ -50,14 +54,70 @@ represent_chain-returns g t c =
     let all : all_fit (codecs_of before) shape ≡ true = ap (λ (codecs : List ArrayToArrayCodec). all_fit (codecs_of codecs) shape) (sym c.as_slice-codecs.ensures.value) ∙ c.in-Ok.ensures.0 in
     let made : c.in-Ok.last.items ≡ shape_after (codecs_of before) shape = c.in-Ok.ensures.1 ∙ ap (λ (codecs : List ArrayToArrayCodec). shape_after (codecs_of codecs) shape) c.as_slice-codecs.ensures.value in
     let e = c.in-Err-represent_codec.error in
-    let inner = subst (λ es. RepresentsArray chain type es (Err e)) (c.as_slice.ensures.value ∙ made) c.in-Err-represent_codec.ensures in
+    let inner = subst (λ es. RepresentsArray chain type es (Err e)) (c.as_slice.ensures.value ∙ made) c.in-Err-represent_codec.ensures.represents in
     told_before (codecs_of before) (with_codecs chain after) type shape (Err e) all (unrepresented_with chain after type (shape_after (codecs_of before) shape) e inner)
 
-pub represent_optional-returns-in-Err-Size : goal.represent_optional-returns-in-Err-Size
-represent_optional-returns-in-Err-Size g t c =
+pub represent_chain-returns-in-Err-clause-told : goal.represent_chain-returns-in-Err-clause-told
+represent_chain-returns-in-Err-clause-told g t c = λ takes few is.
+    let own = c.args.chain.now in
+    let shape = c.args.shape.now in
+    let e = c.in-Err.error in
+    let refused = subst (λ (codecs : List ArrayToArrayCodec). EncodesShapes (codecs_of codecs) shape (Err e)) c.as_slice-codecs.ensures.value c.in-Err.ensures in
+    absurd (untold_size (codecs_of own.array_to_array.items) shape e refused is)
+
+pub represent_chain-returns-in-Ok-represent_codec-clause-told : goal.represent_chain-returns-in-Ok-represent_codec-clause-told
+represent_chain-returns-in-Ok-represent_codec-clause-told g t c = λ takes few.
+    let meaning = g.B.BytesToBytesCodecTraits.meaning in
+    let own = c.args.chain.now in
+    let before = own.array_to_array.items in
+    let chain = codec_chain meaning own.others.array_to_bytes in
+    let after = map meaning own.others.bytes_to_bytes.items in
+    let type = type_of c.args.data_type.now in
+    let shape = c.args.shape.now in
+    let made : c.in-Ok.last.items ≡ shape_after (codecs_of before) shape = c.in-Ok.ensures.1 ∙ ap (λ (codecs : List ArrayToArrayCodec). shape_after (codecs_of codecs) shape) c.as_slice-codecs.ensures.value in
+    let size = c.in-Ok-represent_codec.size in
+    let r = c.represent_all.result in
+    let inner = subst (λ es. RepresentsArray chain type es (Ok size)) (c.as_slice.ensures.value ∙ made) c.in-Ok-represent_codec.ensures.represents in
+    let told = subst (λ xs. RepresentsAll (map meaning xs) (known_size size) r) c.as_slice-others.ensures.value c.represent_all.ensures in
+    all_told (codecs_of before) chain after type shape size r inner told
+
+pub represent_chain-returns-clause-told : goal.represent_chain-returns-clause-told
+represent_chain-returns-clause-told g t c = λ takes few is.
+    let meaning = g.B.BytesToBytesCodecTraits.meaning in
+    let own = c.args.chain.now in
+    let before = own.array_to_array.items in
+    let chain = codec_chain meaning own.others.array_to_bytes in
+    let after = map meaning own.others.bytes_to_bytes.items in
+    let shape = c.args.shape.now in
+    let made : c.in-Ok.last.items ≡ shape_after (codecs_of before) shape = c.in-Ok.ensures.1 ∙ ap (λ (codecs : List ArrayToArrayCodec). shape_after (codecs_of codecs) shape) c.as_slice-codecs.ensures.value in
+    codec_told (codecs_of before) chain after (type_of c.args.data_type.now) shape c.as_slice.result.now c.in-Err-represent_codec.error takes few (c.as_slice.ensures.value ∙ made) c.in-Err-represent_codec.ensures.told is
+
+pub represent_optional-returns-in-Err-represent_chain-clause-represents : goal.represent_optional-returns-in-Err-represent_chain-clause-represents
+represent_optional-returns-in-Err-represent_chain-clause-represents g t c =
     let meaning = g.B.BytesToBytesCodecTraits.meaning in
     let mask = meaning_of meaning c.args.codec.now.mask_codecs in
     let values = meaning_of meaning c.args.codec.now.data_codecs in
+    let type = type_of c.args.data_type.now in
     let shape = c.args.shape.now in
-    let refused = subst (λ e. RepresentsArray mask bool shape (Err e)) c.in-Err-Size.field-0-is c.in-Err-Size.ensures in
-    mask_too_long mask values (type_of c.args.data_type.now) shape refused
+    let inner = type_of c.in-Some-inner.of_type.now in
+    let count = c.in-Some.count in
+    let fit : fits (optional mask values) type shape ≡ true = search rules in
+    let is : inner_type type ≡ Some inner = search rules in
+    let same : count ≡ product shape = search rules in
+    let few : product shape < 2 ^ 63 = search rules in
+    let takes = (options_fit mask values type shape fit).takes in
+    values_refused mask values type inner shape count c.in-Err-represent_chain.error fit is same few c.in-Err-represent_chain.ensures.represents (c.in-Err-represent_chain.ensures.told takes)
+
+pub represent_optional-returns-in-Err-clause-represents : goal.represent_optional-returns-in-Err-clause-represents
+represent_optional-returns-in-Err-clause-represents g t c =
+    let meaning = g.B.BytesToBytesCodecTraits.meaning in
+    let mask = meaning_of meaning c.args.codec.now.mask_codecs in
+    let values = meaning_of meaning c.args.codec.now.data_codecs in
+    mask_refused mask values (type_of c.args.data_type.now) c.args.shape.now c.in-Err.error c.in-Err.ensures.represents
+
+pub represent_optional-returns-in-Err-clause-told : goal.represent_optional-returns-in-Err-clause-told
+represent_optional-returns-in-Err-clause-told g t c = λ few is.
+    let meaning = g.B.BytesToBytesCodecTraits.meaning in
+    let mask = meaning_of meaning c.args.codec.now.mask_codecs in
+    let values = meaning_of meaning c.args.codec.now.data_codecs in
+    mask_told mask values (type_of c.args.data_type.now) c.args.shape.now c.in-Err.error c.in-Err.ensures.represents few is

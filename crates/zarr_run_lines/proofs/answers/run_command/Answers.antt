@@ -7,7 +7,7 @@ pub returns-in_err-command-clause-err : goal.returns-in_err-command-clause-err
 returns-in_err-command-clause-err g c honest = on-fault g.B.BytesToBytesCodecTraits.meaning _ _ _ _ _ (left-alone g.B.BytesToBytesCodecTraits.meaning _ _ _)
 
 pub returns-in_default-clause-ok : goal.returns-in_default-clause-ok
-returns-in_default-clause-ok g c honest = no-command g.B.BytesToBytesCodecTraits.meaning _ _ _ c.args.line.now _ _ (search rules) c.extend_from_slice.ensures.items
+returns-in_default-clause-ok g c honest = no-command g.B.BytesToBytesCodecTraits.meaning _ _ _ c.args.line.now.items _ _ (search rules) c.extend_from_slice.ensures.items
 
 pub returns-in_default-clause-err : goal.returns-in_default-clause-err
 returns-in_default-clause-err g c honest = on-fault g.B.BytesToBytesCodecTraits.meaning _ _ _ _ _ (left-alone g.B.BytesToBytesCodecTraits.meaning _ _ _)

@@ -1,4 +1,4 @@
-use Rattle.std.proofs.Common.{ap, sym, ◌∙◌, ◌++◌}
+use Rattle.std.proofs.Common.{ap, ◌∙◌, ◌++◌}
 use Rattle.std.specs.FinMap as fin
 use Rattle.zarr_array_storage.specs.ValueMaps.{key_bytes}
 use Rattle.zarr_array_storage.proofs.ValueMapLemmas.{key_bytes-all, key_bytes-more, keys-map_of}
@@ -11,7 +11,8 @@ loop-key-preserved c =
 
 pub returns : goal.returns
 returns c =
-    key_bytes-all c.loop-key.keys.items c.loop-key.key-iterator _ c.in-None.ensures.steps.0 c.loop-key.invariant
-    ∙ ap key_bytes (c.into_iter-key-iterator.ensures.into_iter_gives ∙ c.keys-key-items.ensures.rest)
-    ∙ sym (keys-map_of c.self.inside.values c.keys-key-items.ensures.ordered)
+    keys-map_of c.self.inside.values c.loop-key.keys.items c.sort.new.self.items c.keys-key-items.ensures.unique
+    (key_bytes-all c.loop-key.keys.items c.loop-key.key-iterator _ c.in-None.ensures.steps.0 c.loop-key.invariant
+    ∙ ap key_bytes (c.into_iter-key-iterator.ensures.into_iter_gives ∙ c.keys-key-items.ensures.rest))
+    c.sort.ensures.permutation c.in_ok-sort.ensures.sorted
     ∙ ap fin.keys c.self.view_is

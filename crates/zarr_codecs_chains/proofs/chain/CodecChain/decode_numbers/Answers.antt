@@ -15,7 +15,7 @@ invariant_of-listed g c =
     let shape = c.args.part.shape.now in
     let asked = asked_of c.args.part.indexer in
     let inside : are_inside shape asked ≡ true = c.in_default.ensures in
-    record { inside = ap (are_places shape) (c.as_slice.ensures.value ∙ c.in_ok-numbers.ensures) ∙ asked_places shape asked inside }
+    record { inside = ap (are_places shape) (c.as_slice.ensures.value ∙ c.in_ok-numbers.ensures.numbers) ∙ asked_places shape asked inside }
 
 pub returns-clause-part : goal.returns-clause-part
 returns-clause-part g c = λ honest.
@@ -28,7 +28,7 @@ returns-clause-part g c = λ honest.
     let r = c.decode_listed_after.result in
     let inside : are_inside shape asked ≡ true = c.in_default.ensures in
     let found = subst (λ (codecs : List ArrayToArrayCodec). DecodesPart (with_array_codecs (codecs_of codecs) rest) elements shape stored (listed c.as_slice.result.now) r) c.as_slice-codecs.ensures.value (c.decode_listed_after.ensures.part honest) in
-    asked_by_numbers chain elements shape stored asked r inside (subst (λ ns. DecodesPart chain elements shape stored (listed ns) r) (c.as_slice.ensures.value ∙ c.in_ok-numbers.ensures) found)
+    asked_by_numbers chain elements shape stored asked r inside (subst (λ ns. DecodesPart chain elements shape stored (listed ns) r) (c.as_slice.ensures.value ∙ c.in_ok-numbers.ensures.numbers) found)
 
 pub returns-clause-given : goal.returns-clause-given
 returns-clause-given g c = λ plain honest.
@@ -41,4 +41,4 @@ returns-clause-given g c = λ plain honest.
     let old = D.given_bytes c.args.source.now in
     let new = D.given_bytes c.decode_listed_after.new.source in
     let found = subst (λ (codecs : List ArrayToArrayCodec). new ≤ old + most_of_numbers (with_array_codecs (codecs_of codecs) rest) type shape stored c.as_slice.result.now) c.as_slice-codecs.ensures.value (c.decode_listed_after.ensures.given (subst (λ (codecs : List ArrayToArrayCodec). is_plain (with_array_codecs (codecs_of codecs) rest) ≡ true) (sym c.as_slice-codecs.ensures.value) plain) honest) in
-    subst (λ ns. new ≤ old + most_of_numbers chain type shape stored ns) (c.as_slice.ensures.value ∙ c.in_ok-numbers.ensures) found
+    subst (λ ns. new ≤ old + most_of_numbers chain type shape stored ns) (c.as_slice.ensures.value ∙ c.in_ok-numbers.ensures.numbers) found

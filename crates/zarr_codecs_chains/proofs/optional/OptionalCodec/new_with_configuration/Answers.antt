@@ -1,10 +1,12 @@
-use Rattle.std.proofs.Common.{◌≡◌, ◌∙◌, List, map, ap, sym, subst, true, false, Some, None}
+use Rattle.std.proofs.Common.{◌≡◌, ◌∙◌, List, map, ap, sym, subst, true, false, inl, inr, Some, None}
 use Rattle.zarr_grids_metadata.specs.Views.{point_of}
 use Rattle.zarr_grids_metadata.specs.declared.metadata.MetadataV3.{MetadataV3}
 use Rattle.zarr_codecs_metadata.specs.Chains.{allowed_chain}
 use Rattle.zarr_codecs_configurations.specs.Views.{optional_points}
 use Rattle.zarr_codecs_chains.specs.Names.{NamesChain}
+use Rattle.zarr_codecs_chains.specs.Refusals.{RefusesChain}
 use Rattle.zarr_codecs_chains.specs.Views.{meaning_of}
+use Rattle.zarr_codecs_chains.proofs.Refused.{optional_misplaced}
 use Rattle.zarr_codecs_chains.proofs.Configured.{optional_made, optional_no_mask, optional_no_content}
 use Rattle.zarr_codecs_chains.proofs.optional.OptionalCodec.new_with_configuration.Goals as goal
 
@@ -50,3 +52,21 @@ returns-else-takes_each_shape-clause-err g c = λ other.
     let one : allowed_chain b.reads v.mask ≡ Some i = ap (λ (ms : List MetadataV3). allowed_chain b.reads (map point_of ms)) (sym c.as_slice-mask.ensures.value) ∙ c.in-Ok.ensures.ok in
     let two : allowed_chain b.reads v.content ≡ Some d = ap (λ (ms : List MetadataV3). allowed_chain b.reads (map point_of ms)) (sym c.as_slice-content.ensures.value) ∙ c.in-Ok-from_metadata.ensures.ok in
     optional_made b.reads v i d false one two (sym c.takes_each_shape.ensures ∙ c.if-takes_each_shape.false)
+
+pub returns-in-Err-clause-refused : goal.returns-in-Err-clause-refused
+returns-in-Err-clause-refused g c = λ other.
+    let b = g.B.BytesToBytesCodecTraits in
+    inl (subst (λ (ms : List MetadataV3). RefusesChain b.reads (map point_of ms) c.in-Err.error) c.as_slice-mask.ensures.value (c.in-Err.ensures.refused other))
+
+pub returns-in-Err-from_metadata-clause-refused : goal.returns-in-Err-from_metadata-clause-refused
+returns-in-Err-from_metadata-clause-refused g c = λ other.
+    let b = g.B.BytesToBytesCodecTraits in
+    inr (inl (subst (λ (ms : List MetadataV3). RefusesChain b.reads (map point_of ms) c.in-Err-from_metadata.error) c.as_slice-content.ensures.value (c.in-Err-from_metadata.ensures.refused other)))
+
+pub returns-else-takes_each_shape-clause-refused : goal.returns-else-takes_each_shape-clause-refused
+returns-else-takes_each_shape-clause-refused g c = λ other.
+    let b = g.B.BytesToBytesCodecTraits in
+    let v = optional_points c.args.configuration.now in
+    let d = meaning_of b.meaning c.in-Ok-from_metadata.chain in
+    let two : allowed_chain b.reads v.content ≡ Some d = ap (λ (ms : List MetadataV3). allowed_chain b.reads (map point_of ms)) (sym c.as_slice-content.ensures.value) ∙ c.in-Ok-from_metadata.ensures.ok in
+    optional_misplaced b.reads v d two (sym c.takes_each_shape.ensures ∙ c.if-takes_each_shape.false)

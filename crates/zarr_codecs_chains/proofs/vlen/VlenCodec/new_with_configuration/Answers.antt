@@ -1,10 +1,12 @@
-use Rattle.std.proofs.Common.{◌≡◌, ◌∙◌, List, map, ap, sym, subst, true, false, Some, None}
+use Rattle.std.proofs.Common.{◌≡◌, ◌∙◌, List, map, ap, sym, subst, true, false, inl, inr, Some, None}
 use Rattle.zarr_grids_metadata.specs.Views.{point_of}
 use Rattle.zarr_grids_metadata.specs.declared.metadata.MetadataV3.{MetadataV3}
 use Rattle.zarr_codecs_metadata.specs.Chains.{allowed_chain}
 use Rattle.zarr_codecs_configurations.specs.Views.{vlen_points}
 use Rattle.zarr_codecs_chains.specs.Names.{NamesChain}
+use Rattle.zarr_codecs_chains.specs.Refusals.{RefusesChain}
 use Rattle.zarr_codecs_chains.specs.Views.{meaning_of}
+use Rattle.zarr_codecs_chains.proofs.Refused.{vlen_misplaced}
 use Rattle.zarr_codecs_chains.proofs.Configured.{vlen_made, vlen_no_index, vlen_no_content}
 use Rattle.zarr_codecs_chains.proofs.vlen.VlenCodec.new_with_configuration.Goals as goal
 
@@ -50,3 +52,21 @@ returns-else-has_no_array_codec-clause-err g c = λ other.
     let one : allowed_chain b.reads v.index ≡ Some i = ap (λ (ms : List MetadataV3). allowed_chain b.reads (map point_of ms)) (sym c.as_slice-index.ensures.value) ∙ c.in-Ok.ensures.ok in
     let two : allowed_chain b.reads v.content ≡ Some d = ap (λ (ms : List MetadataV3). allowed_chain b.reads (map point_of ms)) (sym c.as_slice-content.ensures.value) ∙ c.in-Ok-from_metadata.ensures.ok in
     vlen_made b.reads v i d false one two (sym c.has_no_array_codec.ensures ∙ c.if-has_no_array_codec.false)
+
+pub returns-in-Err-clause-refused : goal.returns-in-Err-clause-refused
+returns-in-Err-clause-refused g c = λ other.
+    let b = g.B.BytesToBytesCodecTraits in
+    inl (subst (λ (ms : List MetadataV3). RefusesChain b.reads (map point_of ms) c.in-Err.error) c.as_slice-index.ensures.value (c.in-Err.ensures.refused other))
+
+pub returns-in-Err-from_metadata-clause-refused : goal.returns-in-Err-from_metadata-clause-refused
+returns-in-Err-from_metadata-clause-refused g c = λ other.
+    let b = g.B.BytesToBytesCodecTraits in
+    inr (inl (subst (λ (ms : List MetadataV3). RefusesChain b.reads (map point_of ms) c.in-Err-from_metadata.error) c.as_slice-content.ensures.value (c.in-Err-from_metadata.ensures.refused other)))
+
+pub returns-else-has_no_array_codec-clause-refused : goal.returns-else-has_no_array_codec-clause-refused
+returns-else-has_no_array_codec-clause-refused g c = λ other.
+    let b = g.B.BytesToBytesCodecTraits in
+    let v = vlen_points c.args.configuration.now in
+    let d = meaning_of b.meaning c.in-Ok-from_metadata.chain in
+    let two : allowed_chain b.reads v.content ≡ Some d = ap (λ (ms : List MetadataV3). allowed_chain b.reads (map point_of ms)) (sym c.as_slice-content.ensures.value) ∙ c.in-Ok-from_metadata.ensures.ok in
+    vlen_misplaced b.reads v d two (sym c.has_no_array_codec.ensures ∙ c.if-has_no_array_codec.false)

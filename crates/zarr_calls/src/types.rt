@@ -1,0 +1,74 @@
+//! Data types and fill values.
+use crate::words::{bytes_in, cut, refused, truth, word};
+use anyhow::{Context, Result};
+use serde_json::Value;
+use std::alloc::Global;
+use zarr_codecs_arrays::Elements;
+use zarr_codecs_types::{Cell, DataType, FillValue, is_value};
+
+/// What a call of types gives.
+pub(crate) fn answer(alloc: Global, name: &str, rest: &str) -> Result<Option<String>> {
+    match name {
+        "type" => Ok(Some(written_type(alloc, rest)?)),
+        "fill" => Ok(Some(written_fill(alloc, rest)?)),
+        "value" => Ok(Some(has_value(alloc, rest)?)),
+        _ => Ok(None),
+    }
+}
+
+/// The type of a text.
+pub(crate) fn type_in(alloc: Global, text: &str) -> Result<DataType> {
+    Ok(DataType::from_metadata(alloc, &Value::from_str(alloc, text)?)?)
+}
+
+/// The fill value of a text.
+fn fill_in(alloc: Global, data_type: &DataType, text: &str) -> Result<FillValue> {
+    let value = Value::from_str(alloc, text)?;
+    Ok(FillValue::from_metadata(alloc, data_type, &value)?)
+}
+
+/// The elements of a type and a fill value.
+pub(crate) fn elements_in(alloc: Global, type_text: &str, fill: &str) -> Result<Elements> {
+    let data_type = type_in(alloc, type_text)?;
+    let fill_value = fill_in(alloc, &data_type, fill)?;
+    Elements::new(data_type, fill_value).context("a fill value is none of its type")
+}
+
+/// How the type of a text is written.
+fn written_type(alloc: Global, text: &str) -> Result<String> {
+    let value = Value::from_str(alloc, text)?;
+    match DataType::from_metadata(alloc, &value) {
+        Ok(data_type) => written_copy(alloc, &data_type),
+        Err(error) => refused(alloc, &error),
+    }
+}
+
+/// How a type is written, which is equal to its copy.
+fn written_copy(alloc: Global, data_type: &DataType) -> Result<String> {
+    let copy = data_type.try_clone(alloc)?;
+    match copy.metadata(alloc)? {
+        Some(written) if copy == *data_type => Ok(written.to_string(alloc)?),
+        _ => word(alloc, "none"),
+    }
+}
+
+/// How a fill value of a type is written.
+fn written_fill(alloc: Global, rest: &str) -> Result<String> {
+    let (type_text, text) = cut(rest)?;
+    let data_type = type_in(alloc, type_text)?;
+    let value = Value::from_str(alloc, text)?;
+    match FillValue::from_metadata(alloc, &data_type, &value) {
+        Ok(fill) => match fill.to_metadata(alloc, &data_type)? {
+            Some(written) => Ok(written.to_string(alloc)?),
+            None => word(alloc, "none"),
+        },
+        Err(error) => refused(alloc, &error),
+    }
+}
+
+/// Whether bytes are a cell of a type.
+fn has_value(alloc: Global, rest: &str) -> Result<String> {
+    let (type_text, digits) = cut(rest)?;
+    let cell = Cell::Bytes(bytes_in(alloc, digits)?);
+    truth(alloc, is_value(&type_in(alloc, type_text)?, &cell))
+}

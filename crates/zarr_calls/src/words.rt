@@ -1,0 +1,112 @@
+//! The arguments of calls, and what is common to answers.
+use anyhow::{Context, Result, bail};
+use serde_json::Value;
+use std::alloc::Global;
+use std::fmt::Debug;
+use std::ops::Range;
+use zarr_grids_boxes::ArraySubset;
+use zarr_grids_metadata::MetadataV3;
+
+/// The first argument of some, and the others.
+pub(crate) fn cut(text: &str) -> Result<(&str, &str)> {
+    text.split_once(" | ")
+        .context("a call has too few arguments")
+}
+
+/// The values of a JSON list.
+pub(crate) fn list_in(alloc: Global, text: &str) -> Result<Vec<Value>> {
+    match Value::from_str(alloc, text)? {
+        Value::Array(values) => Ok(values),
+        _ => bail!("an argument is no list"),
+    }
+}
+
+/// The numbers of values.
+fn numbers_of(alloc: Global, values: &[Value]) -> Result<Vec<u64>> {
+    let mut numbers = Vec::new(alloc);
+    for value in values {
+        numbers.push(value.as_u64().context("an argument has no number")?)?;
+    }
+    Ok(numbers)
+}
+
+/// The numbers of a JSON list.
+pub(crate) fn numbers_in(alloc: Global, text: &str) -> Result<Vec<u64>> {
+    let values = list_in(alloc, text)?;
+    numbers_of(alloc, values.as_slice())
+}
+
+/// The range of a pair of numbers.
+fn range_of(pair: &Value) -> Option<Range<u64>> {
+    match pair.as_array()?.as_slice() {
+        [start, end] => Some(start.as_u64()?..end.as_u64()?),
+        _ => None,
+    }
+}
+
+/// The box of a JSON list of pairs, each of a start and an end.
+pub(crate) fn box_in(alloc: Global, text: &str) -> Result<ArraySubset> {
+    let pairs = list_in(alloc, text)?;
+    let mut ranges = Vec::new(alloc);
+    for pair in &pairs {
+        ranges.push(range_of(pair).context("a box has no pair")?)?;
+    }
+    Ok(ArraySubset::new_with_ranges(alloc, ranges.as_slice())?)
+}
+
+/// The metadata of a text.
+pub(crate) fn metadata_in(alloc: Global, text: &str) -> Result<MetadataV3> {
+    Ok(MetadataV3::from_text(alloc, text)?)
+}
+
+/// The metadata of a JSON list.
+pub(crate) fn metadatas_in(alloc: Global, text: &str) -> Result<Vec<MetadataV3>> {
+    let values = list_in(alloc, text)?;
+    let mut metadatas = Vec::new(alloc);
+    for value in &values {
+        let metadata = MetadataV3::from_value(alloc, value)?;
+        metadatas.push(metadata.context("an argument is no metadata")?)?;
+    }
+    Ok(metadatas)
+}
+
+/// The text of metadata.
+pub(crate) fn text_of(alloc: Global, metadata: &MetadataV3) -> Result<String> {
+    Ok(metadata.to_value(alloc)?.to_string(alloc)?)
+}
+
+/// The answer of a call that is refused.
+pub(crate) fn refused<E: Debug>(alloc: Global, error: &E) -> Result<String> {
+    Ok(format!(in alloc; "refused {error:?}")?)
+}
+
+/// The answer that is a word.
+pub(crate) fn word(alloc: Global, text: &str) -> Result<String> {
+    Ok(String::from_str(alloc, text)?)
+}
+
+/// The answer that is true or false.
+pub(crate) fn truth(alloc: Global, is_true: bool) -> Result<String> {
+    word(alloc, if is_true { "true" } else { "false" })
+}
+
+/// The answer that is a list of numbers.
+pub(crate) fn numbers(alloc: Global, numbers: &[u64]) -> Result<String> {
+    Ok(format!(in alloc; "{numbers:?}")?)
+}
+
+/// The bytes of hexadecimal digits, or none of `empty`.
+pub(crate) fn bytes_in(alloc: Global, text: &str) -> Result<Vec<u8>> {
+    match text {
+        "empty" => Ok(Vec::new(alloc)),
+        _ => Ok(hex::decode(alloc, text)?),
+    }
+}
+
+/// Bytes as hexadecimal digits, or as `empty`.
+pub(crate) fn digits(alloc: Global, bytes: &[u8]) -> Result<String> {
+    if bytes.is_empty() {
+        return word(alloc, "empty");
+    }
+    Ok(hex::encode(alloc, bytes)?)
+}

@@ -1,0 +1,196 @@
+//! Elements that are written over others, in the value that a source holds.
+ghost use Rattle.std.specs.Prelude.{◌≡◌, ◌*◌, ◌<◌, ◌^◌, ℕ, List, Some, false, true, length, option_map, IfOk, IsTrue, OnErr, OnOk};
+ghost use Rattle.zarr_grids_boxes.specs.Boxes.{product};
+ghost use Rattle.zarr_codecs_meaning.specs.Types.{Cell, bytes_in, components, is_fixed};
+ghost use Rattle.zarr_codecs_arrays.specs.Views.{elements_of, payload_of};
+ghost use Rattle.zarr_codecs_traits.specs.Indexers.{are_inside, asked_of, numbers_asked};
+ghost use Rattle.zarr_codecs_traits.specs.Patches.{any_too_far, patched};
+ghost use Rattle.zarr_codecs_traits.specs.PartWriting.{IsEncodedInto, NotEncodedInto, WritesOnce};
+ghost use Rattle.zarr_codecs_traits.specs.Sources.{refused_after};
+ghost use Rattle.zarr_codecs_regions.specs.Whole.{CanBePut};
+ghost use Rattle.zarr_codecs_bytes.specs.Views.{bytes_chain};
+ghost use Rattle.zarr_codecs_bytes.specs.Writing.{AreRangesOf, PutsElements};
+
+use crate::bytes::BytesCodec;
+use crate::lines::{LineSizes, box_ranges};
+use crate::numbers::number_ranges;
+use crate::part::BoxPart;
+use crate::patches::patches_of;
+use crate::sizes::array_size;
+use std::alloc::{AllocError, Global};
+use zarr_codecs_arrays::{ArrayBytes, CodecError};
+use zarr_codecs_options::CodecOptions;
+use zarr_codecs_regions::{encode_whole, test_given};
+use zarr_codecs_traits::{ArrayPart, ByteRange, BytesPartialEncoderTraits, Indexer, ValuePatch};
+
+/// Puts elements in the place of those at the places that are asked for, as
+/// `ArrayToBytesCodecTraits::partial_encode` says. Of a value that stands nothing is read but its
+/// length, and the bytes of these elements alone are written, by one call of several ranges. Where
+/// the source holds no value, that of the whole array is set.
+pub(crate) fn write_asked<E: BytesPartialEncoderTraits>(
+    alloc: Global,
+    source: &mut E,
+    codec: BytesCodec,
+    bytes: ArrayBytes,
+    part: ArrayPart<'_>,
+    options: &CodecOptions,
+) -> Result<(), CodecError>
+    ensures ok { IsTrue (E.is_honest source.old) → OnOk result ((cells : List Cell)
+        × IsEncodedInto (bytes_chain codec) true (elements_of part.entry.elements.now)
+        part.entry.shape.now (asked_of part.entry.indexer) (payload_of bytes) cells
+        (E.contents source.old) (E.contents source.new)) }
+    ensures err { IsTrue (E.is_honest source.old) →
+        OnErr result (E.contents source.new ≡ E.contents source.old) }
+    ensures cause { IsTrue (E.is_honest source.old) → NotEncodedInto (bytes_chain codec)
+        (elements_of part.entry.elements.now) part.entry.shape.now (asked_of part.entry.indexer)
+        (payload_of bytes) (E.contents source.old) result }
+    ensures refused { E.refused_calls source.new ≡
+        refused_after (E.refused_calls source.old) result }
+    ensures once { WritesOnce (E.accepted_writes source.old) (E.accepted_writes source.new) result }
+    ensures rewrites { E.rewrites source.old source.new }
+{
+    if let Err(error) = test_given(&codec, alloc, &bytes, part) {
+        return Err(error);
+    }
+    match source.size() {
+        Ok(Some(total)) => write_over(alloc, source, codec, bytes, part, total),
+        Ok(None) => encode_whole(&codec, alloc, source, bytes, part, options),
+        Err(error) => Err(error),
+    }
+}
+
+/// Puts elements in the place of those at the places that are asked for, in a value of so many bytes.
+fn write_over<E: BytesPartialEncoderTraits>(
+    alloc: Global,
+    source: &mut E,
+    codec: BytesCodec,
+    bytes: ArrayBytes,
+    part: ArrayPart<'_>,
+    total: u64,
+) -> Result<(), CodecError>
+    requires given { CanBePut (bytes_chain codec) (elements_of part.elements.now) part.shape.now
+        (asked_of part.indexer) (payload_of bytes) }
+    requires sized { IsTrue (E.is_honest source.old) →
+        Some total ≡ option_map length (E.contents source.old) }
+    ensures ok { IsTrue (E.is_honest source.old) → OnOk result ((cells : List Cell)
+        × IsEncodedInto (bytes_chain codec) true (elements_of part.entry.elements.now)
+        part.entry.shape.now (asked_of part.entry.indexer) (payload_of bytes) cells
+        (E.contents source.old) (E.contents source.new)) }
+    ensures err { IsTrue (E.is_honest source.old) →
+        OnErr result (E.contents source.new ≡ E.contents source.old) }
+    ensures cause { IsTrue (E.is_honest source.old) → NotEncodedInto (bytes_chain codec)
+        (elements_of part.entry.elements.now) part.entry.shape.now (asked_of part.entry.indexer)
+        (payload_of bytes) (E.contents source.old) result }
+    ensures refused { E.refused_calls source.new ≡
+        refused_after (E.refused_calls source.old) result }
+    ensures once { WritesOnce (E.accepted_writes source.old) (E.accepted_writes source.new) result }
+    ensures rewrites { E.rewrites source.old source.new }
+{
+    match asked_patches(alloc, codec, bytes, part, total) {
+        Ok(patches) => source.partial_encode(alloc, patches),
+        Err(error) => Err(error),
+    }
+}
+
+/// The ranges to be written into a value of so many bytes, so that the elements at the places that
+/// are asked for are replaced. `Damage` where the value has more bytes or fewer than the array's
+/// elements; `Size` where the array is too large.
+fn asked_patches(
+    alloc: Global,
+    codec: BytesCodec,
+    bytes: ArrayBytes,
+    part: ArrayPart<'_>,
+    total: u64,
+) -> Result<Vec<ValuePatch>, CodecError>
+    requires given { CanBePut (bytes_chain codec) (elements_of part.elements.now) part.shape.now
+        (asked_of part.indexer) (payload_of bytes) }
+    ensures ok { (value : List ℕ) → length value ≡ total → IfOk result (λ patches.
+        (cells : List Cell) × IsEncodedInto (bytes_chain codec) true
+        (elements_of part.entry.elements.now) part.entry.shape.now (asked_of part.entry.indexer)
+        (payload_of bytes) cells (Some value) (Some (patched value patches.items))) }
+    ensures near { IfOk result (λ patches. any_too_far patches.items ≡ false) }
+    ensures cause { (value : List ℕ) → length value ≡ total → NotEncodedInto (bytes_chain codec)
+        (elements_of part.entry.elements.now) part.entry.shape.now (asked_of part.entry.indexer)
+        (payload_of bytes) (Some value) result }
+    ensures no_source { (count : ℕ) → refused_after count result ≡ count }
+{
+    let data_type = part.elements.data_type();
+    let size = match array_size(data_type, part.shape) {
+        Ok(size) => size,
+        Err(error) => return Err(error),
+    };
+    if total != size {
+        return Err(CodecError::Damage);
+    }
+    match bytes {
+        ArrayBytes::Fixed(bytes) => {
+            let ordered = codec.ordered(alloc, data_type, bytes)?;
+            Ok(element_patches(alloc, part, size, ordered.as_slice())?)
+        }
+        ArrayBytes::Variable(_bytes, _offsets) => Err(CodecError::ExpectedFixedLengthBytes),
+        ArrayBytes::Optional(_inner, _mask) => Err(CodecError::ExpectedFixedLengthBytes),
+    }
+}
+
+/// The ranges to be written into a value of this size, so that the elements at the places that are
+/// asked for are replaced by others, which have these bytes there.
+fn element_patches(
+    alloc: Global,
+    part: ArrayPart<'_>,
+    size: u64,
+    content: &[u8],
+) -> Result<Vec<ValuePatch>, AllocError>
+    requires fixed { is_fixed (elements_of part.elements.now).type ≡ true }
+    requires positive { 0 < bytes_in (components (elements_of part.elements.now).type) }
+    requires inside { are_inside part.shape.now (asked_of part.indexer) ≡ true }
+    requires size { size ≡
+        product part.shape.now * bytes_in (components (elements_of part.elements.now).type) }
+    requires small { size < 2 ^ 63 }
+    requires long { length content.now ≡ length (numbers_asked part.shape.now (asked_of part.indexer))
+        * bytes_in (components (elements_of part.elements.now).type) }
+    ensures { IfOk result (λ patches. PutsElements
+        (bytes_in (components (elements_of part.entry.elements.now).type)) size
+        (numbers_asked part.entry.shape.now (asked_of part.entry.indexer)) content.now
+        patches.items) }
+{
+    let ranges = asked_ranges(alloc, part, size)?;
+    patches_of(alloc, ranges.as_slice(), content)
+}
+
+/// The ranges in which the elements at the places that are asked for stand, in their order, of a
+/// value of this size; those that lie one after another are one.
+fn asked_ranges(alloc: Global, part: ArrayPart<'_>, size: u64) -> Result<Vec<ByteRange>, AllocError>
+    requires fixed { is_fixed (elements_of part.elements.now).type ≡ true }
+    requires positive { 0 < bytes_in (components (elements_of part.elements.now).type) }
+    requires inside { are_inside part.shape.now (asked_of part.indexer) ≡ true }
+    requires size { size ≡
+        product part.shape.now * bytes_in (components (elements_of part.elements.now).type) }
+    requires small { size < 2 ^ 63 }
+    ensures { IfOk result (λ ranges. AreRangesOf
+        (bytes_in (components (elements_of part.entry.elements.now).type)) size
+        (numbers_asked part.entry.shape.now (asked_of part.entry.indexer)) ranges.items) }
+{
+    let (elements, shape) = (part.elements, part.shape);
+    match part.indexer {
+        Indexer::Subset(region) => {
+            let part = BoxPart {
+                elements,
+                shape,
+                region,
+            };
+            Ok(box_ranges(alloc, part, size)?.ranges)
+        }
+        Indexer::List(numbers) => match elements.data_type().byte_width() {
+            Some(width) => {
+                let width = width as u64;
+                let sizes = LineSizes {
+                    width,
+                    line: width,
+                    value: size,
+                };
+                number_ranges(alloc, numbers, sizes)
+            }
+            None => Ok(Vec::new(alloc)),
+        },
+    }
+}

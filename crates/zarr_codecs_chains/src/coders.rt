@@ -1,0 +1,45 @@
+//! What decodes and encodes parts of arrays by chains.
+
+use crate::chain::CodecChain;
+use zarr_codecs_coders::{CodecPartialDecoder, CodecPartialEncoder};
+use zarr_codecs_traits::{
+    BytesPartialDecoderTraits, BytesPartialEncoderTraits, BytesToBytesCodecTraits, WholeArray,
+};
+
+impl<B: BytesToBytesCodecTraits> CodecChain<B> {
+    ghost use Rattle.std.specs.Prelude.{◌≡◌};
+
+    /// What decodes parts of an array by the chain, of the value that a source holds. It borrows the
+    /// source, and keeps no bytes of its own.
+    pub fn partial_decoder<'a, D: BytesPartialDecoderTraits>(
+        &'a self,
+        source: &'a mut D,
+        array: WholeArray<'a>,
+    ) -> CodecPartialDecoder<'a, CodecChain<B>, D>
+        ensures same_reference { result.source.ghost_name ≡ source.entry.ghost_name }
+        ensures source { result.source.now ≡ source.old }
+        ensures chain { result.codec.now ≡ self.now }
+        ensures elements { result.array.elements.now ≡ array.entry.elements.now }
+        ensures shape { result.array.shape.now ≡ array.entry.shape.now }
+    {
+        CodecPartialDecoder::new(self, source, array)
+    }
+
+    /// What encodes parts of an array by the chain, into the value that a source holds, and decodes
+    /// them again. It borrows the source, and keeps no bytes of its own. Where
+    /// `partial_encoder_capability` says so, the bytes of a part alone are written, else the value
+    /// whole; each write is one call of the source.
+    pub fn partial_encoder<'a, E: BytesPartialEncoderTraits>(
+        &'a self,
+        source: &'a mut E,
+        array: WholeArray<'a>,
+    ) -> CodecPartialEncoder<'a, CodecChain<B>, E>
+        ensures same_reference { result.source.ghost_name ≡ source.entry.ghost_name }
+        ensures source { result.source.now ≡ source.old }
+        ensures chain { result.codec.now ≡ self.now }
+        ensures elements { result.array.elements.now ≡ array.entry.elements.now }
+        ensures shape { result.array.shape.now ≡ array.entry.shape.now }
+    {
+        CodecPartialEncoder::new(self, source, array)
+    }
+}

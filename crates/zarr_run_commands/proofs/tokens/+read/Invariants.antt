@@ -1,0 +1,20 @@
+use Rattle.std.proofs.Common.{◌≡◌, ℕ, ◌+◌, ◌*◌, ◌≤◌, length}
+use Rattle.json.specs.Json.{items, value, parse_map}
+use Rattle.serde_json.specs.Read.{of_items, converted}
+use Rattle.zarr_run_commands.proofs.Turns.{items_before}
+use Rattle.zarr_run_commands.proofs.tokens.+read.Given as goal
+
+abbrev pub decreases-read : goal.decreases-read
+decreases-read l = 2 * l.depth
+
+abbrev pub decreases-read_items : goal.decreases-read_items
+decreases-read_items l = 2 * l.depth + 1
+
+abbrev pub invariant-read_items-items : goal.invariant-read_items-items
+invariant-read_items-items l =
+    (n : ℕ) × (length l.reader ≤ n)
+    × (converted of_items (items (value l.depth) (length l.initial.reader) l.initial.reader) ≡ parse_map (items_before l.found.items) (converted of_items (items (value l.depth) n l.reader)))
+    × (length l.reader ≤ length l.initial.reader)
+
+abbrev pub decreases-read_items-items : goal.decreases-read_items-items
+decreases-read_items-items l = length l.reader

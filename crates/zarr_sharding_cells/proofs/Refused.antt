@@ -1,0 +1,33 @@
+-- Why new cells are not put.
+use Rattle.std.proofs.Common.{◌≡◌, inl, inr, ℕ, List, subst, Bool, Err}
+use Rattle.zarr_grids_boxes.specs.Boxes.{product}
+use Rattle.zarr_codecs_arrays.specs.Outcomes.{IsTooLarge}
+use Rattle.zarr_codecs_arrays.specs.declared.error.CodecError.{CodecError}
+use Rattle.zarr_codecs_arrays.specs.declared.error.CodecError.TheVariants as error
+use Rattle.zarr_codecs_meaning.specs.Places.{index_shape}
+use Rattle.zarr_sharding_changes.specs.Changes.{Change, pairs_after}
+use Rattle.zarr_sharding_codec.specs.PartWriting.{AreChanged, Put, UpdatesSlices}
+use Rattle.zarr_sharding_decoder.specs.Shards.{ShardOf}
+use Rattle.zarr_sharding_state.specs.Written.{ChangesRefused}
+use Rattle.zarr_sharding_cells.specs.Puts.{NotWritten}
+use Rattle.zarr_sharding_cells.specs.Tables.{Held, stored_of}
+
+-- the subchunks that are met are not encoded anew
+pub unchanged : (s : ShardOf) (exact : Bool) (new_cells : Put) (held : Held) (e : CodecError) → new_cells.subchunk ≡ s.subchunk → UpdatesSlices (stored_of s exact held) new_cells (Err e) → NotWritten s exact new_cells held e
+unchanged s exact new_cells held error.Damage is why = why
+unchanged s exact new_cells held error.Codec is why = inl why
+unchanged s exact new_cells held error.Size is (inl large) = inl (inl (subst (λ (shape : List ℕ). IsTooLarge s.elements.type (product shape)) is large.0))
+unchanged s exact new_cells held error.Size is (inr why) = inl (inr why)
+unchanged s exact new_cells held error.Source is why = tt
+unchanged s exact new_cells held error.Memory is why = tt
+unchanged s exact new_cells held e is why = absurd why
+
+-- their slices are not written
+pub unwritten : (A : Type 0) (s : ShardOf) (exact : Bool) (new_cells : Put) (held : Held) (changes : List Change) (e : CodecError) → AreChanged (stored_of s exact held) new_cells changes
+    → ChangesRefused {A = A} s.index s.location (index_shape s.shape s.subchunk) changes held.end (pairs_after held.end changes held.pairs) (Err e) → NotWritten s exact new_cells held e
+unwritten A s exact new_cells held changes error.Codec changed why = inr (record { changes = changes; changed = changed; is = why })
+unwritten A s exact new_cells held changes error.Size changed (inl long) = inr (inr (record { changes = changes; changed = changed; is = long }))
+unwritten A s exact new_cells held changes error.Size changed (inr why) = inr (inl (record { changes = changes; changed = changed; is = why }))
+unwritten A s exact new_cells held changes error.Source changed why = tt
+unwritten A s exact new_cells held changes error.Memory changed why = tt
+unwritten A s exact new_cells held changes e changed why = absurd why

@@ -1,0 +1,4 @@
+pub mod Tables
+pub mod Puts
+pub mod Opening
+pub mod Views

@@ -1,0 +1,112 @@
+-- What putting new cells at places of an array makes of its shard.
+use Rattle.std.specs.Prelude.{◌≡◌, ◌⊎◌, ℕ, ◌+◌, ◌^◌, ◌<◌, ◌≤◌, List, [], ◌∷◌, length, map, get_or, Bool, Option, None, Some, unwrap_or, true, false}
+use Rattle.zarr_grids_boxes.specs.Boxes.{product}
+use Rattle.zarr_codecs_arrays.specs.Outcomes.{IsInvalid, IsTooLarge, IsValid}
+use Rattle.zarr_codecs_arrays.specs.declared.error.CodecError.{CodecError}
+use Rattle.zarr_codecs_arrays.specs.declared.error.CodecError.TheVariants as error
+use Rattle.zarr_codecs_meaning.specs.Chains.{Chain}
+use Rattle.zarr_codecs_meaning.specs.Decoding.{is_absent, slice_at}
+use Rattle.zarr_codecs_meaning.specs.Encoding.{Pair, absent_pair, pair_cells}
+use Rattle.zarr_codecs_meaning.specs.Fits.{is_lossless}
+use Rattle.zarr_codecs_meaning.specs.Payloads.{Payload}
+use Rattle.zarr_codecs_meaning.specs.Places.{index_shape}
+use Rattle.zarr_codecs_meaning.specs.Refusals.{CodecRefuses, PassesIndex}
+use Rattle.zarr_codecs_meaning.specs.Types.{Cell, Elements, uint64, zero_filled}
+use Rattle.zarr_codecs_traits.specs.Indexers.{Asked, are_inside, numbers_asked, put}
+use Rattle.zarr_codecs_traits.specs.PartWriting.{IsEncodedInto}
+use Rattle.zarr_sharding_changes.specs.Changes.{Change, appended, pairs_after}
+use Rattle.zarr_sharding_codec.specs.PartWriting.{AreChanged, IsLostAt, IsMet, IsRefusedAt, Put, cells_held, cells_put}
+use Rattle.zarr_sharding_codec.specs.Slices.{IsPieceStored}
+use Rattle.zarr_sharding_decoder.specs.Pairs.{index_length}
+use Rattle.zarr_sharding_decoder.specs.Shards.{ShardOf, chain_of}
+use Rattle.zarr_sharding_state.specs.Held.{shard_length}
+use Rattle.zarr_sharding_state.specs.Written.{IsChanged}
+use Rattle.zarr_sharding_cells.specs.Tables.{Held, IsTold, put_of, stored_of, table_of}
+
+-- ---- what is given
+
+-- elements are valid ones for places of the array, one for each place that is asked for
+pub record IsGiven (elements : Elements) (shape : List ℕ) (asked : Asked) (payload : Payload) (cells : List Cell) : Type 0 where
+  pub inside : are_inside shape asked ≡ true
+  pub valid : IsValid elements.type payload (length (numbers_asked shape asked)) cells
+
+-- the numbers of the places that are asked for, of which valid elements are given
+pub record AreAsked (elements : Elements) (shape : List ℕ) (asked : Asked) (payload : Payload) (numbers : List ℕ) : Type 0 where
+  pub cells : List Cell
+  pub given : IsGiven elements shape asked payload cells
+  pub are : numbers ≡ numbers_asked shape asked
+
+-- why elements are not taken: a place isn't one of the array's, or they are not valid ones, one for each place
+abbrev pub NotGiven : Elements → List ℕ → Asked → Payload → CodecError → Type 0
+NotGiven elements shape asked payload error.IncompatibleIndexer = are_inside shape asked ≡ false
+NotGiven elements shape asked payload error.Memory = Unit {0}
+NotGiven elements shape asked payload e = (are_inside shape asked ≡ true) × IsInvalid elements.type payload (length (numbers_asked shape asked)) e
+
+-- ---- what is written
+
+-- the new slices of all subchunks that the places lie in are appended to the data part, and the index says where they stand; where no subchunk is present then, the value is taken away
+pub record IsWritten (s : ShardOf) (exact one : Bool) (new_cells : Put) (old new : Held) : Type 0 where
+  pub changes : List Change
+  pub changed : AreChanged (stored_of s exact old) new_cells changes
+  pub room : old.end + length (appended changes) < 2 ^ 63
+  pub pairs : new.pairs ≡ pairs_after old.end changes old.pairs
+  pub written : IsChanged s.index one s.location (index_shape s.shape s.subchunk) changes old.end new.pairs old.contents new.contents new.end
+
+-- a subchunk has a slice in what is stored, or it is absent
+abbrev pub HasSlice : Option (List ℕ) → Pair → Option (List ℕ) → Type 0
+HasSlice contents pair None = pair ≡ absent_pair
+HasSlice contents pair (Some slice) = (is_absent pair ≡ false) × (slice_at (unwrap_or contents []) pair ≡ Some slice)
+
+-- a subchunk keeps its pair, and its slice if it has one
+pub record IsKept (old new : Held) (k : ℕ) : Type 0 where
+  pub pair : get_or new.pairs k absent_pair ≡ get_or old.pairs k absent_pair
+  pub slice : is_absent (get_or old.pairs k absent_pair) ≡ false → slice_at (unwrap_or new.contents []) (get_or new.pairs k absent_pair) ≡ slice_at (unwrap_or old.contents []) (get_or old.pairs k absent_pair)
+
+-- a subchunk has the cells that it had, with the new ones put over them, and is encoded anew and whole; it is absent where all of them are the fill value
+pub record IsPut (s : ShardOf) (exact : Bool) (new_cells : Put) (old new : Held) (k : ℕ) : Type 0 where
+  pub before : List Cell
+  pub held : cells_held (stored_of s exact old) s.subchunk k ≡ Some before
+  pub slice : Option (List ℕ)
+  pub stored : IsPieceStored s.inner exact s.elements (s.subchunk, cells_put new_cells k before) slice
+  pub has : HasSlice new.contents (get_or new.pairs k absent_pair) slice
+
+-- new cells were put at the places that are asked for: of the array's table, and of the shard subchunk by subchunk
+pub record IsPutInto (s : ShardOf) (exact one : Bool) (asked : Asked) (payload : Payload) (cells : List Cell) (old new : Held) : Type 0 where
+  pub given : IsGiven s.elements s.shape asked payload cells
+  pub is : IsWritten s exact one (put_of s asked cells) old new
+  -- the table has the new cells at these places, and its other ones elsewhere
+  pub table : is_lossless (chain_of s) s.elements.type ≡ true → table_of s new ≡ put (numbers_asked s.shape asked) (map (λ cell. Some (cell ∷ [])) cells) (table_of s old)
+  -- what stood for a table stands for the new one
+  pub encoded : IsEncodedInto (chain_of s) exact s.elements s.shape asked payload cells old.contents new.contents
+  pub met : (k : ℕ) → IsMet (put_of s asked cells) k → IsPut s exact (put_of s asked cells) old new k
+  pub others : (k : ℕ) → k < length old.pairs → ¬ IsMet (put_of s asked cells) k → IsKept old new k
+  pub told : is_lossless s.index uint64 ≡ true → IsTold s new
+
+-- ---- why nothing is written
+
+-- the index of the pairs after the changes is refused
+pub record IsIndexRefused (refuses : Chain → Elements → List ℕ → List Cell → Type 0) (s : ShardOf) (exact : Bool) (new_cells : Put) (held : Held) : Type 0 where
+  pub changes : List Change
+  pub changed : AreChanged (stored_of s exact held) new_cells changes
+  pub is : refuses s.index (zero_filled uint64) (index_shape s.shape s.subchunk) (pair_cells (pairs_after held.end changes held.pairs))
+
+-- the shard would have 2^63 bytes or more
+pub record IsTooLong (s : ShardOf) (exact : Bool) (new_cells : Put) (held : Held) : Type 0 where
+  pub changes : List Change
+  pub changed : AreChanged (stored_of s exact held) new_cells changes
+  pub is : 2 ^ 63 ≤ shard_length s.location (index_length s) (held.end + length (appended changes))
+
+-- why valid elements are not put: the slice of a subchunk that is met isn't decoded, a codec refuses, or something would be too large
+abbrev pub NotWritten : ShardOf → Bool → Put → Held → CodecError → Type 0
+NotWritten s exact new_cells held error.Damage = IsLostAt (stored_of s exact held) new_cells.subchunk
+NotWritten s exact new_cells held error.Codec = IsRefusedAt CodecRefuses (stored_of s exact held) new_cells ⊎ IsIndexRefused CodecRefuses s exact new_cells held
+NotWritten s exact new_cells held error.Size =
+    (IsTooLarge s.elements.type (product s.subchunk) ⊎ IsRefusedAt PassesIndex (stored_of s exact held) new_cells)
+    ⊎ (IsIndexRefused PassesIndex s exact new_cells held ⊎ IsTooLong s exact new_cells held)
+NotWritten s exact new_cells held error.Source = Unit {0}
+NotWritten s exact new_cells held error.Memory = Unit {0}
+NotWritten s exact new_cells held e = ⊥
+
+-- why new cells are not put at the places that are asked for
+abbrev pub NotPutInto : ShardOf → Bool → Asked → Payload → Held → CodecError → Type 0
+NotPutInto s exact asked payload held e = NotGiven s.elements s.shape asked payload e ⊎ ((cells : List Cell) × IsGiven s.elements s.shape asked payload cells × NotWritten s exact (put_of s asked cells) held e)

@@ -1,0 +1,34 @@
+-- What the state of `src/` stands for.
+use Rattle.std.specs.Prelude.{ℕ, List, Option}
+use Rattle.zarr_codecs_meaning.specs.Chains.{Chain}
+use Rattle.zarr_codecs_meaning.specs.Encoding.{Pair}
+use Rattle.zarr_codecs_arrays.specs.Views.{elements_of}
+use Rattle.zarr_codecs_traits.specs.declared.array_to_bytes.ArrayToBytesCodecTraits as codec
+use Rattle.zarr_codecs_traits.specs.declared.byte_source.BytesPartialDecoderTraits as source
+use Rattle.zarr_codecs_traits.specs.declared.byte_target.BytesPartialEncoderTraits as target
+use Rattle.zarr_sharding_codec.specs.declared.codec.ShardingCodec.{ShardingCodec}
+use Rattle.zarr_sharding_decoder.specs.Shards.{ShardOf}
+use Rattle.zarr_sharding_decoder.specs.Views.{shard_in}
+use Rattle.zarr_sharding_state.specs.States.{end_of, pairs_in}
+use Rattle.zarr_sharding_cells.specs.Tables.{Held, held_as}
+use Rattle.zarr_sharding_cells.specs.declared.state.ShardState.{ShardState}
+
+-- the codec of the shard
+abbrev pub codec_of : {I X E : Type 0} {i : codec.Ghosts I} {x : codec.Ghosts X} {e : target.Ghosts E} {d : source.Ghosts E} → ShardState I X E i x e d → ShardingCodec I X i x
+codec_of state = state.codec.now
+
+-- the shard
+abbrev pub shard_of : {I X E : Type 0} {i : codec.Ghosts I} {x : codec.Ghosts X} {e : target.Ghosts E} {d : source.Ghosts E} → (I → Chain) → (X → Chain) → ShardState I X E i x e d → ShardOf
+shard_of inner index state = shard_in inner index state.codec.now (elements_of state.elements.now) state.shape.now
+
+-- its source
+abbrev pub source_of : {I X E : Type 0} {i : codec.Ghosts I} {x : codec.Ghosts X} {e : target.Ghosts E} {d : source.Ghosts E} → ShardState I X E i x e d → E
+source_of state = state.source
+
+-- what is known of the shard: the pairs of its index, and where its data part ends
+abbrev pub known_of : {I X E : Type 0} {i : codec.Ghosts I} {x : codec.Ghosts X} {e : target.Ghosts E} {d : source.Ghosts E} → ShardState I X E i x e d → List Pair × ℕ
+known_of state = (pairs_in state.known, end_of state.known)
+
+-- what the source holds, and what is known of it
+abbrev pub held_of : {I X E : Type 0} {i : codec.Ghosts I} {x : codec.Ghosts X} {e : target.Ghosts E} {d : source.Ghosts E} → (E → Option (List ℕ)) → ShardState I X E i x e d → Held
+held_of contents state = held_as (contents state.source) (pairs_in state.known) (end_of state.known)

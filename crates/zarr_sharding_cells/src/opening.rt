@@ -1,0 +1,143 @@
+//! The shard that a source holds, opened for writing.
+ghost use Rattle.std.specs.Prelude.{◌≡◌, ◌*◌, ◌<◌, ◌^◌, ℕ, length, true, IfErr, IfOk, IsTrue};
+ghost use Rattle.zarr_codecs_arrays.specs.Views.{elements_of};
+ghost use Rattle.zarr_codecs_meaning.specs.Encoding.{index_size};
+ghost use Rattle.zarr_codecs_meaning.specs.Fits.{fits};
+ghost use Rattle.zarr_codecs_meaning.specs.Places.{index_shape};
+ghost use Rattle.zarr_codecs_traits.specs.Sources.{refused_after};
+ghost use Rattle.zarr_grids_boxes.specs.Boxes.{product};
+ghost use Rattle.zarr_sharding_cells.specs.Opening.{NotOpened};
+ghost use Rattle.zarr_sharding_cells.specs.Tables.{IsTold, held_as};
+ghost use Rattle.zarr_sharding_codec.specs.Views.{index_of, shard_chain, subchunk_of};
+ghost use Rattle.zarr_sharding_decoder.specs.Views.{shard_in};
+ghost use Rattle.zarr_sharding_state.specs.States.{end_of, pairs_in};
+
+use crate::state::ShardState;
+use std::alloc::Global;
+use zarr_codecs_arrays::CodecError;
+use zarr_codecs_options::CodecOptions;
+use zarr_codecs_traits::{
+    ArrayToBytesCodecTraits, BytesPartialDecoderTraits, BytesPartialEncoderTraits, WholeArray,
+};
+use zarr_grids_boxes::walk::count_places;
+use zarr_sharding_codec::ShardingCodec;
+use zarr_sharding_index::IndexLayout;
+use zarr_sharding_index::shapes::index_shape;
+use zarr_sharding_state::KnownShard;
+
+/// What is known of a shard, and the shape and the size of its index.
+#[derive(Drop)]
+struct OpenedShard {
+    known: KnownShard,
+    pairs_shape: Vec<u64>,
+    size: u64,
+}
+
+impl<
+    'a,
+    I: ArrayToBytesCodecTraits,
+    X: ArrayToBytesCodecTraits,
+    E: BytesPartialEncoderTraits,
+> ShardState<'a, I, X, E> {
+    ghost use Rattle.std.specs.Prelude.{◌≡◌, IfErr, IfOk, IsTrue};
+    ghost use Rattle.zarr_codecs_arrays.specs.Views.{elements_of};
+    ghost use Rattle.zarr_sharding_cells.specs.Opening.{NotOpened, refused_by};
+    ghost use Rattle.zarr_sharding_cells.specs.Tables.{IsTold};
+    ghost use Rattle.zarr_sharding_cells.specs.Views.{codec_of, held_of, shard_of, source_of};
+    ghost use Rattle.zarr_sharding_decoder.specs.Views.{shard_in};
+
+    /// The shard of an array that a source holds, or none; of the value the index alone is read, and
+    /// nothing is written. An error comes with the source: `Fit` where the codec doesn't suit the
+    /// array; `Damage` where the value has fewer bytes than its index, no index is decoded from
+    /// these, or a present pair lies outside the data part; `Size` where the array has 2^63 elements
+    /// or more, or the value as many bytes; `Source` where the source refuses.
+    pub fn open(
+        alloc: Global,
+        codec: &'a ShardingCodec<I, X>,
+        source: E,
+        array: WholeArray<'a>,
+        options: &CodecOptions,
+    ) -> Result<ShardState<'a, I, X, E>, (E, CodecError)>
+        ensures shard { IfOk result (λ state. shard_of I.meaning X.meaning state ≡ shard_in
+            I.meaning X.meaning codec.now (elements_of array.entry.elements.now)
+            array.entry.shape.now) }
+        ensures codec { IfOk result (λ state. codec_of state ≡ codec.now) }
+        ensures told { IsTrue (E.is_honest source) → IfOk result (λ state. IsTold
+            (shard_of I.meaning X.meaning state) (held_of E.contents state)) }
+        ensures follows { IfOk result (λ state. E.follows source (source_of state)) }
+        ensures given_back { IfErr result (λ refused. E.follows source refused.0) }
+        ensures cause { IsTrue (E.is_honest source) → IfErr result (λ refused. NotOpened
+            (shard_in I.meaning X.meaning codec.now (elements_of array.entry.elements.now)
+            array.entry.shape.now) (E.contents source) refused.1) }
+        ensures unrefused { IfOk result
+            (λ state. E.refused_calls (source_of state) ≡ E.refused_calls source) }
+        ensures refused { IfErr result (λ refused. E.refused_calls refused.0
+            ≡ refused_by (E.refused_calls source) refused.1) }
+    {
+        let mut source = source;
+        match open_shard(alloc, codec, &mut source, array, options) {
+            Ok(opened) => Ok(ShardState {
+                codec,
+                elements: array.elements,
+                shape: array.shape,
+                source,
+                known: opened.known,
+                pairs_shape: opened.pairs_shape,
+                size: opened.size,
+            }),
+            Err(error) => Err((source, error)),
+        }
+    }
+}
+
+/// What is known of the shard of an array that a source holds. Errors as those of `open`.
+fn open_shard<I: ArrayToBytesCodecTraits, X: ArrayToBytesCodecTraits, D: BytesPartialDecoderTraits>(
+    alloc: Global,
+    codec: &ShardingCodec<I, X>,
+    source: &mut D,
+    array: WholeArray<'_>,
+    options: &CodecOptions,
+) -> Result<OpenedShard, CodecError>
+    ensures fit { IfOk result (λ _. fits (shard_chain I.meaning X.meaning codec.now)
+        (elements_of array.entry.elements.now).type array.entry.shape.now ≡ true) }
+    ensures small { IfOk result (λ _. product array.entry.shape.now < 2 ^ 63) }
+    ensures cut { IfOk result (λ opened. opened.pairs_shape.items
+        ≡ index_shape array.entry.shape.now (subchunk_of codec.now)) }
+    ensures sized { IfOk result (λ opened. opened.size
+        ≡ index_size (X.meaning (index_of codec.now)) opened.pairs_shape.items) }
+    ensures low { IfOk result (λ opened. opened.size < 2 ^ 63) }
+    ensures many { IfOk result (λ opened. product opened.pairs_shape.items
+        ≡ 2 * length (pairs_in opened.known)) }
+    ensures told { IsTrue (D.is_honest source.old) → IfOk result (λ opened. IsTold
+        (shard_in I.meaning X.meaning codec.now (elements_of array.entry.elements.now)
+        array.entry.shape.now)
+        (held_as (D.contents source.old) (pairs_in opened.known) (end_of opened.known))) }
+    ensures cause { IsTrue (D.is_honest source.old) → IfErr result (NotOpened
+        (shard_in I.meaning X.meaning codec.now (elements_of array.entry.elements.now)
+        array.entry.shape.now) (D.contents source.old)) }
+    ensures refused { D.refused_calls source.new ≡
+        refused_after (D.refused_calls source.old) result }
+    ensures follows { D.follows source.old source.new }
+{
+    let shape = array.shape;
+    let Some(size) = codec.suited(alloc, array.elements.data_type(), shape)? else {
+        return Err(CodecError::Fit);
+    };
+    if count_places(shape).is_none() {
+        return Err(CodecError::Size);
+    }
+    let pairs_shape = index_shape(alloc, shape, codec.subchunk_shape())?;
+    let layout = IndexLayout {
+        location: codec.index_location(),
+        shape: pairs_shape.as_slice(),
+        size,
+    };
+    match KnownShard::open(alloc, source, codec.index_codecs(), layout, options) {
+        Ok(known) => Ok(OpenedShard {
+            known,
+            pairs_shape,
+            size,
+        }),
+        Err(error) => Err(error),
+    }
+}

@@ -1,0 +1,183 @@
+//! Parts of an array written into its shard.
+use crate::given::test_given;
+use crate::state::ShardState;
+use std::alloc::Global;
+use zarr_codecs_arrays::{ArrayBytes, CodecError};
+use zarr_codecs_options::CodecOptions;
+use zarr_codecs_traits::{ArrayToBytesCodecTraits, BytesPartialEncoderTraits, Indexer, WholeArray};
+use zarr_sharding_codec::{NumberedElements, ShardInSource};
+use zarr_sharding_index::IndexLayout;
+
+impl<
+    'a,
+    I: ArrayToBytesCodecTraits,
+    X: ArrayToBytesCodecTraits,
+    E: BytesPartialEncoderTraits,
+> ShardState<'a, I, X, E> {
+    ghost use Rattle.std.specs.Prelude.{◌≡◌, List, length, nat_lt, true, IfErr, IsTrue, OnErr, OnOk};
+    ghost use Rattle.std.specs.List.{list_all};
+    ghost use Rattle.zarr_codecs_arrays.specs.Outcomes.{IsValid};
+    ghost use Rattle.zarr_codecs_arrays.specs.Views.{payload_of};
+    ghost use Rattle.zarr_codecs_meaning.specs.Types.{Cell};
+    ghost use Rattle.zarr_codecs_traits.specs.Indexers.{asked_of};
+    ghost use Rattle.zarr_codecs_traits.specs.Sources.{refused_after};
+    ghost use Rattle.zarr_codecs_traits.specs.Writes.{WriteRefused, accepted_after};
+    ghost use Rattle.zarr_grids_boxes.specs.Boxes.{product};
+    ghost use Rattle.zarr_sharding_cells.specs.Puts.{IsPutInto, IsWritten, NotPutInto, NotWritten};
+    ghost use Rattle.zarr_sharding_cells.specs.Tables.{IsErased, IsTold};
+    ghost use Rattle.zarr_sharding_cells.specs.Views.{codec_of, held_of, known_of, shard_of, source_of};
+    ghost use Rattle.zarr_sharding_codec.specs.PartWriting.{put_at};
+    ghost use Rattle.zarr_sharding_codec.specs.Views.{index_of, inner_of};
+
+    /// Puts elements in the place of those at the places that are asked for, in their order; of a
+    /// place that is asked for twice the last element stays. Each subchunk that is met is decoded,
+    /// changed, and encoded anew and whole; the new slices are appended to the data part, and go out
+    /// together with the index in one writing call. A subchunk that became all fill becomes absent,
+    /// and where none is present then, the value is taken away. All other subchunks keep their slices
+    /// where they stand. An `Err` leaves what the source holds and what is known of it as they were:
+    /// `IncompatibleIndexer` where a place isn't one of the array's; `InvalidNumberOfElements`,
+    /// `Expected..` or `CellOutOfRange` where these are not elements, one for each place; `Damage`
+    /// where the slice of a subchunk that is met isn't decoded; `Codec` where a caller's codec
+    /// refuses a new slice or the new index; `Size` where a subchunk, an offset or a length is too
+    /// large, or the shard would have 2^63 bytes or more; `Source` where the source refuses.
+    pub fn partial_encode(
+        &mut self,
+        alloc: Global,
+        indexer: Indexer<'_>,
+        bytes: ArrayBytes,
+        options: &CodecOptions,
+    ) -> Result<(), CodecError>
+        ensures ok { IsTrue (E.is_honest (source_of self.old)) → IsTold
+            (shard_of I.meaning X.meaning self.old) (held_of E.contents self.old) → OnOk result
+            ((cells : List Cell) × IsPutInto (shard_of I.meaning X.meaning self.old)
+            (I.is_function (inner_of (codec_of self.old)))
+            (X.is_function (index_of (codec_of self.old))) (asked_of indexer.entry)
+            (payload_of bytes) cells (held_of E.contents self.old) (held_of E.contents self.new)) }
+        ensures err { IsTrue (E.is_honest (source_of self.old)) →
+            OnErr result (held_of E.contents self.new ≡ held_of E.contents self.old) }
+        ensures same { OnErr result (known_of self.new ≡ known_of self.old) }
+        ensures cause { IsTrue (E.is_honest (source_of self.old)) → IsTold
+            (shard_of I.meaning X.meaning self.old) (held_of E.contents self.old) → IfErr result
+            (NotPutInto (shard_of I.meaning X.meaning self.old)
+            (I.is_function (inner_of (codec_of self.old))) (asked_of indexer.entry)
+            (payload_of bytes) (held_of E.contents self.old)) }
+        ensures refused { E.refused_calls (source_of self.new) ≡
+            refused_after (E.refused_calls (source_of self.old)) result }
+        ensures accepted { E.accepted_writes (source_of self.new) ≡
+            accepted_after (E.accepted_writes (source_of self.old)) result }
+        ensures rewrites { E.rewrites (source_of self.old) (source_of self.new) }
+        ensures codec { codec_of self.new ≡ codec_of self.old }
+        ensures shard { shard_of I.meaning X.meaning self.new
+            ≡ shard_of I.meaning X.meaning self.old }
+    {
+        let array = WholeArray {
+            elements: self.elements,
+            shape: self.shape,
+        };
+        match test_given(alloc, array, indexer, &bytes) {
+            Ok(numbers) => self.put_numbers(alloc, numbers.as_slice(), &bytes, options),
+            Err(error) => Err(error),
+        }
+    }
+
+    /// Puts elements at the places with these numbers. Errors as those of `partial_encode`.
+    fn put_numbers(
+        &mut self,
+        alloc: Global,
+        numbers: &[u64],
+        bytes: &ArrayBytes,
+        options: &CodecOptions,
+    ) -> Result<(), CodecError>
+        requires { list_all (λ n. nat_lt n
+            (product (shard_of I.meaning X.meaning self.old).shape)) numbers.now ≡ true }
+        ensures ok { IsTrue (E.is_honest (source_of self.old)) → IsTold
+            (shard_of I.meaning X.meaning self.old) (held_of E.contents self.old)
+            → (cells : List Cell)
+            → IsValid (shard_of I.meaning X.meaning self.old).elements.type (payload_of bytes.now)
+            (length numbers.now) cells → OnOk result
+            (IsWritten (shard_of I.meaning X.meaning self.old)
+            (I.is_function (inner_of (codec_of self.old)))
+            (X.is_function (index_of (codec_of self.old)))
+            (put_at (shard_of I.meaning X.meaning self.old).shape
+            (shard_of I.meaning X.meaning self.old).subchunk numbers.now cells)
+            (held_of E.contents self.old) (held_of E.contents self.new)) }
+        ensures err { IsTrue (E.is_honest (source_of self.old)) →
+            OnErr result (held_of E.contents self.new ≡ held_of E.contents self.old) }
+        ensures same { OnErr result (known_of self.new ≡ known_of self.old) }
+        ensures cause { IsTrue (E.is_honest (source_of self.old)) → IsTold
+            (shard_of I.meaning X.meaning self.old) (held_of E.contents self.old)
+            → (cells : List Cell)
+            → IsValid (shard_of I.meaning X.meaning self.old).elements.type (payload_of bytes.now)
+            (length numbers.now) cells → IfErr result
+            (NotWritten (shard_of I.meaning X.meaning self.old)
+            (I.is_function (inner_of (codec_of self.old)))
+            (put_at (shard_of I.meaning X.meaning self.old).shape
+            (shard_of I.meaning X.meaning self.old).subchunk numbers.now cells)
+            (held_of E.contents self.old)) }
+        ensures refused { E.refused_calls (source_of self.new) ≡
+            refused_after (E.refused_calls (source_of self.old)) result }
+        ensures accepted { E.accepted_writes (source_of self.new) ≡
+            accepted_after (E.accepted_writes (source_of self.old)) result }
+        ensures rewrites { E.rewrites (source_of self.old) (source_of self.new) }
+        ensures codec { codec_of self.new ≡ codec_of self.old }
+        ensures shard { shard_of I.meaning X.meaning self.new
+            ≡ shard_of I.meaning X.meaning self.old }
+    {
+        let layout = IndexLayout {
+            location: self.codec.index_location(),
+            shape: self.pairs_shape.as_slice(),
+            size: self.size,
+        };
+        let shard = ShardInSource {
+            known: &self.known,
+            layout,
+            elements: self.elements,
+        };
+        let given = NumberedElements {
+            shape: self.shape,
+            numbers,
+            bytes,
+        };
+        match self
+            .codec
+            .update_slices(alloc, &mut self.source, shard, given, options)
+        {
+            Ok(changes) => self.known.write_slices(
+                alloc,
+                &mut self.source,
+                self.codec.index_codecs(),
+                layout,
+                &changes,
+                options,
+            ),
+            Err(error) => Err(error),
+        }
+    }
+
+    /// Takes the shard away, so that all elements are the fill value, by one writing call. An `Err`
+    /// leaves what the source holds and what is known of it as they were: `Source` where the source
+    /// refuses.
+    pub fn erase(&mut self, alloc: Global) -> Result<(), CodecError>
+        ensures ok { IsTrue (E.is_honest (source_of self.old)) → OnOk result (IsErased
+            (shard_of I.meaning X.meaning self.old) (held_of E.contents self.new)) }
+        ensures err { IsTrue (E.is_honest (source_of self.old)) →
+            OnErr result (held_of E.contents self.new ≡ held_of E.contents self.old) }
+        ensures same { OnErr result (known_of self.new ≡ known_of self.old) }
+        ensures cause { WriteRefused result }
+        ensures refused { E.refused_calls (source_of self.new) ≡
+            refused_after (E.refused_calls (source_of self.old)) result }
+        ensures accepted { E.accepted_writes (source_of self.new) ≡
+            accepted_after (E.accepted_writes (source_of self.old)) result }
+        ensures rewrites { E.rewrites (source_of self.old) (source_of self.new) }
+        ensures codec { codec_of self.new ≡ codec_of self.old }
+        ensures shard { shard_of I.meaning X.meaning self.new
+            ≡ shard_of I.meaning X.meaning self.old }
+    {
+        let layout = IndexLayout {
+            location: self.codec.index_location(),
+            shape: self.pairs_shape.as_slice(),
+            size: self.size,
+        };
+        self.known.erase(alloc, &mut self.source, layout)
+    }
+}

@@ -1,0 +1,4 @@
+pub mod Metadata
+pub mod WorkedMetadata
+pub mod Nesting
+pub mod Laws
