@@ -4,18 +4,18 @@ use crate::chains::chain_in;
 use crate::elements::{given_in, json};
 use crate::raw::raw;
 use crate::types::elements_in;
-use crate::words::{bytes_in, cut, digits, numbers_in, refused};
+use crate::words::{bytes_in, cut, digits, numbers_in, refused, word};
 use anyhow::Result;
 use std::alloc::Global;
 use zarr_codecs_arrays::Elements;
-use zarr_codecs_chains::CodecChain;
 use zarr_codecs_options::CodecOptions;
 use zarr_codecs_traits::ArrayToBytesCodecTraits;
+use zarr_sharding_arrays::ArrayChain;
 
 /// A chain, and an array that it may encode.
 #[derive(Drop)]
 pub(crate) struct Array {
-    pub chain: CodecChain<TestCodec>,
+    pub chain: ArrayChain<TestCodec>,
     pub elements: Elements,
     pub shape: Vec<u64>,
 }
@@ -26,6 +26,7 @@ pub(crate) fn answer(alloc: Global, name: &str, rest: &str) -> Result<Option<Str
         "encode" => Ok(Some(encode(alloc, rest)?)),
         "decode" => Ok(Some(decode(alloc, rest, false)?)),
         "decode_raw" => Ok(Some(decode(alloc, rest, true)?)),
+        "compact" => Ok(Some(compact(alloc, rest)?)),
         _ => Ok(None),
     }
 }
@@ -69,6 +70,21 @@ fn decode(alloc: Global, rest: &str, is_raw: bool) -> Result<String> {
     {
         Ok(cells) if is_raw => raw(alloc, &cells),
         Ok(cells) => json(alloc, array.elements.data_type(), &cells),
+        Err(error) => refused(alloc, &error),
+    }
+}
+
+/// The value with what it holds of shards written anew, or `none` where nothing is gained.
+fn compact(alloc: Global, rest: &str) -> Result<String> {
+    let (array, value) = array_in(alloc, rest)?;
+    let value = bytes_in(alloc, value)?;
+    let (shape, options) = (array.shape.as_slice(), CodecOptions::default());
+    match array
+        .chain
+        .compact(alloc, value.as_slice(), &array.elements, shape, &options)
+    {
+        Ok(Some(compacted)) => digits(alloc, compacted.as_slice()),
+        Ok(None) => word(alloc, "none"),
         Err(error) => refused(alloc, &error),
     }
 }

@@ -5,8 +5,10 @@ use crate::words::{cut, metadata_in, metadatas_in, numbers, numbers_in, refused,
 use anyhow::Result;
 use std::alloc::Global;
 use zarr_codecs_array_to_array::ArrayToArrayCodec;
-use zarr_codecs_chains::CodecChain;
 use zarr_codecs_traits::{ArrayToArrayCodecTraits, ArrayToBytesCodecTraits};
+use zarr_codecs_types::DataType;
+use zarr_grids_metadata::MetadataV3;
+use zarr_sharding_arrays::ArrayChain;
 
 /// What a call of chains gives.
 pub(crate) fn answer(alloc: Global, name: &str, rest: &str) -> Result<Option<String>> {
@@ -17,30 +19,30 @@ pub(crate) fn answer(alloc: Global, name: &str, rest: &str) -> Result<Option<Str
         "parts" => Ok(Some(by_parts(alloc, rest)?)),
         "unread" => Ok(Some(unread(alloc, rest)?)),
         "shape" => Ok(Some(new_shape(alloc, rest)?)),
+        "shape_before" => Ok(Some(old_shape(alloc, rest)?)),
         _ => Ok(None),
     }
 }
 
 /// The chain of a JSON list of codecs.
-pub(crate) fn chain_in(alloc: Global, text: &str) -> Result<CodecChain<TestCodec>> {
+pub(crate) fn chain_in(alloc: Global, text: &str) -> Result<ArrayChain<TestCodec>> {
     let metadatas = metadatas_in(alloc, text)?;
-    Ok(CodecChain::from_metadata(alloc, metadatas.as_slice())?)
+    Ok(ArrayChain::from_metadata(alloc, metadatas.as_slice())?)
 }
 
 /// The metadata of a chain, as one text for each codec.
 fn written(alloc: Global, rest: &str) -> Result<String> {
     let metadatas = metadatas_in(alloc, rest)?;
-    match CodecChain::<TestCodec>::from_metadata(alloc, metadatas.as_slice()) {
-        Ok(chain) => texts(alloc, &chain),
+    match ArrayChain::<TestCodec>::from_metadata(alloc, metadatas.as_slice()) {
+        Ok(chain) => texts(alloc, chain.create_metadatas(alloc)?.as_slice()),
         Err(error) => refused(alloc, &error),
     }
 }
 
 /// The metadata of each codec of a chain.
-pub(crate) fn texts(alloc: Global, chain: &CodecChain<TestCodec>) -> Result<String> {
-    let metadatas = chain.create_metadatas(alloc)?;
+pub(crate) fn texts(alloc: Global, metadatas: &[MetadataV3]) -> Result<String> {
     let mut all = String::new(alloc);
-    for metadata in &metadatas {
+    for metadata in metadatas {
         if !all.is_empty() {
             all.push_str(" ")?;
         }
@@ -49,25 +51,44 @@ pub(crate) fn texts(alloc: Global, chain: &CodecChain<TestCodec>) -> Result<Stri
     Ok(all)
 }
 
-/// Whether a chain fits arrays of a type and a shape.
-fn fits(alloc: Global, rest: &str) -> Result<String> {
-    let (codecs, rest) = cut(rest)?;
-    let (data_type, shape) = cut(rest)?;
-    let shape = numbers_in(alloc, shape)?;
-    let chain = chain_in(alloc, codecs)?;
-    truth(
-        alloc,
-        chain.fits(alloc, &type_in(alloc, data_type)?, shape.as_slice())?,
-    )
+/// A chain, and arrays of which it is asked.
+#[derive(Drop)]
+struct Asked {
+    chain: ArrayChain<TestCodec>,
+    data_type: DataType,
+    shape: Vec<u64>,
 }
 
-/// What a chain tells of the size of the value of an array.
-fn size(alloc: Global, rest: &str) -> Result<String> {
+/// The chain, the type and the shape of three arguments.
+fn asked_in(alloc: Global, rest: &str) -> Result<Asked> {
     let (codecs, rest) = cut(rest)?;
     let (data_type, shape) = cut(rest)?;
     let shape = numbers_in(alloc, shape)?;
     let data_type = type_in(alloc, data_type)?;
-    match chain_in(alloc, codecs)?.encoded_representation(alloc, &data_type, shape.as_slice()) {
+    Ok(Asked {
+        chain: chain_in(alloc, codecs)?,
+        data_type,
+        shape,
+    })
+}
+
+/// Whether a chain fits arrays of a type and a shape.
+fn fits(alloc: Global, rest: &str) -> Result<String> {
+    let asked = asked_in(alloc, rest)?;
+    let fit = asked
+        .chain
+        .fits(alloc, &asked.data_type, asked.shape.as_slice())?;
+    truth(alloc, fit)
+}
+
+/// What a chain tells of the size of the value of an array.
+fn size(alloc: Global, rest: &str) -> Result<String> {
+    let asked = asked_in(alloc, rest)?;
+    let shape = asked.shape.as_slice();
+    match asked
+        .chain
+        .encoded_representation(alloc, &asked.data_type, shape)
+    {
         Ok(told) => Ok(format!(in alloc; "{told:?}")?),
         Err(error) => refused(alloc, &error),
     }
@@ -101,6 +122,21 @@ fn new_shape(alloc: Global, rest: &str) -> Result<String> {
     let metadata = metadata_in(alloc, codec)?;
     match ArrayToArrayCodec::from_metadata(alloc, &metadata) {
         Ok(codec) => encoded_shape(alloc, &codec, shape.as_slice()),
+        Err(error) => refused(alloc, &error),
+    }
+}
+
+/// The shape that a codec between arrays gives another one to.
+fn old_shape(alloc: Global, rest: &str) -> Result<String> {
+    let (codec, shape) = cut(rest)?;
+    let shape = numbers_in(alloc, shape)?;
+    let metadata = metadata_in(alloc, codec)?;
+    match ArrayToArrayCodec::from_metadata(alloc, &metadata) {
+        Ok(codec) => match codec.decoded_shape(alloc, shape.as_slice()) {
+            Ok(Some(decoded)) => numbers(alloc, decoded.as_slice()),
+            Ok(None) => Ok(String::from_str(alloc, "none")?),
+            Err(error) => refused(alloc, &error),
+        },
         Err(error) => refused(alloc, &error),
     }
 }

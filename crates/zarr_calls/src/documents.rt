@@ -14,7 +14,7 @@ pub(crate) fn answer(alloc: Global, name: &str, rest: &str) -> Result<Option<Str
         "document" => Ok(Some(read(alloc, rest)?)),
         "written" => Ok(Some(written(alloc, rest)?)),
         "document_type" => Ok(Some(data_type(alloc, &document_in(alloc, rest)?)?)),
-        "document_codecs" => Ok(Some(texts(alloc, &document_in(alloc, rest)?.codecs)?)),
+        "document_codecs" => Ok(Some(codecs(alloc, &document_in(alloc, rest)?)?)),
         "document_chunk" => Ok(Some(chunk(alloc, rest)?)),
         "document_chunk_key" => Ok(Some(key(alloc, rest)?)),
         _ => Ok(None),
@@ -24,6 +24,12 @@ pub(crate) fn answer(alloc: Global, name: &str, rest: &str) -> Result<Option<Str
 /// The document of a text.
 fn document_in(alloc: Global, text: &str) -> Result<ArrayDocument<TestCodec>> {
     Ok(read_document(alloc, &Value::from_str(alloc, text)?)?)
+}
+
+/// The metadata of each codec of a document.
+fn codecs(alloc: Global, document: &ArrayDocument<TestCodec>) -> Result<String> {
+    let metadatas = document.codecs.create_metadatas(alloc)?;
+    texts(alloc, metadatas.as_slice())
 }
 
 /// Whether a document is read, or why not.

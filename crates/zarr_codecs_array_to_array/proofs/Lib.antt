@@ -3,3 +3,4 @@ pub mod ReadsBack
 pub mod NewSizes
 pub mod Distances
 pub mod Inverses
+pub mod DecodedShapes

@@ -141,6 +141,18 @@ impl ArrayToArrayCodecTraits for ArrayToArrayCodec {
         }
     }
 
+    fn decoded_shape(
+        &self,
+        alloc: Global,
+        encoded_shape: &[u64],
+    ) -> Result<Option<Vec<u64>>, CodecError> {
+        match self {
+            ArrayToArrayCodec::Transpose(codec) => codec.decoded_shape(alloc, encoded_shape),
+            ArrayToArrayCodec::Reshape(codec) => codec.decoded_shape(alloc, encoded_shape),
+            ArrayToArrayCodec::Squeeze(codec) => codec.decoded_shape(alloc, encoded_shape),
+        }
+    }
+
     fn encode(
         &self,
         alloc: Global,

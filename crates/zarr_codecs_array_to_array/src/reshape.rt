@@ -143,6 +143,10 @@ impl ArrayToArrayCodecTraits for ReshapeCodec {
         }
     }
 
+    fn decoded_shape(&self, _: Global, _: &[u64]) -> Result<Option<Vec<u64>>, CodecError> {
+        Ok(None)
+    }
+
     fn encode(
         &self,
         alloc: Global,

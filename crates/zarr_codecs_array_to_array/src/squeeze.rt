@@ -153,6 +153,10 @@ impl ArrayToArrayCodecTraits for SqueezeCodec {
         Ok(squeezed(alloc, decoded_shape)?)
     }
 
+    fn decoded_shape(&self, _: Global, _: &[u64]) -> Result<Option<Vec<u64>>, CodecError> {
+        Ok(None)
+    }
+
     fn encode(
         &self,
         alloc: Global,

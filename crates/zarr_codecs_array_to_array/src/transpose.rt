@@ -147,6 +147,18 @@ impl ArrayToArrayCodecTraits for TransposeCodec {
         Ok(permuted(alloc, decoded_shape, self.order.as_slice())?)
     }
 
+    fn decoded_shape(
+        &self,
+        alloc: Global,
+        encoded_shape: &[u64],
+    ) -> Result<Option<Vec<u64>>, CodecError> {
+        if !self.fits(encoded_shape) {
+            return Err(CodecError::Fit);
+        }
+        let places = inverse(alloc, self.order.as_slice())?;
+        Ok(Some(permuted(alloc, encoded_shape, &places)?))
+    }
+
     fn encode(
         &self,
         alloc: Global,

@@ -5,7 +5,8 @@ use Rattle.zarr_codecs_meaning.specs.Chains.{ArrayCodec, ByteCodec, Chain}
 use Rattle.zarr_codecs_meaning.specs.Chains.Chain.{then_bytes}
 use Rattle.zarr_codecs_array_to_array.specs.declared.codec.ArrayToArrayCodec.{ArrayToArrayCodec}
 use Rattle.zarr_codecs_metadata.specs.Allowed.{has_no_array_codec, is_allowed}
-use Rattle.zarr_codecs_chains.specs.Views.{chain_between, codecs_of, codec_chain, with_array_codecs, with_codecs}
+use Rattle.zarr_codecs_around.specs.Views.{chain_between, codecs_of, with_array_codecs, with_codecs}
+use Rattle.zarr_codecs_chains.specs.Views.{codec_chain}
 use Rattle.zarr_codecs_chains.specs.declared.array_to_bytes.ArrayToBytesCodec.{ArrayToBytesCodec}
 use Rattle.zarr_codecs_chains.specs.declared.array_to_bytes.ArrayToBytesCodec.TheVariants.{Bytes, PackBits, Vlen', Optional'}
 

@@ -1,14 +1,8 @@
-pub mod Chains
-pub mod PartChains
-pub mod Counts
-pub mod ArrayCodecs
-pub mod AllArrayCodecs
 pub mod VlenDecoding
 pub mod OptionalDecoding
 pub mod VlenEncoding
 pub mod OptionalEncoding
 pub mod ReadsBack
-pub mod Telling
 pub mod PartsOfWhole
 pub mod Told
 pub mod Nested
@@ -17,6 +11,5 @@ pub mod Allowed
 pub mod Taken
 pub mod Names
 pub mod Configured
-pub mod WritingAfter
 pub mod Refused
 pub mod LongIndex

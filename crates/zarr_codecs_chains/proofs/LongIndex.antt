@@ -8,11 +8,12 @@ use Rattle.zarr_codecs_meaning.specs.Fits.{array_codec_fits, entry_fits, fits, i
 use Rattle.zarr_codecs_meaning.specs.Places.{encoded_shape, known_product}
 use Rattle.zarr_codecs_meaning.specs.Types.{DataType, integer, unsigned}
 use Rattle.zarr_codecs_array_to_array.specs.declared.codec.ArrayToArrayCodec.{ArrayToArrayCodec}
-use Rattle.zarr_codecs_chains.specs.Views.{codec_chain, codecs_of, meaning_of, with_array_codecs, with_codecs}
+use Rattle.zarr_codecs_around.specs.Views.{codecs_of, with_array_codecs, with_codecs}
+use Rattle.zarr_codecs_chains.specs.Views.{codec_chain, meaning_of}
 use Rattle.zarr_codecs_chains.specs.declared.array_to_bytes.ArrayToBytesCodec.{ArrayToBytesCodec}
 use Rattle.zarr_codecs_chains.specs.declared.array_to_bytes.ArrayToBytesCodec.TheVariants.{Bytes, PackBits, Vlen', Optional'}
 use Rattle.zarr_codecs_chains.specs.declared.chain.CodecChain.{CodecChain}
-use Rattle.zarr_codecs_chains.proofs.Chains.{fits_with}
+use Rattle.zarr_codecs_around.proofs.Chains.{fits_with}
 
 -- ---- tests that fail whatever the others answer
 

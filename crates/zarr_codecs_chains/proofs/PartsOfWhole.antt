@@ -19,7 +19,7 @@ closed (Some cells) found h = absurd (cc)
 
 none_read : (chain : Chain) (elements : Elements) (shape value ns : List ℕ) → reads_whole chain ≡ true → decoded chain elements shape value ≡ None → part_decoded chain elements shape value ns ≡ None
 none_read (bytes order) elements shape value ns whole h = absurd (cc)
-none_read (packbits padding first last) elements shape value ns whole h = closed (decoded (packbits padding first last) elements shape value) _ h
+none_read (packbits padding first last) elements shape value ns whole h = absurd (cc)
 none_read (vlen index «data» width location) elements shape value ns whole h = closed (decoded (vlen index «data» width location) elements shape value) _ h
 none_read (optional mask values) elements shape value ns whole h = closed (decoded (optional mask values) elements shape value) _ h
 none_read (after_array_codec codec chain) elements shape value ns whole h = absurd (cc)

@@ -16,10 +16,11 @@ use Rattle.zarr_codecs_metadata.specs.PackBits.{packbits_of}
 use Rattle.zarr_codecs_metadata.specs.Sections.{names_vlen, names_optional, vlen_of, optional_of}
 use Rattle.zarr_codecs_metadata.proofs.Levels.{nested}
 use Rattle.zarr_codecs_packbits.specs.Metadata.{packbits_in}
-use Rattle.zarr_codecs_chains.specs.Codecs.{codecs_in}
-use Rattle.zarr_codecs_chains.specs.Reading.{array_codecs_of, leaf_in}
+use Rattle.zarr_codecs_around.specs.Codecs.{codecs_in}
+use Rattle.zarr_codecs_around.specs.ArrayMetadata.{array_codecs_of}
+use Rattle.zarr_codecs_chains.specs.Reading.{leaf_in}
 use Rattle.zarr_codecs_bytes.specs.Views.{order_of, bytes_point}
-use Rattle.zarr_codecs_chains.specs.Views.{codecs_of, with_codecs, with_array_codecs}
+use Rattle.zarr_codecs_around.specs.Views.{codecs_of, with_codecs, with_array_codecs}
 use Rattle.zarr_codecs_bytes.specs.declared.bytes.Endianness.{Endianness}
 use Rattle.zarr_codecs_bytes.specs.declared.bytes.Endianness.TheVariants.{Little, Big}
 

@@ -22,11 +22,12 @@ use Rattle.zarr_codecs_array_to_array.specs.Refusals.{cause_of, names_array_code
 use Rattle.zarr_codecs_array_to_array.specs.Views.{codec_of}
 use Rattle.zarr_codecs_array_to_array.specs.declared.codec.ArrayToArrayCodec.{ArrayToArrayCodec}
 use Rattle.zarr_codecs_configurations.specs.Reading.{VlenPoints, OptionalPoints, vlen_points_in, optional_points_in}
-use Rattle.zarr_codecs_chains.specs.Codecs.{codecs_in}
-use Rattle.zarr_codecs_chains.specs.Reading.{array_codecs_of, leaf_in}
-use Rattle.zarr_codecs_chains.specs.Refusals.{RefusedChain, RefusedCodec, RefusesChain, RefusesCodec, RefusesOptional, RefusesVlen, begins_with_array_codec, is_array_codec_misconfigured, is_configured, lists_in, lists_of_vlen, lists_of_optional, names_array_to_bytes, names_leaf}
+use Rattle.zarr_codecs_around.specs.Codecs.{codecs_in}
+use Rattle.zarr_codecs_around.specs.ArrayMetadata.{array_codecs_of, begins_with_array_codec, is_array_codec_misconfigured}
+use Rattle.zarr_codecs_chains.specs.Reading.{leaf_in}
+use Rattle.zarr_codecs_chains.specs.Refusals.{RefusedChain, RefusedCodec, RefusesChain, RefusesCodec, RefusesOptional, RefusesVlen, is_configured, lists_in, lists_of_vlen, lists_of_optional, names_array_to_bytes, names_leaf}
 use Rattle.zarr_codecs_chains.specs.Refusals as refusals
-use Rattle.zarr_codecs_chains.specs.Views.{codecs_of}
+use Rattle.zarr_codecs_around.specs.Views.{codecs_of}
 
 -- ---- names
 

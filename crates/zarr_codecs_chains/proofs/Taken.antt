@@ -1,47 +1,19 @@
 -- How many bytes of a value are taken at most.
-use Rattle.std.proofs.Common.{◌≡◌, ◌∙◌, ℕ, ◌+◌, ◌≤◌, List, [], ◌∷◌, map, length, refl, arith, true, Option, Some, None}
-use Rattle.zarr_codecs_meaning.specs.Chains.{ArrayCodec, ByteCodec, Chain}
+use Rattle.std.proofs.Common.{◌≡◌, ℕ, ◌+◌, ◌≤◌, List, refl, true, Option}
+use Rattle.zarr_codecs_meaning.specs.Chains.{Chain}
 use Rattle.zarr_codecs_meaning.specs.Chains.Chain.{bytes, packbits, vlen, optional, after_array_codec, then_bytes, sharded}
-use Rattle.zarr_codecs_meaning.specs.Places.{encoded_shape}
 use Rattle.zarr_codecs_meaning.specs.Types.{DataType}
-use Rattle.zarr_codecs_array_to_array.specs.Moving.{moved_numbers}
-use Rattle.zarr_codecs_traits.specs.Indexers.{Asked, numbers_asked}
-use Rattle.zarr_codecs_traits.specs.ReadBytes.{bytes_of_numbers, most_of_numbers, most_read}
+use Rattle.zarr_codecs_traits.specs.Indexers.{Asked}
+use Rattle.zarr_codecs_traits.specs.ReadBytes.{most_read}
 use Rattle.zarr_codecs_traits.specs.Sources.{value_length}
+use Rattle.zarr_codecs_around.proofs.Taken.{all_most}
 use Rattle.zarr_codecs_chains.specs.Selecting.{reads_whole}
-use Rattle.zarr_codecs_chains.specs.Views.{with_codecs}
-
--- a chain of which all of a value is taken takes no more than it has
-all_most : (chain : Chain) (type : DataType) (shape : List ℕ) (contents : Option (List ℕ)) (asked : Asked) (old new : ℕ) → ((ns : List ℕ) (size : ℕ) → bytes_of_numbers chain type shape ns size ≡ size)
-    → new ≤ old + value_length contents → new ≤ old + most_read chain type shape contents asked
-all_most chain type shape None asked old new all h = h
-all_most chain type shape (Some value) asked old new all h =
-    let long : new ≤ old + length value = h in
-    most (bytes_of_numbers chain type shape (numbers_asked shape asked) (length value)) (length value) (all (numbers_asked shape asked) (length value)) long where
-      most : (a n : ℕ) → a ≡ n → new ≤ old + n → new ≤ old + a
-      most a n is long = omega (arith, is, long)
 
 pub whole_most : (chain : Chain) (type : DataType) (shape : List ℕ) (contents : Option (List ℕ)) (asked : Asked) (old new : ℕ) → reads_whole chain ≡ true → new ≤ old + value_length contents → new ≤ old + most_read chain type shape contents asked
 whole_most (bytes order) type shape contents asked old new whole h = absurd (cc)
-whole_most (packbits padding first last) type shape contents asked old new whole h = all_most (packbits padding first last) type shape contents asked old new (λ ns size. refl) h
+whole_most (packbits padding first last) type shape contents asked old new whole h = absurd (cc)
 whole_most (vlen index «data» width location) type shape contents asked old new whole h = all_most (vlen index «data» width location) type shape contents asked old new (λ ns size. refl) h
 whole_most (optional mask values) type shape contents asked old new whole h = all_most (optional mask values) type shape contents asked old new (λ ns size. refl) h
 whole_most (after_array_codec codec chain) type shape contents asked old new whole h = absurd (cc)
 whole_most (then_bytes chain codec) type shape contents asked old new whole h = absurd (cc)
 whole_most (sharded subchunk inner index location) type shape contents asked old new whole h = absurd (cc)
-
--- with the caller's codecs after it, a chain takes all of a value
-all_with : (chain : Chain) (codec : ByteCodec) (codecs : List ByteCodec) (type : DataType) (shape ns : List ℕ) (size : ℕ) → bytes_of_numbers (with_codecs (then_bytes chain codec) codecs) type shape ns size ≡ size
-all_with chain codec [] type shape ns size = refl
-all_with chain codec (next ∷ codecs) type shape ns size = all_with (then_bytes chain codec) next codecs type shape ns size
-
-pub codecs_most : {B : Type 0} (chain : Chain) (meaning : B → ByteCodec) (codecs : List B) (type : DataType) (shape : List ℕ) (contents : Option (List ℕ)) (asked : Asked) (old new : ℕ) → (length codecs ≡ 0 → ⊥) → new ≤ old + value_length contents
-    → new ≤ old + most_read (with_codecs chain (map meaning codecs)) type shape contents asked
-codecs_most chain meaning [] type shape contents asked old new some h = absurd (some refl)
-codecs_most chain meaning (codec ∷ codecs) type shape contents asked old new some h =
-    all_most (with_codecs (then_bytes chain (meaning codec)) (map meaning codecs)) type shape contents asked old new (λ ns size. all_with chain (meaning codec) (map meaning codecs) type shape ns size) h
-
--- array codecs take what the chain after them takes
-pub after_most : (codec : ArrayCodec) (chain : Chain) (type : DataType) (shape : List ℕ) (contents : Option (List ℕ)) (numbers : List ℕ) → most_of_numbers chain type (encoded_shape codec shape) contents (moved_numbers codec shape numbers) ≡ most_of_numbers (after_array_codec codec chain) type shape contents numbers
-after_most codec chain type shape None numbers = refl
-after_most codec chain type shape (Some value) numbers = refl

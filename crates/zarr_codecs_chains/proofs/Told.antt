@@ -15,12 +15,12 @@ use Rattle.zarr_codecs_arrays.specs.declared.error.CodecError.{CodecError}
 use Rattle.zarr_codecs_arrays.specs.declared.error.CodecError.TheVariants as error
 use Rattle.zarr_codecs_traits.specs.Representations.{IsRepresented, RepresentsArray, known_size, tells_too_long}
 use Rattle.zarr_codecs_traits.specs.declared.bytes_representation.BytesRepresentation.{BytesRepresentation}
-use Rattle.zarr_codecs_chains.specs.ArrayCodecs.{EncodesShapes, all_fit, shape_after}
-use Rattle.zarr_codecs_chains.specs.Codecs.{RepresentsAll}
-use Rattle.zarr_codecs_chains.specs.Views.{with_array_codecs, with_codecs}
-use Rattle.zarr_codecs_chains.proofs.AllArrayCodecs.{fits_all}
-use Rattle.zarr_codecs_chains.proofs.ArrayCodecs.{represents_after}
-use Rattle.zarr_codecs_chains.proofs.Telling.{tells_first, tells_with}
+use Rattle.zarr_codecs_around.specs.ArrayCodecs.{EncodesShapes, all_fit, shape_after}
+use Rattle.zarr_codecs_around.specs.Codecs.{RepresentsAll}
+use Rattle.zarr_codecs_around.specs.Views.{with_array_codecs, with_codecs}
+use Rattle.zarr_codecs_around.proofs.AllArrayCodecs.{fits_all}
+use Rattle.zarr_codecs_around.proofs.ArrayCodecs.{represents_after}
+use Rattle.zarr_codecs_around.proofs.Telling.{tells_first, tells_with}
 
 -- what is told of the array after array codecs, is told of the array before
 pub told_before : (codecs : List ArrayCodec) (chain : Chain) (type : DataType) (shape : List ℕ) (r : Result BytesRepresentation CodecError) → all_fit codecs shape ≡ true

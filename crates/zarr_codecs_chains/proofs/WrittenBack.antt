@@ -25,7 +25,8 @@ use Rattle.zarr_codecs_configurations.specs.Reading.{VlenPoints, OptionalPoints}
 use Rattle.zarr_codecs_configurations.specs.Written.{vlen_members, vlen_point, optional_members, optional_point}
 use Rattle.zarr_codecs_configurations.proofs.ReadsBack.{IsWidth, vlen_back, optional_back}
 use Rattle.zarr_codecs_chains.specs.Names.{name_of_optional, name_of_vlen}
-use Rattle.zarr_codecs_chains.specs.Views.{array_points, chain_between, codec_chain, codec_point, codecs_of, meaning_of, points_between, points_of, with_codecs}
+use Rattle.zarr_codecs_around.specs.Views.{array_points, chain_between, codecs_of, points_between, with_codecs}
+use Rattle.zarr_codecs_chains.specs.Views.{codec_chain, codec_point, meaning_of, points_of}
 use Rattle.zarr_codecs_chains.specs.declared.array_to_bytes.ArrayToBytesCodec.{ArrayToBytesCodec}
 use Rattle.zarr_codecs_chains.specs.declared.array_to_bytes.ArrayToBytesCodec.TheVariants.{Bytes, PackBits, Vlen', Optional'}
 use Rattle.zarr_codecs_chains.specs.declared.chain.CodecChain.{CodecChain}

@@ -1,6 +1,4 @@
 pub mod Views
-pub mod Codecs
-pub mod ArrayCodecs
 pub mod Inside
 pub mod Selecting
 pub mod Reading

@@ -1,15 +1,9 @@
 -- Parts of what metadata says.
-use Rattle.std.specs.Prelude.{List, [], ◌∷◌, codes, bytes_eq, if◌then◌else◌, Option, Some, None}
+use Rattle.std.specs.Prelude.{codes, bytes_eq, if◌then◌else◌, Option, None}
 use Rattle.zarr_grids_metadata.specs.ExtensionPoints.{ExtensionPoint, configuration_members}
-use Rattle.zarr_codecs_meaning.specs.Chains.{ArrayCodec, Chain}
-use Rattle.zarr_codecs_metadata.specs.ArrayCodecs.{array_codec_in}
+use Rattle.zarr_codecs_meaning.specs.Chains.{Chain}
 use Rattle.zarr_codecs_metadata.specs.Chains.{bytes_of}
 use Rattle.zarr_codecs_metadata.specs.PackBits.{packbits_of}
-
--- the array to array codecs that extension points begin with
-abbrev pub array_codecs_of : List ExtensionPoint → List ArrayCodec
-array_codecs_of [] = []
-array_codecs_of (point ∷ points) = elim (array_codec_in point) [ Some codec ↦ codec ∷ array_codecs_of points | None ↦ [] ]
 
 -- the array to bytes codec without chains inside of it that an extension point is
 abbrev pub leaf_in : ExtensionPoint → Option Chain

@@ -11,7 +11,7 @@ use Rattle.zarr_codecs_metadata.specs.Chains.{ReadsCodecs, array_to_bytes_in, ch
 use Rattle.zarr_codecs_metadata.specs.Sections.{names_vlen, names_optional}
 use Rattle.zarr_codecs_array_to_array.specs.Refusals.{names_array_codec}
 use Rattle.zarr_codecs_configurations.specs.Reading.{VlenPoints, OptionalPoints, vlen_points_in, optional_points_in}
-use Rattle.zarr_codecs_chains.specs.Codecs.{codecs_in}
+use Rattle.zarr_codecs_around.specs.Codecs.{codecs_in}
 use Rattle.zarr_codecs_chains.specs.Reading.{leaf_in}
 
 -- whether a name is that of a codec between arrays and bytes that holds no chains
@@ -39,16 +39,6 @@ lists_in point =
 -- whether the configuration of a codec between arrays and bytes is one of its name's, whatever the codecs in its lists are
 abbrev pub is_configured : ExtensionPoint → Bool
 is_configured point = is_some (lists_in point) || is_some (leaf_in point)
-
--- whether the first of extension points names a codec between arrays
-abbrev pub begins_with_array_codec : List ExtensionPoint → Bool
-begins_with_array_codec [] = false
-begins_with_array_codec (point ∷ points) = names_array_codec point.name
-
--- whether, after those that say codecs between arrays, an extension point names one whose configuration is not one of its name's
-abbrev pub is_array_codec_misconfigured : List ExtensionPoint → Bool
-is_array_codec_misconfigured [] = false
-is_array_codec_misconfigured (point ∷ points) = elim (array_codec_in point) [ Some codec ↦ is_array_codec_misconfigured points | None ↦ names_array_codec point.name ]
 
 mutual
   -- why extension points are refused as a chain

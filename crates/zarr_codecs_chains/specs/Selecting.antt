@@ -6,7 +6,7 @@ use Rattle.zarr_codecs_meaning.specs.Chains.Chain.{bytes, packbits, vlen, option
 -- whether a chain is a codec of which each place is that of the whole array
 abbrev pub reads_whole : Chain → Bool
 reads_whole (bytes order) = false
-reads_whole (packbits padding first last) = true
+reads_whole (packbits padding first last) = false
 reads_whole (vlen index «data» width location) = true
 reads_whole (optional mask values) = true
 reads_whole (after_array_codec codec chain) = false

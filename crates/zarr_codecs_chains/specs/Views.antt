@@ -1,15 +1,13 @@
 -- What the codecs and the chains of `src/` stand for.
-use Rattle.std.specs.Prelude.{◌≡◌, ℕ, List, [], ◌∷◌, ◌++◌, map, true, refl}
+use Rattle.std.specs.Prelude.{◌≡◌, List, ◌∷◌, ◌++◌, map, true, refl}
 use Rattle.std.proofs.Common.{◌∙◌}
 use Rattle.zarr_grids_metadata.specs.ExtensionPoints.{ExtensionPoint}
 use Rattle.zarr_codecs_meaning.specs.Chains as chains
-use Rattle.zarr_codecs_meaning.specs.Chains.{ArrayCodec, ByteCodec, Chain}
+use Rattle.zarr_codecs_meaning.specs.Chains.{ByteCodec, Chain}
 use Rattle.zarr_codecs_meaning.specs.Fits.{is_plain}
 use Rattle.zarr_codecs_meaning.specs.Laws.{IsLawful, IsLawfulChain}
 use Rattle.zarr_codecs_bytes.specs.Views.{bytes_chain, bytes_point}
-use Rattle.zarr_codecs_array_to_array.specs.Views.{codec_of}
-use Rattle.zarr_codecs_array_to_array.specs.Names.{written_codec}
-use Rattle.zarr_codecs_array_to_array.specs.declared.codec.ArrayToArrayCodec.{ArrayToArrayCodec}
+use Rattle.zarr_codecs_around.specs.Views.{array_points, chain_between, codecs_of, lawful_after, lawful_between, lawful_with, plain_before, plain_with, points_between, with_array_codecs, with_codecs}
 use Rattle.zarr_codecs_packbits.specs.Metadata.{packbits_point}
 use Rattle.zarr_codecs_packbits.specs.Views.{packbits_chain}
 use Rattle.zarr_codecs_chains.specs.Names.{name_of_vlen, name_of_optional}
@@ -22,24 +20,6 @@ use Rattle.zarr_codecs_chains.specs.declared.vlen.VlenCodec.{VlenCodec}
 use Rattle.zarr_codecs_chains.specs.declared.optional.OptionalCodec.{OptionalCodec}
 use Rattle.zarr_codecs_chains.specs.declared.bytes_chain.BytesChain.{BytesChain}
 use Rattle.zarr_codecs_chains.specs.declared.chain.CodecChain.{CodecChain}
-
--- a chain, and after it bytes codecs in their order
-abbrev pub with_codecs : Chain → List ByteCodec → Chain
-with_codecs chain [] = chain
-with_codecs chain (codec ∷ codecs) = with_codecs (chains.Chain.then_bytes chain codec) codecs
-
--- array codecs in their order, and after them a chain
-abbrev pub with_array_codecs : List ArrayCodec → Chain → Chain
-with_array_codecs [] chain = chain
-with_array_codecs (codec ∷ codecs) chain = chains.Chain.after_array_codec codec (with_array_codecs codecs chain)
-
--- what array codecs do
-abbrev pub codecs_of : List ArrayToArrayCodec → List ArrayCodec
-codecs_of codecs = map codec_of codecs
-
--- array codecs in their order, a chain, and bytes codecs in their order
-abbrev pub chain_between : {B : Type 0} → (B → ByteCodec) → List ArrayToArrayCodec → Chain → List B → Chain
-chain_between meaning before chain after = with_array_codecs (codecs_of before) (with_codecs chain (map meaning after))
 
 -- the chain of an array to bytes codec alone
 abbrev pub codec_chain : {B : Type 0} → (B → ByteCodec) → ArrayToBytesCodec B → Chain
@@ -66,20 +46,6 @@ vlen_chain meaning codec = chains.Chain.vlen (meaning_of meaning codec.index_cod
 abbrev pub optional_chain : {B : Type 0} → (B → ByteCodec) → OptionalCodec B → Chain
 optional_chain meaning codec = chains.Chain.optional (meaning_of meaning codec.mask_codecs) (meaning_of meaning codec.data_codecs)
 
--- a chain stays lawful with lawful codecs after it
-pub lawful_with : {B : Type 0} (meaning : B → ByteCodec) → ((codec : B) → IsLawful (meaning codec)) → (chain : Chain) (codecs : List B) → IsLawfulChain chain → IsLawfulChain (with_codecs chain (map meaning codecs))
-lawful_with meaning each chain [] lawful = lawful
-lawful_with meaning each chain (codec ∷ codecs) lawful = lawful_with meaning each (chains.Chain.then_bytes chain (meaning codec)) codecs (lawful, each codec)
-
--- a chain stays lawful with array codecs before it
-pub lawful_after : (codecs : List ArrayCodec) (chain : Chain) → IsLawfulChain chain → IsLawfulChain (with_array_codecs codecs chain)
-lawful_after [] chain lawful = lawful
-lawful_after (codec ∷ codecs) chain lawful = lawful_after codecs chain lawful
-
--- and with both
-pub lawful_between : {B : Type 0} (meaning : B → ByteCodec) → ((codec : B) → IsLawful (meaning codec)) → (before : List ArrayToArrayCodec) (chain : Chain) (after : List B) → IsLawfulChain chain → IsLawfulChain (chain_between meaning before chain after)
-lawful_between meaning each before chain after lawful = lawful_after (codecs_of before) (with_codecs chain (map meaning after)) (lawful_with meaning each chain after lawful)
-
 -- an array to bytes codec alone is lawful
 pub codec_lawful : {B : Type 0} (meaning : B → ByteCodec) → ((codec : B) → IsLawful (meaning codec)) → (codec : ArrayToBytesCodec B) → IsLawfulChain (codec_chain meaning codec)
 codec_lawful meaning each (Bytes codec) = tt
@@ -97,16 +63,6 @@ bytes_lawful meaning each chain = lawful_with meaning each (codec_chain meaning 
 pub lawful_of : {B : Type 0} (meaning : B → ByteCodec) → ((codec : B) → IsLawful (meaning codec)) → (chain : CodecChain B) → IsLawfulChain (meaning_of meaning chain)
 lawful_of meaning each chain = lawful_after (codecs_of chain.array_to_array.items) (bytes_meaning meaning chain.others) (bytes_lawful meaning each chain.others)
 
--- bytes codecs after a chain add no shard to it
-pub plain_with : (chain : Chain) (codecs : List ByteCodec) → is_plain (with_codecs chain codecs) ≡ is_plain chain
-plain_with chain [] = refl
-plain_with chain (codec ∷ codecs) = plain_with (chains.Chain.then_bytes chain codec) codecs
-
--- nor do array codecs before it
-pub plain_before : (codecs : List ArrayCodec) (chain : Chain) → is_plain (with_array_codecs codecs chain) ≡ is_plain chain
-plain_before [] chain = refl
-plain_before (codec ∷ codecs) chain = plain_before codecs chain
-
 -- an array to bytes codec makes no shard
 pub codec_plain : {B : Type 0} (meaning : B → ByteCodec) (codec : ArrayToBytesCodec B) → is_plain (codec_chain meaning codec) ≡ true
 codec_plain meaning (Bytes codec) = refl
@@ -121,14 +77,6 @@ bytes_plain meaning chain = plain_with (codec_chain meaning chain.array_to_bytes
 -- also with array codecs
 pub chain_plain : {B : Type 0} (meaning : B → ByteCodec) (chain : CodecChain B) → is_plain (meaning_of meaning chain) ≡ true
 chain_plain meaning chain = plain_before (codecs_of chain.array_to_array.items) (bytes_meaning meaning chain.others) ∙ bytes_plain meaning chain.others
-
--- the metadata of array codecs, in their order
-abbrev pub array_points : List ArrayToArrayCodec → List ExtensionPoint
-array_points codecs = map written_codec codecs
-
--- the metadata of array codecs, of an array to bytes codec, and of bytes codecs, in their order
-abbrev pub points_between : {B : Type 0} → (B → ExtensionPoint) → List ArrayToArrayCodec → ExtensionPoint → List B → List ExtensionPoint
-points_between described before point after = array_points before ++ (point ∷ map described after)
 
 -- the metadata of an array to bytes codec
 abbrev pub codec_point : {B : Type 0} → (B → ExtensionPoint) → ArrayToBytesCodec B → ExtensionPoint

@@ -1,20 +1,15 @@
 //! Codec chains without array to array codecs.
-ghost use Rattle.std.specs.Prelude.{◌≡◌, ℕ};
-ghost use Rattle.zarr_codecs_arrays.specs.Views.{elements_of};
-ghost use Rattle.zarr_codecs_traits.specs.Indexers.{asked_of};
-ghost use Rattle.zarr_codecs_traits.specs.Outcomes.{DecodesPart};
-ghost use Rattle.zarr_codecs_traits.specs.Sources.{refused_after, value_bytes};
-ghost use Rattle.zarr_codecs_chains.specs.Views.{codec_chain};
 
 use crate::array_to_bytes::ArrayToBytesCodec;
-use crate::byte_codecs::{copies, decode_all, encode_all, represent_all};
 use std::alloc::{AllocError, Global};
+use zarr_codecs_around::byte_codecs::{copies, decode_all, encode_all, represent_all};
+use zarr_codecs_around::stored_parts::decode_stored_part;
 use zarr_codecs_arrays::{ArrayBytes, CodecError, Elements};
 use zarr_codecs_options::CodecOptions;
-use zarr_codecs_regions::{encode_whole, test_asked};
+use zarr_codecs_regions::encode_whole;
 use zarr_codecs_traits::{
     ArrayPart, ArrayToBytesCodecTraits, BytesPartialDecoderTraits, BytesPartialEncoderTraits,
-    BytesRepresentation, BytesToBytesCodecTraits, MemorySource, ValuePatch, read_value,
+    BytesRepresentation, BytesToBytesCodecTraits, ValuePatch, read_value,
 };
 use zarr_codecs_types::DataType;
 
@@ -25,63 +20,6 @@ use zarr_codecs_types::DataType;
 pub(crate) struct BytesChain<B: BytesToBytesCodecTraits> {
     pub(crate) array_to_bytes: ArrayToBytesCodec<B>,
     pub(crate) bytes_to_bytes: Vec<B>,
-}
-
-impl<B: BytesToBytesCodecTraits> BytesChain<B> {
-    ghost use Rattle.std.specs.Prelude.{◌≡◌, ℕ};
-    ghost use Rattle.zarr_codecs_arrays.specs.Views.{elements_of};
-    ghost use Rattle.zarr_codecs_traits.specs.Indexers.{asked_of};
-    ghost use Rattle.zarr_codecs_traits.specs.Outcomes.{DecodesPart};
-    ghost use Rattle.zarr_codecs_traits.specs.Sources.{refused_after, value_bytes};
-    ghost use Rattle.zarr_codecs_chains.specs.Views.{bytes_meaning};
-
-    /// The elements at the places that are asked for, of a value that was read, or of none.
-    fn decode_read(
-        &self,
-        alloc: Global,
-        value: Option<Vec<u8>>,
-        part: ArrayPart<'_>,
-        options: &CodecOptions,
-    ) -> Result<ArrayBytes, CodecError>
-        ensures part { DecodesPart (bytes_meaning B.meaning self.now)
-            (elements_of part.entry.elements.now) part.entry.shape.now (value_bytes value)
-            (asked_of part.entry.indexer) result }
-        ensures no_source { (count : ℕ) → refused_after count result ≡ count }
-    {
-        if !self
-            .array_to_bytes
-            .fits(alloc, part.elements.data_type(), part.shape)?
-        {
-            return Err(CodecError::Fit);
-        }
-        if let Err(error) = test_asked(part.shape, part.indexer) {
-            return Err(error);
-        }
-        let codec = &self.array_to_bytes;
-        let Some(value) = value else {
-            return decode_inside(alloc, codec, None, part, options);
-        };
-        match decode_all(alloc, self.bytes_to_bytes.as_slice(), value) {
-            Ok(inside) => decode_inside(alloc, codec, Some(inside), part, options),
-            Err(error) => Err(error),
-        }
-    }
-}
-
-/// The elements at the places that are asked for, of a value of the codec, or of none.
-fn decode_inside<B: BytesToBytesCodecTraits>(
-    alloc: Global,
-    codec: &ArrayToBytesCodec<B>,
-    inside: Option<Vec<u8>>,
-    part: ArrayPart<'_>,
-    options: &CodecOptions,
-) -> Result<ArrayBytes, CodecError>
-    ensures part { DecodesPart (codec_chain B.meaning codec.now) (elements_of part.entry.elements.now)
-        part.entry.shape.now (value_bytes inside) (asked_of part.entry.indexer) result }
-    ensures no_source { (count : ℕ) → refused_after count result ≡ count }
-{
-    let mut source = MemorySource::new(inside);
-    codec.partial_decode(alloc, &mut source, part, options)
 }
 
 impl<B: BytesToBytesCodecTraits> ArrayToBytesCodecTraits for BytesChain<B> {
@@ -177,13 +115,13 @@ impl<B: BytesToBytesCodecTraits> ArrayToBytesCodecTraits for BytesChain<B> {
         part: ArrayPart<'_>,
         options: &CodecOptions,
     ) -> Result<ArrayBytes, CodecError> {
+        let codec = &self.array_to_bytes;
         if self.bytes_to_bytes.is_empty() {
-            return self
-                .array_to_bytes
-                .partial_decode(alloc, source, part, options);
+            return codec.partial_decode(alloc, source, part, options);
         }
+        let codecs = self.bytes_to_bytes.as_slice();
         match read_value(alloc, source) {
-            Ok(value) => self.decode_read(alloc, value, part, options),
+            Ok(value) => decode_stored_part(codec, alloc, codecs, value, part, options),
             Err(error) => Err(error),
         }
     }

@@ -1,6 +1,5 @@
 //! Codec chains.
 use crate::allowing::is_allowed;
-use crate::array_metadata::array_copies;
 use crate::array_to_bytes::ArrayToBytesCodec;
 use crate::bytes_chain::BytesChain;
 use crate::decoding::decode_chain;
@@ -9,18 +8,19 @@ use crate::fitting::fits_chain;
 use crate::reading::read_chain;
 use crate::writing::chain_metadatas;
 use std::alloc::{AllocError, Global};
+use zarr_codecs_around::array_metadata::array_copies;
+use zarr_codecs_around::part_reading::decode_part_after;
+use zarr_codecs_around::part_writing::encode_part_after;
+use zarr_codecs_around::whole_arrays::represent_after;
 use zarr_codecs_array_to_array::ArrayToArrayCodec;
 use zarr_codecs_arrays::{ArrayBytes, CodecError, Elements};
 use zarr_codecs_bytes::BytesCodec;
-use zarr_codecs_bytes::part::ListedPart;
 use zarr_codecs_options::CodecOptions;
-use zarr_codecs_regions::{numbers_asked, test_asked};
 use zarr_codecs_traits::{
     ArrayPart, ArrayToBytesCodecTraits, BytesPartialDecoderTraits, BytesPartialEncoderTraits,
     BytesRepresentation, BytesToBytesCodecTraits, ValuePatch, WholeArray,
 };
 use zarr_codecs_types::DataType;
-use zarr_grids_boxes::walk::count_places;
 use zarr_grids_metadata::{MetadataV3, PluginCreateError};
 
 /// A codec chain: array to array codecs in the order in which they encode, an array to bytes codec,
@@ -33,15 +33,7 @@ pub struct CodecChain<B: BytesToBytesCodecTraits> {
 }
 
 impl<B: BytesToBytesCodecTraits> CodecChain<B> {
-    ghost use Rattle.std.specs.Prelude.{◌≡◌, ◌≢◌, ◌≤◌, ◌+◌, List, Some, None, map, IfOk, IfErr, IsTrue, OnErr, OnOk, true};
-    ghost use Rattle.zarr_codecs_meaning.specs.Types.{Cell};
-    ghost use Rattle.zarr_codecs_arrays.specs.Views.{elements_of, payload_of};
-    ghost use Rattle.zarr_codecs_traits.specs.PartWriting.{IsEncodedInto, NotEncodedInto, WritesOnce};
-    ghost use Rattle.zarr_codecs_traits.specs.Indexers.{asked_of};
-    ghost use Rattle.zarr_codecs_traits.specs.Outcomes.{DecodesPart};
-    ghost use Rattle.zarr_codecs_traits.specs.ReadBytes.{most_read};
-    ghost use Rattle.zarr_codecs_meaning.specs.Fits.{is_plain};
-    ghost use Rattle.zarr_codecs_traits.specs.Sources.{refused_after};
+    ghost use Rattle.std.specs.Prelude.{◌≡◌, ◌≢◌, List, Some, None, map, IfOk, IfErr, true};
     ghost use Rattle.zarr_codecs_chains.specs.Parts.{arrays_of, bytes_of, codec_of};
     ghost use Rattle.zarr_codecs_chains.specs.Views.{codec_chain, meaning_of, points_of};
     ghost use Rattle.zarr_codecs_metadata.specs.Allowed.{is_allowed};
@@ -149,89 +141,6 @@ impl<B: BytesToBytesCodecTraits> CodecChain<B> {
     {
         chain_metadatas(self, alloc)
     }
-
-    /// The elements at the places that are asked for, each of which goes through the array codecs.
-    fn decode_numbers<D: BytesPartialDecoderTraits>(
-        &self,
-        alloc: Global,
-        source: &mut D,
-        part: ArrayPart<'_>,
-        options: &CodecOptions,
-    ) -> Result<ArrayBytes, CodecError>
-        ensures part { IsTrue (D.is_honest source.old) →
-            DecodesPart (meaning_of B.meaning self.now) (elements_of part.entry.elements.now)
-            part.entry.shape.now (D.contents source.old) (asked_of part.entry.indexer) result }
-        ensures refused { D.refused_calls source.new ≡
-            refused_after (D.refused_calls source.old) result }
-        ensures given { is_plain (meaning_of B.meaning self.now) ≡ true →
-            IsTrue (D.is_honest source.old) → D.given_bytes source.new
-            ≤ D.given_bytes source.old + most_read (meaning_of B.meaning self.now)
-            (elements_of part.entry.elements.now).type part.entry.shape.now
-            (D.contents source.old) (asked_of part.entry.indexer) }
-        ensures follows { D.follows source.old source.new }
-    {
-        let (elements, shape) = (part.elements, part.shape);
-        if let Err(error) = test_asked(shape, part.indexer) {
-            return Err(error);
-        }
-        if count_places(shape).is_none() {
-            return Err(CodecError::Size);
-        }
-        let numbers = numbers_asked(alloc, shape, part.indexer)?;
-        let codecs = self.array_to_array.as_slice();
-        let listed = ListedPart {
-            elements,
-            shape,
-            numbers: numbers.as_slice(),
-        };
-        self.others
-            .decode_listed_after(alloc, codecs, source, listed, options)
-    }
-
-    /// Puts elements in the place of those at the places that are asked for, each of which goes
-    /// through the array codecs.
-    fn encode_numbers<E: BytesPartialEncoderTraits>(
-        &self,
-        alloc: Global,
-        source: &mut E,
-        bytes: ArrayBytes,
-        part: ArrayPart<'_>,
-        options: &CodecOptions,
-    ) -> Result<(), CodecError>
-        ensures ok { IsTrue (E.is_honest source.old) → OnOk result ((cells : List Cell)
-            × IsEncodedInto (meaning_of B.meaning self.now) true
-            (elements_of part.entry.elements.now) part.entry.shape.now
-            (asked_of part.entry.indexer) (payload_of bytes) cells (E.contents source.old)
-            (E.contents source.new)) }
-        ensures err { IsTrue (E.is_honest source.old) →
-            OnErr result (E.contents source.new ≡ E.contents source.old) }
-        ensures cause { IsTrue (E.is_honest source.old) → NotEncodedInto
-            (meaning_of B.meaning self.now) (elements_of part.entry.elements.now)
-            part.entry.shape.now (asked_of part.entry.indexer) (payload_of bytes)
-            (E.contents source.old) result }
-        ensures refused { E.refused_calls source.new ≡
-            refused_after (E.refused_calls source.old) result }
-        ensures once { WritesOnce (E.accepted_writes source.old) (E.accepted_writes source.new)
-            result }
-        ensures rewrites { E.rewrites source.old source.new }
-    {
-        let (elements, shape) = (part.elements, part.shape);
-        if let Err(error) = test_asked(shape, part.indexer) {
-            return Err(error);
-        }
-        if count_places(shape).is_none() {
-            return Err(CodecError::Size);
-        }
-        let numbers = numbers_asked(alloc, shape, part.indexer)?;
-        let codecs = self.array_to_array.as_slice();
-        let listed = ListedPart {
-            elements,
-            shape,
-            numbers: numbers.as_slice(),
-        };
-        self.others
-            .encode_listed_after(alloc, codecs, source, bytes, listed, options)
-    }
 }
 
 impl<B: BytesToBytesCodecTraits> ArrayToBytesCodecTraits for CodecChain<B> {
@@ -281,7 +190,7 @@ impl<B: BytesToBytesCodecTraits> ArrayToBytesCodecTraits for CodecChain<B> {
         shape: &[u64],
     ) -> Result<BytesRepresentation, CodecError> {
         let codecs = self.array_to_array.as_slice();
-        self.others.represent_after(alloc, codecs, data_type, shape)
+        represent_after(&self.others, alloc, codecs, data_type, shape)
     }
 
     fn partial_decoder_capability(&self) -> bool {
@@ -313,7 +222,8 @@ impl<B: BytesToBytesCodecTraits> ArrayToBytesCodecTraits for CodecChain<B> {
         if self.array_to_array.is_empty() {
             return self.others.partial_decode(alloc, source, part, options);
         }
-        self.decode_numbers(alloc, source, part, options)
+        let codecs = self.array_to_array.as_slice();
+        decode_part_after(&self.others, alloc, codecs, source, part, options)
     }
 
     fn takes_patches(&self, data_type: &DataType) -> bool {
@@ -346,7 +256,8 @@ impl<B: BytesToBytesCodecTraits> ArrayToBytesCodecTraits for CodecChain<B> {
                 .others
                 .partial_encode(alloc, source, bytes, part, options);
         }
-        self.encode_numbers(alloc, source, bytes, part, options)
+        let codecs = self.array_to_array.as_slice();
+        encode_part_after(&self.others, alloc, codecs, source, bytes, part, options)
     }
 
     fn compact(

@@ -2,14 +2,14 @@
 ghost use Rattle.std.specs.Prelude.{◌≡◌, IfOk};
 ghost use Rattle.zarr_codecs_chains.specs.Views.{codec_chain, meaning_of, optional_chain, vlen_chain};
 
-use crate::array_metadata::array_copies;
 use crate::array_to_bytes::ArrayToBytesCodec;
-use crate::byte_codecs::copies;
 use crate::bytes_chain::BytesChain;
 use crate::chain::CodecChain;
 use crate::optional::OptionalCodec;
 use crate::vlen::VlenCodec;
 use std::alloc::{AllocError, Global};
+use zarr_codecs_around::array_metadata::array_copies;
+use zarr_codecs_around::byte_codecs::copies;
 use zarr_codecs_traits::BytesToBytesCodecTraits;
 
 /// An equal chain. `Err` only where an allocation failed.

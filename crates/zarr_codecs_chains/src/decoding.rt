@@ -9,14 +9,14 @@ ghost use Rattle.zarr_codecs_sections.specs.Views.{width_of};
 ghost use Rattle.zarr_codecs_chains.specs.Inside.{FindsInner, FindsOffsets};
 ghost use Rattle.zarr_codecs_chains.specs.Views.{codec_chain, meaning_of, optional_chain, vlen_chain};
 
-use crate::array_codecs::{shape_after, undo_all};
 use crate::array_to_bytes::ArrayToBytesCodec;
-use crate::byte_codecs::decode_all;
 use crate::chain::CodecChain;
 use crate::fitting::{fits_codec, fits_optional, fits_vlen};
 use crate::optional::OptionalCodec;
 use crate::vlen::VlenCodec;
 use std::alloc::{AllocError, Global};
+use zarr_codecs_around::array_codecs::{shape_after, undo_all};
+use zarr_codecs_around::byte_codecs::decode_all;
 use zarr_codecs_arrays::{ArrayBytes, CodecError, Elements};
 use zarr_codecs_options::CodecOptions;
 use zarr_codecs_sections::{

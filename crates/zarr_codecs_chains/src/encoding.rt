@@ -13,14 +13,14 @@ ghost use Rattle.zarr_codecs_sections.specs.Views.{width_of};
 ghost use Rattle.zarr_codecs_chains.specs.Inside.{MakesContent, MakesInner};
 ghost use Rattle.zarr_codecs_chains.specs.Views.{codec_chain, meaning_of, optional_chain, vlen_chain};
 
-use crate::array_codecs::{move_all, shape_after};
 use crate::array_to_bytes::ArrayToBytesCodec;
-use crate::byte_codecs::encode_made;
 use crate::chain::CodecChain;
 use crate::fitting::{fits_codec, fits_optional, fits_vlen};
 use crate::optional::OptionalCodec;
 use crate::vlen::VlenCodec;
 use std::alloc::Global;
+use zarr_codecs_around::array_codecs::{move_all, shape_after};
+use zarr_codecs_around::byte_codecs::encode_made;
 use zarr_codecs_arrays::{ArrayBytes, CodecError, Elements};
 use zarr_codecs_options::CodecOptions;
 use zarr_codecs_sections::{

@@ -7,12 +7,12 @@ ghost use Rattle.zarr_codecs_sections.specs.Views.{width_of};
 ghost use Rattle.zarr_codecs_types.specs.Views.{type_of};
 ghost use Rattle.zarr_codecs_chains.specs.Views.{codec_chain, meaning_of, optional_chain, vlen_chain};
 
-use crate::array_codecs::shape_after;
 use crate::array_to_bytes::ArrayToBytesCodec;
 use crate::chain::CodecChain;
 use crate::optional::OptionalCodec;
 use crate::vlen::VlenCodec;
 use std::alloc::{AllocError, Global};
+use zarr_codecs_around::array_codecs::shape_after;
 use zarr_codecs_arrays::CodecError;
 use zarr_codecs_sections::VlenIndexDataType;
 use zarr_codecs_traits::{ArrayToBytesCodecTraits, BytesToBytesCodecTraits};

@@ -2,11 +2,7 @@
 #![tactic(auto)]
 
 mod allowing;
-mod array_codecs;
-mod array_metadata;
 pub mod array_to_bytes;
-mod array_writing;
-mod byte_codecs;
 mod bytes_chain;
 pub mod chain;
 mod coders;
@@ -14,7 +10,7 @@ mod copying;
 mod decoding;
 mod encoding;
 mod fitting;
-mod metadata;
+mod inner;
 pub mod optional;
 mod reading;
 mod representing;

@@ -1,5 +1,5 @@
 //! Chains read from the metadata of their codecs.
-ghost use Rattle.std.specs.Prelude.{◌≡◌, ◌≢◌, ◌≤◌, ℕ, List, [], bytes_eq, codes, drop, length, map, take, true, false, Option, Some, None, IfOk, IfErr};
+ghost use Rattle.std.specs.Prelude.{◌≡◌, ◌≢◌, ℕ, List, [], bytes_eq, codes, map, true, false, Option, Some, None, IfOk, IfErr};
 ghost use Rattle.zarr_grids_metadata.specs.ExtensionPoints.{configuration_members};
 ghost use Rattle.zarr_grids_metadata.specs.Views.{point_of};
 ghost use Rattle.zarr_codecs_meaning.specs.Chains.{Chain};
@@ -7,21 +7,22 @@ ghost use Rattle.zarr_codecs_metadata.specs.Chains.{array_to_bytes_in, bytes_cha
 ghost use Rattle.zarr_codecs_metadata.specs.Sections.{names_optional, names_vlen, optional_of, vlen_of};
 ghost use Rattle.zarr_codecs_packbits.specs.Metadata.{packbits_in};
 ghost use Rattle.zarr_grids_metadata.specs.ExtensionPoints.{ExtensionPoint};
-ghost use Rattle.zarr_codecs_array_to_array.specs.Names.{written_codec};
 ghost use Rattle.zarr_codecs_chains.specs.Names.{NameAll, Names, NamesChain, NamesOptional, NamesVlen, name_of_optional, name_of_vlen};
-ghost use Rattle.zarr_codecs_chains.specs.Reading.{array_codecs_of, leaf_in};
+ghost use Rattle.zarr_codecs_chains.specs.Reading.{leaf_in};
 ghost use Rattle.zarr_codecs_array_to_array.specs.Refusals.{cause_of};
-ghost use Rattle.zarr_codecs_chains.specs.Refusals.{RefusedChain, RefusedCodec, begins_with_array_codec, is_array_codec_misconfigured, names_leaf};
-ghost use Rattle.zarr_codecs_chains.specs.Views.{bytes_meaning, codec_chain, codecs_of, meaning_of, optional_chain, vlen_chain};
+ghost use Rattle.zarr_codecs_chains.specs.Refusals.{RefusedChain, RefusedCodec, names_leaf};
+ghost use Rattle.zarr_codecs_around.specs.ArrayMetadata.{begins_with_array_codec};
+ghost use Rattle.zarr_codecs_chains.specs.Views.{bytes_meaning, codec_chain, meaning_of, optional_chain, vlen_chain};
 
 use crate::array_to_bytes::ArrayToBytesCodec;
 use crate::bytes_chain::BytesChain;
 use crate::chain::CodecChain;
-use crate::metadata::read_codecs;
 use crate::optional::OptionalCodec;
 use crate::vlen::VlenCodec;
 use std::alloc::{AllocError, Global};
-use zarr_codecs_array_to_array::{ArrayToArrayCodec, CodecName};
+use zarr_codecs_around::array_metadata::{first_array_codecs, rest_after};
+use zarr_codecs_around::byte_metadata::read_codecs;
+use zarr_codecs_array_to_array::CodecName;
 use zarr_codecs_bytes::BytesCodec;
 use zarr_codecs_configurations::{OptionalCodecConfiguration, VlenCodecConfiguration};
 use zarr_codecs_packbits::PackBitsCodec;
@@ -182,45 +183,6 @@ fn read_optional<B: BytesToBytesCodecTraits>(
         }),
         Err(error) => Err(error),
     }
-}
-
-/// The array to array codecs that metadata begins with. `MetadataInvalid` where the configuration of
-/// one of them is not one of its name's.
-fn first_array_codecs(
-    alloc: Global,
-    codecs: &[MetadataV3],
-) -> Result<Vec<ArrayToArrayCodec>, PluginCreateError>
-    ensures first { IfOk result
-        (λ found. codecs_of found.items ≡ array_codecs_of (map point_of codecs.now)) }
-    ensures few { IfOk result (λ found. length found.items ≤ length codecs.now) }
-    ensures names { IfOk result (λ found. map (λ codec. (written_codec codec).name) found.items
-        ≡ map (λ metadata. (point_of metadata).name) (take (length found.items) codecs.now)) }
-    ensures all { IfOk result
-        (λ found. is_array_codec_misconfigured (map point_of codecs.now) ≡ false) }
-    ensures cause { IfErr result
-        (λ e. e ≢ PluginCreateError.Memory → e ≡ PluginCreateError.MetadataInvalid) }
-    ensures refused { IfErr result (λ e. e ≢ PluginCreateError.Memory
-        → is_array_codec_misconfigured (map point_of codecs.now) ≡ true) }
-{
-    let mut array_to_array = Vec::new(alloc);
-    for metadata in codecs {
-        match ArrayToArrayCodec::from_metadata(alloc, metadata) {
-            Ok(codec) => if let Err(_failed) = array_to_array.push(codec) {
-                return Err(PluginCreateError::Memory);
-            },
-            Err(PluginCreateError::NameUnsupported) => return Ok(array_to_array),
-            Err(error) => return Err(error),
-        }
-    }
-    Ok(array_to_array)
-}
-
-/// What metadata says after array to array codecs.
-fn rest_after<'m>(codecs: &'m [MetadataV3], read: &[ArrayToArrayCodec]) -> &'m [MetadataV3]
-    requires { length read.now ≤ length codecs.now }
-    ensures { result.now ≡ drop (length read.now) codecs.now }
-{
-    &codecs[read.len()..]
 }
 
 /// Any array to bytes codec, of `vlen` as it was read.

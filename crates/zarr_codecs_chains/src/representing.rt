@@ -6,14 +6,14 @@ ghost use Rattle.zarr_codecs_types.specs.Views.{type_of};
 ghost use Rattle.zarr_codecs_traits.specs.Representations.{Represents, RepresentsArray, known_size};
 ghost use Rattle.zarr_codecs_chains.specs.Views.{codec_chain, meaning_of, optional_chain, vlen_chain};
 
-use crate::array_codecs::shape_after;
 use crate::array_to_bytes::ArrayToBytesCodec;
-use crate::byte_codecs::represent_all;
 use crate::chain::CodecChain;
 use crate::fitting::{fits_optional, fits_vlen};
 use crate::optional::OptionalCodec;
 use crate::vlen::VlenCodec;
 use std::alloc::Global;
+use zarr_codecs_around::array_codecs::shape_after;
+use zarr_codecs_around::byte_codecs::represent_all;
 use zarr_codecs_arrays::CodecError;
 use zarr_codecs_traits::{ArrayToBytesCodecTraits, BytesRepresentation, BytesToBytesCodecTraits};
 use zarr_codecs_types::DataType;

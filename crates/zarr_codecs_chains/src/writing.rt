@@ -5,13 +5,13 @@ ghost use Rattle.zarr_codecs_configurations.specs.Views.{optional_points, vlen_p
 ghost use Rattle.zarr_codecs_chains.specs.Names.{name_of_optional, name_of_vlen};
 ghost use Rattle.zarr_codecs_chains.specs.Views.{codec_point, given_to_optional, given_to_vlen, points_of};
 
-use crate::array_metadata::array_metadatas;
 use crate::array_to_bytes::ArrayToBytesCodec;
 use crate::chain::CodecChain;
-use crate::metadata::push_metadatas;
 use crate::optional::OptionalCodec;
 use crate::vlen::VlenCodec;
 use std::alloc::{AllocError, Global};
+use zarr_codecs_around::array_metadata::array_metadatas;
+use zarr_codecs_around::byte_metadata::push_metadatas;
 use zarr_codecs_array_to_array::CodecName;
 use zarr_codecs_configurations::{OptionalCodecConfiguration, VlenCodecConfiguration};
 use zarr_codecs_traits::BytesToBytesCodecTraits;

@@ -3,3 +3,4 @@ pub mod Valid
 pub mod PrintedTexts
 pub mod PrintedCells
 pub mod NumberLists
+pub mod WholeNumbers

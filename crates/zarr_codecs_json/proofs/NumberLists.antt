@@ -1,8 +1,8 @@
 -- Elements read of whole numbers, one by one.
-use Rattle.std.proofs.Common.{◌≡◌, ℕ, ◌+◌, ◌*◌, ◌/◌, ◌%◌, ◌<◌, ◌≤◌, List, [], ◌∷◌, ◌++◌, length, drop, get_or, ap, ◌∙◌, sym, refl, subst, arith, Option, Some, None, option_map, option_and_then, append-nil, append_assoc, length-append}
+use Rattle.std.proofs.Common.{◌≡◌, ℕ, ◌+◌, ◌*◌, ◌%◌, ◌<◌, ◌≤◌, List, [], ◌∷◌, ◌++◌, length, drop, get_or, ap, ◌∙◌, sym, subst, arith, Option, Some, None, option_map, option_and_then, append-nil, append_assoc, length-append}
 use Rattle.std.proofs.lemmas.List.{drop_more, drop_all}
 use Rattle.std.proofs.Math.Nat.{add-mul-mod_self_right}
-use Rattle.serde_json.specs.Data.{Data, number, unsigned, Items, no_items, item}
+use Rattle.serde_json.specs.Data.{Data, number, unsigned, no_items, item}
 use Rattle.serde_json.specs.View.{view, items_view}
 use Rattle.serde_json.specs.declared.value.Value.{Value}
 use Rattle.zarr_codecs_meaning.specs.Types.{DataType, byte_width, Cell, of_bytes}
@@ -41,13 +41,13 @@ number_read says count bytes new element numbers index n d h long says_n less is
     }
 
 -- a number that is none
-pub number_not_read : (type : DataType) (count : ℕ) (bytes numbers : List ℕ) (index n : ℕ) → cell_inside type 0 (number (unsigned n)) ≡ None
-    → index < length numbers → n ≡ get_or numbers index n → FixedRead (cell_inside type 0) count bytes (number_items (drop index numbers)) (number_items numbers)
+pub number_not_read : (type : DataType) (count : ℕ) (bytes numbers : List ℕ) (index n d : ℕ) → cell_inside type 0 (number (unsigned n)) ≡ None
+    → index < length numbers → n ≡ get_or numbers index d → FixedRead (cell_inside type 0) count bytes (number_items (drop index numbers)) (number_items numbers)
     → elements_in type (number_items numbers) ≡ None
-number_not_read type count bytes numbers index n none less is r =
+number_not_read type count bytes numbers index n d none less is r =
     let says = cell_inside type 0 in
     let all = number_items numbers in
-    let before = subst (λ ds. said says all ≡ option_map (λ more. fixed_cells count bytes ++ more) (said says ds)) (next_number numbers index n n less is) r.same in
+    let before = subst (λ ds. said says all ≡ option_map (λ more. fixed_cells count bytes ++ more) (said says ds)) (next_number numbers index n d less is) r.same in
     none_alone type all (not_read says (fixed_cells count bytes) (number (unsigned n)) (number_items (drop (index + 1) numbers)) all none before)
 
 -- all numbers are elements

@@ -1,14 +1,15 @@
 //! Elements that are given as whole numbers.
-ghost use Rattle.std.specs.Prelude.{◌≡◌, ◌≤◌, ◌<◌, None, IfOk, IfSome, IfNone};
+ghost use Rattle.std.specs.Prelude.{◌≡◌, ℕ, pos, ◌≤◌, ◌<◌, ◌++◌, nat_lt, None, IfOk, OnOk, IfSome, IfNone};
 ghost use Rattle.serde_json.specs.View.{items_view};
 ghost use Rattle.zarr_codecs_meaning.specs.Types as types;
+ghost use Rattle.zarr_codecs_types.specs.FillMetadata.{integer_fits};
 ghost use Rattle.zarr_codecs_types.specs.Given.{elements_in};
+ghost use Rattle.zarr_codecs_types.specs.Integers.{integer_bytes};
 ghost use Rattle.zarr_codecs_types.specs.Views.{type_of, sign_of};
 ghost use Rattle.zarr_codecs_arrays.specs.Views.{payload_of};
 ghost use Rattle.zarr_codecs_json.specs.Numbers.{number_items};
 ghost use Rattle.zarr_codecs_json.specs.Outcomes.{AreGiven};
 
-use crate::inside::integer_inside;
 use crate::reading::elements_in;
 use serde_json::Value;
 use std::alloc::{AllocError, Global};
@@ -57,6 +58,35 @@ fn values_of(alloc: Global, numbers: &[u64]) -> Result<Vec<Value>, AllocError>
     Ok(values)
 }
 
+/// The least whole number that is too large for an integer of so many bits.
+#[inline(always)]
+fn limit_of(sign: Sign, width: usize) -> u128
+    requires narrow { width ≤ 64 }
+    ensures { (n : ℕ) → integer_fits (sign_of sign) width (pos n) ≡ nat_lt n result }
+{
+    match sign {
+        Sign::Unsigned => 2u128.pow(width as u32),
+        Sign::Signed => 2u128.pow(width.saturating_sub(1) as u32),
+    }
+}
+
+/// Appends the lowest bytes of a whole number, lowest first.
+#[inline(always)]
+fn push_bytes(bytes: &mut Vec<u8>, count: usize, number: u64) -> Result<(), AllocError>
+    requires some { 0 < count }
+    requires few { count ≤ 8 }
+    ensures { OnOk result
+        (bytes.new.items ≡ bytes.old.items ++ integer_bytes count (pos number)) }
+{
+    let word = (number as i128).to_le_bytes();
+    if count == 1 {
+        bytes.push(word[0])?;
+        return Ok(());
+    }
+    bytes.extend_from_slice(&word[..count])?;
+    Ok(())
+}
+
 /// Integers of so many bits, little endian. `None` where a number is not in their range. Compiled
 /// for each type of its own.
 #[inline(always)]
@@ -79,14 +109,13 @@ fn integers_of(
     let Some(total) = numbers.len().checked_mul(count) else {
         return Err(AllocError);
     };
+    let limit = limit_of(sign, width);
     let mut bytes = Vec::with_capacity(alloc, total)?;
     for number in numbers {
-        let value = Value::from(*number);
-        let Some(integer) = integer_inside(sign, width, &value, 0) else {
+        if *number as u128 >= limit {
             return Ok(None);
-        };
-        let word = integer.to_le_bytes();
-        bytes.extend_from_slice(&word[..count])?;
+        }
+        push_bytes(&mut bytes, count, *number)?;
     }
     Ok(Some(ArrayBytes::Fixed(bytes)))
 }

@@ -1,10 +1,11 @@
 -- The elements at the places that are asked for, of what is decoded.
 use Rattle.std.proofs.Common.{◌≡◌, ℕ, List, [], ◌∷◌, length, map, replicate, ap, ◌∙◌, sym, refl, Some, None, true, Option, ◌+◌, ◌≤◌}
-use Rattle.std.specs.Prelude.{nat_lt}
+use Rattle.std.specs.Prelude.{nat_lt, unwrap_or}
 use Rattle.std.specs.List.{list_all}
 use Rattle.zarr_grids_boxes.specs.Boxes.{product}
 use Rattle.zarr_codecs_meaning.specs.Types.{Cell, DataType, Elements}
 use Rattle.zarr_codecs_meaning.specs.Chains.{Chain}
+use Rattle.zarr_codecs_meaning.specs.Chains.Chain.{packbits}
 use Rattle.zarr_codecs_meaning.specs.Places.{gather}
 use Rattle.zarr_codecs_meaning.specs.Fits.{fits}
 use Rattle.zarr_codecs_meaning.specs.Payloads.{Payload, cells_in}
@@ -12,9 +13,11 @@ use Rattle.zarr_codecs_meaning.proofs.Counts.{decoded_count}
 use Rattle.zarr_codecs_meaning.proofs.PartReading.{part_read}
 use Rattle.zarr_codecs_traits.specs.Indexers.{Asked, are_inside, numbers_asked}
 use Rattle.zarr_codecs_traits.specs.Outcomes.{IsDecoded, IsPart}
-use Rattle.zarr_codecs_traits.specs.ReadBytes.{most_read}
+use Rattle.zarr_codecs_traits.specs.ReadBytes.{bytes_of_numbers, most_read}
 use Rattle.zarr_codecs_traits.specs.Sources.{value_length}
-use Rattle.zarr_codecs_packbits.specs.Views.{packbits_chain}
+use Rattle.zarr_codecs_packbits.specs.Views.{packbits_chain, padding_of}
+use Rattle.zarr_codecs_packbits.specs.declared.codec.PackBitsPaddingEncoding.{PackBitsPaddingEncoding}
+use Rattle.zarr_codecs_packbits.specs.declared.codec.PackBitsPaddingEncoding.TheVariants as padding
 use Rattle.zarr_codecs_packbits.specs.declared.codec.PackBitsCodec.{PackBitsCodec}
 use Rattle.zarr_codecs_regions.proofs.AskedPlaces.{asked_places}
 
@@ -51,7 +54,11 @@ fills_numbers chain elements shape ns asked payload inside are fit lists = recor
 
 -- ---- how many bytes are taken
 
--- no more is taken than is at most, where no more is taken than the value has
-pub whole_most : (codec : PackBitsCodec) (type : DataType) (shape : List ℕ) (contents : Option (List ℕ)) (asked : Asked) (old new : ℕ) → new ≤ old + value_length contents → new ≤ old + most_read (packbits_chain codec) type shape contents asked
-whole_most codec type shape None asked old new h = h
-whole_most codec type shape (Some value) asked old new h = h
+-- with a padding byte all of a value is taken
+pub padded_most : (codec : PackBitsCodec) (type : DataType) (shape : List ℕ) (contents : Option (List ℕ)) (asked : Asked) (old new : ℕ) → (codec.padding ≡ padding.None → ⊥) → new ≤ old + value_length contents → new ≤ old + most_read (packbits_chain codec) type shape contents asked
+padded_most codec type shape None asked old new told h = h
+padded_most codec type shape (Some value) asked old new told h = by_padding codec.padding told h where
+  by_padding : (p : PackBitsPaddingEncoding) → (p ≡ padding.None → ⊥) → new ≤ old + length value → new ≤ old + bytes_of_numbers (packbits (padding_of p) (unwrap_or codec.first_bit 0) codec.last_bit) type shape (numbers_asked shape asked) (length value)
+  by_padding padding.None told h = absurd (told refl)
+  by_padding padding.FirstByte told h = h
+  by_padding padding.LastByte told h = h

@@ -99,7 +99,7 @@ pub record AreGiven (type : DataType) (given : List ℕ) (count : ℕ) (cells : 
   pub long : length given ≡ count * bytes_in (components type)
   pub positive : 0 < bytes_in (components type)
 
-fixed_cells_in : (type : DataType) (value : List ℕ) → is_fixed type ≡ true → cells_in type (fixed value) ≡ fixed_in (bytes_in (components type)) value
+pub fixed_cells_in : (type : DataType) (value : List ℕ) → is_fixed type ≡ true → cells_in type (fixed value) ≡ fixed_in (bytes_in (components type)) value
 fixed_cells_in type value h = ap (λ (b : Bool). option_and_then (λ width. fixed_in width value) (if b then Some (bytes_in (components type)) else None)) h
 
 pub given_cells : (type : DataType) (given : List ℕ) (count : ℕ) (cells : List Cell) → is_fixed type ≡ true → IsValid type (fixed given) count cells → AreGiven type given count cells
@@ -141,7 +141,7 @@ length_made first last (c ∷ cs) bits =
     let rest = length_made first last cs (drop kept bits) in
     length-append (digits 256 c.byte_count made) (element_of_bits first last cs (drop kept bits)) ∙ omega (arith, rest, length-digits 256 c.byte_count made)
 
-length-element_in : (first : ℕ) (last : Option ℕ) (parts : List Component) (bits : List ℕ) (n : ℕ) → length (element_in first last parts bits n) ≡ bytes_in parts
+pub length-element_in : (first : ℕ) (last : Option ℕ) (parts : List Component) (bits : List ℕ) (n : ℕ) → length (element_in first last parts bits n) ≡ bytes_in parts
 length-element_in first last parts bits n = length_made first last parts (take (bits_in first last parts) (drop (n * bits_in first last parts) bits))
 
 cells_from : (first : ℕ) (last : Option ℕ) (parts : List Component) (bits : List ℕ) (start count : ℕ) → 0 < bytes_in parts

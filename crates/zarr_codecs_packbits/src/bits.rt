@@ -1,5 +1,5 @@
 //! Bytes as bits, one in each `u8`, and bits as bytes.
-ghost use Rattle.std.specs.Prelude.{◌≡◌, ◌++◌, ◌<◌, ◌*◌, take, get_or, length, true, IfOk, OnOk};
+ghost use Rattle.std.specs.Prelude.{◌≡◌, ◌++◌, ◌≤◌, ◌<◌, ◌+◌, ◌*◌, ◌^◌, take, drop, get_or, length, true, IfNone, IfOk, IfSome, OnOk};
 ghost use Rattle.zarr_codecs_meaning.specs.Encoding.{packed};
 ghost use Rattle.zarr_codecs_meaning.specs.Numbers.{digits, number};
 ghost use Rattle.zarr_codecs_packbits.specs.Turning.{are_bits, bits_of};
@@ -15,6 +15,39 @@ pub(crate) fn bits_of(alloc: Global, bytes: &[u8]) -> Result<Vec<u8>, AllocError
         push_bits(&mut bits, *byte)?;
     }
     Ok(bits)
+}
+
+/// So many bits of bytes, from the bit `skip` on, as bytes that begin with them. Zeros fill the last
+/// one. `None` where there are fewer. While it works, each of the bits takes a byte.
+pub(crate) fn aligned(
+    alloc: Global,
+    bytes: &[u8],
+    skip: usize,
+    count: u128,
+) -> Result<Option<Vec<u8>>, AllocError>
+    requires skip { skip < 8 }
+    requires count { count < 2 ^ 66 }
+    ensures some { IfOk result
+        (λ found. IfSome found (λ made. skip + count ≤ 8 * length bytes.now)) }
+    ensures made { IfOk result (λ found. IfSome found
+        (λ made. made.items ≡ packed (take count (drop skip (bits_of bytes.now))))) }
+    ensures none { IfOk result (λ found. IfNone found (8 * length bytes.now < skip + count)) }
+{
+    let bits = bits_of(alloc, bytes)?;
+    if skip as u128 + count > bits.len() as u128 {
+        return Ok(None);
+    }
+    let mut made = Vec::new(alloc);
+    push_packed(&mut made, some_bits(&bits, skip, count as usize))?;
+    Ok(Some(made))
+}
+
+/// So many bits from an index on.
+fn some_bits(bits: &[u8], skip: usize, count: usize) -> &[u8]
+    requires { skip + count ≤ length bits.now }
+    ensures { result.now ≡ take count (drop skip bits.now) }
+{
+    &bits[skip..skip + count]
 }
 
 /// Appends the bits of a byte.

@@ -1,6 +1,7 @@
 //! The codec `packbits`.
 
 use crate::packing::{pack, unpack};
+use crate::part::PackedPart;
 use crate::partial::read_asked;
 use crate::sizes::{error_of_uncounted, fit_all, has_bytes, packed_size};
 use crate::turning::{Turn, Way};
@@ -271,16 +272,22 @@ impl ArrayToBytesCodecTraits for PackBitsCodec {
         part: ArrayPart<'_>,
         options: &CodecOptions,
     ) -> Result<ArrayBytes, CodecError> {
-        if self.suited(alloc, part.elements.data_type())?.is_none() {
+        let Some(components) = self.suited(alloc, part.elements.data_type())? else {
             return Err(CodecError::Fit);
-        }
+        };
         if count_places(part.shape).is_none() {
             return Err(CodecError::Size);
         }
         if let Err(error) = test_asked(part.shape, part.indexer) {
             return Err(error);
         }
-        read_asked(alloc, source, *self, part, options)
+        let packed = PackedPart {
+            codec: *self,
+            components: components.as_slice(),
+            part,
+            options,
+        };
+        read_asked(alloc, source, packed)
     }
 
     fn takes_patches(&self, _: &DataType) -> bool {

@@ -8,9 +8,13 @@ mod kept;
 mod metadata;
 mod packing;
 mod padding;
+mod part;
 mod partial;
+mod reading;
 mod restoring;
+mod runs;
 mod sizes;
 mod turning;
+mod unpacking;
 
 pub use codec::{PackBitsCodec, PackBitsCodecConfiguration, PackBitsPaddingEncoding};

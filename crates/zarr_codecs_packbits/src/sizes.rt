@@ -86,7 +86,7 @@ pub(crate) fn packed_size(
 }
 
 /// How many bits are kept of so many elements, if these are fewer than 2^66.
-fn kept_bits(turn: Turn, parts: &[Component], count: u64) -> Option<u128>
+pub(crate) fn kept_bits(turn: Turn, parts: &[Component], count: u64) -> Option<u128>
     requires { list_all (bits_fit turn.first turn.last) (components_of parts.now) ≡ true }
     ensures { SomeIff result
         (bits_in turn.first turn.last (components_of parts.now) * count < 2 ^ 66)
@@ -100,7 +100,7 @@ fn kept_bits(turn: Turn, parts: &[Component], count: u64) -> Option<u128>
 }
 
 /// How many bits are kept of an element, if these are fewer than 2^66.
-fn element_bits(turn: Turn, parts: &[Component]) -> Option<u128>
+pub(crate) fn element_bits(turn: Turn, parts: &[Component]) -> Option<u128>
     requires { list_all (bits_fit turn.first turn.last) (components_of parts.now) ≡ true }
     ensures { SomeIff result
         (bits_in turn.first turn.last (components_of parts.now) < 2 ^ 66)

@@ -6,6 +6,7 @@ use Rattle.zarr_grids_metadata.specs.ExtensionPoints.{ExtensionPoint}
 use Rattle.zarr_grids_metadata.specs.declared.error.PluginCreateError.{PluginCreateError}
 use Rattle.zarr_grids_metadata.specs.declared.error.PluginCreateError.TheVariants as plugin
 use Rattle.zarr_codecs_meaning.specs.Chains.{ArrayCodec, ByteCodec, Chain}
+use Rattle.zarr_codecs_meaning.specs.Chains.ArrayCodec.{transpose, reshape, squeeze}
 use Rattle.zarr_codecs_meaning.specs.Chunks.{chunk_part}
 use Rattle.zarr_codecs_meaning.specs.Decoding.{decoded}
 use Rattle.zarr_codecs_meaning.specs.Encoding.{encoded}
@@ -112,6 +113,29 @@ EncodesShape codec shape (Ok made) = (array_codec_fits codec shape ≡ true) × 
 EncodesShape codec shape (Err error.Fit) = array_codec_fits codec shape ≡ false
 EncodesShape codec shape (Err error.Memory) = Unit {0}
 EncodesShape codec shape (Err e) = ⊥
+
+-- a shape that an array codec suits and encodes to another one
+abbrev pub IsEncodedTo : ArrayCodec → List ℕ → List ℕ → Type 0
+IsEncodedTo codec decoded shape = (array_codec_fits codec decoded ≡ true) × (encoded_shape codec decoded ≡ shape)
+
+-- the only shape that an array codec suits and encodes to this one
+pub record IsDecodedShape (codec : ArrayCodec) (shape decoded : List ℕ) : Type 0 where
+  pub encodes : IsEncodedTo codec decoded shape
+  pub only : (other : List ℕ) → IsEncodedTo codec other shape → other ≡ decoded
+
+-- whether an array codec encodes no two shapes alike: `transpose` alone
+abbrev pub tells_shapes : ArrayCodec → Bool
+tells_shapes (transpose order) = true
+tells_shapes (reshape entries) = false
+tells_shapes squeeze = false
+
+-- the shape of the arrays that an array codec encodes to this one, or why it isn't told: the codec encodes several shapes alike, so that none is the only one, or encodes no shape so
+abbrev pub DecodesShape : ArrayCodec → List ℕ → Result (Option (Vec ℕ Global)) CodecError → Type 0
+DecodesShape codec shape (Ok (Some decoded)) = IsDecodedShape codec shape decoded.items
+DecodesShape codec shape (Ok None) = (tells_shapes codec ≡ false) × ((decoded : List ℕ) → IsDecodedShape codec shape decoded → ⊥)
+DecodesShape codec shape (Err error.Fit) = (tells_shapes codec ≡ true) × ((decoded : List ℕ) → IsEncodedTo codec decoded shape → ⊥)
+DecodesShape codec shape (Err error.Memory) = Unit {0}
+DecodesShape codec shape (Err e) = ⊥
 
 -- the elements that stand at these places of others, in this order
 pub record IsMoved (codec : ArrayCodec) (elements : Elements) (shape : List ℕ) (count : ℕ) (numbers : List ℕ) (payload made : Payload) : Type 0 where

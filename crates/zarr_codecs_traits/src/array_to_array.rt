@@ -3,7 +3,7 @@ ghost use Rattle.std.specs.Prelude.{◌≡◌};
 ghost use Rattle.zarr_codecs_meaning.specs.Chains.{ArrayCodec};
 ghost use Rattle.zarr_codecs_meaning.specs.Fits.{array_codec_fits};
 ghost use Rattle.zarr_codecs_arrays.specs.Views.{payload_of, elements_of};
-ghost use Rattle.zarr_codecs_traits.specs.Outcomes.{EncodesShape, EncodesArray, DecodesArray};
+ghost use Rattle.zarr_codecs_traits.specs.Outcomes.{EncodesShape, DecodesShape, EncodesArray, DecodesArray};
 
 use std::alloc::Global;
 use zarr_codecs_arrays::{ArrayBytes, CodecError, Elements};
@@ -22,6 +22,16 @@ pub trait ArrayToArrayCodecTraits: Sized + Drop {
     /// doesn't suit the shape.
     fn encoded_shape(&self, alloc: Global, decoded_shape: &[u64]) -> Result<Vec<u64>, CodecError>
         ensures { EncodesShape (meaning self.now) decoded_shape.now result };
+
+    /// The shape of the array that was encoded, where its encoded shape tells it: the only one that
+    /// the codec suits and encodes so. `None` where the codec encodes several shapes alike, as
+    /// `reshape` and `squeeze` do; `Fit` where it tells shapes apart and encodes none so.
+    fn decoded_shape(
+        &self,
+        alloc: Global,
+        encoded_shape: &[u64],
+    ) -> Result<Option<Vec<u64>>, CodecError>
+        ensures { DecodesShape (meaning self.now) encoded_shape.now result };
 
     /// The elements of the encoded array. `shape` is that of the array that is encoded. `Fit` where
     /// the codec doesn't suit it; `InvalidNumberOfElements`, `Expected..` or `CellOutOfRange` where

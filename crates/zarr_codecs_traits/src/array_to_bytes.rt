@@ -139,9 +139,10 @@ pub trait ArrayToBytesCodecTraits: Sized + Drop {
     /// holds; each is the fill value where it holds none. `Fit` where the codec doesn't suit the
     /// array; `IncompatibleIndexer` where a place isn't one of the array's; `Damage` where a place
     /// that is asked for cannot be decoded; `Size` where the array has 2^63 elements or bytes or
-    /// more; `Source` where the source refuses. Of an honest source a codec without
-    /// shards takes at most as many bytes as the value has, and a chain that ends in `bytes` no more
-    /// than those elements have.
+    /// more; `Source` where the source refuses. Of an honest source a codec without shards takes at
+    /// most as many bytes as the value has. A chain that ends in `bytes` takes no more than those
+    /// elements have, and one that ends in `packbits` without a padding byte no more than their bits
+    /// touch, elements with consecutive numbers together.
     fn partial_decode<D: BytesPartialDecoderTraits>(
         &self,
         alloc: Global,

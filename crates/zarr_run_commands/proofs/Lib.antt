@@ -4,4 +4,6 @@ pub mod Printed
 pub mod Appended
 pub mod Listed
 pub mod Turns
-pub mod Asked
+pub mod Fields
+pub mod Saying
+pub mod Digits

@@ -6,8 +6,6 @@ use Rattle.json.specs.Json.{Parse, parse_map, after_end_array, read_key, items, 
 use Rattle.json.proofs.Grammar.{items_end, items_more, members_end, members_more}
 use Rattle.serde_json.specs.Data.{Data, array, object, number, unsigned, Items, no_items, item, Members, no_members, put}
 use Rattle.serde_json.specs.Read.{of_json, of_items, of_members, converted}
-use Rattle.serde_json.specs.View.{view, items_view}
-use Rattle.serde_json.specs.declared.value.Value.{Value}
 use Rattle.zarr_codecs_json.specs.Numbers.{number_items}
 
 abbrev pick : {A : Type 0} → A → Option A → A
@@ -18,7 +16,7 @@ found : {A B : Type 0} (a : A) (r s : List Token) (x : Option B) (b : B) → opt
 found a r s None b e = absurd (cc)
 found a r s (Some y) b e = let same = ap (pick (y, r)) e in (ap (λ p. p.1) same, ap (λ p. Some p.0) same)
 
-converted_some : {A B : Type 0} (f : A → Option B) (o : Option (A × List Token)) (b : B) (r : List Token) → converted f o ≡ Some (b, r) → (a : A) × (o ≡ Some (a, r)) × (f a ≡ Some b)
+pub converted_some : {A B : Type 0} (f : A → Option B) (o : Option (A × List Token)) (b : B) (r : List Token) → converted f o ≡ Some (b, r) → (a : A) × (o ≡ Some (a, r)) × (f a ≡ Some b)
 converted_some f None b r e = absurd (cc)
 converted_some f (Some p) b r e = let both = found p.0 p.1 r (f p.0) b e in (p.0, ap (λ s. Some (p.0, s)) both.0, both.1)
 
@@ -61,25 +59,7 @@ module _ (p : Parse json.Json) where
     pub members_over : (n : ℕ) (ts r : List Token) → length ts ≤ n → read_key ts ≡ Some (None, r) → converted (λ ms. of_members ms old) (members p n ts) ≡ Some (old, r)
     members_over n ts r enough e = ap (converted (λ ms. of_members ms old)) (members_end p n ts r enough e)
 
--- ---- a list that grows at its end
-
-abbrev pub items_before : List Value → Items → Items
-items_before [] rest = rest
-items_before (v ∷ vs) rest = item (view v) (items_before vs rest)
-
-pub items_before-no_items : (vs : List Value) → items_before vs no_items ≡ items_view vs
-items_before-no_items [] = refl
-items_before-no_items (v ∷ vs) = ap (item (view v)) (items_before-no_items vs)
-
-items_push : (vs : List Value) (v : Value) (rest : Items) → items_before vs (item (view v) rest) ≡ items_before (vs ++ v ∷ []) rest
-items_push [] v rest = refl
-items_push (w ∷ vs) v rest = ap (item (view w)) (items_push vs v rest)
-
-pub one_more_item : (vs : List Value) (v : Value) (r : Option (Items × List Token)) → parse_map (items_before vs) (parse_map (item (view v)) r) ≡ parse_map (items_before (vs ++ v ∷ [])) r
-one_more_item vs v None = refl
-one_more_item vs v (Some p) = ap (λ ds. Some (ds, p.1)) (items_push vs v p.0)
-
-pub none_before : (r : Option (Items × List Token)) → r ≡ parse_map (λ a. a) r
+pub none_before : {A : Type 0} (r : Option (A × List Token)) → r ≡ parse_map (λ a. a) r
 none_before None = refl
 none_before (Some p) = refl
 

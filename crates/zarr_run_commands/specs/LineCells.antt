@@ -1,29 +1,39 @@
--- The members of lines whose cells were read as whole numbers.
-use Rattle.std.specs.Prelude.{ℕ, List, codes, Option, Some, None, option_map}
-use Rattle.serde_json.specs.Data.{Data, null, array, Members, put}
-use Rattle.serde_json.specs.View.{members_view}
+-- Lines whose members were read one by one.
+use Rattle.std.specs.Prelude.{◌≡◌, ℕ, List, Bool, true, ⊤, bytes_eq, codes, string_bytes, Option, Some, None, option_map, option_and_then}
+use Rattle.std.specs.List.{list_any}
+use Rattle.json.specs.Token.{Token}
+use Rattle.json.specs.Json.{value}
+use Rattle.serde_json.specs.Data.{Data, array, Members}
+use Rattle.serde_json.specs.Find.{get_member}
+use Rattle.serde_json.specs.Read.{converted, of_json}
 use Rattle.zarr_codecs_json.specs.Numbers.{number_items}
-use Rattle.zarr_codecs_types.specs.Given.{GivenCells, given_bytes, given_json}
-use Rattle.zarr_run_meaning.specs.Requests.{Request, create, reopen, write, read, erase}
+use Rattle.zarr_grids_boxes.specs.Subsets.{region_of}
+use Rattle.zarr_grids_metadata.specs.Members.{has_only}
+use Rattle.zarr_run_commands.specs.Lines.{operation_of, path_of, box_of, chunk_of}
 use Rattle.zarr_run_commands.specs.declared.tokens.Line.{Line}
 
--- members, and after them cells where there are some
-abbrev pub with_cells : Option Data → Members → Members
-with_cells None ms = ms
-with_cells (Some d) ms = put (codes "cells") d ms
+-- what the next value of a member says, and what is left after it
+abbrev pub reads : {A : Type 0} → (Data → Option A) → List Token → Option (A × List Token)
+reads says ts = converted (λ j. option_and_then says (of_json j)) (value 126 ts)
 
 -- a list of whole numbers
 abbrev pub number_list : List ℕ → Data
 number_list ns = array (number_items ns)
 
--- the members of a line
-abbrev pub line_members : Line → Members
-line_members line = with_cells (option_map (λ v. number_list v.items) line.cells) (members_view line.members.entries)
+-- a field that is some is one of these names
+abbrev pub IsNamed : {A : Type 0} → List (List ℕ) → List ℕ → Option A → Type 0
+IsNamed names name None = ⊤
+IsNamed names name (Some a) = list_any (bytes_eq name) names ≡ true
 
--- a request with this JSON value for its cells
-abbrev pub asks_with : Data → Request → Request
-asks_with d (create path document order) = create path document order
-asks_with d (reopen path order) = reopen path order
-asks_with d (write path target cells options) = write path target (given_json d) options
-asks_with d (read path target options) = read path target options
-asks_with d (erase path chunks) = erase path chunks
+-- the members have no other names than those of a line's fields
+abbrev pub HasFields : Line → Members → Type 0
+HasFields line ms =
+    (names : List (List ℕ)) → IsNamed names (codes "op") line.operation → IsNamed names (codes "path") line.path → IsNamed names (codes "box") line.region
+    → IsNamed names (codes "chunk") line.chunk → IsNamed names (codes "cells") line.cells → has_only names ms ≡ true
+
+-- the fields of a line are what the members of an object say
+abbrev pub IsLine : Members → Line → Type 0
+IsLine ms line =
+    (operation_of ms ≡ line.operation) × (path_of ms ≡ option_map string_bytes line.path) × (box_of ms ≡ option_map region_of line.region)
+    × (chunk_of ms ≡ option_map (λ v. v.items) line.chunk) × (get_member (codes "cells") ms ≡ option_map (λ v. number_list v.items) line.cells)
+    × (get_member (codes "options") ms ≡ None) × HasFields line ms

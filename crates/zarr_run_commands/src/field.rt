@@ -3,7 +3,7 @@ ghost use Rattle.std.specs.Prelude.{◌≡◌, ◌+◌, ◌^◌, ◌<◌, IfOk, 
 ghost use Rattle.serde_json.specs.View.{view, items_view, members_view};
 ghost use Rattle.zarr_grids_boxes.specs.Subsets.{region_of};
 ghost use Rattle.zarr_grids_configurations.specs.Numbers.{sizes_of};
-ghost use Rattle.zarr_run_commands.specs.Lines.{order_named, order_of, flag, options_of, line_options_of, interval_of, interval_in, region_of_pairs, box_of, chunk_of};
+ghost use Rattle.zarr_run_commands.specs.Lines.{order_named, order_of, flag, no_options, options_of, line_options_of, interval_of, interval_in, region_of_pairs, box_of, chunk_of};
 
 use serde_json::{Map, Value};
 use std::alloc::{AllocError, Global};
@@ -38,11 +38,18 @@ pub(crate) fn options(line: &Map<String, Value>) -> Option<CodecOptions>
 {
     match member(line, "options") {
         Some(options) => read_options(options.as_object()?),
-        None => Some(CodecOptions {
-            store_empty_chunks: false,
-            experimental_partial_encoding: false,
-            workers: false,
-        }),
+        None => Some(no_options()),
+    }
+}
+
+/// The options of a line that gives none: all are false.
+pub(crate) fn no_options() -> CodecOptions
+    ensures { result ≡ no_options }
+{
+    CodecOptions {
+        store_empty_chunks: false,
+        experimental_partial_encoding: false,
+        workers: false,
     }
 }
 

@@ -1,11 +1,11 @@
 //! The commands of lines.
-ghost use Rattle.std.specs.Prelude.{◌≡◌, codes, IfOk, option_and_then, option_map};
-ghost use Rattle.serde_json.specs.Data.{put};
+ghost use Rattle.std.specs.Prelude.{◌≡◌, Some, IfOk, IfSome, option_and_then, option_map};
+ghost use Rattle.serde_json.specs.Data.{Members};
 ghost use Rattle.serde_json.specs.Read.{read as json_of};
 ghost use Rattle.serde_json.specs.View.{view, members_view};
 ghost use Rattle.zarr_run_commands.specs.Commands.{asked};
 ghost use Rattle.zarr_run_commands.specs.Lines.{Says, request_in, request_of, request_by};
-ghost use Rattle.zarr_run_commands.specs.LineCells.{asks_with, line_members, number_list};
+ghost use Rattle.zarr_run_commands.specs.LineCells.{IsLine};
 
 use crate::command::{Command, CommandCells};
 use crate::operation::Operation;
@@ -43,7 +43,10 @@ impl CommandReader {
             return Ok(None);
         };
         match read_line(self.alloc, &mut self.scratch, text) {
-            Ok(line) => command_of_line(self.alloc, line),
+            Ok(line) => match command_of_line(line) {
+                Some(command) => Ok(Some(command)),
+                None => command_of_text(self.alloc, text),
+            },
             Err(NotRead::Memory) => Err(AllocError),
             Err(NotRead::Other) => command_of_text(self.alloc, text),
         }
@@ -74,64 +77,53 @@ fn command_of_text(alloc: Global, text: &str) -> Result<Option<Command>, AllocEr
     }
 }
 
-/// The command that a line's members ask.
-fn command_of_line(alloc: Global, line: Line) -> Result<Option<Command>, AllocError>
-    ensures { IfOk result (λ said. option_map asked said ≡ request_of (line_members line)) }
+/// The command that the members of a line ask. `None` where it asks none, or one that is read of its
+/// JSON alone.
+fn command_of_line(line: Line) -> Option<Command>
+    ensures { IfSome result (λ command. (ms : Members) → IsLine ms line
+        → request_of ms ≡ Some (asked command)) }
 {
-    let Line { members, cells } = line;
-    match cells {
-        Some(numbers) => command_with(alloc, members, numbers),
-        None => command_of(alloc, members),
-    }
-}
-
-/// The command that members and whole numbers for `cells` ask.
-fn command_with(
-    alloc: Global,
-    mut members: Map<String, Value>,
-    numbers: Vec<u64>,
-) -> Result<Option<Command>, AllocError>
-    ensures { IfOk result (λ said. option_map asked said
-        ≡ request_of (put (codes "cells") (number_list numbers.items)
-        (members_view members.entries))) }
-{
-    let key = String::from_str(alloc, "cells")?;
-    drop(members.insert(key, Value::Null)?);
-    match command_of(alloc, members)? {
-        Some(command) => Ok(Some(with_numbers(command, numbers))),
-        None => Ok(None),
-    }
-}
-
-/// A command with whole numbers for its cells.
-fn with_numbers(command: Command, numbers: Vec<u64>) -> Command
-    ensures { asked result ≡ asks_with (number_list numbers.items) (asked command) }
-{
-    let cells = CommandCells::Numbers(numbers);
-    match command {
-        Command::WriteBox {
-            path,
-            region,
-            options,
-            ..
-        } => Command::WriteBox {
+    let Line {
+        operation,
+        path,
+        region,
+        chunk,
+        cells,
+    } = line;
+    let (operation, path) = (operation?, path?);
+    let cells = match cells {
+        Some(numbers) => Some(CommandCells::Numbers(numbers)),
+        None => None,
+    };
+    let options = field::no_options();
+    match (operation, region, chunk, cells) {
+        (Operation::WriteBox, Some(region), None, Some(cells)) => Some(Command::WriteBox {
             path,
             region,
             cells,
             options,
-        },
-        Command::WriteChunk {
-            path,
-            chunk,
-            options,
-            ..
-        } => Command::WriteChunk {
+        }),
+        (Operation::WriteChunk, None, Some(chunk), Some(cells)) => Some(Command::WriteChunk {
             path,
             chunk,
             cells,
             options,
-        },
-        other => other,
+        }),
+        (Operation::ReadBox, Some(region), None, None) => Some(Command::ReadBox {
+            path,
+            region,
+            options,
+        }),
+        (Operation::ReadChunk, None, Some(chunk), None) => Some(Command::ReadChunk {
+            path,
+            chunk,
+            options,
+        }),
+        (Operation::EraseChunks, Some(chunks), None, None) => Some(Command::EraseChunks {
+            path,
+            chunks,
+        }),
+        _ => None,
     }
 }
 

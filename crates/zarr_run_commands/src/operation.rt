@@ -29,7 +29,7 @@ impl Operation {
     }
 
     /// The operation with this name.
-    fn from_name(name: &str) -> Option<Operation>
+    pub(crate) fn from_name(name: &str) -> Option<Operation>
         ensures { result ≡ operation_named name.now }
     {
         match name {

@@ -1,26 +1,30 @@
-//! The members of a line, read token by token: whole numbers that are its last member take eight
-//! bytes each.
-ghost use Rattle.std.specs.Prelude.{◌≡◌, ◌<◌, ◌==◌, length, slice_index, false, Some, None, IfOk, IfSome, OnOk};
-ghost use Rattle.json.specs.Json.{items, members, read_key, value};
-ghost use Rattle.serde_json.specs.Data.{no_members, number, object, unsigned};
-ghost use Rattle.serde_json.specs.Read.{converted, number_from, number_of, of_items, of_json, of_members, read as json_of};
-ghost use Rattle.serde_json.specs.View.{view, items_view};
+//! Lines read token by token, whose members are an operation, a path, a box or a chunk, and whole
+//! numbers for cells, which take eight bytes each.
+ghost use Rattle.std.specs.Prelude.{◌≡◌, ℕ, ◌<◌, ◌+◌, ◌^◌, ◌∷◌, length, Some, IfOk, IfSome, OnOk, string_bytes, option_and_then};
+ghost use Rattle.std.specs.Str.Parse.{AllDigits, digits_value};
+ghost use Rattle.json.specs.Json.{items, members, value};
+ghost use Rattle.json.specs.Token as token;
+ghost use Rattle.serde_json.specs.Data.{Data, Members, no_members, number, object, put, unsigned};
+ghost use Rattle.serde_json.specs.Find.{as_str};
+ghost use Rattle.serde_json.specs.Read.{converted, number_of, of_items, of_json, of_members, read as json_of};
 ghost use Rattle.zarr_codecs_json.specs.Numbers.{number_items};
-ghost use Rattle.zarr_run_commands.specs.LineCells.{line_members, number_list};
+ghost use Rattle.zarr_grids_boxes.specs.Subsets.{region_of};
+ghost use Rattle.zarr_run_commands.specs.Lines.{interval_in, operation_named, region_in, region_of_pairs};
+ghost use Rattle.zarr_run_commands.specs.LineCells.{IsLine, number_list, reads};
 
-use fast_float::Numeral;
+use crate::operation::Operation;
 use json::{Invalid, Reader, Scratch, Token};
-use serde_json::{Map, Value};
 use std::alloc::{AllocError, AllocFailed, Global};
+use zarr_grids_boxes::ArraySubset;
 
-/// How deep values of members nest at most.
-const MEMBER_DEPTH: usize = 126;
-
-/// The members of a line. Where `cells` is some, it is a last member of that name, a list of whole
-/// numbers.
+/// What the members of a line say, by their names. A member that comes twice counts as the last one
+/// of its name.
 #[derive(Drop)]
 pub(crate) struct Line {
-    pub members: Map<String, Value>,
+    pub operation: Option<Operation>,
+    pub path: Option<String>,
+    pub region: Option<ArraySubset>,
+    pub chunk: Option<Vec<u64>>,
     pub cells: Option<Vec<u64>>,
 }
 
@@ -50,81 +54,61 @@ impl From<Invalid> for NotRead {
     }
 }
 
-/// Whether a text begins with a minus sign.
-fn has_minus(bytes: &[u8]) -> bool
-    ensures { result ≡ (slice_index bytes.now 0 == 45) }
+/// The number that digits alone write, where it is below 2^64.
+fn number_of_digits(bytes: &[u8]) -> Option<u64>
+    ensures digits { IfSome result (λ n. AllDigits 10 bytes.now) }
+    ensures value { IfSome result (λ n. n ≡ digits_value 10 bytes.now) }
 {
-    !bytes.is_empty() && bytes[0] == b'-'
-}
-
-/// The whole number that a numeral without a sign is, where it is below 2^64.
-fn whole(numeral: &Numeral<'_>) -> Option<u64>
-    ensures { IfSome result (λ n. number_from false numeral.now ≡ Some (unsigned n)) }
-{
-    match numeral.to_u64() {
-        Some(number) => Some(number),
-        None => None,
+    let mut number: u64 = 0;
+    for byte in bytes {
+        if !byte.is_ascii_digit() {
+            return None;
+        }
+        number = number.checked_mul(10)?.checked_add((*byte - b'0') as u64)?;
     }
+    Some(number)
 }
 
-/// The whole number that a token of JSON writes, where it is below 2^64.
+/// The whole number that a token of JSON writes, where it is below 2^64. `None` where it is of
+/// another form.
 fn whole_number(text: &str) -> Option<u64>
     ensures { IfSome result (λ n. number_of text.now ≡ Some (unsigned n)) }
 {
     let bytes = text.as_bytes();
-    if has_minus(bytes) {
+    if bytes.is_empty() {
         return None;
     }
-    match whole(&Numeral::scan(bytes)) {
+    match number_of_digits(bytes) {
         Some(number) => Some(number),
         None => None,
     }
 }
 
-/// A value of texts, whole numbers and lists of them.
-#[cycle(read)]
-fn read(alloc: Global, reader: &mut Reader<'_>, depth: usize) -> Result<Value, NotRead>
-    ensures ok { IfOk result
-        (λ v. converted of_json (value depth reader.old) ≡ Some (view v, reader.new)) }
-    ensures shorter { OnOk result (length reader.new < length reader.old) }
+/// The bracket that begins a list.
+fn begin_array(reader: &mut Reader<'_>) -> Result<(), NotRead>
+    ensures { OnOk result (reader.old ≡ token.Token.begin_array ∷ reader.new) }
 {
     let token = reader.next().ok_or(NotRead::Other)?;
     match token {
-        Token::String(text) => Ok(Value::String(String::from_str(alloc, text)?)),
-        Token::Number(text) => match whole_number(text) {
-            Some(number) => Ok(Value::from(number)),
-            None => Err(NotRead::Other),
-        },
-        Token::BeginArray => {
-            if depth == 0 {
-                return Err(NotRead::Other);
-            }
-            Ok(Value::Array(read_items(alloc, reader, depth - 1)?))
-        }
+        Token::BeginArray => Ok(()),
         _ => Err(NotRead::Other),
     }
 }
 
-/// The values of a list that has begun.
-#[cycle(read)]
-fn read_items(alloc: Global, reader: &mut Reader<'_>, depth: usize) -> Result<Vec<Value>, NotRead>
-    ensures ok { IfOk result
-        (λ v. converted of_items (items (value depth) (length reader.old) reader.old)
-        ≡ Some (items_view v.items, reader.new)) }
-    ensures shorter { OnOk result (length reader.new < length reader.old) }
+/// The next token, where it is a text.
+fn next_text<'a>(reader: &mut Reader<'a>) -> Result<&'a str, NotRead>
+    ensures { IfOk result (λ text. reader.old ≡ token.Token.string text.now ∷ reader.new) }
 {
-    let mut found = Vec::new(alloc);
-    'items: while !reader.take_end_array() {
-        let item = read(alloc, reader, depth)?;
-        found.push(item)?;
+    let token = reader.next().ok_or(NotRead::Other)?;
+    match token {
+        Token::String(text) => Ok(text),
+        _ => Err(NotRead::Other),
     }
-    Ok(found)
 }
 
 /// The next token, where it is a whole number.
 fn next_number(reader: &mut Reader<'_>) -> Result<u64, NotRead>
-    ensures ok { IfOk result
-        (λ n. converted of_json (value 125 reader.old)
+    ensures ok { IfOk result (λ n. (depth : ℕ) → converted of_json (value depth reader.old)
         ≡ Some (number (unsigned n), reader.new)) }
     ensures shorter { OnOk result (length reader.new < length reader.old) }
 {
@@ -135,6 +119,78 @@ fn next_number(reader: &mut Reader<'_>) -> Result<u64, NotRead>
             None => Err(NotRead::Other),
         },
         _ => Err(NotRead::Other),
+    }
+}
+
+/// The operation that a text names.
+fn read_operation(reader: &mut Reader<'_>) -> Result<Operation, NotRead>
+    ensures ok { IfOk result (λ operation.
+        reads (λ d. option_and_then operation_named (as_str d)) reader.old
+        ≡ Some (operation, reader.new)) }
+    ensures shorter { OnOk result (length reader.new < length reader.old) }
+{
+    let name = next_text(reader)?;
+    match Operation::from_name(name) {
+        Some(operation) => Ok(operation),
+        None => Err(NotRead::Other),
+    }
+}
+
+/// A text.
+fn read_text(alloc: Global, reader: &mut Reader<'_>) -> Result<String, NotRead>
+    ensures ok { IfOk result
+        (λ text. reads as_str reader.old ≡ Some (string_bytes text, reader.new)) }
+    ensures shorter { OnOk result (length reader.new < length reader.old) }
+{
+    let text = next_text(reader)?;
+    Ok(String::from_str(alloc, text)?)
+}
+
+/// The start and the length of an interval: a list of its start and its end.
+fn read_interval(reader: &mut Reader<'_>) -> Result<(u64, u64), NotRead>
+    ensures ok { IfOk result (λ interval.
+        converted (λ j. option_and_then interval_in (of_json j)) (value 125 reader.old)
+        ≡ Some (interval, reader.new)) }
+    ensures fits { IfOk result (λ interval. interval.0 + interval.1 < 2 ^ 64) }
+    ensures shorter { OnOk result (length reader.new < length reader.old) }
+{
+    begin_array(reader)?;
+    let start = next_number(reader)?;
+    let end = next_number(reader)?;
+    if !reader.take_end_array() {
+        return Err(NotRead::Other);
+    }
+    Ok((start, end.saturating_sub(start)))
+}
+
+/// The box of the intervals of a list that has begun.
+fn read_intervals(alloc: Global, reader: &mut Reader<'_>) -> Result<ArraySubset, NotRead>
+    ensures ok { IfOk result (λ region.
+        converted (λ js. option_and_then region_of_pairs (of_items js))
+        (items (value 125) (length reader.old) reader.old)
+        ≡ Some (region_of region, reader.new)) }
+    ensures shorter { OnOk result (length reader.new < length reader.old) }
+{
+    let mut start = Vec::new(alloc);
+    let mut shape = Vec::new(alloc);
+    'pairs: while !reader.take_end_array() {
+        let (first, size) = read_interval(reader)?;
+        start.push(first)?;
+        shape.push(size)?;
+    }
+    Ok(ArraySubset { start, shape })
+}
+
+/// A box: a list of intervals.
+fn read_region(alloc: Global, reader: &mut Reader<'_>) -> Result<ArraySubset, NotRead>
+    ensures ok { IfOk result
+        (λ region. reads region_in reader.old ≡ Some (region_of region, reader.new)) }
+    ensures shorter { OnOk result (length reader.new < length reader.old) }
+{
+    begin_array(reader)?;
+    match read_intervals(alloc, reader) {
+        Ok(region) => Ok(region),
+        Err(error) => Err(error),
     }
 }
 
@@ -160,60 +216,59 @@ fn read_list(alloc: Global, reader: &mut Reader<'_>) -> Result<Vec<u64>, NotRead
         ≡ Some (number_list v.items, reader.new)) }
     ensures shorter { OnOk result (length reader.new < length reader.old) }
 {
-    let token = reader.next().ok_or(NotRead::Other)?;
-    match token {
-        Token::BeginArray => match read_numbers(alloc, reader) {
-            Ok(numbers) => Ok(numbers),
-            Err(error) => Err(error),
-        },
-        _ => Err(NotRead::Other),
+    begin_array(reader)?;
+    match read_numbers(alloc, reader) {
+        Ok(numbers) => Ok(numbers),
+        Err(error) => Err(error),
     }
+}
+
+/// Reads the value of the member with this name into a line.
+fn read_member(
+    alloc: Global,
+    reader: &mut Reader<'_>,
+    name: &str,
+    line: &mut Line,
+) -> Result<(), NotRead>
+    ensures ok { OnOk result ((ms : Members) → IsLine ms line.old → (d : Data)
+        × (converted of_json (value 126 reader.old) ≡ Some (d, reader.new))
+        × IsLine (put name.now d ms) line.new) }
+    ensures shorter { OnOk result (length reader.new < length reader.old) }
+{
+    match name {
+        "op" => line.operation = Some(read_operation(reader)?),
+        "path" => line.path = Some(read_text(alloc, reader)?),
+        "box" => line.region = Some(read_region(alloc, reader)?),
+        "chunk" => line.chunk = Some(read_list(alloc, reader)?),
+        "cells" => line.cells = Some(read_list(alloc, reader)?),
+        _ => return Err(NotRead::Other),
+    }
+    Ok(())
 }
 
 /// The members of an object that has begun.
 fn read_members(alloc: Global, reader: &mut Reader<'_>) -> Result<Line, NotRead>
-    ensures { IfOk result (λ line. converted (λ ms. of_members ms no_members)
-        (members (value 126) (length reader.old) reader.old)
-        ≡ Some (line_members line, reader.new)) }
+    ensures { IfOk result (λ line. (ms : Members) × IsLine ms line
+        × (converted (λ js. of_members js no_members)
+        (members (value 126) (length reader.old) reader.old) ≡ Some (ms, reader.new))) }
 {
-    let mut found = Map::new(alloc);
-    'members: while let Some(name) = reader.next_key()? {
-        if name == "cells" {
-            let cells = read_list(alloc, reader)?;
-            let line = last_cells(reader, found, cells)?;
-            return Ok(line);
-        }
-        let key = String::from_str(alloc, name)?;
-        let member = read(alloc, reader, MEMBER_DEPTH)?;
-        drop(found.insert(key, member)?);
-    }
-    Ok(Line {
-        members: found,
+    let mut line = Line {
+        operation: None,
+        path: None,
+        region: None,
+        chunk: None,
         cells: None,
-    })
-}
-
-/// A line whose cells were its last member: the object ends.
-fn last_cells(
-    reader: &mut Reader<'_>,
-    members: Map<String, Value>,
-    cells: Vec<u64>,
-) -> Result<Line, NotRead>
-    ensures end { OnOk result (read_key reader.old ≡ Some (None, reader.new)) }
-    ensures line { IfOk result (λ line. line ≡ record { members = members; cells = Some cells }) }
-{
-    if reader.next_key()?.is_some() {
-        return Err(NotRead::Other);
+    };
+    'members: while let Some(name) = reader.next_key()? {
+        read_member(alloc, reader, name, &mut line)?;
     }
-    Ok(Line {
-        members,
-        cells: Some(cells),
-    })
+    Ok(line)
 }
 
-/// The members of the object that a text is.
+/// What the members of the object that a text is say.
 pub(crate) fn read_line(alloc: Global, scratch: &mut Scratch, text: &str) -> Result<Line, NotRead>
-    ensures { IfOk result (λ line. json_of text.now ≡ Some (object (line_members line))) }
+    ensures { IfOk result
+        (λ line. (ms : Members) × IsLine ms line × (json_of text.now ≡ Some (object ms))) }
 {
     let mut reader = Reader::new(text, scratch)?;
     let token = reader.next().ok_or(NotRead::Other)?;

@@ -11,6 +11,7 @@ ghost use Rattle.zarr_run_lines.specs.Lines.{Answers, Leaves};
 ghost use Rattle.zarr_run_lines.specs.Sessions.{LeadsTo};
 
 use crate::lines::LinesFault;
+use memchr::memchr;
 use std::alloc::{AllocError, Global};
 use std::io::{BufReader, Read, Write};
 use zarr_array_storage::WritableStorageTraits;
@@ -144,7 +145,7 @@ pub(crate) fn write_before_wait<R: Read, W: Write>(
         (append_known (W.contents writer.new) pending.new.items)) }
     ensures fault { IfErr result (λ fault. fault ≡ LinesFault.Write) }
 {
-    if pending.len() < PENDING_BYTES && reader.buffer().contains(&b'\n') {
+    if pending.len() < PENDING_BYTES && memchr(b'\n', reader.buffer()).is_some() {
         return Ok(());
     }
     write_pending(writer, pending)

@@ -4,3 +4,4 @@ pub mod Refused
 pub mod Known
 pub mod Changed
 pub mod PutInto
+pub mod ReadBack

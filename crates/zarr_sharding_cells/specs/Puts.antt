@@ -44,7 +44,7 @@ NotGiven elements shape asked payload e = (are_inside shape asked ≡ true) × I
 
 -- ---- what is written
 
--- the new slices of all subchunks that the places lie in are appended to the data part, and the index says where they stand; where no subchunk is present then, the value is taken away
+-- the new slices of all subchunks that the places lie in are appended to the data part, one of each, and the index says where they stand; where no subchunk is present then, the value is taken away
 pub record IsWritten (s : ShardOf) (exact one : Bool) (new_cells : Put) (old new : Held) : Type 0 where
   pub changes : List Change
   pub changed : AreChanged (stored_of s exact old) new_cells changes
@@ -98,7 +98,7 @@ pub record IsTooLong (s : ShardOf) (exact : Bool) (new_cells : Put) (held : Held
 
 -- why valid elements are not put: the slice of a subchunk that is met isn't decoded, a codec refuses, or something would be too large
 abbrev pub NotWritten : ShardOf → Bool → Put → Held → CodecError → Type 0
-NotWritten s exact new_cells held error.Damage = IsLostAt (stored_of s exact held) new_cells.subchunk
+NotWritten s exact new_cells held error.Damage = IsLostAt (stored_of s exact held) new_cells
 NotWritten s exact new_cells held error.Codec = IsRefusedAt CodecRefuses (stored_of s exact held) new_cells ⊎ IsIndexRefused CodecRefuses s exact new_cells held
 NotWritten s exact new_cells held error.Size =
     (IsTooLarge s.elements.type (product s.subchunk) ⊎ IsRefusedAt PassesIndex (stored_of s exact held) new_cells)

@@ -14,7 +14,7 @@ use Rattle.zarr_sharding_cells.specs.Tables.{Held, held_as}
 use Rattle.zarr_sharding_cells.specs.declared.state.ShardState.{ShardState}
 
 -- the codec of the shard
-abbrev pub codec_of : {I X E : Type 0} {i : codec.Ghosts I} {x : codec.Ghosts X} {e : target.Ghosts E} {d : source.Ghosts E} → ShardState I X E i x e d → ShardingCodec I X i x
+abbrev pub codec_of : {I X E : Type 0} {i : codec.Ghosts I} {x : codec.Ghosts X} {e : target.Ghosts E} {d : source.Ghosts E} → ShardState I X E i x e d → ShardingCodec I X
 codec_of state = state.codec.now
 
 -- the shard

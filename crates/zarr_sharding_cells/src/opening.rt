@@ -1,5 +1,5 @@
 //! The shard that a source holds, opened for writing.
-ghost use Rattle.std.specs.Prelude.{◌≡◌, ◌*◌, ◌<◌, ◌^◌, ℕ, length, true, IfErr, IfOk, IsTrue};
+ghost use Rattle.std.specs.Prelude.{◌≡◌, ◌*◌, ◌+◌, ◌<◌, ◌≤◌, ◌^◌, ℕ, length, true, IfErr, IfOk, IsTrue};
 ghost use Rattle.zarr_codecs_arrays.specs.Views.{elements_of};
 ghost use Rattle.zarr_codecs_meaning.specs.Encoding.{index_size};
 ghost use Rattle.zarr_codecs_meaning.specs.Fits.{fits};
@@ -9,6 +9,7 @@ ghost use Rattle.zarr_grids_boxes.specs.Boxes.{product};
 ghost use Rattle.zarr_sharding_cells.specs.Opening.{NotOpened};
 ghost use Rattle.zarr_sharding_cells.specs.Tables.{IsTold, held_as};
 ghost use Rattle.zarr_sharding_codec.specs.Views.{index_of, shard_chain, subchunk_of};
+ghost use Rattle.zarr_sharding_decoder.specs.Pairs.{index_length};
 ghost use Rattle.zarr_sharding_decoder.specs.Views.{shard_in};
 ghost use Rattle.zarr_sharding_state.specs.States.{end_of, pairs_in};
 
@@ -39,11 +40,12 @@ impl<
     X: ArrayToBytesCodecTraits,
     E: BytesPartialEncoderTraits,
 > ShardState<'a, I, X, E> {
-    ghost use Rattle.std.specs.Prelude.{◌≡◌, IfErr, IfOk, IsTrue};
+    ghost use Rattle.std.specs.Prelude.{◌≡◌, ◌≤◌, ◌+◌, IfErr, IfOk, IsTrue};
     ghost use Rattle.zarr_codecs_arrays.specs.Views.{elements_of};
     ghost use Rattle.zarr_sharding_cells.specs.Opening.{NotOpened, refused_by};
     ghost use Rattle.zarr_sharding_cells.specs.Tables.{IsTold};
     ghost use Rattle.zarr_sharding_cells.specs.Views.{codec_of, held_of, shard_of, source_of};
+    ghost use Rattle.zarr_sharding_decoder.specs.Pairs.{index_length};
     ghost use Rattle.zarr_sharding_decoder.specs.Views.{shard_in};
 
     /// The shard of an array that a source holds, or none; of the value the index alone is read, and
@@ -69,6 +71,13 @@ impl<
         ensures cause { IsTrue (E.is_honest source) → IfErr result (λ refused. NotOpened
             (shard_in I.meaning X.meaning codec.now (elements_of array.entry.elements.now)
             array.entry.shape.now) (E.contents source) refused.1) }
+        ensures given { IsTrue (E.is_honest source) → IfOk result
+            (λ state. E.given_bytes (source_of state) ≤ E.given_bytes source
+            + index_length (shard_of I.meaning X.meaning state)) }
+        ensures given_for_nothing { IsTrue (E.is_honest source) → IfErr result
+            (λ refused. E.given_bytes refused.0 ≤ E.given_bytes source + index_length
+            (shard_in I.meaning X.meaning codec.now (elements_of array.entry.elements.now)
+            array.entry.shape.now)) }
         ensures unrefused { IfOk result
             (λ state. E.refused_calls (source_of state) ≡ E.refused_calls source) }
         ensures refused { IfErr result (λ refused. E.refused_calls refused.0
@@ -117,6 +126,9 @@ fn open_shard<I: ArrayToBytesCodecTraits, X: ArrayToBytesCodecTraits, D: BytesPa
         array.entry.shape.now) (D.contents source.old)) }
     ensures refused { D.refused_calls source.new ≡
         refused_after (D.refused_calls source.old) result }
+    ensures given { IsTrue (D.is_honest source.old) → D.given_bytes source.new
+        ≤ D.given_bytes source.old + index_length (shard_in I.meaning X.meaning codec.now
+        (elements_of array.entry.elements.now) array.entry.shape.now) }
     ensures follows { D.follows source.old source.new }
 {
     let shape = array.shape;

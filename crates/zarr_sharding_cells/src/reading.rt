@@ -3,7 +3,10 @@ use crate::state::ShardState;
 use std::alloc::Global;
 use zarr_codecs_arrays::{ArrayBytes, CodecError};
 use zarr_codecs_options::CodecOptions;
-use zarr_codecs_traits::{ArrayPart, ArrayToBytesCodecTraits, BytesPartialEncoderTraits, Indexer};
+use zarr_codecs_regions::{numbers_asked, test_asked};
+use zarr_codecs_traits::{ArrayToBytesCodecTraits, BytesPartialEncoderTraits, Indexer};
+use zarr_sharding_codec::{NumberedPlaces, OpenedShard};
+use zarr_sharding_index::IndexLayout;
 
 impl<
     'a,
@@ -11,40 +14,59 @@ impl<
     X: ArrayToBytesCodecTraits,
     E: BytesPartialEncoderTraits,
 > ShardState<'a, I, X, E> {
-    ghost use Rattle.std.specs.Prelude.{◌≡◌, IsTrue};
+    ghost use Rattle.std.specs.Prelude.{◌≡◌, ◌≤◌, ◌+◌, Some, IsTrue};
     ghost use Rattle.zarr_codecs_traits.specs.Indexers.{asked_of};
     ghost use Rattle.zarr_codecs_traits.specs.Sources.{refused_after};
-    ghost use Rattle.zarr_sharding_cells.specs.Views.{codec_of, held_of, shard_of, source_of};
-    ghost use Rattle.zarr_sharding_decoder.specs.Parts.{ReadsPart};
+    ghost use Rattle.zarr_sharding_cells.specs.Tables.{IsTold};
+    ghost use Rattle.zarr_sharding_cells.specs.Views.{codec_of, held_of, known_of, shard_of, source_of};
+    ghost use Rattle.zarr_sharding_decoder.specs.Parts.{ReadsPart, slices_met};
 
     /// The elements at the places that are asked for, in their order; each is the fill value where
-    /// its subchunk is absent. They are read from the source as `ArrayToBytesCodecTraits` says.
-    /// `IncompatibleIndexer` where a place isn't one of the array's; `Damage` where a place that is
-    /// asked for cannot be decoded; `Size` where the array has 2^63 bytes or more; `Source` where the
-    /// source refuses.
+    /// its subchunk is absent. The index that is kept says where each subchunk stands: each slice that
+    /// the places lie in is fetched once, and nothing else. `IncompatibleIndexer` where a place isn't
+    /// one of the array's; `Damage` where a place that is asked for cannot be decoded; `Size` where the
+    /// array has 2^63 bytes or more; `Source` where the source refuses.
     pub fn partial_decode(
         &mut self,
         alloc: Global,
         indexer: Indexer<'_>,
         options: &CodecOptions,
     ) -> Result<ArrayBytes, CodecError>
-        ensures part { IsTrue (E.is_honest (source_of self.old)) → ReadsPart
+        ensures part { IsTrue (E.is_honest (source_of self.old)) → IsTold
+            (shard_of I.meaning X.meaning self.old) (held_of E.contents self.old) → ReadsPart
             (shard_of I.meaning X.meaning self.old) (E.contents (source_of self.old))
             (asked_of indexer.entry) result }
         ensures refused { E.refused_calls (source_of self.new) ≡
             refused_after (E.refused_calls (source_of self.old)) result }
+        ensures given { IsTrue (E.is_honest (source_of self.old)) →
+            E.given_bytes (source_of self.new) ≤ E.given_bytes (source_of self.old) + slices_met
+            (shard_of I.meaning X.meaning self.old) (Some (known_of self.old).0)
+            (asked_of indexer.entry) }
         ensures follows { E.follows (source_of self.old) (source_of self.new) }
         ensures held { held_of E.contents self.new ≡ held_of E.contents self.old }
         ensures codec { codec_of self.new ≡ codec_of self.old }
         ensures shard { shard_of I.meaning X.meaning self.new
             ≡ shard_of I.meaning X.meaning self.old }
     {
-        let part = ArrayPart {
+        if let Err(error) = test_asked(self.shape, indexer) {
+            return Err(error);
+        }
+        let numbers = numbers_asked(alloc, self.shape, indexer)?;
+        let layout = IndexLayout {
+            location: self.codec.index_location(),
+            shape: self.pairs_shape.as_slice(),
+            size: self.size,
+        };
+        let shard = OpenedShard {
+            index: self.known.index(),
+            total: self.known.total(layout),
             elements: self.elements,
+        };
+        let asked = NumberedPlaces {
             shape: self.shape,
-            indexer,
+            numbers: numbers.as_slice(),
         };
         self.codec
-            .partial_decode(alloc, &mut self.source, part, options)
+            .read_numbers(alloc, &mut self.source, shard, asked, options)
     }
 }

@@ -2,7 +2,8 @@
 use Rattle.std.specs.Prelude.{ℕ, List, None}
 use Rattle.zarr_codecs_array_to_array.specs.declared.codec.ArrayToArrayCodec.{ArrayToArrayCodec}
 use Rattle.zarr_codecs_chains.specs.Configured.{little_bytes}
-use Rattle.zarr_codecs_chains.specs.Views.{chain_between, codec_chain}
+use Rattle.zarr_codecs_around.specs.Views.{chain_between}
+use Rattle.zarr_codecs_chains.specs.Views.{codec_chain}
 use Rattle.zarr_codecs_chains.specs.declared.array_to_bytes.ArrayToBytesCodec.{ArrayToBytesCodec}
 use Rattle.zarr_codecs_meaning.specs.Chains.{ByteCodec, Chain, sharded}
 use Rattle.zarr_codecs_meaning.specs.Chains.Chain.{optional, packbits, vlen}

@@ -9,12 +9,15 @@ use Rattle.std.proofs.lemmas.List.{get_or-append-add}
 use Rattle.std.proofs.lemmas.List.Folds.{list_any_at}
 use Rattle.std.proofs.lemmas.List.Sorted.{IsNonDecreasingBy-drop}
 use Rattle.std.proofs.lemmas.List.Sums.{sum_by-cons}
-use Rattle.zarr_codecs_meaning.specs.Encoding.{absent_pair}
+use Rattle.zarr_codecs_meaning.specs.Chains.{Chain}
+use Rattle.zarr_codecs_meaning.specs.Encoding.{Pair, absent_pair}
+use Rattle.zarr_codecs_meaning.specs.Types.{Elements}
 use Rattle.zarr_codecs_meaning.proofs.Lists.{Each}
 use Rattle.zarr_sharding_places.specs.Groups.{StartsAnother, no_place}
 use Rattle.zarr_sharding_places.specs.Locating.{subchunk_of}
 use Rattle.zarr_sharding_places.specs.declared.locating.AskedPlace.{AskedPlace}
-use Rattle.zarr_sharding_codec.specs.BytesMet.{bytes_met, is_met, met_length, slice_length}
+use Rattle.zarr_sharding_codec.specs.BytesMet.{bytes_met, is_met, met_length}
+use Rattle.zarr_sharding_state.specs.States.{slice_length}
 use Rattle.zarr_sharding_codec.proofs.GroupsRead.{AskedShard, IsAskable, IsAsked, subchunk_below}
 use Rattle.zarr_sharding_codec.proofs.SoFarRead.{pair_at}
 
@@ -72,6 +75,11 @@ pub record GivenSoFar (s : AskedShard) (before now : ℕ) (rest : List AskedPlac
   pub within : bound ≤ length s.pairs
   pub later : (i : ℕ) → i < length rest → bound ≤ (get_or rest i no_place).subchunk
   pub given : now ≤ before + met_before s bound
+
+-- the same shard, where no matter what it holds
+abbrev pub shard_asked : Chain → Elements → List ℕ → List ℕ → List Pair → List ℕ → AskedShard
+shard_asked inner elements shape subchunk pairs numbers =
+    record { inner = inner; elements = elements; shape = shape; subchunk = subchunk; value = []; pairs = pairs; numbers = numbers }
 
 pub none_given : (s : AskedShard) (before : ℕ) (rest : List AskedPlace) → GivenSoFar s before before rest
 none_given s before rest = record { bound = 0; within = omega arith; later = λ i below. omega arith; given = omega arith }

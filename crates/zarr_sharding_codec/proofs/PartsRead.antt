@@ -1,12 +1,13 @@
 -- What is read of one slice, and of a part of a shard.
-use Rattle.std.proofs.Common.{◌≡◌, ◌∙◌, ℕ, ◌<◌, List, [], ◌∷◌, length, map, replicate, ap, sym, refl, arith, subst, Bool, true, false, Option, Some, None, option_and_then, option_map, is_some, if◌then◌else◌, Result, Ok, Err}
+use Rattle.std.proofs.Common.{◌≡◌, ◌∙◌, ℕ, zero, suc, ◌<◌, List, [], ◌∷◌, length, map, get_or, replicate, unwrap_or, ap, sym, refl, arith, subst, Bool, true, false, Option, Some, None, option_and_then, option_map, is_some, if◌then◌else◌, Result, Ok, Err}
 use Rattle.std.specs.Prelude.{nat_lt}
 use Rattle.std.specs.List.{list_all}
+use Rattle.std.proofs.lemmas.Bool.{and_parts}
 use Rattle.zarr_grids_boxes.specs.Boxes.{product}
 use Rattle.zarr_codecs_meaning.specs.Chains.{Chain, Location, sharded}
 use Rattle.zarr_codecs_meaning.specs.Decoding.{all_there, cell_at, cell_of_part, is_absent, opens, part_decoded, slice_at}
 use Rattle.zarr_codecs_meaning.specs.Chunks.{chunk_part}
-use Rattle.zarr_codecs_meaning.specs.Encoding.{Pair}
+use Rattle.zarr_codecs_meaning.specs.Encoding.{Pair, absent_pair}
 use Rattle.zarr_codecs_meaning.specs.Payloads.{cells_in}
 use Rattle.zarr_codecs_meaning.specs.Fits.{fits}
 use Rattle.zarr_codecs_meaning.specs.Places.{index_shape, parts_of}
@@ -22,7 +23,8 @@ use Rattle.zarr_codecs_traits.specs.Sources.{refused_after}
 use Rattle.zarr_sharding_index.specs.Held.{FetchesIndex, FetchesSlice, IsFetched, IsIndexHeld}
 use Rattle.zarr_sharding_index.specs.Views.{pairs_of}
 use Rattle.zarr_sharding_index.specs.declared.held.FetchedIndex.{FetchedIndex}
-use Rattle.zarr_sharding_codec.specs.Reading.{Lists, ListsRead, places_decoded, shard_cells, slice_cells}
+use Rattle.zarr_sharding_state.specs.Held.{are_absent}
+use Rattle.zarr_sharding_codec.specs.Reading.{IsTotalOf, Lists, ListsRead, places_decoded, shard_cells, slice_cells}
 use Rattle.zarr_sharding_codec.proofs.AllThere.{one_lost}
 use Rattle.zarr_sharding_codec.proofs.ClosedValues.{closed_cell}
 
@@ -81,6 +83,27 @@ slice_unread inner elements value shape pair places error.Damage present some lo
 slice_unread inner elements value shape pair places error.Source present some lost = tt
 slice_unread inner elements value shape pair places error.Memory present some lost = tt
 slice_unread inner elements value shape pair places e present some lost = absurd lost
+
+-- ---- what a source holds
+
+-- the same result, by the value that the source holds
+pub value_total : (contents : Option (List ℕ)) (pairs : List Pair) (total : ℕ) (value : List ℕ) → contents ≡ Some value → total ≡ length value → IsTotalOf contents pairs total
+value_total contents pairs total value is long = subst (λ (o : Option (List ℕ)). IsTotalOf o pairs total) (sym is) long
+
+pub value_read : (inner : Chain) (elements : Elements) (shape subchunk : List ℕ) (contents : Option (List ℕ)) (value : List ℕ) (pairs : List Pair) (numbers : List ℕ) (result : Result ArrayBytes CodecError) → contents ≡ Some value
+    → ListsRead elements shape (shard_cells inner elements shape subchunk (unwrap_or contents []) pairs numbers) result → ListsRead elements shape (shard_cells inner elements shape subchunk value pairs numbers) result
+value_read inner elements shape subchunk contents value pairs numbers result is read =
+    subst (λ (o : Option (List ℕ)). ListsRead elements shape (shard_cells inner elements shape subchunk (unwrap_or o []) pairs numbers) result) is read
+
+-- where a subchunk is present, there is a value
+absent_there : (pairs : List Pair) (k : ℕ) → are_absent pairs ≡ true → k < length pairs → is_absent (get_or pairs k absent_pair) ≡ true
+absent_there [] k all low = refl
+absent_there (p ∷ ps) zero all low = (and_parts (is_absent p) (list_all is_absent ps) all).0
+absent_there (p ∷ ps) (suc k) all low = absent_there ps k (and_parts (is_absent p) (list_all is_absent ps) all).1 (omega (arith, low))
+
+pub present_value : (contents : Option (List ℕ)) (pairs : List Pair) (total k : ℕ) → IsTotalOf contents pairs total → k < length pairs → is_absent (get_or pairs k absent_pair) ≡ false → (contents ≡ Some (unwrap_or contents [])) × (length (unwrap_or contents []) ≡ total)
+present_value None pairs total k told low there = let gone = absent_there pairs k told low in absurd (cc)
+present_value (Some value) pairs total k told low there = (refl, sym told)
 
 -- ---- a part of a shard
 

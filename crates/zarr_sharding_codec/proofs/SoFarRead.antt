@@ -1,5 +1,5 @@
 -- The places of some subchunks of a shard were read.
-use Rattle.std.proofs.Common.{◌≡◌, ◌∙◌, ◌<◌, ◌≤◌, List, [], ◌∷◌, ◌++◌, length, get_or, replicate, ap, sym, refl, arith, subst, Some, true, Err, append_assoc, append-nil}
+use Rattle.std.proofs.Common.{◌≡◌, ◌∙◌, ◌<◌, ◌≤◌, List, [], ◌∷◌, ◌++◌, length, get_or, replicate, ap, sym, refl, arith, subst, ℕ, Option, Some, true, Result, Err, unwrap_or, append_assoc, append-nil}
 use Rattle.std.specs.Prelude.{nat_lt}
 use Rattle.std.specs.List.{list_all}
 use Rattle.std.specs.List.Sorted.{IsPermutation}
@@ -13,6 +13,7 @@ use Rattle.zarr_codecs_meaning.specs.Types.{Cell}
 use Rattle.zarr_codecs_meaning.proofs.Fitting.{fitted}
 use Rattle.zarr_codecs_meaning.proofs.Lists.{Each}
 use Rattle.zarr_codecs_meaning.proofs.Parts.{length-parts}
+use Rattle.zarr_codecs_arrays.specs.declared.array_bytes.ArrayBytes.{ArrayBytes}
 use Rattle.zarr_codecs_arrays.specs.declared.error.CodecError.{CodecError}
 use Rattle.zarr_codecs_arrays.specs.declared.error.CodecError.TheVariants as error
 use Rattle.zarr_codecs_regions.specs.Updates.{put}
@@ -51,6 +52,13 @@ each_middle : {X : Type 0} (P : X → Type 0) (before here after : List X) → E
 each_middle P [] [] after are = tt
 each_middle P [] (x ∷ xs) after are = (are.0, each_middle P [] xs after are.1)
 each_middle P (y ∷ ys) here after are = each_middle P ys here after are.1
+
+-- what is read of a group is the same where the source holds the same as before
+pub read_before : (s : AskedShard) (one other : Option (List ℕ)) (group : List AskedPlace) (result : Result ArrayBytes CodecError) → one ≡ other
+    → ListsRead s.elements s.subchunk (places_decoded s.inner s.elements (unwrap_or other []) s.subchunk (get_or s.pairs (get_or group 0 no_place).subchunk absent_pair) (insides group)) result
+    → ListsRead s.elements s.subchunk (places_decoded s.inner s.elements (unwrap_or one []) s.subchunk (get_or s.pairs (get_or group 0 no_place).subchunk absent_pair) (insides group)) result
+read_before s one other group result same read =
+    subst (λ (o : Option (List ℕ)). ListsRead s.elements s.subchunk (places_decoded s.inner s.elements (unwrap_or o []) s.subchunk (get_or s.pairs (get_or group 0 no_place).subchunk absent_pair) (insides group)) result) (sym same) read
 
 -- the places that are left are some of all
 pub record IsLeft (places rest : List AskedPlace) : Type 0 where

@@ -26,7 +26,7 @@ use Rattle.zarr_sharding_places.specs.Pieces.{piece_decoded}
 use Rattle.zarr_sharding_places.specs.declared.locating.AskedPlace.{AskedPlace}
 use Rattle.zarr_sharding_state.specs.Views.{change_of, changes_of, is_below}
 use Rattle.zarr_sharding_state.specs.declared.writing.SliceChange.{SliceChange}
-use Rattle.zarr_sharding_codec.specs.PartWriting.{AreChanged, AreUpdated, HasChange, IsGroupUpdated, IsUpdated, Put, Stored, UpdatesGroup, UpdatesSlices, cells_put, given_in, group_put, insides, numbers_in, positions}
+use Rattle.zarr_sharding_codec.specs.PartWriting.{AreChanged, AreUpdated, HasChange, IsGroupUpdated, IsMet, IsUpdated, Put, Stored, UpdatesGroup, UpdatesSlices, cells_put, given_in, group_put, insides, number_at, numbers_in, positions}
 use Rattle.zarr_sharding_codec.specs.Slices.{IsPieceStored}
 use Rattle.zarr_sharding_codec.proofs.GroupsRead.{AskedShard, IsAskable, IsAsked, StandsAt, stands_at, subchunk_below}
 use Rattle.zarr_sharding_codec.proofs.PutPieces.{given_asked, insides_asked}
@@ -220,11 +220,15 @@ module _ (s : AskedShard) (exact : Bool) (cells : List Cell) (places rest group 
         slice = subst (λ (cs : List Cell). IsPieceStored s.inner exact s.elements (s.subchunk, cs) change.1) same is.slice;
       }
 
+  group_met : IsMet (put_as s cells) (number_of group)
+  group_met = record { at_ = (get_or group 0 no_place).position; below = first_asked.below; is = sym (ap (λ (p : AskedPlace). p.subchunk) first_asked.is) }
+
   pub group_unwritten : (e : CodecError) → UpdatesGroup (stored_as s exact) s.subchunk (number_of group) group cells (Err e) → UpdatesSlices (stored_as s exact) (put_as s cells) (Err e)
-  group_unwritten error.Damage why = record { number = number_of group; below = number_below; lost = why }
+  group_unwritten error.Damage why = record { number = number_of group; below = number_below; met = group_met; lost = why }
   group_unwritten error.Codec why = record {
     number = number_of group;
     below = number_below;
+    met = group_met;
     before = why.before;
     held = why.held;
     some = subst (λ (cs : List Cell). is_fill s.elements.fill cs ≡ false) (put_is why.before) why.some;
@@ -235,6 +239,7 @@ module _ (s : AskedShard) (exact : Bool) (cells : List Cell) (places rest group 
       inr (record {
         number = number_of group;
         below = number_below;
+        met = group_met;
         before = why.before;
         held = why.held;
         some = subst (λ (cs : List Cell). is_fill s.elements.fill cs ≡ false) (put_is why.before) why.some;
@@ -252,9 +257,25 @@ pub record UpdatedSoFar (s : AskedShard) (exact : Bool) (cells : List Cell) (pla
   pub split : done ++ rest ≡ places
   pub are : AreUpdated (stored_as s exact) (put_as s cells) changes
   pub all : (i : ℕ) → i < length done → HasChange (get_or done i no_place).subchunk changes
+  pub once : (i j : ℕ) → i < j → j < length changes → number_at changes i < number_at changes j
+  pub before : (i j : ℕ) → i < length changes → j < length rest → number_at changes i < (get_or rest j no_place).subchunk
 
 pub nothing_updated : (s : AskedShard) (exact : Bool) (cells : List Cell) (places : List AskedPlace) → UpdatedSoFar s exact cells places places []
-nothing_updated s exact cells places = record { done = []; split = refl; are = tt; all = λ i low. absurd (omega (arith, low)) }
+nothing_updated s exact cells places = record {
+  done = [];
+  split = refl;
+  are = tt;
+  all = λ i low. absurd (omega (arith, low));
+  once = λ i j less low. absurd (omega (arith, low));
+  before = λ i j low there. absurd (omega (arith, low));
+}
+
+-- one change more, of a later subchunk
+number_front : (changes : List Change) (change : Change) (i : ℕ) → i < length changes → number_at (changes ++ change ∷ []) i ≡ number_at changes i
+number_front changes change i low = ap (λ (c : Change). c.0) (get_or-append changes (change ∷ []) (0, None) i low)
+
+number_last : (changes : List Change) (change : Change) → number_at (changes ++ change ∷ []) (length changes + 0) ≡ change.0
+number_last changes change = ap (λ (c : Change). c.0) (get_or-append-add changes (change ∷ []) 0 (0, None))
 
 pub updated_more : (s : AskedShard) (exact : Bool) (cells : List Cell) (places rest group others : List AskedPlace) (changes : List Change) (change : Change) → IsWriting s cells places → IsFront places rest group others → UpdatedSoFar s exact cells places rest changes
     → IsGroupUpdated (stored_as s exact) s.subchunk (number_of group) group cells change → UpdatedSoFar s exact cells places others (changes ++ change ∷ [])
@@ -273,6 +294,41 @@ updated_more s exact cells places rest group others changes change writing front
             let one = front.one (i - length so_far.done) (omega (arith, low, count, past)) in
             has_last (get_or (so_far.done ++ group) i no_place).subchunk changes change (is.number ∙ (sym one ∙ sym (ap (λ (p : AskedPlace). p.subchunk) here)))
       ];
+  once = λ i j less low.
+      let count = length-append changes (change ∷ []) in
+      elim (cases_lt j (length changes)) [
+        | inl inside ↦
+            let one = number_front changes change i (omega (arith, less, inside)) in
+            let two = number_front changes change j inside in
+            let up = so_far.once i j less inside in
+            omega (arith, one, two, up)
+        | inr past ↦
+            let some = front.some in
+            let at_ : length changes + 0 ≡ j = omega (arith, past, low, count) in
+            let one = number_front changes change i (omega (arith, less, low, count)) in
+            let two : number_at (changes ++ change ∷ []) j ≡ change.0 = ap (number_at (changes ++ change ∷ [])) (sym at_) ∙ number_last changes change in
+            let number = is.number in
+            let first = ap (λ (p : AskedPlace). p.subchunk) (rest_first places rest group others front) in
+            let up = so_far.before i 0 (omega (arith, less, low, count)) (rest_some places rest group others front) in
+            omega (arith, one, two, number, first, up)
+      ];
+  before = λ i j low there.
+      let count = length-append changes (change ∷ []) in
+      elim (cases_lt i (length changes)) [
+        | inl inside ↦
+            let one = number_front changes change i inside in
+            let cut = length-append group others in
+            let all = ap (λ (ps : List AskedPlace). length ps) front.all in
+            let here : (get_or rest (length group + j) no_place).subchunk ≡ (get_or others j no_place).subchunk = ap (λ (p : AskedPlace). p.subchunk) (ap (λ ps. get_or ps (length group + j) no_place) (sym front.all) ∙ get_or-append-add group others j no_place) in
+            let up = so_far.before i (length group + j) inside (omega (arith, there, cut, all)) in
+            omega (arith, one, here, up)
+        | inr past ↦
+            let at_ : length changes + 0 ≡ i = omega (arith, past, low, count) in
+            let two : number_at (changes ++ change ∷ []) i ≡ change.0 = ap (number_at (changes ++ change ∷ [])) (sym at_) ∙ number_last changes change in
+            let number = is.number in
+            let after = others_after places rest group others front j there in
+            omega (arith, two, number, after)
+      ];
 }
 
 -- all subchunks were updated
@@ -280,6 +336,7 @@ pub updated_all : (s : AskedShard) (exact : Bool) (cells : List Cell) (places re
 updated_all s exact cells places (place ∷ rest) changes writing so_far none = absurd (omega (arith, none))
 updated_all s exact cells places [] changes writing so_far none = record {
   are = so_far.are;
+  once = so_far.once;
   all = λ t low.
       let first = asked_places s.shape s.subchunk s.numbers in
       let f = asked_place s.shape s.subchunk s.numbers in

@@ -1,13 +1,9 @@
 -- How many bytes of a shard's slices are read for places of its array.
 use Rattle.std.specs.Prelude.{ℕ, List, length, get_or, if◌then◌else◌, Bool, ◌==◌, sum_by}
 use Rattle.std.specs.List.{list_any, range_with_len}
-use Rattle.zarr_codecs_meaning.specs.Decoding.{is_absent}
 use Rattle.zarr_codecs_meaning.specs.Encoding.{Pair, absent_pair}
 use Rattle.zarr_sharding_places.specs.Locating.{subchunk_of}
-
--- how many bytes a slice has by its pair: none where the subchunk is absent
-abbrev pub slice_length : Pair → ℕ
-slice_length pair = if is_absent pair then 0 else pair.1
+use Rattle.zarr_sharding_state.specs.States.{slice_length}
 
 -- whether one of the places with these numbers lies in the subchunk with this one
 abbrev pub is_met : List ℕ → List ℕ → List ℕ → ℕ → Bool

@@ -5,7 +5,6 @@ use Rattle.zarr_grids_metadata.specs.declared.error.PluginCreateError.{PluginCre
 use Rattle.zarr_grids_metadata.specs.declared.error.PluginCreateError.TheVariants as plugin
 use Rattle.zarr_codecs_meaning.specs.Chains.{Chain}
 use Rattle.zarr_codecs_metadata.specs.Chains.{ReadsCodecs}
-use Rattle.zarr_codecs_traits.specs.declared.array_to_bytes.ArrayToBytesCodecTraits.{Ghosts}
 use Rattle.zarr_codecs_chains.specs.Refusals.{RefusesChain}
 use Rattle.zarr_sharding_metadata.specs.Metadata.{ShardPoints}
 use Rattle.zarr_sharding_metadata.specs.Nesting.{shard_stands}
@@ -22,7 +21,7 @@ abbrev pub RefusesPlain : ReadsCodecs → List ExtensionPoint → PluginCreateEr
 RefusesPlain reads points cause = RefusesUnless (shard_stands points) (RefusesChain reads points cause) cause
 
 -- what a shard is configured by, by the metadata of the codecs of its subchunks and of its index
-abbrev pub given_to_shard : {I X : Type 0} {i : Ghosts I} {x : Ghosts X} → (I → List ExtensionPoint) → (X → List ExtensionPoint) → ShardingCodec I X i x → ShardPoints
+abbrev pub given_to_shard : {I X : Type 0} → (I → List ExtensionPoint) → (X → List ExtensionPoint) → ShardingCodec I X → ShardPoints
 given_to_shard inner index codec = record { subchunk = subchunk_of codec; inner = inner (inner_of codec); index = index (index_of codec); location = place_of_index codec }
 
 -- why no shard is made of what it is configured by: the codecs of its subchunks are refused, or those of its index

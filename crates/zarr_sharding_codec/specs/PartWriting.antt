@@ -97,30 +97,37 @@ abbrev pub HasChange : ℕ → List Change → Type 0
 HasChange k [] = ⊥
 HasChange k (change ∷ changes) = (change.0 ≡ k) ⊎ HasChange k changes
 
--- the changes are of the subchunks that one of the places lies in, of all of them
+-- the number of the subchunk of a change
+abbrev pub number_at : List Change → ℕ → ℕ
+number_at changes i = (get_or changes i (0, None)).0
+
+-- the changes are of the subchunks that one of the places lies in, of all of them, and one of each, in the order of their numbers
 pub record AreChanged (stored : Stored) (new : Put) (changes : List Change) : Type 0 where
   pub are : AreUpdated stored new changes
+  pub once : (i j : ℕ) → i < j → j < length changes → number_at changes i < number_at changes j
   pub all : (t : ℕ) → t < length new.numbers → HasChange (subchunk_of new.shape new.subchunk (get_or new.numbers t 0)) changes
 
--- a subchunk that isn't all fill afterwards is refused by its chain
+-- a subchunk that one of the places lies in, and that isn't all fill afterwards, is refused by its chain
 pub record IsRefusedAt (refuses : Chain → Elements → List ℕ → List Cell → Type 0) (stored : Stored) (new : Put) : Type 0 where
   pub number : ℕ
   pub below : number < length stored.pairs
+  pub met : IsMet new number
   pub before : List Cell
   pub held : cells_held stored new.subchunk number ≡ Some before
   pub some : is_fill stored.elements.fill (cells_put new number before) ≡ false
   pub is : refuses stored.inner stored.elements new.subchunk (cells_put new number before)
 
--- a subchunk is damaged
-pub record IsLostAt (stored : Stored) (subchunk : List ℕ) : Type 0 where
+-- a subchunk that one of the places lies in is damaged
+pub record IsLostAt (stored : Stored) (new : Put) : Type 0 where
   pub number : ℕ
   pub below : number < length stored.pairs
-  pub lost : cells_held stored subchunk number ≡ None
+  pub met : IsMet new number
+  pub lost : cells_held stored new.subchunk number ≡ None
 
 -- the changes of the subchunks that the places lie in, or why there are none
 abbrev pub UpdatesSlices : Stored → Put → Result (Vec SliceChange Global) CodecError → Type 0
 UpdatesSlices stored new (Ok changes) = AreChanged stored new (changes_of changes.items)
-UpdatesSlices stored new (Err error.Damage) = IsLostAt stored new.subchunk
+UpdatesSlices stored new (Err error.Damage) = IsLostAt stored new
 UpdatesSlices stored new (Err error.Codec) = IsRefusedAt CodecRefuses stored new
 UpdatesSlices stored new (Err error.Size) = (IsTooLarge stored.elements.type (product new.subchunk) × (0 < length stored.pairs)) ⊎ IsRefusedAt PassesIndex stored new
 UpdatesSlices stored new (Err error.Source) = Unit {0}

@@ -17,6 +17,7 @@ use Rattle.zarr_sharding_index.specs.Views.{pairs_of}
 use Rattle.zarr_sharding_index.specs.declared.held.FetchedIndex.{FetchedIndex}
 use Rattle.zarr_sharding_index.specs.declared.index.ShardIndex.{ShardIndex}
 use Rattle.zarr_sharding_places.specs.Pieces.{piece_decoded, shard_decoded}
+use Rattle.zarr_sharding_state.specs.Held.{are_absent}
 
 -- elements are these cells, if there are any
 pub record AreCells (elements : Elements) (found : Option (List Cell)) (bytes : ArrayBytes) : Type 0 where
@@ -83,3 +84,8 @@ shard_cells inner elements shape subchunk value pairs places = all_there (map (s
 abbrev pub ListsRead : Elements → List ℕ → Option (List Cell) → Result ArrayBytes CodecError → Type 0
 ListsRead elements shape found (Err error.Source) = Unit {0}
 ListsRead elements shape found result = Lists elements shape found result
+
+-- so many bytes are those of the value that a source holds; where it holds none, no subchunk is present
+abbrev pub IsTotalOf : Option (List ℕ) → List Pair → ℕ → Type 0
+IsTotalOf None pairs total = are_absent pairs ≡ true
+IsTotalOf (Some value) pairs total = total ≡ length value

@@ -1,18 +1,17 @@
 -- What the codec of `src/` stands for.
 use Rattle.std.specs.Prelude.{ℕ, List, Bool, true, false, ◌&&◌}
 use Rattle.zarr_codecs_meaning.specs.Chains.{Chain, Location, sharded}
-use Rattle.zarr_codecs_traits.specs.declared.array_to_bytes.ArrayToBytesCodecTraits.{Ghosts}
 use Rattle.zarr_codecs_options.specs.declared.subchunk_write_order.SubchunkWriteOrder.{SubchunkWriteOrder}
 use Rattle.zarr_codecs_options.specs.declared.subchunk_write_order.SubchunkWriteOrder.TheVariants.{C}
 use Rattle.zarr_sharding_index.specs.Views.{location_of}
 use Rattle.zarr_sharding_codec.specs.declared.codec.ShardingCodec.{ShardingCodec}
 
 -- the chain of a shard alone
-abbrev pub shard_chain : {I X : Type 0} {i : Ghosts I} {x : Ghosts X} → (I → Chain) → (X → Chain) → ShardingCodec I X i x → Chain
+abbrev pub shard_chain : {I X : Type 0} → (I → Chain) → (X → Chain) → ShardingCodec I X → Chain
 shard_chain inner index codec = sharded codec.subchunk_shape (inner codec.inner_codecs) (index codec.index_codecs) (location_of codec.index_location)
 
 -- the order in which the subchunks are written
-abbrev pub order_of : {I X : Type 0} {i : Ghosts I} {x : Ghosts X} → ShardingCodec I X i x → SubchunkWriteOrder
+abbrev pub order_of : {I X : Type 0} → ShardingCodec I X → SubchunkWriteOrder
 order_of codec = codec.subchunk_write_order
 
 -- whether subchunks are written row-major
@@ -21,21 +20,21 @@ is_row_major C = true
 is_row_major order = false
 
 -- whether what is made of elements depends on these alone: subchunks are written row-major, and the codecs of subchunks and index are such
-abbrev pub makes_a_function : {I X : Type 0} {i : Ghosts I} {x : Ghosts X} → (I → Bool) → (X → Bool) → ShardingCodec I X i x → Bool
+abbrev pub makes_a_function : {I X : Type 0} → (I → Bool) → (X → Bool) → ShardingCodec I X → Bool
 makes_a_function inner index codec = is_row_major (order_of codec) && (inner codec.inner_codecs && index codec.index_codecs)
 
 -- the codecs of the subchunks
-abbrev pub inner_of : {I X : Type 0} {i : Ghosts I} {x : Ghosts X} → ShardingCodec I X i x → I
+abbrev pub inner_of : {I X : Type 0} → ShardingCodec I X → I
 inner_of codec = codec.inner_codecs
 
 -- the codecs of the index
-abbrev pub index_of : {I X : Type 0} {i : Ghosts I} {x : Ghosts X} → ShardingCodec I X i x → X
+abbrev pub index_of : {I X : Type 0} → ShardingCodec I X → X
 index_of codec = codec.index_codecs
 
 -- the shape of the subchunks
-abbrev pub subchunk_of : {I X : Type 0} {i : Ghosts I} {x : Ghosts X} → ShardingCodec I X i x → List ℕ
+abbrev pub subchunk_of : {I X : Type 0} → ShardingCodec I X → List ℕ
 subchunk_of codec = codec.subchunk_shape
 
 -- where the index stands
-abbrev pub place_of_index : {I X : Type 0} {i : Ghosts I} {x : Ghosts X} → ShardingCodec I X i x → Location
+abbrev pub place_of_index : {I X : Type 0} → ShardingCodec I X → Location
 place_of_index codec = location_of codec.index_location

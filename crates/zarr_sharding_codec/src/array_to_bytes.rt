@@ -2,6 +2,7 @@
 
 use crate::codec::ShardingCodec;
 use crate::decoding::Shard;
+use crate::index_codec::IndexCodec;
 use std::alloc::{AllocError, Global};
 use zarr_codecs_arrays::{ArrayBytes, CodecError, Elements};
 use zarr_codecs_options::{CodecOptions, SubchunkWriteOrder};
@@ -14,8 +15,7 @@ use zarr_codecs_types::DataType;
 use zarr_grids_boxes::walk::count_places;
 use zarr_sharding_compaction::{ShardLayout, compact_shard};
 
-impl<I: ArrayToBytesCodecTraits, X: ArrayToBytesCodecTraits> ArrayToBytesCodecTraits
-    for ShardingCodec<I, X> {
+impl<I: ArrayToBytesCodecTraits, X: IndexCodec> ArrayToBytesCodecTraits for ShardingCodec<I, X> {
     ghost use Rattle.std.specs.Prelude.{◌≡◌, IfOk};
     ghost use Rattle.zarr_sharding_codec.specs.Views.{makes_a_function, order_of, shard_chain};
 

@@ -1,5 +1,4 @@
 //! The codec `sharding_indexed`.
-ghost use Rattle.std.specs.Prelude.{◌≡◌, IsTrue};
 
 use zarr_codecs_options::SubchunkWriteOrder;
 use zarr_codecs_traits::ArrayToBytesCodecTraits;
@@ -12,6 +11,7 @@ use zarr_sharding_index::ShardingIndexLocation;
 /// of the subchunk's in each dimension, of types that aren't optional, where its codecs suit the
 /// subchunks and the index, and the index always has the same number of bytes, fewer than 2^63.
 /// A part of an array is read from the index and from the slices of the subchunks that it meets.
+/// The codecs of the index have to be an `IndexCodec`.
 #[derive(Debug, Drop)]
 pub struct ShardingCodec<I: ArrayToBytesCodecTraits, X: ArrayToBytesCodecTraits> {
     pub(crate) subchunk_shape: ChunkShape,
@@ -19,25 +19,22 @@ pub struct ShardingCodec<I: ArrayToBytesCodecTraits, X: ArrayToBytesCodecTraits>
     pub(crate) index_codecs: X,
     pub(crate) index_location: ShardingIndexLocation,
     pub(crate) subchunk_write_order: SubchunkWriteOrder,
-    ghost one_index: { IsTrue (X.is_function index_codecs) },
 }
 
 impl<I: ArrayToBytesCodecTraits, X: ArrayToBytesCodecTraits> ShardingCodec<I, X> {
-    ghost use Rattle.std.specs.Prelude.{◌≡◌, IsTrue};
+    ghost use Rattle.std.specs.Prelude.{◌≡◌};
     ghost use Rattle.zarr_codecs_meaning.specs.Chains.{sharded};
     ghost use Rattle.zarr_codecs_options.specs.declared.subchunk_write_order.SubchunkWriteOrder.TheVariants as order;
     ghost use Rattle.zarr_sharding_index.specs.Views.{location_of};
     ghost use Rattle.zarr_sharding_codec.specs.Views.{index_of, inner_of, order_of, shard_chain, subchunk_of};
 
-    /// Shards of subchunks of this shape. What the index codecs make of an index depends on its
-    /// pairs alone. The subchunks are written in any order, without gaps.
+    /// Shards of subchunks of this shape. The subchunks are written in any order, without gaps.
     pub fn new(
         subchunk_shape: ChunkShape,
         inner_codecs: I,
         index_codecs: X,
         index_location: ShardingIndexLocation,
     ) -> ShardingCodec<I, X>
-        requires { IsTrue (X.is_function index_codecs) }
         ensures meaning { shard_chain I.meaning X.meaning result ≡ sharded subchunk_shape
             (I.meaning inner_codecs) (X.meaning index_codecs) (location_of index_location) }
         ensures inner { inner_of result ≡ inner_codecs }

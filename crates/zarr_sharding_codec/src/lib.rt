@@ -10,6 +10,8 @@ pub mod configuration;
 mod decoding;
 mod encoding;
 mod fitting;
+pub mod index_codec;
+mod inner;
 pub mod options;
 pub mod part_writing;
 pub mod partial;
@@ -24,6 +26,7 @@ mod whole_values;
 
 pub use chain_metadata::ChainOfMetadata;
 pub use codec::ShardingCodec;
+pub use index_codec::IndexCodec;
 pub use options::{ShardingCodecOptions, TakesShardingOptions};
 pub use part_writing::TestedPart;
 pub use partial::{NumberedPlaces, OpenedShard};

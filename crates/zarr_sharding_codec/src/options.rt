@@ -4,6 +4,7 @@ ghost use Rattle.zarr_codecs_options.specs.declared.subchunk_write_order.Subchun
 ghost use Rattle.zarr_sharding_codec.specs.Views.{is_row_major};
 
 use crate::codec::ShardingCodec;
+use crate::index_codec::IndexCodec;
 use zarr_codecs_options::SubchunkWriteOrder;
 use zarr_codecs_traits::ArrayToBytesCodecTraits;
 
@@ -78,8 +79,7 @@ pub trait TakesShardingOptions: ArrayToBytesCodecTraits {
             Self.is_function result ≡ can_be_exact self };
 }
 
-impl<I: TakesShardingOptions, X: ArrayToBytesCodecTraits> TakesShardingOptions
-    for ShardingCodec<I, X> {
+impl<I: TakesShardingOptions, X: IndexCodec> TakesShardingOptions for ShardingCodec<I, X> {
     ghost use Rattle.std.specs.Prelude.{◌∷◌, ◌&&◌};
     ghost use Rattle.zarr_sharding_codec.specs.Views.{index_of, inner_of, order_of};
 

@@ -18,15 +18,17 @@ use zarr_grids_boxes::walk::count_places;
 use zarr_sharding_index::held::{fetch_index, fetch_slice};
 use zarr_sharding_index::pair::is_absent;
 use zarr_sharding_index::shapes::{grid_of, index_shape};
-use zarr_sharding_index::{FetchedIndex, IndexLayout};
+use zarr_sharding_index::{FetchedIndex, IndexLayout, ShardIndex};
 use zarr_sharding_places::{
     AskedPlace, PlacedElements, insides_of, leading_group, places_by_subchunk, positions_of,
 };
 
-/// A shard of which the index was fetched, and what its elements are.
+/// A shard whose index is known: the index, how many bytes the shard has with it, and what its
+/// elements are.
 #[derive(Clone, Copy)]
 pub struct OpenedShard<'a> {
-    pub fetched: &'a FetchedIndex,
+    pub index: &'a ShardIndex,
+    pub total: u64,
     pub elements: &'a Elements,
 }
 
@@ -38,7 +40,7 @@ pub struct NumberedPlaces<'a> {
 }
 
 impl<I: ArrayToBytesCodecTraits, X: ArrayToBytesCodecTraits> ShardingCodec<I, X> {
-    ghost use Rattle.std.specs.Prelude.{◌≡◌, ◌<◌, ◌≤◌, ◌+◌, ◌^◌, ℕ, List, Some, true, length, get_or, map, nat_lt, IsTrue, IfOk};
+    ghost use Rattle.std.specs.Prelude.{◌≡◌, ◌<◌, ◌≤◌, ◌+◌, ◌^◌, ℕ, List, [], Some, true, length, get_or, map, nat_lt, unwrap_or, IsTrue, IfOk};
     ghost use Rattle.std.specs.List.{list_all};
     ghost use Rattle.std.specs.List.Sorted.{IsNonDecreasingBy, IsPermutation};
     ghost use Rattle.zarr_codecs_arrays.specs.Views.{elements_of};
@@ -49,14 +51,15 @@ impl<I: ArrayToBytesCodecTraits, X: ArrayToBytesCodecTraits> ShardingCodec<I, X>
     ghost use Rattle.zarr_codecs_traits.specs.Outcomes.{DecodesPart};
     ghost use Rattle.zarr_codecs_traits.specs.Sources.{refused_after};
     ghost use Rattle.zarr_grids_boxes.specs.Boxes.{product};
-    ghost use Rattle.zarr_sharding_codec.specs.BytesMet.{bytes_met, slice_length};
-    ghost use Rattle.zarr_sharding_codec.specs.Reading.{HasPairs, Lists, ListsRead, places_decoded, shard_cells, slice_cells};
+    ghost use Rattle.zarr_sharding_codec.specs.BytesMet.{bytes_met};
+    ghost use Rattle.zarr_sharding_codec.specs.Reading.{HasPairs, IsTotalOf, Lists, ListsRead, places_decoded, shard_cells, slice_cells};
     ghost use Rattle.zarr_sharding_codec.specs.Views.{index_of, inner_of, place_of_index, shard_chain, subchunk_of};
     ghost use Rattle.zarr_sharding_index.specs.Held.{FetchesIndex};
     ghost use Rattle.zarr_sharding_index.specs.Stored.{index_fits};
     ghost use Rattle.zarr_sharding_index.specs.Views.{pairs_of};
     ghost use Rattle.zarr_sharding_places.specs.Groups.{IsGroup, no_place, places_in};
     ghost use Rattle.zarr_sharding_places.specs.Locating.{asked_places};
+    ghost use Rattle.zarr_sharding_state.specs.States.{slice_length};
 
     /// The elements at the places that are asked for, which are the array's, of the shard that a
     /// source holds; its index has so many bytes. Errors as those of `partial_decode`.
@@ -83,19 +86,17 @@ impl<I: ArrayToBytesCodecTraits, X: ArrayToBytesCodecTraits> ShardingCodec<I, X>
     {
         let numbers = numbers_asked(alloc, part.shape, part.indexer)?;
         match self.open_index(alloc, source, size, part.shape, options) {
-            Ok(Some(index)) => {
-                let fetched = &index;
-                let elements = part.elements;
-                let shape = part.shape;
-                let numbers = numbers.as_slice();
-                let shard = OpenedShard { fetched, elements };
-                self.read_numbers(
-                    alloc,
-                    source,
-                    shard,
-                    NumberedPlaces { shape, numbers },
-                    options,
-                )
+            Ok(Some(fetched)) => {
+                let shard = OpenedShard {
+                    index: &fetched.index,
+                    total: fetched.total,
+                    elements: part.elements,
+                };
+                let asked = NumberedPlaces {
+                    shape: part.shape,
+                    numbers: numbers.as_slice(),
+                };
+                self.read_numbers(alloc, source, shard, asked, options)
             }
             Ok(None) => Ok(fill_elements(alloc, part.elements, numbers.len())?),
             Err(error) => Err(error),
@@ -149,8 +150,8 @@ impl<I: ArrayToBytesCodecTraits, X: ArrayToBytesCodecTraits> ShardingCodec<I, X>
         }
     }
 
-    /// The elements at places of the array of the shard that a source holds, each slice that they
-    /// lie in fetched once, and no other. `Damage` where the pair of one of these ends past the end
+    /// The elements at places of the array of the shard that a source holds: of it each slice that
+    /// they lie in is fetched, once, and nothing else. `Damage` where the pair of one of these ends past the end
     /// of the value, or a place of it cannot be decoded.
     pub fn read_numbers<D: BytesPartialDecoderTraits>(
         &self,
@@ -162,20 +163,20 @@ impl<I: ArrayToBytesCodecTraits, X: ArrayToBytesCodecTraits> ShardingCodec<I, X>
     ) -> Result<ArrayBytes, CodecError>
         requires fit { fits (shard_chain I.meaning X.meaning self.now)
             (elements_of shard.elements.now).type asked.shape.now ≡ true }
-        requires many { length (pairs_of shard.fetched.now.index)
+        requires many { length (pairs_of shard.index.now)
             ≡ length (parts_of asked.shape.now (subchunk_of self.now)) }
         requires below { list_all (λ n. nat_lt n (product asked.shape.now)) asked.numbers.now ≡ true }
-        ensures part { IsTrue (D.is_honest source.old) → (value : List ℕ)
-            → D.contents source.old ≡ Some value → shard.entry.fetched.now.total ≡ length value
+        ensures part { IsTrue (D.is_honest source.old) → IsTotalOf (D.contents source.old)
+            (pairs_of shard.entry.index.now) shard.entry.total
             → ListsRead (elements_of shard.entry.elements.now) asked.entry.shape.now
             (shard_cells (I.meaning (inner_of self.now)) (elements_of shard.entry.elements.now)
-            asked.entry.shape.now (subchunk_of self.now) value
-            (pairs_of shard.entry.fetched.now.index) asked.entry.numbers.now) result }
+            asked.entry.shape.now (subchunk_of self.now) (unwrap_or (D.contents source.old) [])
+            (pairs_of shard.entry.index.now) asked.entry.numbers.now) result }
         ensures refused { D.refused_calls source.new ≡
             refused_after (D.refused_calls source.old) result }
         ensures given { IsTrue (D.is_honest source.old) → D.given_bytes source.new
             ≤ D.given_bytes source.old + bytes_met asked.entry.shape.now (subchunk_of self.now)
-            asked.entry.numbers.now (pairs_of shard.entry.fetched.now.index) }
+            asked.entry.numbers.now (pairs_of shard.entry.index.now) }
         ensures follows { D.follows source.old source.new }
     {
         let places = self.places_of(alloc, asked)?;
@@ -227,29 +228,29 @@ impl<I: ArrayToBytesCodecTraits, X: ArrayToBytesCodecTraits> ShardingCodec<I, X>
             (subchunk_of self.now) ≡ true }
         requires some { 0 < length group.now }
         requires pair { (get_or group.now 0 no_place).subchunk
-            < length (pairs_of shard.fetched.now.index) }
+            < length (pairs_of shard.index.now) }
         requires inside { list_all (λ n. nat_lt n (product (subchunk_of self.now)))
             (map (λ place. place.inside) group.now) ≡ true }
-        ensures part { IsTrue (D.is_honest source.old) → (value : List ℕ)
-            → D.contents source.old ≡ Some value → shard.entry.fetched.now.total ≡ length value
+        ensures part { IsTrue (D.is_honest source.old) → IsTotalOf (D.contents source.old)
+            (pairs_of shard.entry.index.now) shard.entry.total
             → ListsRead (elements_of shard.entry.elements.now) (subchunk_of self.now)
             (places_decoded (I.meaning (inner_of self.now)) (elements_of shard.entry.elements.now)
-            value (subchunk_of self.now) (get_or (pairs_of shard.entry.fetched.now.index)
-            (get_or group.now 0 no_place).subchunk absent_pair)
-            (map (λ place. place.inside) group.now)) result }
+            (unwrap_or (D.contents source.old) []) (subchunk_of self.now)
+            (get_or (pairs_of shard.entry.index.now) (get_or group.now 0 no_place).subchunk
+            absent_pair) (map (λ place. place.inside) group.now)) result }
         ensures refused { D.refused_calls source.new ≡
             refused_after (D.refused_calls source.old) result }
         ensures given { IsTrue (D.is_honest source.old) → D.given_bytes source.new
             ≤ D.given_bytes source.old
-            + slice_length (get_or (pairs_of shard.entry.fetched.now.index)
+            + slice_length (get_or (pairs_of shard.entry.index.now)
             (get_or group.now 0 no_place).subchunk absent_pair) }
         ensures follows { D.follows source.old source.new }
     {
-        let pair = shard.fetched.index.get(group[0].subchunk as usize);
+        let pair = shard.index.get(group[0].subchunk as usize);
         if is_absent(pair) {
             return Ok(fill_elements(alloc, shard.elements, group.len())?);
         }
-        match fetch_slice(alloc, source, shard.fetched.total, pair) {
+        match fetch_slice(alloc, source, shard.total, pair) {
             Ok(slice) => {
                 let insides = insides_of(alloc, group)?;
                 self.read_slice(alloc, slice, insides.as_slice(), shard.elements, options)

@@ -40,7 +40,7 @@ pub struct NumberedElements<'a> {
 }
 
 impl<I: ArrayToBytesCodecTraits, X: ArrayToBytesCodecTraits> ShardingCodec<I, X> {
-    ghost use Rattle.std.specs.Prelude.{◌≡◌, ◌<◌, ◌^◌, ℕ, List, Some, true, length, get_or, nat_lt, unwrap_or, [], IsTrue, IfOk};
+    ghost use Rattle.std.specs.Prelude.{◌≡◌, ◌<◌, ◌≤◌, ◌+◌, ◌^◌, ℕ, List, Some, true, length, get_or, nat_lt, unwrap_or, [], IsTrue, IfOk};
     ghost use Rattle.std.specs.List.{list_all};
     ghost use Rattle.zarr_codecs_arrays.specs.Outcomes.{IsValid};
     ghost use Rattle.zarr_codecs_arrays.specs.Views.{elements_of, payload_of};
@@ -50,20 +50,22 @@ impl<I: ArrayToBytesCodecTraits, X: ArrayToBytesCodecTraits> ShardingCodec<I, X>
     ghost use Rattle.zarr_codecs_meaning.specs.Types.{Cell};
     ghost use Rattle.zarr_codecs_traits.specs.Sources.{refused_after};
     ghost use Rattle.zarr_grids_boxes.specs.Boxes.{product};
+    ghost use Rattle.zarr_sharding_codec.specs.BytesMet.{bytes_met};
     ghost use Rattle.zarr_sharding_codec.specs.PartWriting.{IsOf, UpdatesGroup, UpdatesSlices, insides, positions, put_at, stored_in};
     ghost use Rattle.zarr_sharding_codec.specs.Reading.{ListsRead};
     ghost use Rattle.zarr_sharding_codec.specs.Views.{inner_of, shard_chain, subchunk_of};
     ghost use Rattle.zarr_sharding_index.specs.Views.{location_of};
     ghost use Rattle.zarr_sharding_places.specs.Groups.{no_place};
     ghost use Rattle.zarr_sharding_places.specs.Pieces.{piece_decoded};
-    ghost use Rattle.zarr_sharding_state.specs.States.{end_of, pairs_in};
+    ghost use Rattle.zarr_sharding_state.specs.States.{end_of, pairs_in, slice_length};
     ghost use Rattle.zarr_sharding_state.specs.Views.{is_below};
 
     /// The new slices of the subchunks that places lie in: each of these is decoded, the elements
     /// are put at the places in it, and it is encoded anew and whole; one that became all fill gets
-    /// no slice. Nothing is written. `Damage` where the slice of one of them isn't decoded; `Codec`
-    /// where the caller's codec refuses; `Size` where an offset, a length or a subchunk is too large;
-    /// `Source` where the source refuses.
+    /// no slice. Nothing is written; each slice that the places lie in is fetched once, and nothing
+    /// else. `Damage` where the slice of one of them isn't decoded; `Codec` where the caller's codec
+    /// refuses; `Size` where an offset, a length or a subchunk is too large; `Source` where the source
+    /// refuses.
     pub fn update_slices<D: BytesPartialDecoderTraits>(
         &self,
         alloc: Global,
@@ -93,6 +95,9 @@ impl<I: ArrayToBytesCodecTraits, X: ArrayToBytesCodecTraits> ShardingCodec<I, X>
             (is_below (length (pairs_in shard.entry.known.now))) changes.items ≡ true) }
         ensures refused { D.refused_calls source.new ≡
             refused_after (D.refused_calls source.old) result }
+        ensures given { IsTrue (D.is_honest source.old) → D.given_bytes source.new
+            ≤ D.given_bytes source.old + bytes_met given.entry.shape.now (subchunk_of self.now)
+            given.entry.numbers.now (pairs_in shard.entry.known.now) }
         ensures follows { D.follows source.old source.new }
     {
         let shape = given.shape;
@@ -142,6 +147,10 @@ impl<I: ArrayToBytesCodecTraits, X: ArrayToBytesCodecTraits> ShardingCodec<I, X>
             (λ change. change.number ≡ (get_or group.now 0 no_place).subchunk) }
         ensures refused { D.refused_calls source.new ≡
             refused_after (D.refused_calls source.old) result }
+        ensures given { IsTrue (D.is_honest source.old) → D.given_bytes source.new
+            ≤ D.given_bytes source.old
+            + slice_length (get_or (pairs_in shard.entry.known.now)
+            (get_or group.now 0 no_place).subchunk absent_pair) }
         ensures follows { D.follows source.old source.new }
     {
         let number = group[0].subchunk as usize;
@@ -182,6 +191,9 @@ impl<I: ArrayToBytesCodecTraits, X: ArrayToBytesCodecTraits> ShardingCodec<I, X>
             (get_or (pairs_in shard.entry.known.now) number absent_pair)) result }
         ensures refused { D.refused_calls source.new ≡
             refused_after (D.refused_calls source.old) result }
+        ensures given { IsTrue (D.is_honest source.old) → D.given_bytes source.new
+            ≤ D.given_bytes source.old
+            + slice_length (get_or (pairs_in shard.entry.known.now) number absent_pair) }
         ensures follows { D.follows source.old source.new }
     {
         let edges = self.subchunk_shape.as_slice();

@@ -1,5 +1,6 @@
 //! What reading and writing values whole needs of shards.
 use crate::codec::ShardingCodec;
+use crate::index_codec::IndexCodec;
 use std::alloc::{AllocError, Global};
 use zarr_codecs_arrays::{ArrayBytes, CodecError, Elements};
 use zarr_codecs_options::CodecOptions;
@@ -7,7 +8,7 @@ use zarr_codecs_regions::WholeValues;
 use zarr_codecs_traits::ArrayToBytesCodecTraits;
 use zarr_codecs_types::DataType;
 
-impl<I: ArrayToBytesCodecTraits, X: ArrayToBytesCodecTraits> WholeValues for ShardingCodec<I, X> {
+impl<I: ArrayToBytesCodecTraits, X: IndexCodec> WholeValues for ShardingCodec<I, X> {
     ghost use Rattle.zarr_sharding_codec.specs.Views.{makes_a_function, shard_chain};
 
     ghost meaning = { shard_chain I.meaning X.meaning };

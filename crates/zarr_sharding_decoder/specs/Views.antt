@@ -13,7 +13,7 @@ use Rattle.zarr_sharding_decoder.specs.Shards.{ShardOf}
 use Rattle.zarr_sharding_decoder.specs.declared.partial_decoder.ShardingPartialDecoder.{ShardingPartialDecoder}
 
 -- the shard of an array of this shape, by a codec
-abbrev pub shard_in : {I X : Type 0} {i : codec.Ghosts I} {x : codec.Ghosts X} → (I → Chain) → (X → Chain) → ShardingCodec I X i x → Elements → List ℕ → ShardOf
+abbrev pub shard_in : {I X : Type 0} → (I → Chain) → (X → Chain) → ShardingCodec I X → Elements → List ℕ → ShardOf
 shard_in inner index codec elements shape =
     record { subchunk = subchunk_of codec; inner = inner (inner_of codec); index = index (index_of codec); location = place_of_index codec; elements = elements; shape = shape }
 

@@ -60,12 +60,15 @@ impl<
         let Some(fetched) = &self.held else {
             return Ok(fill_elements(alloc, self.elements, numbers.len())?);
         };
-        let elements = self.elements;
+        let shard = OpenedShard {
+            index: &fetched.index,
+            total: fetched.total,
+            elements: self.elements,
+        };
         let asked = NumberedPlaces {
             shape: self.shape,
             numbers: numbers.as_slice(),
         };
-        let shard = OpenedShard { fetched, elements };
         self.codec
             .read_numbers(alloc, self.source, shard, asked, options)
     }

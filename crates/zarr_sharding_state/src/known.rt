@@ -28,7 +28,7 @@ pub struct KnownShard {
 }
 
 impl KnownShard {
-    ghost use Rattle.std.specs.Prelude.{◌≡◌, ◌+◌, ◌*◌, ◌/◌, ◌%◌, ◌<◌, ◌^◌, [], ℕ, List, get_or, length, nat_lt, replicate, true, None, Some, Ok, unwrap_or, IfOk, IfErr, OnOk, OnErr, IsTrue};
+    ghost use Rattle.std.specs.Prelude.{◌≡◌, ◌+◌, ◌*◌, ◌/◌, ◌%◌, ◌<◌, ◌≤◌, ◌^◌, [], ℕ, List, get_or, length, nat_lt, replicate, true, None, Some, Ok, unwrap_or, IfOk, IfErr, OnOk, OnErr, IsTrue};
     ghost use Rattle.std.specs.List.{list_all};
     ghost use Rattle.zarr_codecs_meaning.specs.Decoding.{is_absent};
     ghost use Rattle.zarr_codecs_meaning.specs.Encoding.{absent_pair, base_of, index_size};
@@ -40,7 +40,7 @@ impl KnownShard {
     ghost use Rattle.zarr_sharding_index.specs.Views.{location_of, pairs_of};
     ghost use Rattle.zarr_sharding_state.specs.Held.{IsOpened, shard_length};
     ghost use Rattle.zarr_sharding_state.specs.Opened.{OpenRefused};
-    ghost use Rattle.zarr_sharding_state.specs.States.{HasSliceAt, end_of, pairs_in};
+    ghost use Rattle.zarr_sharding_state.specs.States.{HasSliceAt, end_of, pairs_in, slice_length};
     ghost use Rattle.zarr_sharding_state.specs.Views.{changes_of, is_below};
     ghost use Rattle.zarr_sharding_state.specs.Written.{AppendRefused, ChangesRefused, IsChanged, with_slices};
 
@@ -48,7 +48,7 @@ impl KnownShard {
     /// shape and how many bytes it has. Where the source holds no value, each subchunk is absent.
     /// `Damage` where the value is shorter than the index, the index isn't decoded, or a present
     /// pair lies outside the data part; `Size` where the value has 2^63 bytes or more; `Source` where
-    /// the source refuses.
+    /// the source refuses. At most the bytes of the index are taken from an honest source.
     pub fn open<X: ArrayToBytesCodecTraits, D: BytesPartialDecoderTraits>(
         alloc: Global,
         source: &mut D,
@@ -71,6 +71,8 @@ impl KnownShard {
             layout.entry.shape.now (D.contents source.old)) }
         ensures refused { D.refused_calls source.new ≡
             refused_after (D.refused_calls source.old) result }
+        ensures given { IsTrue (D.is_honest source.old) →
+            D.given_bytes source.new ≤ D.given_bytes source.old + layout.entry.size }
         ensures follows { D.follows source.old source.new }
     {
         match fetch_index(alloc, codecs, source, layout, options) {
@@ -86,8 +88,28 @@ impl KnownShard {
         self.index.len()
     }
 
+    /// The index: where the slice of each subchunk stands.
+    pub fn index(&self) -> &ShardIndex
+        ensures { pairs_of result.now ≡ pairs_in self.now }
+    {
+        &self.index
+    }
+
+    /// How many bytes the shard has, where the source holds one.
+    pub fn total(&self, layout: IndexLayout<'_>) -> u64
+        requires { layout.size < 2 ^ 63 }
+        ensures { result ≡ shard_length (location_of layout.entry.location) layout.entry.size
+            (end_of self.now) }
+    {
+        match layout.location {
+            ShardingIndexLocation::Start => self.end,
+            ShardingIndexLocation::End => self.end + layout.size,
+        }
+    }
+
     /// The encoded bytes of a subchunk, by its row-major number, or `None` where it is absent.
-    /// `Source` where the source refuses; `Damage` where the source no longer holds the slice.
+    /// `Source` where the source refuses; `Damage` where the source no longer holds the slice. An
+    /// honest source gives the bytes of this slice and no others.
     pub fn retrieve_subchunk_encoded<D: BytesPartialDecoderTraits>(
         &self,
         alloc: Global,
@@ -105,17 +127,15 @@ impl KnownShard {
             → HasSliceAt value (get_or (pairs_in self.now) n absent_pair) result }
         ensures refused { D.refused_calls source.new ≡
             refused_after (D.refused_calls source.old) result }
+        ensures given { IsTrue (D.is_honest source.old) → D.given_bytes source.new
+            ≤ D.given_bytes source.old + slice_length (get_or (pairs_in self.now) n absent_pair) }
         ensures follows { D.follows source.old source.new }
     {
         let pair = self.index.get(n);
         if is_absent(pair) {
             return Ok(None);
         }
-        let total = match layout.location {
-            ShardingIndexLocation::Start => self.end,
-            ShardingIndexLocation::End => self.end + layout.size,
-        };
-        match fetch_slice(alloc, source, total, pair) {
+        match fetch_slice(alloc, source, self.total(layout), pair) {
             Ok(bytes) => Ok(Some(bytes)),
             Err(error) => Err(error),
         }

@@ -2,6 +2,8 @@
 #![tactic(auto)]
 
 #[cfg(test)]
+mod array_chains;
+#[cfg(test)]
 mod compaction;
 #[cfg(test)]
 mod decoders;

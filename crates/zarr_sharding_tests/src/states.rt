@@ -229,3 +229,57 @@ fn a_slice_of_another_length_is_damage_once_it_is_met(rt: HostRuntime) -> Result
     assert!(rt; matches!(refusal(alloc, &[0, 1, 0, 2]), Err(CodecError::Damage)));
     Ok(())
 }
+
+#[test]
+fn a_state_takes_its_index_once_and_the_slices_that_are_met(
+    rt: HostRuntime,
+) -> Result<(), CodecError> {
+    let alloc = rt.alloc();
+    let codec = shards(alloc, &[2, 2], ShardingIndexLocation::End)?;
+    let elements = elements(uint8(), FillValue::from_u8(alloc, 0)?)?;
+    let source = RefusingSource::new(Some(shard_of_68(alloc)?), 0);
+    let mut state = open(alloc, &codec, &elements, source)?;
+    assert!(rt; shows(alloc, &mut state, &[3, 0, 2], &[6, 0, 5])?);
+    put(alloc, &mut state, &[0], &[9])?;
+    assert!(rt; shows(alloc, &mut state, &[1, 2], &[0, 5])?);
+    put(alloc, &mut state, &[2], &[7])?;
+    state.erase(alloc)?;
+    assert!(rt; shows(alloc, &mut state, &[0, 2], &[0, 0])?);
+    let source = state.into_source();
+    assert!(rt; source.writes == 3 && source.inner.given_bytes() == 64 + 4 + 8 + 4);
+    Ok(())
+}
+
+#[test]
+fn a_damaged_slice_is_no_concern_until_it_is_met(rt: HostRuntime) -> Result<(), CodecError> {
+    let alloc = rt.alloc();
+    let codec = shards(alloc, &[2], ShardingIndexLocation::End)?;
+    let elements = elements(uint8(), FillValue::from_u8(alloc, 0)?)?;
+    let value = with_numbers(alloc, &[1, 2], &[0, 2, 0, 1])?;
+    let source = RefusingSource::new(Some(value), 0);
+    let array = WholeArray {
+        elements: &elements,
+        shape: &[4],
+    };
+    let options = CodecOptions::default();
+    let Ok(mut state) = ShardState::open(alloc, &codec, source, array, &options) else {
+        return Err(CodecError::Fit);
+    };
+    assert!(rt; shows(alloc, &mut state, &[1, 0], &[2, 1])?);
+    assert!(rt;
+        matches!(
+            shows(alloc, &mut state, &[2], &[0]),
+            Err(CodecError::Damage)
+        )
+    );
+    assert!(rt;
+        matches!(
+            put(alloc, &mut state, &[1, 2], &[8, 9]),
+            Err(CodecError::Damage)
+        )
+    );
+    put(alloc, &mut state, &[1], &[7])?;
+    let want = with_numbers(alloc, &[1, 2, 1, 7], &[2, 2, 0, 1])?;
+    assert!(rt; ends_as(state, Some(want.as_slice()), 1));
+    Ok(())
+}

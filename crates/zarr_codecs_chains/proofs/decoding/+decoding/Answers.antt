@@ -14,10 +14,11 @@ use Rattle.zarr_codecs_sections.specs.Views.{width_of, location_of}
 use Rattle.zarr_codecs_arrays.specs.Views.{elements_of, payload_of}
 use Rattle.zarr_codecs_array_to_array.specs.declared.codec.ArrayToArrayCodec.{ArrayToArrayCodec}
 use Rattle.zarr_codecs_traits.specs.Outcomes.{Decodes, Encodes, UndoesBytes}
-use Rattle.zarr_codecs_chains.specs.ArrayCodecs.{EncodesShapes, MovesAll, UndoesAll, all_fit, shape_after}
-use Rattle.zarr_codecs_chains.specs.Codecs.{all_decoded}
-use Rattle.zarr_codecs_chains.specs.Views.{codec_chain, codecs_of, meaning_of, vlen_chain, with_codecs}
-use Rattle.zarr_codecs_chains.proofs.AllArrayCodecs.{fits_between, unshaped_decodes, decodes_between, undecoded_between, unundone_between}
+use Rattle.zarr_codecs_around.specs.ArrayCodecs.{EncodesShapes, MovesAll, UndoesAll, all_fit, shape_after}
+use Rattle.zarr_codecs_around.specs.Codecs.{all_decoded}
+use Rattle.zarr_codecs_around.specs.Views.{codecs_of, with_codecs}
+use Rattle.zarr_codecs_chains.specs.Views.{codec_chain, meaning_of, vlen_chain}
+use Rattle.zarr_codecs_around.proofs.AllArrayCodecs.{fits_between, unshaped_decodes, decodes_between, undecoded_between, unundone_between}
 use Rattle.zarr_codecs_chains.proofs.VlenDecoding.{vlen_decoded}
 use Rattle.zarr_codecs_chains.proofs.OptionalDecoding.{options_decoded, found_count}
 use Rattle.zarr_codecs_chains.proofs.decoding.+decoding.Goals as goal

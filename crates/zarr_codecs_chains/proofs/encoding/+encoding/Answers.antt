@@ -15,9 +15,10 @@ use Rattle.zarr_codecs_chains.specs.Inside.{MakesInner}
 use Rattle.zarr_codecs_arrays.specs.Views.{elements_of, payload_of}
 use Rattle.zarr_codecs_array_to_array.specs.declared.codec.ArrayToArrayCodec.{ArrayToArrayCodec}
 use Rattle.zarr_codecs_traits.specs.Outcomes.{Encodes}
-use Rattle.zarr_codecs_chains.specs.ArrayCodecs.{EncodesShapes, MovesAll, all_fit, shape_after}
-use Rattle.zarr_codecs_chains.specs.Views.{codec_chain, codec_lawful, codecs_of, lawful_of, meaning_of, with_codecs}
-use Rattle.zarr_codecs_chains.proofs.AllArrayCodecs.{fits_between, unshaped_encodes, encodes_between, unmoved_between}
+use Rattle.zarr_codecs_around.specs.ArrayCodecs.{EncodesShapes, MovesAll, all_fit, shape_after}
+use Rattle.zarr_codecs_around.specs.Views.{codecs_of, with_codecs}
+use Rattle.zarr_codecs_chains.specs.Views.{codec_chain, codec_lawful, lawful_of, meaning_of}
+use Rattle.zarr_codecs_around.proofs.AllArrayCodecs.{fits_between, unshaped_encodes, encodes_between, unmoved_between}
 use Rattle.zarr_codecs_chains.proofs.OptionalEncoding.{found_unmade, inner_found, mask_unmade, optional_valid, options_encodes, some_made, some_there}
 use Rattle.zarr_codecs_chains.proofs.VlenEncoding.{index_unmade, content_unmade}
 use Rattle.zarr_codecs_chains.proofs.encoding.+encoding.Goals as goal
@@ -33,7 +34,7 @@ encode_chain-returns-in-Err g t c =
     let shape = c.args.array.shape.now in
     let e = c.in-Err.error in
     let refused = subst (λ (codecs : List ArrayToArrayCodec). EncodesShapes (codecs_of codecs) shape (Err e)) c.as_slice-codecs.ensures.value c.in-Err.ensures in
-    unshaped_encodes (codecs_of before) (with_codecs chain after) elements shape (payload_of c.args.bytes) e refused
+    unshaped_encodes (codecs_of before) (with_codecs chain after) true elements shape (payload_of c.args.bytes) e refused
 
 pub encode_chain-returns-then-not-branch : goal.encode_chain-returns-then-not-branch
 encode_chain-returns-then-not-branch g t c =

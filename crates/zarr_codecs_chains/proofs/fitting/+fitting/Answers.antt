@@ -6,10 +6,11 @@ use Rattle.zarr_codecs_meaning.specs.Types.{integer, unsigned}
 use Rattle.zarr_codecs_sections.specs.Views.{width_of}
 use Rattle.zarr_codecs_types.specs.Views.{type_of}
 use Rattle.zarr_codecs_array_to_array.specs.declared.codec.ArrayToArrayCodec.{ArrayToArrayCodec}
-use Rattle.zarr_codecs_chains.specs.ArrayCodecs.{EncodesShapes, all_fit, shape_after}
-use Rattle.zarr_codecs_chains.specs.Views.{codec_chain, codecs_of, meaning_of}
+use Rattle.zarr_codecs_around.specs.ArrayCodecs.{EncodesShapes, all_fit, shape_after}
+use Rattle.zarr_codecs_around.specs.Views.{codecs_of}
+use Rattle.zarr_codecs_chains.specs.Views.{codec_chain, meaning_of}
 use Rattle.zarr_codecs_chains.proofs.LongIndex.{offsets_alike}
-use Rattle.zarr_codecs_chains.proofs.AllArrayCodecs.{fits_between, never_between}
+use Rattle.zarr_codecs_around.proofs.AllArrayCodecs.{fits_between, never_between}
 use Rattle.zarr_codecs_chains.proofs.fitting.+fitting.Goals as goal
 
 pub fits_chain-returns-in-Ok : goal.fits_chain-returns-in-Ok

@@ -1,7 +1,7 @@
 use Rattle.std.proofs.Common.{rules, ◌≡◌, ◌∙◌, sym, length}
 use Rattle.std.proofs.lemmas.Bool.{eqb-false}
 use Rattle.zarr_codecs_chains.specs.Views.{codec_chain}
-use Rattle.zarr_codecs_chains.proofs.AllArrayCodecs.{takes_between, never_takes}
+use Rattle.zarr_codecs_around.proofs.AllArrayCodecs.{takes_between, never_takes}
 use Rattle.zarr_codecs_chains.proofs.fitting.+taking.Goals as goal
 
 pub takes_each_shape-returns-then-is_empty : goal.takes_each_shape-returns-then-is_empty

@@ -7,10 +7,11 @@ use Rattle.zarr_codecs_meaning.proofs.KeptOptions.{options_fit}
 use Rattle.zarr_codecs_types.specs.Views.{type_of}
 use Rattle.zarr_codecs_array_to_array.specs.declared.codec.ArrayToArrayCodec.{ArrayToArrayCodec}
 use Rattle.zarr_codecs_traits.specs.Representations.{RepresentsArray, known_size}
-use Rattle.zarr_codecs_chains.specs.ArrayCodecs.{EncodesShapes, all_fit, shape_after}
-use Rattle.zarr_codecs_chains.specs.Codecs.{RepresentsAll}
-use Rattle.zarr_codecs_chains.specs.Views.{codec_chain, codecs_of, meaning_of, with_codecs}
-use Rattle.zarr_codecs_chains.proofs.Telling.{represents_with, unrepresented_with}
+use Rattle.zarr_codecs_around.specs.ArrayCodecs.{EncodesShapes, all_fit, shape_after}
+use Rattle.zarr_codecs_around.specs.Codecs.{RepresentsAll}
+use Rattle.zarr_codecs_around.specs.Views.{codecs_of, with_codecs}
+use Rattle.zarr_codecs_chains.specs.Views.{codec_chain, meaning_of}
+use Rattle.zarr_codecs_around.proofs.Telling.{represents_with, unrepresented_with}
 use Rattle.zarr_codecs_chains.proofs.Told.{all_told, codec_told, mask_refused, mask_told, values_refused, told_before, untold_before, untold_size}
 use Rattle.zarr_codecs_chains.proofs.representing.+representing.Goals as goal
 

@@ -5,7 +5,6 @@ use Rattle.json.specs.Reads.{token_of}
 use Rattle.json.proofs.Grammar.{value-begin_object}
 use Rattle.serde_json.specs.Data.{object}
 use Rattle.serde_json.specs.Read.{of_json, converted}
-use Rattle.zarr_run_commands.specs.LineCells.{line_members}
 use Rattle.zarr_run_commands.proofs.Turns.{converted-object, whole_read}
 use Rattle.zarr_run_commands.proofs.tokens.read_line.Goals as goal
 
@@ -13,8 +12,8 @@ pub returns-else-is_some : goal.returns-else-is_some
 returns-else-is_some c =
     let text = c.args.text.now in
     let ts = c.next.new.self in
-    let line = c.in_ok-line-in-BeginObject.line in
+    let found = c.in_ok-line-in-BeginObject.ensures in
     let first : c.in_ok-reader.reader ≡ token_of c.in_ok-token.token ∷ ts = grind arith in
     let none : c.read_members.new.reader ≡ [] = search rules in
     let opened = ap (converted of_json) (ap (value 127) (sym c.in_ok-reader.ensures.ok ∙ first ∙ ap (λ k. token_of k ∷ ts) c.in-BeginObject.is) ∙ value-begin_object 127 ts (omega arith)) ∙ converted-object (members (value 126) (length ts) ts) in
-    whole_read (value 127 (tokens text)) (object (line_members line)) (opened ∙ ap (parse_map object) c.in_ok-line-in-BeginObject.ensures ∙ ap (λ r. Some (object (line_members line), r)) none)
+    (found.0, found.1, whole_read (value 127 (tokens text)) (object found.0) (opened ∙ ap (parse_map object) found.2 ∙ ap (λ r. Some (object found.0, r)) none))

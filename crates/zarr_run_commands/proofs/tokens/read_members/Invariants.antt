@@ -1,14 +1,14 @@
 use Rattle.std.proofs.Common.{◌≡◌, ℕ, ◌≤◌, length}
 use Rattle.json.specs.Json.{members, value}
-use Rattle.serde_json.specs.Data.{no_members}
+use Rattle.serde_json.specs.Data.{Members, no_members}
 use Rattle.serde_json.specs.Read.{of_members, converted}
-use Rattle.serde_json.specs.View.{members_view}
+use Rattle.zarr_run_commands.specs.LineCells.{IsLine}
 use Rattle.zarr_run_commands.proofs.tokens.read_members.Given as goal
 
 abbrev pub invariant-members : goal.invariant-members
 invariant-members l =
-    (n : ℕ) × (length l.reader ≤ n)
-    × (converted (λ ms. of_members ms no_members) (members (value 126) (length l.initial.reader) l.initial.reader) ≡ converted (λ ms. of_members ms (members_view l.found.entries)) (members (value 126) n l.reader))
+    (n : ℕ) × (ms : Members) × IsLine ms l.line × (length l.reader ≤ n)
+    × (converted (λ js. of_members js no_members) (members (value 126) (length l.initial.reader) l.initial.reader) ≡ converted (λ js. of_members js ms) (members (value 126) n l.reader))
     × (length l.reader ≤ length l.initial.reader)
 
 abbrev pub decreases-members : goal.decreases-members

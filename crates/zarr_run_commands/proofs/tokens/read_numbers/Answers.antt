@@ -20,7 +20,7 @@ items-preserved c =
     let x = c.in_ok-number.number in
     let r = c.next_number.new.reader in
     let less : length r < length l.reader = rw (← going.1) done.shorter in
-    let turn = item_read p n l.reader r (number (unsigned x)) (omega (arith, l.invariant.1)) going.0 (rw (← going.1) done.ok) in (
+    let turn = item_read p n l.reader r (number (unsigned x)) (omega (arith, l.invariant.1)) going.0 (rw (← going.1) (done.ok 125)) in (
       n - 1,
       omega (arith, l.invariant.1),
       l.invariant.2 ∙ ap (parse_map (numbers_before l.found.items)) turn ∙ one_more_number l.found.items x _

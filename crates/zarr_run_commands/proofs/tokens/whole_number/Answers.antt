@@ -1,12 +1,11 @@
-use Rattle.std.proofs.Common.{◌≡◌, get_or, false, ◌==◌, sym, ap, ◌∙◌}
-use Rattle.fast_float.specs.Text.{scan}
-use Rattle.serde_json.specs.Read.{number_of, number_from}
+use Rattle.std.proofs.Common.{◌≡◌, ◌<◌, ◌^◌, length, arith, rules, ap, sym, ◌∙◌}
+use Rattle.serde_json.specs.Read.{number_of}
+use Rattle.zarr_run_commands.proofs.Digits.{number_of_all_digits}
 use Rattle.zarr_run_commands.proofs.tokens.whole_number.Goals as goal
 
 pub returns-in-Some : goal.returns-in-Some
-unfolding number_of
 returns-in-Some c =
     let s = c.as_bytes-bytes.result.now in
-    let signed : (get_or s 0 0 == 45) ≡ false = sym c.if-has_minus.ensures in
-    let read : number_from false (scan s) ≡ number_of s = rw signed in
-    ap number_of (sym c.as_bytes-bytes.ensures.value) ∙ (sym read ∙ (ap (number_from false) (sym c.scan.ensures.parts) ∙ c.in-Some.ensures))
+    let some : 0 < length s = grind arith in
+    let small : c.in-Some.number < 2 ^ 64 = omega arith in
+    ap number_of (sym c.as_bytes-bytes.ensures.value) ∙ number_of_all_digits s c.in-Some.number c.in-Some.ensures.digits some c.in-Some.ensures.value small

@@ -1,7 +1,8 @@
-use Rattle.std.proofs.Common.{◌∙◌, ◌%◌, ◌/◌, ap, sym, subst, length, Option, List, ℕ}
+use Rattle.std.proofs.Common.{◌≡◌, ◌∙◌, ◌%◌, ◌/◌, ap, sym, subst, arith, length, Option, List, ℕ}
 use Rattle.zarr_grids_boxes.specs.Boxes.{product}
 use Rattle.zarr_codecs_arrays.specs.Views.{elements_of}
 use Rattle.zarr_codecs_meaning.specs.Chains.{Location, sharded}
+use Rattle.zarr_codecs_meaning.specs.Encoding.{index_size}
 use Rattle.zarr_codecs_meaning.specs.Fits.{fits}
 use Rattle.zarr_codecs_meaning.specs.Places.{index_shape}
 use Rattle.zarr_codecs_types.specs.Views.{type_of}
@@ -48,3 +49,27 @@ returns-in-Ok-clause-told g c = λ honest.
     let is = c.as_slice.ensures.value ∙ (c.in_ok-pairs_shape.ensures ∙ ap (index_shape shape) c.subchunk_shape.ensures) in
     let located = subst (λ (l : Location). IsOpened (meaning c.index_codecs.result.now) l pairs_shape (product pairs_shape / 2) contents pairs end) c.index_location.ensures (c.in-Ok.ensures.opened honest) in
     opened_told s pairs_shape contents pairs end is (subst (λ x. IsOpened (meaning x) s.location pairs_shape (product pairs_shape / 2) contents pairs end) c.index_codecs.ensures located)
+
+pub returns-in-Ok-clause-given : goal.returns-in-Ok-clause-given
+returns-in-Ok-clause-given g c = λ honest.
+    let codec = c.args.codec.now in
+    let inner = g.I.ArrayToBytesCodecTraits.meaning codec.inner_codecs in
+    let index = g.X.ArrayToBytesCodecTraits.meaning codec.index_codecs in
+    let location = location_of codec.index_location in
+    let shape = c.args.array.shape.now in
+    let suits = subst (λ (found : Option ℕ). Suits (sharded codec.subchunk_shape inner index location) (type_of c.data_type.result.now) shape found) c.in-Some.is c.in_ok-size.ensures in
+    let size : c.in-Some.size ≡ index_size index (index_shape shape codec.subchunk_shape) = suits.1 in
+    let given = c.in-Ok.ensures.given honest in
+    omega (arith, size, given)
+
+pub returns-in-Err-clause-given : goal.returns-in-Err-clause-given
+returns-in-Err-clause-given g c = λ honest.
+    let codec = c.args.codec.now in
+    let inner = g.I.ArrayToBytesCodecTraits.meaning codec.inner_codecs in
+    let index = g.X.ArrayToBytesCodecTraits.meaning codec.index_codecs in
+    let location = location_of codec.index_location in
+    let shape = c.args.array.shape.now in
+    let suits = subst (λ (found : Option ℕ). Suits (sharded codec.subchunk_shape inner index location) (type_of c.data_type.result.now) shape found) c.in-Some.is c.in_ok-size.ensures in
+    let size : c.in-Some.size ≡ index_size index (index_shape shape codec.subchunk_shape) = suits.1 in
+    let given = c.in-Err.ensures.given honest in
+    omega (arith, size, given)

@@ -3,7 +3,7 @@ use Rattle.zarr_codecs_types.specs.Views.{type_of}
 use Rattle.zarr_codecs_arrays.specs.Views.{elements_of}
 use Rattle.zarr_sharding_changes.proofs.Compactions.{plain_kept}
 use Rattle.zarr_codecs_chains.specs.Views.{codec_chain, bytes_meaning}
-use Rattle.zarr_codecs_chains.proofs.PartChains.{fits_as}
+use Rattle.zarr_codecs_around.proofs.PartChains.{fits_as}
 use Rattle.zarr_codecs_chains.specs.Views.{bytes_plain}
 use Rattle.zarr_codecs_chains.proofs.bytes_chain.BytesChainArrayToBytesCodecTraits.compact.Goals as goal
 

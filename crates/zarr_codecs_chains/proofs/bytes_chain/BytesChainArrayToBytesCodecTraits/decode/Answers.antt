@@ -3,10 +3,10 @@ use Rattle.zarr_codecs_meaning.specs.Fits.{fits}
 use Rattle.zarr_codecs_types.specs.Views.{type_of}
 use Rattle.zarr_codecs_traits.specs.Outcomes.{UndoesBytes}
 use Rattle.zarr_codecs_arrays.specs.Views.{elements_of}
-use Rattle.zarr_codecs_chains.specs.Codecs.{all_decoded}
+use Rattle.zarr_codecs_around.specs.Codecs.{all_decoded}
 use Rattle.zarr_codecs_chains.specs.Views.{codec_chain}
-use Rattle.zarr_codecs_chains.proofs.Chains.{decodes_with, undone_with}
-use Rattle.zarr_codecs_chains.proofs.PartChains.{fits_as}
+use Rattle.zarr_codecs_around.proofs.Chains.{decodes_with, undone_with}
+use Rattle.zarr_codecs_around.proofs.PartChains.{fits_as}
 use Rattle.zarr_codecs_chains.proofs.bytes_chain.BytesChainArrayToBytesCodecTraits.decode.Goals as goal
 
 pub returns-then-not-branch : goal.returns-then-not-branch

@@ -1,9 +1,9 @@
 use Rattle.std.proofs.Common.{map, option_map, subst}
 use Rattle.zarr_codecs_traits.specs.Outcomes.{MakesBytes}
 use Rattle.zarr_codecs_arrays.specs.Views.{elements_of, payload_of}
-use Rattle.zarr_codecs_chains.specs.Codecs.{all_encoded}
+use Rattle.zarr_codecs_around.specs.Codecs.{all_encoded}
 use Rattle.zarr_codecs_chains.specs.Views.{bytes_lawful, codec_chain}
-use Rattle.zarr_codecs_chains.proofs.Chains.{encodes_with, refused_with}
+use Rattle.zarr_codecs_around.proofs.Chains.{encodes_with, refused_with}
 use Rattle.zarr_codecs_chains.proofs.bytes_chain.BytesChainArrayToBytesCodecTraits.encode.Goals as goal
 
 pub returns-in-Ok : goal.returns-in-Ok

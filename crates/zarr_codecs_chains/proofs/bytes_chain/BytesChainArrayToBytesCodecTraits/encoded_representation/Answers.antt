@@ -1,9 +1,9 @@
 use Rattle.std.proofs.Common.{map, subst}
 use Rattle.zarr_codecs_types.specs.Views.{type_of}
 use Rattle.zarr_codecs_traits.specs.Representations.{known_size}
-use Rattle.zarr_codecs_chains.specs.Codecs.{RepresentsAll}
+use Rattle.zarr_codecs_around.specs.Codecs.{RepresentsAll}
 use Rattle.zarr_codecs_chains.specs.Views.{codec_chain}
-use Rattle.zarr_codecs_chains.proofs.Telling.{represents_with, unrepresented_with}
+use Rattle.zarr_codecs_around.proofs.Telling.{represents_with, unrepresented_with}
 use Rattle.zarr_codecs_chains.proofs.bytes_chain.BytesChainArrayToBytesCodecTraits.encoded_representation.Goals as goal
 
 pub returns-in-Ok : goal.returns-in-Ok

@@ -2,7 +2,7 @@ use Rattle.std.proofs.Common.{◌≡◌, Bool, map, sym, subst}
 use Rattle.std.specs.Prelude.{IfOk}
 use Rattle.zarr_codecs_types.specs.Views.{type_of}
 use Rattle.zarr_codecs_chains.specs.Views.{codec_chain}
-use Rattle.zarr_codecs_chains.proofs.Chains.{fits_with}
+use Rattle.zarr_codecs_around.proofs.Chains.{fits_with}
 use Rattle.zarr_codecs_chains.proofs.bytes_chain.BytesChainArrayToBytesCodecTraits.fits.Goals as goal
 
 pub returns : goal.returns

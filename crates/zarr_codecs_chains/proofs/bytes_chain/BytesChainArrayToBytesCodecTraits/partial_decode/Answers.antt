@@ -1,19 +1,27 @@
-use Rattle.std.proofs.Common.{rules, ◌≡◌, ◌∙◌, sym, subst, length}
+use Rattle.std.proofs.Common.{rules, ◌≡◌, ◌∙◌, sym, subst, length, map}
 use Rattle.std.proofs.lemmas.Bool.{eqb-false}
 use Rattle.zarr_codecs_arrays.specs.Views.{elements_of}
 use Rattle.zarr_codecs_traits.specs.Indexers.{asked_of}
 use Rattle.zarr_codecs_traits.specs.Outcomes.{DecodesPart}
+use Rattle.zarr_codecs_traits.specs.Sources.{value_bytes}
+use Rattle.zarr_codecs_around.specs.Views.{with_codecs}
 use Rattle.zarr_codecs_chains.specs.Views.{bytes_meaning, codec_chain}
-use Rattle.zarr_codecs_chains.proofs.Taken.{codecs_most}
+use Rattle.zarr_codecs_around.proofs.Taken.{codecs_most}
 use Rattle.zarr_codecs_chains.proofs.bytes_chain.BytesChainArrayToBytesCodecTraits.partial_decode.Goals as goal
 
 pub returns-in-Ok-clause-part : goal.returns-in-Ok-clause-part
 returns-in-Ok-clause-part g c = λ honest.
-    subst (λ stored. DecodesPart (bytes_meaning g.B.BytesToBytesCodecTraits.meaning c.args.self.now) (elements_of c.args.part.elements.now) c.args.part.shape.now stored (asked_of c.args.part.indexer) c.decode_read.result)
-    (c.in-Ok.ensures.value honest) c.decode_read.ensures.part
+    let meaning = g.B.BytesToBytesCodecTraits.meaning in
+    let chain = codec_chain meaning c.args.self.now.array_to_bytes in
+    let elements = elements_of c.args.part.elements.now in
+    let shape = c.args.part.shape.now in
+    let asked = asked_of c.args.part.indexer in
+    let r = c.decode_stored_part.result in
+    let found = subst (λ xs. DecodesPart (with_codecs chain (map meaning xs)) elements shape (value_bytes c.in-Ok.value) asked r) c.as_slice-codecs.ensures.value c.decode_stored_part.ensures.part in
+    subst (λ stored. DecodesPart (bytes_meaning meaning c.args.self.now) elements shape stored asked r) (c.in-Ok.ensures.value honest) found
 
 pub returns-in-Ok-clause-refused : goal.returns-in-Ok-clause-refused
-returns-in-Ok-clause-refused g c = c.in-Ok.ensures.refused ∙ sym (c.decode_read.ensures.no_source _)
+returns-in-Ok-clause-refused g c = c.in-Ok.ensures.refused ∙ sym (c.decode_stored_part.ensures.no_source _)
 
 pub returns-in-Ok-clause-given : goal.returns-in-Ok-clause-given
 returns-in-Ok-clause-given g c = λ plain honest.

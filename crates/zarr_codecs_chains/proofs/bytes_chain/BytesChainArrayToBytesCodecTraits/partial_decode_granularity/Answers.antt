@@ -1,7 +1,7 @@
 use Rattle.std.proofs.Common.{◌≡◌, map, sym, subst}
 use Rattle.std.specs.Prelude.{IfOk}
 use Rattle.zarr_codecs_chains.specs.Views.{codec_chain}
-use Rattle.zarr_codecs_chains.proofs.Telling.{granularity_with}
+use Rattle.zarr_codecs_around.proofs.Telling.{granularity_with}
 use Rattle.zarr_codecs_chains.proofs.bytes_chain.BytesChainArrayToBytesCodecTraits.partial_decode_granularity.Goals as goal
 
 pub returns : goal.returns

@@ -1,7 +1,7 @@
 use Rattle.std.proofs.Common.{rules, ◌≡◌, ◌∙◌, sym, length}
 use Rattle.std.proofs.lemmas.Bool.{eqb-false}
 use Rattle.zarr_codecs_chains.specs.Views.{codec_chain}
-use Rattle.zarr_codecs_chains.proofs.Telling.{never_decodes}
+use Rattle.zarr_codecs_around.proofs.Telling.{never_decodes}
 use Rattle.zarr_codecs_chains.proofs.bytes_chain.BytesChainArrayToBytesCodecTraits.partial_decoder_capability.Goals as goal
 
 pub returns-else-is_empty : goal.returns-else-is_empty

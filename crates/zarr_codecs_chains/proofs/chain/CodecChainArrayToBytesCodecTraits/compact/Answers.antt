@@ -2,8 +2,10 @@ use Rattle.std.proofs.Common.{◌∙◌, ap, sym}
 use Rattle.zarr_codecs_meaning.specs.Fits.{fits}
 use Rattle.zarr_codecs_arrays.specs.Views.{elements_of}
 use Rattle.zarr_sharding_changes.proofs.Compactions.{plain_kept}
-use Rattle.zarr_codecs_chains.specs.Views.{bytes_meaning, codecs_of, meaning_of}
-use Rattle.zarr_codecs_chains.specs.Views.{bytes_plain, plain_before}
+use Rattle.zarr_codecs_around.specs.Views.{codecs_of}
+use Rattle.zarr_codecs_chains.specs.Views.{bytes_meaning, meaning_of}
+use Rattle.zarr_codecs_around.specs.Views.{plain_before}
+use Rattle.zarr_codecs_chains.specs.Views.{bytes_plain}
 use Rattle.zarr_codecs_chains.proofs.chain.CodecChainArrayToBytesCodecTraits.compact.Goals as goal
 
 pub returns : goal.returns

@@ -3,7 +3,7 @@ use Rattle.std.proofs.lemmas.Bool.{eqb-false}
 use Rattle.zarr_codecs_arrays.specs.Views.{elements_of, payload_of}
 use Rattle.zarr_codecs_traits.specs.Indexers.{asked_of}
 use Rattle.zarr_codecs_chains.specs.Views.{bytes_meaning, meaning_of}
-use Rattle.zarr_codecs_chains.proofs.Telling.{no_ranges_before, none_asked}
+use Rattle.zarr_codecs_around.proofs.Telling.{no_ranges_before, none_asked}
 use Rattle.zarr_codecs_chains.proofs.chain.CodecChainArrayToBytesCodecTraits.encode_patches.Goals as goal
 
 pub returns-then-not-is_empty : goal.returns-then-not-is_empty

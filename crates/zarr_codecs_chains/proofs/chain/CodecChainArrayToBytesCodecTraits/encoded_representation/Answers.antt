@@ -2,7 +2,8 @@ use Rattle.std.proofs.Common.{List, subst}
 use Rattle.zarr_codecs_types.specs.Views.{type_of}
 use Rattle.zarr_codecs_array_to_array.specs.declared.codec.ArrayToArrayCodec.{ArrayToArrayCodec}
 use Rattle.zarr_codecs_traits.specs.Representations.{RepresentsArray}
-use Rattle.zarr_codecs_chains.specs.Views.{bytes_meaning, codecs_of, with_array_codecs}
+use Rattle.zarr_codecs_around.specs.Views.{codecs_of, with_array_codecs}
+use Rattle.zarr_codecs_chains.specs.Views.{bytes_meaning}
 use Rattle.zarr_codecs_chains.proofs.chain.CodecChainArrayToBytesCodecTraits.encoded_representation.Goals as goal
 
 pub returns : goal.returns

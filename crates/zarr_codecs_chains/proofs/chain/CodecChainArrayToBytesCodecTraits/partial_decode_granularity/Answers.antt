@@ -2,7 +2,7 @@ use Rattle.std.proofs.Common.{rules, ◌≡◌, ◌∙◌, sym, subst, length}
 use Rattle.std.proofs.lemmas.Bool.{eqb-false}
 use Rattle.std.specs.Prelude.{IfOk}
 use Rattle.zarr_codecs_chains.specs.Views.{bytes_meaning}
-use Rattle.zarr_codecs_chains.proofs.Telling.{granularity_whole}
+use Rattle.zarr_codecs_around.proofs.Telling.{granularity_whole}
 use Rattle.zarr_codecs_chains.proofs.chain.CodecChainArrayToBytesCodecTraits.partial_decode_granularity.Goals as goal
 
 pub returns : goal.returns

@@ -1,6 +1,7 @@
 use Rattle.std.proofs.Common.{◌∙◌, sym}
-use Rattle.zarr_codecs_chains.specs.Views.{bytes_meaning, codecs_of}
-use Rattle.zarr_codecs_chains.proofs.Telling.{decodes_before}
+use Rattle.zarr_codecs_around.specs.Views.{codecs_of}
+use Rattle.zarr_codecs_chains.specs.Views.{bytes_meaning}
+use Rattle.zarr_codecs_around.proofs.Telling.{decodes_before}
 use Rattle.zarr_codecs_chains.proofs.chain.CodecChainArrayToBytesCodecTraits.partial_decoder_capability.Goals as goal
 
 pub returns : goal.returns

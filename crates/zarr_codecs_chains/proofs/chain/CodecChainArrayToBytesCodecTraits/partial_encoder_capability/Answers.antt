@@ -1,7 +1,8 @@
 use Rattle.std.proofs.Common.{◌∙◌, sym}
-use Rattle.zarr_codecs_chains.specs.Views.{bytes_meaning, codecs_of}
+use Rattle.zarr_codecs_around.specs.Views.{codecs_of}
+use Rattle.zarr_codecs_chains.specs.Views.{bytes_meaning}
 use Rattle.zarr_codecs_chains.specs.Views.{bytes_plain}
-use Rattle.zarr_codecs_chains.proofs.Telling.{encodes_before}
+use Rattle.zarr_codecs_around.proofs.Telling.{encodes_before}
 use Rattle.zarr_codecs_chains.proofs.chain.CodecChainArrayToBytesCodecTraits.partial_encoder_capability.Goals as goal
 
 pub returns : goal.returns

@@ -32,3 +32,6 @@ compact_shard-requires-clause-fit g c =
     let elements = elements_of c.args.elements.now in
     let fit : fits (sharded self.subchunk_shape inner index location) elements.type shape ≡ true = ap (λ t. fits (sharded self.subchunk_shape inner index location) t shape) (sym c.data_type.ensures) ∙ suits.0 in
     index_part self.subchunk_shape inner index location elements shape fit
+
+pub compact_shard-requires-clause-function : goal.compact_shard-requires-clause-function
+compact_shard-requires-clause-function g c = g.met.X.IndexCodec.alike c.args.self.now.index_codecs

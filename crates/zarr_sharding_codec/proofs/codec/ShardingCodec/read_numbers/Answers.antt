@@ -1,4 +1,4 @@
-use Rattle.std.proofs.Common.{◌∙◌, IsTrue, List, ℕ, [], Err, ap, sym, refl, subst, arith, length, length-append, get_or}
+use Rattle.std.proofs.Common.{◌∙◌, IsTrue, Option, List, ℕ, [], Ok, Err, ap, sym, refl, subst, arith, length, length-append, get_or, unwrap_or}
 use Rattle.std.specs.List.Sorted.{IsNonDecreasingBy, IsPermutation}
 use Rattle.zarr_codecs_arrays.specs.Views.{elements_of}
 use Rattle.zarr_codecs_meaning.proofs.Positions.{each_at}
@@ -9,7 +9,8 @@ use Rattle.zarr_sharding_places.specs.Locating.{asked_places}
 use Rattle.zarr_sharding_places.specs.declared.locating.AskedPlace.{AskedPlace}
 use Rattle.zarr_sharding_codec.proofs.GroupsRead.{AskedShard, IsAsked, insides_below, subchunk_below}
 use Rattle.zarr_sharding_codec.proofs.GivenSoFar.{GivenSoFar, given_all, given_more, given_refused, none_given, rest_sorted}
-use Rattle.zarr_sharding_codec.proofs.SoFarRead.{askable, group_asked, group_unread, left_more, none_so_far, so_far_all, so_far_more}
+use Rattle.zarr_sharding_codec.specs.Reading.{IsTotalOf}
+use Rattle.zarr_sharding_codec.proofs.SoFarRead.{askable, group_asked, group_unread, left_more, none_so_far, read_before, so_far_all, so_far_more}
 use Rattle.zarr_sharding_codec.proofs.StoredLoop.{rank_fits}
 use Rattle.zarr_sharding_codec.proofs.codec.ShardingCodec.read_numbers.Goals as goal
 
@@ -25,14 +26,14 @@ loop-rest-init g c =
       follows = g.met.D.BytesPartialDecoderTraits.stays c.args.source.now;
       refused = refl;
       left = record { done = []; split = refl };
-      read = λ honest value held long.
+      read = λ honest told.
           let s : AskedShard = record {
             inner = g.I.ArrayToBytesCodecTraits.meaning self.inner_codecs;
             elements = elements_of c.args.shard.elements.now;
             shape = c.args.asked.shape.now;
             subchunk = self.subchunk_shape;
-            value = value;
-            pairs = pairs_of c.args.shard.fetched.now.index;
+            value = unwrap_or (g.D.BytesPartialDecoderTraits.contents c.args.source.now) [];
+            pairs = pairs_of c.args.shard.index.now;
             numbers = c.args.asked.numbers.now;
           } in
           none_so_far s c.in_ok-filled.filled c.as_slice-rest.result.now c.in_ok-filled.ensures;
@@ -44,7 +45,7 @@ loop-rest-init g c =
             shape = c.args.asked.shape.now;
             subchunk = self.subchunk_shape;
             value = [];
-            pairs = pairs_of c.args.shard.fetched.now.index;
+            pairs = pairs_of c.args.shard.index.now;
             numbers = c.args.asked.numbers.now;
           } in
           none_given s (g.D.BytesPartialDecoderTraits.given_bytes c.args.source.now) c.as_slice-rest.result.now;
@@ -66,7 +67,7 @@ read_group-requires-clause-pair g c =
       shape = c.args.asked.shape.now;
       subchunk = self.subchunk_shape;
       value = [];
-      pairs = pairs_of c.args.shard.fetched.now.index;
+      pairs = pairs_of c.args.shard.index.now;
       numbers = c.args.asked.numbers.now;
     } in
     let can = askable s (g.X.ArrayToBytesCodecTraits.meaning self.index_codecs) (location_of self.index_location) c.requires.fit c.requires.many c.requires.below in
@@ -84,7 +85,7 @@ read_group-requires-clause-inside g c =
       shape = c.args.asked.shape.now;
       subchunk = self.subchunk_shape;
       value = [];
-      pairs = pairs_of c.args.shard.fetched.now.index;
+      pairs = pairs_of c.args.shard.index.now;
       numbers = c.args.asked.numbers.now;
     } in
     let can = askable s (g.X.ArrayToBytesCodecTraits.meaning self.index_codecs) (location_of self.index_location) c.requires.fit c.requires.many c.requires.below in
@@ -105,21 +106,22 @@ loop-rest-preserved g c =
       follows = laws.goes_on _ _ _ inv.follows c.in-Ok.ensures.follows;
       refused = c.in-Ok.ensures.refused ∙ inv.refused;
       left = left_more places c.loop-rest.rest.now group others inv.left cut;
-      read = λ honest value held long.
+      read = λ honest told.
           let s : AskedShard = record {
             inner = g.I.ArrayToBytesCodecTraits.meaning self.inner_codecs;
             elements = elements_of c.args.shard.elements.now;
             shape = c.args.asked.shape.now;
             subchunk = self.subchunk_shape;
-            value = value;
-            pairs = pairs_of c.args.shard.fetched.now.index;
+            value = unwrap_or (g.D.BytesPartialDecoderTraits.contents c.args.source.now) [];
+            pairs = pairs_of c.args.shard.index.now;
             numbers = c.args.asked.numbers.now;
           } in
           let can = askable s (g.X.ArrayToBytesCodecTraits.meaning self.index_codecs) (location_of self.index_location) c.requires.fit c.requires.many c.requires.below in
           let moved = subst (λ (ps : List AskedPlace). IsPermutation (asked_places s.shape s.subchunk s.numbers) ps) (sym c.as_slice-rest.ensures.value) c.in_ok-places.ensures.all in
           let still = subst IsTrue (laws.honest _ _ inv.follows) honest in
-          let found = c.in-Ok.ensures.part still value (sym (laws.same _ _ inv.follows) ∙ held) long in
-          so_far_more s c.loop-rest.all c.in_ok-all-in-Ok.all places c.loop-rest.rest.now group others found.cells can moved (inv.read honest value held long) cut c.leading_group.ensures.one found.is
+          let same = laws.same _ _ inv.follows in
+          let found = read_before s (g.D.BytesPartialDecoderTraits.contents c.args.source.now) (g.D.BytesPartialDecoderTraits.contents c.loop-rest.source) group (Ok c.in-Ok.piece) same (c.in-Ok.ensures.part still (subst (λ (o : Option (List ℕ)). IsTotalOf o s.pairs c.args.shard.total) same told)) in
+          so_far_more s c.loop-rest.all c.in_ok-all-in-Ok.all places c.loop-rest.rest.now group others found.cells can moved (inv.read honest told) cut c.leading_group.ensures.one found.is
           (λ cells shows many. c.in_ok-all-in-Ok.ensures cells found.cells shows found.lists many);
       sorted = rest_sorted c.loop-rest.rest.now group others cut inv.sorted;
       given = λ honest.
@@ -129,7 +131,7 @@ loop-rest-preserved g c =
             shape = c.args.asked.shape.now;
             subchunk = self.subchunk_shape;
             value = [];
-            pairs = pairs_of c.args.shard.fetched.now.index;
+            pairs = pairs_of c.args.shard.index.now;
             numbers = c.args.asked.numbers.now;
           } in
           let can = askable s (g.X.ArrayToBytesCodecTraits.meaning self.index_codecs) (location_of self.index_location) c.requires.fit c.requires.many c.requires.below in
@@ -149,14 +151,14 @@ returns-in-Err g c =
     let inv = c.loop-rest.invariant in
     let e = c.in-Err.error in
     record {
-      part = λ honest value held long.
+      part = λ honest told.
           let s : AskedShard = record {
             inner = g.I.ArrayToBytesCodecTraits.meaning self.inner_codecs;
             elements = elements_of c.args.shard.elements.now;
             shape = c.args.asked.shape.now;
             subchunk = self.subchunk_shape;
-            value = value;
-            pairs = pairs_of c.args.shard.fetched.now.index;
+            value = unwrap_or (g.D.BytesPartialDecoderTraits.contents c.args.source.now) [];
+            pairs = pairs_of c.args.shard.index.now;
             numbers = c.args.asked.numbers.now;
           } in
           let can = askable s (g.X.ArrayToBytesCodecTraits.meaning self.index_codecs) (location_of self.index_location) c.requires.fit c.requires.many c.requires.below in
@@ -164,7 +166,9 @@ returns-in-Err g c =
           let still = subst IsTrue (laws.honest _ _ inv.follows) honest in
           let group = c.leading_group.result.0.now in
           let asked = group_asked s c.as_slice-rest.result.now c.loop-rest.rest.now group c.leading_group.result.1.now moved inv.left c.leading_group.ensures.all in
-          group_unread s group e can asked c.leading_group.ensures.one c.leading_group.ensures.some (c.in-Err.ensures.part still value (sym (laws.same _ _ inv.follows) ∙ held) long);
+          let same = laws.same _ _ inv.follows in
+          group_unread s group e can asked c.leading_group.ensures.one c.leading_group.ensures.some
+          (read_before s (g.D.BytesPartialDecoderTraits.contents c.args.source.now) (g.D.BytesPartialDecoderTraits.contents c.loop-rest.source) group (Err e) same (c.in-Err.ensures.part still (subst (λ (o : Option (List ℕ)). IsTotalOf o s.pairs c.args.shard.total) same told)));
       refused = c.in-Err.ensures.refused ∙ ap (λ n. refused_after {A = List ℕ} n (Err e)) inv.refused;
       given = λ honest.
           let s : AskedShard = record {
@@ -173,7 +177,7 @@ returns-in-Err g c =
             shape = c.args.asked.shape.now;
             subchunk = self.subchunk_shape;
             value = [];
-            pairs = pairs_of c.args.shard.fetched.now.index;
+            pairs = pairs_of c.args.shard.index.now;
             numbers = c.args.asked.numbers.now;
           } in
           let can = askable s (g.X.ArrayToBytesCodecTraits.meaning self.index_codecs) (location_of self.index_location) c.requires.fit c.requires.many c.requires.below in
@@ -194,18 +198,18 @@ returns g c =
     let self = c.args.self.now in
     let inv = c.loop-rest.invariant in
     record {
-      part = λ honest value held long.
+      part = λ honest told.
           let s : AskedShard = record {
             inner = g.I.ArrayToBytesCodecTraits.meaning self.inner_codecs;
             elements = elements_of c.args.shard.elements.now;
             shape = c.args.asked.shape.now;
             subchunk = self.subchunk_shape;
-            value = value;
-            pairs = pairs_of c.args.shard.fetched.now.index;
+            value = unwrap_or (g.D.BytesPartialDecoderTraits.contents c.args.source.now) [];
+            pairs = pairs_of c.args.shard.index.now;
             numbers = c.args.asked.numbers.now;
           } in
           let moved = subst (λ (ps : List AskedPlace). IsPermutation (asked_places s.shape s.subchunk s.numbers) ps) (sym c.as_slice-rest.ensures.value) c.in_ok-places.ensures.all in
-          let so = inv.read honest value held long in
+          let so = inv.read honest told in
           record {
             cells = so.cells;
             is = so_far_all s c.loop-rest.all c.as_slice-rest.result.now c.loop-rest.rest.now moved so c.loop-rest-test.false;
@@ -219,7 +223,7 @@ returns g c =
             shape = c.args.asked.shape.now;
             subchunk = self.subchunk_shape;
             value = [];
-            pairs = pairs_of c.args.shard.fetched.now.index;
+            pairs = pairs_of c.args.shard.index.now;
             numbers = c.args.asked.numbers.now;
           } in
           given_all s (g.D.BytesPartialDecoderTraits.given_bytes c.args.source.now) (g.D.BytesPartialDecoderTraits.given_bytes c.loop-rest.source) c.loop-rest.rest.now (inv.given honest);
@@ -242,7 +246,7 @@ returns-in_err-all-in-Ok-clause-given g c = λ honest.
       shape = c.args.asked.shape.now;
       subchunk = self.subchunk_shape;
       value = [];
-      pairs = pairs_of c.args.shard.fetched.now.index;
+      pairs = pairs_of c.args.shard.index.now;
       numbers = c.args.asked.numbers.now;
     } in
     let can = askable s (g.X.ArrayToBytesCodecTraits.meaning self.index_codecs) (location_of self.index_location) c.requires.fit c.requires.many c.requires.below in
@@ -263,7 +267,7 @@ returns-in_err-gather-clause-given g c = λ honest.
       shape = c.args.asked.shape.now;
       subchunk = self.subchunk_shape;
       value = [];
-      pairs = pairs_of c.args.shard.fetched.now.index;
+      pairs = pairs_of c.args.shard.index.now;
       numbers = c.args.asked.numbers.now;
     } in
     given_all s (g.D.BytesPartialDecoderTraits.given_bytes c.args.source.now) (g.D.BytesPartialDecoderTraits.given_bytes c.loop-rest.source) c.loop-rest.rest.now (c.loop-rest.invariant.given honest)

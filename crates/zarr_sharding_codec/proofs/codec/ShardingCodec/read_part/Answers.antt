@@ -9,7 +9,7 @@ use Rattle.zarr_grids_boxes.specs.Boxes.{product}
 use Rattle.zarr_sharding_index.specs.Views.{location_of, pairs_of}
 use Rattle.zarr_sharding_codec.specs.Reading.{HasPairs}
 use Rattle.zarr_sharding_codec.proofs.EncodedShard.{index_part}
-use Rattle.zarr_sharding_codec.proofs.PartsRead.{fetched_nothing, fetched_value, part_filled, part_found}
+use Rattle.zarr_sharding_codec.proofs.PartsRead.{fetched_nothing, fetched_value, part_filled, part_found, value_read, value_total}
 use Rattle.zarr_sharding_codec.proofs.StoredLoop.{rank_fits}
 use Rattle.zarr_sharding_codec.proofs.codec.ShardingCodec.read_part.Goals as goal
 
@@ -41,13 +41,16 @@ returns-in-Ok-Some-clause-part g c = λ honest.
     let asked = asked_of c.args.part.indexer in
     let first = c.in-Ok-Some.ensures in
     let contents = g.D.BytesPartialDecoderTraits.contents c.args.source.now in
-    let opened = fetched_value index location (index_shape shape self.subchunk_shape) contents c.in-Ok-Some.field-0 c.in-Ok-Some.index c.in-Ok-Some.field-0-is (first.index honest) in
+    let opened = fetched_value index location (index_shape shape self.subchunk_shape) contents c.in-Ok-Some.field-0 c.in-Ok-Some.fetched c.in-Ok-Some.field-0-is (first.index honest) in
     let same = laws.same _ _ first.follows in
     let still = subst IsTrue (laws.honest _ _ first.follows) honest in
-    let found = c.read_numbers.ensures.part still opened.value (sym same ∙ opened.is) opened.total in
-    let numbers = c.as_slice-numbers.ensures.value ∙ c.in_ok-numbers.ensures.numbers in
+    let is = sym same ∙ opened.is in
+    let pairs = pairs_of c.in-Ok-Some.fetched.index in
+    let found = value_read inner elements shape self.subchunk_shape (g.D.BytesPartialDecoderTraits.contents c.open_index.new.source) opened.value pairs c.as_slice.result.now c.read_numbers.result is
+    (c.read_numbers.ensures.part still (value_total (g.D.BytesPartialDecoderTraits.contents c.open_index.new.source) pairs c.in-Ok-Some.fetched.total opened.value is opened.total)) in
+    let numbers = c.as_slice.ensures.value ∙ c.in_ok-numbers.ensures.numbers in
     subst (λ (stored : Option (List ℕ)). DecodesPart (sharded self.subchunk_shape inner index location) elements shape stored asked c.read_numbers.result) (sym opened.is)
-    (part_found self.subchunk_shape inner index location elements shape opened.value (pairs_of c.in-Ok-Some.index.index) c.as_slice-numbers.result.now asked c.read_numbers.result c.requires.fit c.requires.inside numbers opened.held found)
+    (part_found self.subchunk_shape inner index location elements shape opened.value pairs c.as_slice.result.now asked c.read_numbers.result c.requires.fit c.requires.inside numbers opened.held found)
 
 pub returns-in-Ok-None-clause-part : goal.returns-in-Ok-None-clause-part
 returns-in-Ok-None-clause-part g c = λ honest.

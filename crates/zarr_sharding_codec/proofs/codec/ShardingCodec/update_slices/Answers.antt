@@ -1,6 +1,6 @@
 use Rattle.std.proofs.Common.{◌≡◌, ◌∙◌, ◌++◌, ◌∷◌, ◌<◌, ℕ, List, [], Option, Err, Ok, IsTrue, ap, sym, refl, subst, arith, length, length-append, get_or, nat_lt, true, unwrap_or}
 use Rattle.std.specs.List.{list_all}
-use Rattle.std.specs.List.Sorted.{IsPermutation}
+use Rattle.std.specs.List.Sorted.{IsNonDecreasingBy, IsPermutation}
 use Rattle.std.proofs.lemmas.List.{map-append}
 use Rattle.zarr_codecs_arrays.specs.Views.{elements_of, payload_of}
 use Rattle.zarr_codecs_meaning.proofs.Positions.{each_at}
@@ -13,6 +13,7 @@ use Rattle.zarr_sharding_state.specs.States.{end_of, pairs_in}
 use Rattle.zarr_sharding_state.specs.Views.{change_of, changes_of, is_below}
 use Rattle.zarr_sharding_state.specs.declared.writing.SliceChange.{SliceChange}
 use Rattle.zarr_sharding_codec.specs.PartWriting.{IsOf, UpdatesGroup, UpdatesSlices, stored_in}
+use Rattle.zarr_sharding_codec.proofs.GivenSoFar.{GivenSoFar, given_all, given_more, given_refused, none_given, rest_sorted, shard_asked}
 use Rattle.zarr_sharding_codec.proofs.GroupsRead.{AskedShard, IsAsked, insides_below, subchunk_below}
 use Rattle.zarr_sharding_codec.proofs.SoFarRead.{askable, group_asked}
 use Rattle.zarr_sharding_codec.proofs.SoFarWritten.{UpdatedSoFar, below_more, cut_more, front_asked, front_of, group_unwritten, nothing_cut, nothing_updated, number_of, positions_below, updated_all, updated_more, writing_of}
@@ -46,6 +47,10 @@ loop-rest-init g c =
           let exact = g.I.ArrayToBytesCodecTraits.is_function self.inner_codecs in
           let places = c.as_slice-rest.result.now in
           subst (λ (cs : List SliceChange). UpdatedSoFar s exact cells places places (changes_of cs)) (sym none) (nothing_updated s exact cells places);
+      sorted = subst (λ (ps : List AskedPlace). IsNonDecreasingBy (λ (place : AskedPlace). place.subchunk) ps) (sym c.as_slice-rest.ensures.value) c.in_ok-places.ensures.sorted;
+      given = λ honest.
+          let s = shard_asked (g.I.ArrayToBytesCodecTraits.meaning self.inner_codecs) (elements_of c.args.shard.elements.now) c.args.given.shape.now self.subchunk_shape (pairs_in c.args.shard.known.now) c.args.given.numbers.now in
+          none_given s (g.D.BytesPartialDecoderTraits.given_bytes c.args.source.now) c.as_slice-rest.result.now;
     }
 
 pub loop-rest-smaller : goal.loop-rest-smaller
@@ -154,6 +159,18 @@ loop-rest-preserved g c =
           let is = subst (λ (o : Option (List ℕ)). UpdatesGroup (stored_in s.inner exact s.elements o s.pairs) s.subchunk (number_of group) group cells (Ok change)) (sym same) found in
           let next = updated_more s exact cells places rest group others (changes_of old) (change_of change) writing front (inv.updated honest of cells valid) is in
           subst (λ cs. UpdatedSoFar s exact cells places others cs) (sym (ap changes_of more ∙ map-append change_of old (change ∷ []))) next;
+      sorted = rest_sorted rest group others c.leading_group.ensures.all inv.sorted;
+      given = λ honest.
+          let laws = g.met.D.BytesPartialDecoderTraits in
+          let count = g.D.BytesPartialDecoderTraits.given_bytes in
+          let t = shard_asked s.inner s.elements s.shape s.subchunk s.pairs s.numbers in
+          let could = askable t (g.X.ArrayToBytesCodecTraits.meaning self.index_codecs) (location_of self.index_location) c.requires.fit c.requires.many c.requires.below in
+          let all = c.leading_group.ensures.all in
+          let asked = group_asked t places rest group others moved (record { done = inv.cut.done; split = inv.cut.split }) all in
+          let sorted = subst (λ (ps : List AskedPlace). IsNonDecreasingBy (λ (place : AskedPlace). place.subchunk) ps) (sym all) inv.sorted in
+          let was = subst (λ (ps : List AskedPlace). GivenSoFar t (count c.args.source.now) (count c.loop-rest.source) ps) (sym all) (inv.given honest) in
+          given_more t (count c.args.source.now) (count c.loop-rest.source) (count c.update_group.new.source) group others could asked c.leading_group.ensures.some c.leading_group.ensures.next sorted was
+          (c.in-Ok.ensures.given (subst IsTrue (laws.honest _ _ inv.follows) honest));
     }
 
 pub returns-clause-changes : goal.returns-clause-changes
@@ -173,3 +190,48 @@ returns-clause-changes g c = λ honest of cells valid.
     let places = c.as_slice-rest.result.now in
     let writing = writing_of s cells places c.in_ok-places.places.items c.as_slice-rest.ensures.value can valid.is.many c.in_ok-places.ensures.all c.in_ok-places.ensures.stable in
     updated_all s (g.I.ArrayToBytesCodecTraits.is_function self.inner_codecs) cells places c.loop-rest.rest.now (changes_of c.loop-rest.changes.items) writing (inv.updated honest of cells valid) c.loop-rest-test.false
+
+pub returns-in_err-push-in-Ok-clause-given : goal.returns-in_err-push-in-Ok-clause-given
+returns-in_err-push-in-Ok-clause-given g c = λ honest.
+    let self = c.args.self.now in
+    let laws = g.met.D.BytesPartialDecoderTraits in
+    let count = g.D.BytesPartialDecoderTraits.given_bytes in
+    let inv = c.loop-rest.invariant in
+    let places = c.as_slice-rest.result.now in
+    let group = c.leading_group.result.0.now in
+    let others = c.leading_group.result.1.now in
+    let all = c.leading_group.ensures.all in
+    let s = shard_asked (g.I.ArrayToBytesCodecTraits.meaning self.inner_codecs) (elements_of c.args.shard.elements.now) c.args.given.shape.now self.subchunk_shape (pairs_in c.args.shard.known.now) c.args.given.numbers.now in
+    let can = askable s (g.X.ArrayToBytesCodecTraits.meaning self.index_codecs) (location_of self.index_location) c.requires.fit c.requires.many c.requires.below in
+    let moved = subst (λ (ps : List AskedPlace). IsPermutation (asked_places s.shape s.subchunk s.numbers) ps) (sym c.as_slice-rest.ensures.value) c.in_ok-places.ensures.all in
+    let asked = group_asked s places c.loop-rest.rest.now group others moved (record { done = inv.cut.done; split = inv.cut.split }) all in
+    let sorted = subst (λ (ps : List AskedPlace). IsNonDecreasingBy (λ (place : AskedPlace). place.subchunk) ps) (sym all) inv.sorted in
+    let was = subst (λ (ps : List AskedPlace). GivenSoFar s (count c.args.source.now) (count c.loop-rest.source) ps) (sym all) (inv.given honest) in
+    given_refused s (count c.args.source.now) (count c.loop-rest.source) (count c.update_group.new.source) group others can asked c.leading_group.ensures.some c.leading_group.ensures.next sorted was
+    (c.in-Ok.ensures.given (subst IsTrue (laws.honest _ _ inv.follows) honest))
+
+pub returns-in-Err-clause-given : goal.returns-in-Err-clause-given
+returns-in-Err-clause-given g c = λ honest.
+    let self = c.args.self.now in
+    let laws = g.met.D.BytesPartialDecoderTraits in
+    let count = g.D.BytesPartialDecoderTraits.given_bytes in
+    let inv = c.loop-rest.invariant in
+    let places = c.as_slice-rest.result.now in
+    let group = c.leading_group.result.0.now in
+    let others = c.leading_group.result.1.now in
+    let all = c.leading_group.ensures.all in
+    let s = shard_asked (g.I.ArrayToBytesCodecTraits.meaning self.inner_codecs) (elements_of c.args.shard.elements.now) c.args.given.shape.now self.subchunk_shape (pairs_in c.args.shard.known.now) c.args.given.numbers.now in
+    let can = askable s (g.X.ArrayToBytesCodecTraits.meaning self.index_codecs) (location_of self.index_location) c.requires.fit c.requires.many c.requires.below in
+    let moved = subst (λ (ps : List AskedPlace). IsPermutation (asked_places s.shape s.subchunk s.numbers) ps) (sym c.as_slice-rest.ensures.value) c.in_ok-places.ensures.all in
+    let asked = group_asked s places c.loop-rest.rest.now group others moved (record { done = inv.cut.done; split = inv.cut.split }) all in
+    let sorted = subst (λ (ps : List AskedPlace). IsNonDecreasingBy (λ (place : AskedPlace). place.subchunk) ps) (sym all) inv.sorted in
+    let was = subst (λ (ps : List AskedPlace). GivenSoFar s (count c.args.source.now) (count c.loop-rest.source) ps) (sym all) (inv.given honest) in
+    given_refused s (count c.args.source.now) (count c.loop-rest.source) (count c.update_group.new.source) group others can asked c.leading_group.ensures.some c.leading_group.ensures.next sorted was
+    (c.in-Err.ensures.given (subst IsTrue (laws.honest _ _ inv.follows) honest))
+
+pub returns-clause-given : goal.returns-clause-given
+returns-clause-given g c = λ honest.
+    let self = c.args.self.now in
+    let count = g.D.BytesPartialDecoderTraits.given_bytes in
+    let s = shard_asked (g.I.ArrayToBytesCodecTraits.meaning self.inner_codecs) (elements_of c.args.shard.elements.now) c.args.given.shape.now self.subchunk_shape (pairs_in c.args.shard.known.now) c.args.given.numbers.now in
+    given_all s (count c.args.source.now) (count c.loop-rest.source) c.loop-rest.rest.now (c.loop-rest.invariant.given honest)

@@ -8,7 +8,7 @@ use Rattle.zarr_codecs_traits.specs.Outcomes.{DecodesPart}
 use Rattle.zarr_grids_boxes.specs.Boxes.{product}
 use Rattle.zarr_sharding_index.specs.Held.{IsIndexHeld}
 use Rattle.zarr_sharding_index.specs.Views.{location_of, pairs_of}
-use Rattle.zarr_sharding_codec.proofs.PartsRead.{part_filled, part_found}
+use Rattle.zarr_sharding_codec.proofs.PartsRead.{part_filled, part_found, value_read, value_total}
 use Rattle.zarr_sharding_decoder.proofs.Opened.{held_count, held_nothing, held_value}
 use Rattle.zarr_sharding_decoder.proofs.partial_decoder.ShardingPartialDecoder.partial_decode.Goals as goal
 
@@ -50,6 +50,7 @@ returns-clause-part g c = λ honest.
     let count : length pairs ≡ length (parts_of shape subchunk) = held_count (product (grid_of shape subchunk)) self.held c.in-Some.fetched c.in-Some.is self.many ∙ sym (length-parts shape subchunk) in
     let found = held_value index location (index_shape shape subchunk) contents self.held c.in-Some.fetched c.in-Some.is (self.told honest) (self.opened honest) in
     let held : IsIndexHeld index location (index_shape shape subchunk) found.value pairs = record { is = found.pairs; many = index_product shape subchunk ∙ ap (λ n. 2 * n) (sym count) } in
-    let read = c.read_numbers.ensures.part honest found.value found.is found.total in
+    let numbers = c.as_slice.result.now in
+    let read = value_read inner elements shape subchunk contents found.value pairs numbers c.read_numbers.result found.is (c.read_numbers.ensures.part honest (value_total contents pairs c.in-Some.fetched.total found.value found.is found.total)) in
     subst (λ (stored : Option (List ℕ)). DecodesPart (sharded subchunk inner index location) elements shape stored asked c.read_numbers.result) (sym found.is)
-    (part_found subchunk inner index location elements shape found.value pairs c.as_slice.result.now asked c.read_numbers.result self.fit c.in_default.ensures (c.as_slice.ensures.value ∙ c.in_ok-numbers.ensures.numbers) held read)
+    (part_found subchunk inner index location elements shape found.value pairs numbers asked c.read_numbers.result self.fit c.in_default.ensures (c.as_slice.ensures.value ∙ c.in_ok-numbers.ensures.numbers) held read)

@@ -1,0 +1,9 @@
+pub mod Chains
+pub mod PartChains
+pub mod Counts
+pub mod ArrayCodecs
+pub mod AllArrayCodecs
+pub mod Telling
+pub mod Taken
+pub mod WritingAfter
+pub mod Compacting

@@ -1,0 +1,5 @@
+pub mod Views
+pub mod Codecs
+pub mod ArrayCodecs
+pub mod ThenBytes
+pub mod ArrayMetadata

@@ -1,0 +1,76 @@
+//! Array to array codecs, one after another, before a codec between arrays and bytes.
+ghost use Rattle.std.specs.Prelude.{◌≡◌, true};
+ghost use Rattle.zarr_codecs_arrays.specs.Views.{payload_of, elements_of};
+ghost use Rattle.zarr_codecs_around.specs.ArrayCodecs.{EncodesShapes, MovesAll, UndoesAll, all_fit};
+ghost use Rattle.zarr_codecs_around.specs.Views.{codecs_of};
+
+use std::alloc::Global;
+use zarr_codecs_array_to_array::ArrayToArrayCodec;
+use zarr_codecs_arrays::{ArrayBytes, CodecError, Elements};
+use zarr_codecs_traits::ArrayToArrayCodecTraits;
+
+/// The shape of the array after array codecs. `Fit` where one doesn't suit the shape that reaches it.
+pub fn shape_after(
+    alloc: Global,
+    codecs: &[ArrayToArrayCodec],
+    shape: &[u64],
+) -> Result<Vec<u64>, CodecError>
+    ensures { EncodesShapes (codecs_of codecs.now) shape.now result }
+{
+    let Some((codec, others)) = codecs.split_first() else {
+        return Ok(shape.to_vec(alloc)?);
+    };
+    match codec.encoded_shape(alloc, shape) {
+        Ok(encoded) => shape_after(alloc, others, encoded.as_slice()),
+        Err(error) => Err(error),
+    }
+}
+
+/// The elements of an array that array codecs suit, as they are after these.
+pub fn move_all(
+    alloc: Global,
+    codecs: &[ArrayToArrayCodec],
+    bytes: ArrayBytes,
+    elements: &Elements,
+    shape: &[u64],
+) -> Result<ArrayBytes, CodecError>
+    requires { all_fit (codecs_of codecs.now) shape.now ≡ true }
+    ensures { MovesAll (codecs_of codecs.now) (elements_of elements.now) shape.now
+        (payload_of bytes) result }
+{
+    let Some((codec, others)) = codecs.split_first() else {
+        return Ok(bytes);
+    };
+    let encoded = match codec.encoded_shape(alloc, shape) {
+        Ok(encoded) => encoded,
+        Err(error) => return Err(error),
+    };
+    match codec.encode(alloc, bytes, elements, shape) {
+        Ok(moved) => move_all(alloc, others, moved, elements, encoded.as_slice()),
+        Err(error) => Err(error),
+    }
+}
+
+/// The elements of an array that array codecs suit, of those that they are after these.
+pub fn undo_all(
+    alloc: Global,
+    codecs: &[ArrayToArrayCodec],
+    found: ArrayBytes,
+    elements: &Elements,
+    shape: &[u64],
+) -> Result<ArrayBytes, CodecError>
+    requires { all_fit (codecs_of codecs.now) shape.now ≡ true }
+    ensures { UndoesAll (codecs_of codecs.now) (elements_of elements.now) shape.now found result }
+{
+    let Some((codec, others)) = codecs.split_first() else {
+        return Ok(found);
+    };
+    let encoded = match codec.encoded_shape(alloc, shape) {
+        Ok(encoded) => encoded,
+        Err(error) => return Err(error),
+    };
+    match undo_all(alloc, others, found, elements, encoded.as_slice()) {
+        Ok(moved) => codec.decode(alloc, moved, elements, shape),
+        Err(error) => Err(error),
+    }
+}

@@ -1,0 +1,82 @@
+//! Array to array codecs and their metadata, one after another.
+ghost use Rattle.std.specs.Prelude.{◌≡◌, ◌≢◌, ◌≤◌, ◌++◌, drop, length, map, take, true, false, Some, IfOk, IfErr, OnOk};
+ghost use Rattle.zarr_grids_metadata.specs.Views.{point_of};
+ghost use Rattle.zarr_codecs_array_to_array.specs.Names.{written_codec};
+ghost use Rattle.zarr_codecs_array_to_array.specs.Views.{codec_of};
+ghost use Rattle.zarr_codecs_metadata.specs.ArrayCodecs.{array_codec_in};
+ghost use Rattle.zarr_codecs_around.specs.ArrayMetadata.{array_codecs_of, is_array_codec_misconfigured};
+ghost use Rattle.zarr_codecs_around.specs.Views.{array_points, codecs_of};
+
+use std::alloc::{AllocError, Global};
+use zarr_codecs_array_to_array::ArrayToArrayCodec;
+use zarr_grids_metadata::{MetadataV3, PluginCreateError};
+
+/// The array to array codecs that metadata begins with. `MetadataInvalid` where the configuration of
+/// one of them is not one of its name's.
+pub fn first_array_codecs(
+    alloc: Global,
+    codecs: &[MetadataV3],
+) -> Result<Vec<ArrayToArrayCodec>, PluginCreateError>
+    ensures first { IfOk result
+        (λ found. codecs_of found.items ≡ array_codecs_of (map point_of codecs.now)) }
+    ensures few { IfOk result (λ found. length found.items ≤ length codecs.now) }
+    ensures names { IfOk result (λ found. map (λ codec. (written_codec codec).name) found.items
+        ≡ map (λ metadata. (point_of metadata).name) (take (length found.items) codecs.now)) }
+    ensures all { IfOk result
+        (λ found. is_array_codec_misconfigured (map point_of codecs.now) ≡ false) }
+    ensures cause { IfErr result
+        (λ e. e ≢ PluginCreateError.Memory → e ≡ PluginCreateError.MetadataInvalid) }
+    ensures refused { IfErr result (λ e. e ≢ PluginCreateError.Memory
+        → is_array_codec_misconfigured (map point_of codecs.now) ≡ true) }
+{
+    let mut array_to_array = Vec::new(alloc);
+    for metadata in codecs {
+        match ArrayToArrayCodec::from_metadata(alloc, metadata) {
+            Ok(codec) => if let Err(_failed) = array_to_array.push(codec) {
+                return Err(PluginCreateError::Memory);
+            },
+            Err(PluginCreateError::NameUnsupported) => return Ok(array_to_array),
+            Err(error) => return Err(error),
+        }
+    }
+    Ok(array_to_array)
+}
+
+/// What metadata says after the array to array codecs that were read of it.
+pub fn rest_after<'m>(codecs: &'m [MetadataV3], read: &[ArrayToArrayCodec]) -> &'m [MetadataV3]
+    requires { length read.now ≤ length codecs.now }
+    ensures { result.now ≡ drop (length read.now) codecs.now }
+{
+    &codecs[read.len()..]
+}
+
+/// The metadata of array codecs, each of which is read back as an equal codec.
+pub fn array_metadatas(
+    alloc: Global,
+    codecs: &[ArrayToArrayCodec],
+) -> Result<Vec<MetadataV3>, AllocError>
+    ensures written { IfOk result
+        (λ metadatas. map point_of metadatas.items ≡ array_points codecs.now) }
+    ensures reads_back { IfOk result (λ metadatas.
+        map array_codec_in (map point_of metadatas.items) ≡ map Some (codecs_of codecs.now)) }
+{
+    let mut metadatas = Vec::new(alloc);
+    for codec in codecs {
+        metadatas.push(codec.metadata(alloc)?)?;
+    }
+    Ok(metadatas)
+}
+
+/// Equal codecs. `Err` only where an allocation failed.
+pub fn array_copies(
+    alloc: Global,
+    codecs: &[ArrayToArrayCodec],
+) -> Result<Vec<ArrayToArrayCodec>, AllocError>
+    ensures { IfOk result (λ copies. codecs_of copies.items ≡ codecs_of codecs.now) }
+{
+    let mut copies = Vec::with_capacity(alloc, codecs.len())?;
+    for codec in codecs {
+        copies.push(codec.try_clone(alloc)?)?;
+    }
+    Ok(copies)
+}

@@ -1,0 +1,18 @@
+//! What stands around a codec between arrays and bytes: array to array codecs before it, and the
+//! caller's bytes to bytes codecs after it.
+#![tactic(auto)]
+
+pub mod array_codecs;
+pub mod array_metadata;
+pub mod byte_codecs;
+pub mod byte_metadata;
+pub mod inner_codec;
+pub mod part_reading;
+pub mod part_writing;
+pub mod stored_parts;
+pub mod then_bytes;
+mod then_bytes_values;
+pub mod whole_arrays;
+
+pub use inner_codec::InnerCodec;
+pub use then_bytes::ThenBytes;

@@ -1,0 +1,106 @@
+//! Parts of arrays, decoded by a codec after array to array codecs.
+ghost use Rattle.std.specs.Prelude.{◌≡◌, ◌≤◌, ◌+◌, ◌^◌, ◌<◌, true, IsTrue};
+ghost use Rattle.zarr_grids_boxes.specs.Boxes.{product};
+ghost use Rattle.zarr_codecs_meaning.specs.Fits.{is_plain};
+ghost use Rattle.zarr_codecs_arrays.specs.Views.{elements_of};
+ghost use Rattle.zarr_codecs_traits.specs.Indexers.{asked_of};
+ghost use Rattle.zarr_codecs_traits.specs.Outcomes.{DecodesPart};
+ghost use Rattle.zarr_codecs_traits.specs.ReadBytes.{most_read};
+ghost use Rattle.zarr_codecs_traits.specs.Sources.{refused_after};
+ghost use Rattle.zarr_codecs_bytes.specs.Parts.{GivesListed, most_of_listed};
+ghost use Rattle.zarr_codecs_around.specs.Views.{codecs_of, with_array_codecs};
+
+use std::alloc::Global;
+use zarr_codecs_array_to_array::ArrayToArrayCodec;
+use zarr_codecs_arrays::{ArrayBytes, CodecError};
+use zarr_codecs_bytes::part::ListedPart;
+use zarr_codecs_options::CodecOptions;
+use zarr_codecs_regions::{numbers_asked, test_asked};
+use zarr_codecs_traits::{
+    ArrayPart, ArrayToArrayCodecTraits, ArrayToBytesCodecTraits, BytesPartialDecoderTraits, Indexer,
+};
+use zarr_grids_boxes::walk::count_places;
+
+/// The elements at the places that are asked for, of the value that a source holds, each of which
+/// goes through the array codecs. Errors as those of `ArrayToBytesCodecTraits::partial_decode`.
+pub fn decode_part_after<A: ArrayToBytesCodecTraits, D: BytesPartialDecoderTraits>(
+    rest: &A,
+    alloc: Global,
+    codecs: &[ArrayToArrayCodec],
+    source: &mut D,
+    part: ArrayPart<'_>,
+    options: &CodecOptions,
+) -> Result<ArrayBytes, CodecError>
+    ensures part { IsTrue (D.is_honest source.old) → DecodesPart
+        (with_array_codecs (codecs_of codecs.now) (A.meaning rest.now))
+        (elements_of part.entry.elements.now) part.entry.shape.now (D.contents source.old)
+        (asked_of part.entry.indexer) result }
+    ensures refused { D.refused_calls source.new ≡
+        refused_after (D.refused_calls source.old) result }
+    ensures given { is_plain (with_array_codecs (codecs_of codecs.now) (A.meaning rest.now)) ≡ true →
+        IsTrue (D.is_honest source.old) → D.given_bytes source.new
+        ≤ D.given_bytes source.old + most_read (with_array_codecs (codecs_of codecs.now)
+        (A.meaning rest.now)) (elements_of part.entry.elements.now).type part.entry.shape.now
+        (D.contents source.old) (asked_of part.entry.indexer) }
+    ensures follows { D.follows source.old source.new }
+{
+    let (elements, shape) = (part.elements, part.shape);
+    if let Err(error) = test_asked(shape, part.indexer) {
+        return Err(error);
+    }
+    if count_places(shape).is_none() {
+        return Err(CodecError::Size);
+    }
+    let numbers = numbers_asked(alloc, shape, part.indexer)?;
+    let listed = ListedPart {
+        elements,
+        shape,
+        numbers: numbers.as_slice(),
+    };
+    decode_listed_after(rest, alloc, codecs, source, listed, options)
+}
+
+/// The elements with some numbers, of the value that a source holds, which the codec, and array
+/// codecs before it, decode.
+fn decode_listed_after<A: ArrayToBytesCodecTraits, D: BytesPartialDecoderTraits>(
+    rest: &A,
+    alloc: Global,
+    codecs: &[ArrayToArrayCodec],
+    source: &mut D,
+    part: ListedPart<'_>,
+    options: &CodecOptions,
+) -> Result<ArrayBytes, CodecError>
+    requires { product part.shape.now < 2 ^ 63 }
+    ensures part { IsTrue (D.is_honest source.old) → GivesListed
+        (with_array_codecs (codecs_of codecs.now) (A.meaning rest.now)) (D.contents source.old)
+        part.entry result }
+    ensures refused { D.refused_calls source.new ≡
+        refused_after (D.refused_calls source.old) result }
+    ensures given { is_plain (with_array_codecs (codecs_of codecs.now) (A.meaning rest.now)) ≡ true →
+        IsTrue (D.is_honest source.old) → D.given_bytes source.new ≤ D.given_bytes source.old
+        + most_of_listed (with_array_codecs (codecs_of codecs.now) (A.meaning rest.now))
+        (D.contents source.old) part.entry }
+    ensures follows { D.follows source.old source.new }
+{
+    let (elements, shape, numbers) = (part.elements, part.shape, part.numbers);
+    let Some((codec, others)) = codecs.split_first() else {
+        let indexer = Indexer::List(numbers);
+        let all = ArrayPart {
+            elements,
+            shape,
+            indexer,
+        };
+        return rest.partial_decode(alloc, source, all, options);
+    };
+    let encoded = match codec.encoded_shape(alloc, shape) {
+        Ok(encoded) => encoded,
+        Err(error) => return Err(error),
+    };
+    let moved = codec.encoded_numbers(alloc, shape, numbers)?;
+    let inner = ListedPart {
+        elements,
+        shape: encoded.as_slice(),
+        numbers: moved.as_slice(),
+    };
+    decode_listed_after(rest, alloc, others, source, inner, options)
+}

@@ -1,0 +1,62 @@
+//! Parts of arrays, decoded of values that bytes codecs made and that were read whole.
+ghost use Rattle.std.specs.Prelude.{◌≡◌, ℕ, map};
+ghost use Rattle.zarr_codecs_arrays.specs.Views.{elements_of};
+ghost use Rattle.zarr_codecs_traits.specs.Indexers.{asked_of};
+ghost use Rattle.zarr_codecs_traits.specs.Outcomes.{DecodesPart};
+ghost use Rattle.zarr_codecs_traits.specs.Sources.{refused_after, value_bytes};
+ghost use Rattle.zarr_codecs_around.specs.Views.{with_codecs};
+
+use crate::byte_codecs::decode_all;
+use std::alloc::Global;
+use zarr_codecs_arrays::{ArrayBytes, CodecError};
+use zarr_codecs_options::CodecOptions;
+use zarr_codecs_regions::test_asked;
+use zarr_codecs_traits::{
+    ArrayPart, ArrayToBytesCodecTraits, BytesToBytesCodecTraits, MemorySource,
+};
+
+/// The elements at the places that are asked for, of a value that was read, or of none, which a
+/// codec and bytes codecs after it made. Errors as those of `ArrayToBytesCodecTraits::partial_decode`.
+pub fn decode_stored_part<A: ArrayToBytesCodecTraits, B: BytesToBytesCodecTraits>(
+    codec: &A,
+    alloc: Global,
+    codecs: &[B],
+    value: Option<Vec<u8>>,
+    part: ArrayPart<'_>,
+    options: &CodecOptions,
+) -> Result<ArrayBytes, CodecError>
+    ensures part { DecodesPart (with_codecs (A.meaning codec.now) (map B.meaning codecs.now))
+        (elements_of part.entry.elements.now) part.entry.shape.now (value_bytes value)
+        (asked_of part.entry.indexer) result }
+    ensures no_source { (count : ℕ) → refused_after count result ≡ count }
+{
+    if !codec.fits(alloc, part.elements.data_type(), part.shape)? {
+        return Err(CodecError::Fit);
+    }
+    if let Err(error) = test_asked(part.shape, part.indexer) {
+        return Err(error);
+    }
+    let Some(value) = value else {
+        return decode_inside(codec, alloc, None, part, options);
+    };
+    match decode_all(alloc, codecs, value) {
+        Ok(inside) => decode_inside(codec, alloc, Some(inside), part, options),
+        Err(error) => Err(error),
+    }
+}
+
+/// The elements at the places that are asked for, of a value of the codec, or of none.
+fn decode_inside<A: ArrayToBytesCodecTraits>(
+    codec: &A,
+    alloc: Global,
+    inside: Option<Vec<u8>>,
+    part: ArrayPart<'_>,
+    options: &CodecOptions,
+) -> Result<ArrayBytes, CodecError>
+    ensures part { DecodesPart (A.meaning codec.now) (elements_of part.entry.elements.now)
+        part.entry.shape.now (value_bytes inside) (asked_of part.entry.indexer) result }
+    ensures no_source { (count : ℕ) → refused_after count result ≡ count }
+{
+    let mut source = MemorySource::new(inside);
+    codec.partial_decode(alloc, &mut source, part, options)
+}

@@ -1,5 +1,0 @@
-use Rattle.std.proofs.Common.{length}
-use Rattle.zarr_codecs_chains.proofs.bytes_chain.BytesChain.+encode_listed_after.Given as goal
-
-abbrev pub decreases-encode_listed_after : goal.decreases-encode_listed_after
-decreases-encode_listed_after g l = length l.codecs.now

@@ -1,0 +1,4 @@
+pub mod Telling
+pub mod ShardsNest
+pub mod Reading
+pub mod Written

@@ -1,0 +1,5 @@
+pub mod Reshapes
+pub mod Views
+pub mod ArrayChains
+pub mod Metadata
+pub mod Refusals

@@ -1,0 +1,205 @@
+//! The chains that arrays have as codecs between arrays and bytes, which take options for shards.
+use crate::array_chain::ArrayChain;
+use std::alloc::{AllocError, Global};
+use zarr_codecs_arrays::{ArrayBytes, CodecError, Elements};
+use zarr_codecs_options::CodecOptions;
+use zarr_codecs_traits::{
+    ArrayPart, ArrayToBytesCodecTraits, BytesPartialDecoderTraits, BytesPartialEncoderTraits,
+    BytesRepresentation, BytesToBytesCodecTraits, ValuePatch,
+};
+use zarr_codecs_types::DataType;
+use zarr_sharding_codec::{ShardingCodecOptions, TakesShardingOptions};
+
+impl<B: BytesToBytesCodecTraits> ArrayToBytesCodecTraits for ArrayChain<B> {
+    ghost use Rattle.zarr_sharding_arrays.specs.ArrayChains.{array_function, array_lawful, array_meaning};
+
+    ghost meaning = { array_meaning B.meaning };
+
+    ghost is_function = { array_function };
+
+    fn encoding_is_function(&self) -> bool {
+        match self {
+            ArrayChain::Plain(chain) => chain.encoding_is_function(),
+            ArrayChain::Sharded(chain) => chain.encoding_is_function(),
+            ArrayChain::Nested(chain) => chain.encoding_is_function(),
+        }
+    }
+
+    fn fits(&self, alloc: Global, data_type: &DataType, shape: &[u64]) -> Result<bool, AllocError> {
+        match self {
+            ArrayChain::Plain(chain) => chain.fits(alloc, data_type, shape),
+            ArrayChain::Sharded(chain) => chain.fits(alloc, data_type, shape),
+            ArrayChain::Nested(chain) => chain.fits(alloc, data_type, shape),
+        }
+    }
+
+    fn encode(
+        &self,
+        alloc: Global,
+        bytes: ArrayBytes,
+        elements: &Elements,
+        shape: &[u64],
+        options: &CodecOptions,
+    ) -> Result<Vec<u8>, CodecError> {
+        match self {
+            ArrayChain::Plain(chain) => chain.encode(alloc, bytes, elements, shape, options),
+            ArrayChain::Sharded(chain) => chain.encode(alloc, bytes, elements, shape, options),
+            ArrayChain::Nested(chain) => chain.encode(alloc, bytes, elements, shape, options),
+        }
+    }
+
+    fn decode(
+        &self,
+        alloc: Global,
+        value: Vec<u8>,
+        elements: &Elements,
+        shape: &[u64],
+        options: &CodecOptions,
+    ) -> Result<ArrayBytes, CodecError> {
+        match self {
+            ArrayChain::Plain(chain) => chain.decode(alloc, value, elements, shape, options),
+            ArrayChain::Sharded(chain) => chain.decode(alloc, value, elements, shape, options),
+            ArrayChain::Nested(chain) => chain.decode(alloc, value, elements, shape, options),
+        }
+    }
+
+    fn encoded_representation(
+        &self,
+        alloc: Global,
+        data_type: &DataType,
+        shape: &[u64],
+    ) -> Result<BytesRepresentation, CodecError> {
+        match self {
+            ArrayChain::Plain(chain) => chain.encoded_representation(alloc, data_type, shape),
+            ArrayChain::Sharded(chain) => chain.encoded_representation(alloc, data_type, shape),
+            ArrayChain::Nested(chain) => chain.encoded_representation(alloc, data_type, shape),
+        }
+    }
+
+    fn partial_decoder_capability(&self) -> bool {
+        match self {
+            ArrayChain::Plain(chain) => chain.partial_decoder_capability(),
+            ArrayChain::Sharded(chain) => chain.partial_decoder_capability(),
+            ArrayChain::Nested(chain) => chain.partial_decoder_capability(),
+        }
+    }
+
+    fn partial_encoder_capability(&self) -> bool {
+        match self {
+            ArrayChain::Plain(chain) => chain.partial_encoder_capability(),
+            ArrayChain::Sharded(chain) => chain.partial_encoder_capability(),
+            ArrayChain::Nested(chain) => chain.partial_encoder_capability(),
+        }
+    }
+
+    fn partial_decode_granularity(
+        &self,
+        alloc: Global,
+        shape: &[u64],
+    ) -> Result<Vec<u64>, AllocError> {
+        match self {
+            ArrayChain::Plain(chain) => chain.partial_decode_granularity(alloc, shape),
+            ArrayChain::Sharded(chain) => chain.partial_decode_granularity(alloc, shape),
+            ArrayChain::Nested(chain) => chain.partial_decode_granularity(alloc, shape),
+        }
+    }
+
+    fn partial_decode<D: BytesPartialDecoderTraits>(
+        &self,
+        alloc: Global,
+        source: &mut D,
+        part: ArrayPart<'_>,
+        options: &CodecOptions,
+    ) -> Result<ArrayBytes, CodecError> {
+        match self {
+            ArrayChain::Plain(chain) => chain.partial_decode(alloc, source, part, options),
+            ArrayChain::Sharded(chain) => chain.partial_decode(alloc, source, part, options),
+            ArrayChain::Nested(chain) => chain.partial_decode(alloc, source, part, options),
+        }
+    }
+
+    fn takes_patches(&self, data_type: &DataType) -> bool {
+        match self {
+            ArrayChain::Plain(chain) => chain.takes_patches(data_type),
+            ArrayChain::Sharded(chain) => chain.takes_patches(data_type),
+            ArrayChain::Nested(chain) => chain.takes_patches(data_type),
+        }
+    }
+
+    fn encode_patches(
+        &self,
+        alloc: Global,
+        bytes: ArrayBytes,
+        part: ArrayPart<'_>,
+        options: &CodecOptions,
+    ) -> Result<Option<Vec<ValuePatch>>, CodecError> {
+        match self {
+            ArrayChain::Plain(chain) => chain.encode_patches(alloc, bytes, part, options),
+            ArrayChain::Sharded(chain) => chain.encode_patches(alloc, bytes, part, options),
+            ArrayChain::Nested(chain) => chain.encode_patches(alloc, bytes, part, options),
+        }
+    }
+
+    fn partial_encode<E: BytesPartialEncoderTraits>(
+        &self,
+        alloc: Global,
+        source: &mut E,
+        bytes: ArrayBytes,
+        part: ArrayPart<'_>,
+        options: &CodecOptions,
+    ) -> Result<(), CodecError> {
+        match self {
+            ArrayChain::Plain(chain) => chain.partial_encode(alloc, source, bytes, part, options),
+            ArrayChain::Sharded(chain) => chain.partial_encode(alloc, source, bytes, part, options),
+            ArrayChain::Nested(chain) => chain.partial_encode(alloc, source, bytes, part, options),
+        }
+    }
+
+    fn compact(
+        &self,
+        alloc: Global,
+        value: &[u8],
+        elements: &Elements,
+        shape: &[u64],
+        options: &CodecOptions,
+    ) -> Result<Option<Vec<u8>>, CodecError> {
+        match self {
+            ArrayChain::Plain(chain) => chain.compact(alloc, value, elements, shape, options),
+            ArrayChain::Sharded(chain) => chain.compact(alloc, value, elements, shape, options),
+            ArrayChain::Nested(chain) => chain.compact(alloc, value, elements, shape, options),
+        }
+    }
+
+    fn try_clone(&self, alloc: Global) -> Result<ArrayChain<B>, AllocError> {
+        match self {
+            ArrayChain::Plain(chain) => Ok(ArrayChain::Plain(chain.try_clone(alloc)?)),
+            ArrayChain::Sharded(chain) => Ok(ArrayChain::Sharded(chain.try_clone(alloc)?)),
+            ArrayChain::Nested(chain) => Ok(ArrayChain::Nested(chain.try_clone(alloc)?)),
+        }
+    }
+
+    ghost lawful = { array_lawful B.meaning B.lawful };
+}
+
+impl<B: BytesToBytesCodecTraits> TakesShardingOptions for ArrayChain<B> {
+    ghost use Rattle.std.specs.Prelude.{true};
+    ghost use Rattle.zarr_sharding_arrays.specs.ArrayChains.{array_orders};
+
+    ghost orders = { array_orders };
+
+    ghost can_be_exact = { λ _. true };
+
+    fn with_codec_specific_options(self, options: ShardingCodecOptions) -> ArrayChain<B> {
+        match self {
+            ArrayChain::Plain(chain) => {
+                ArrayChain::Plain(chain.with_codec_specific_options(options))
+            }
+            ArrayChain::Sharded(chain) => {
+                ArrayChain::Sharded(chain.with_codec_specific_options(options))
+            }
+            ArrayChain::Nested(chain) => {
+                ArrayChain::Nested(chain.with_codec_specific_options(options))
+            }
+        }
+    }
+}

@@ -1,0 +1,57 @@
+use Rattle.std.proofs.Common.{◌≡◌, ◌∙◌, ap, sym, subst, length, List, ℕ, [], unwrap_or}
+use Rattle.std.specs.Prelude.{nat_lt}
+use Rattle.std.specs.List.{list_all}
+use Rattle.zarr_grids_boxes.specs.Boxes.{product}
+use Rattle.zarr_codecs_arrays.specs.Views.{elements_of}
+use Rattle.zarr_codecs_meaning.specs.Chains.{Location}
+use Rattle.zarr_codecs_meaning.specs.Encoding.{Pair, index_size}
+use Rattle.zarr_codecs_meaning.specs.Places.{parts_of}
+use Rattle.zarr_codecs_traits.specs.Indexers.{asked_of}
+use Rattle.zarr_sharding_codec.specs.Reading.{IsTotalOf, ListsRead, shard_cells}
+use Rattle.zarr_sharding_decoder.specs.Pairs.{index_length}
+use Rattle.zarr_sharding_decoder.specs.Shards.{ShardOf}
+use Rattle.zarr_sharding_index.specs.Views.{location_of, pairs_of}
+use Rattle.zarr_sharding_state.specs.Held.{shard_length}
+use Rattle.zarr_sharding_state.specs.States.{end_of, pairs_in}
+use Rattle.zarr_sharding_cells.specs.Tables.{Held, held_as}
+use Rattle.zarr_sharding_cells.proofs.Known.{pairs_count}
+use Rattle.zarr_sharding_cells.proofs.ReadBack.{part_read_back, told_total}
+use Rattle.zarr_sharding_cells.proofs.state.ShardState.partial_decode.Goals as goal
+
+pub read_numbers-requires-clause-many : goal.read_numbers-requires-clause-many
+read_numbers-requires-clause-many g c =
+    let self = c.args.self.now in
+    let codec = self.codec.now in
+    let s : ShardOf = record {
+      subchunk = codec.subchunk_shape;
+      inner = g.I.ArrayToBytesCodecTraits.meaning codec.inner_codecs;
+      index = g.X.ArrayToBytesCodecTraits.meaning codec.index_codecs;
+      location = location_of codec.index_location;
+      elements = elements_of self.elements.now;
+      shape = self.shape.now;
+    } in
+    ap (λ (ps : List Pair). length ps) c.index.ensures ∙ pairs_count s self.pairs_shape.items (pairs_in self.known) self.cut self.many
+
+pub returns-clause-part : goal.returns-clause-part
+returns-clause-part g c = λ honest told.
+    let self = c.args.self.now in
+    let codec = self.codec.now in
+    let s : ShardOf = record {
+      subchunk = codec.subchunk_shape;
+      inner = g.I.ArrayToBytesCodecTraits.meaning codec.inner_codecs;
+      index = g.X.ArrayToBytesCodecTraits.meaning codec.index_codecs;
+      location = location_of codec.index_location;
+      elements = elements_of self.elements.now;
+      shape = self.shape.now;
+    } in
+    let contents = g.E.BytesPartialDecoderTraits.contents self.source in
+    let held : Held = held_as contents (pairs_in self.known) (end_of self.known) in
+    let lent = pairs_of c.index.result.now in
+    let numbers = c.as_slice-2.result.now in
+    let result = c.read_numbers.result in
+    let size_is = self.sized ∙ ap (index_size s.index) self.cut in
+    let long = c.total.ensures ∙ (ap (λ (l : Location). shard_length l self.size held.end) c.index_location.ensures ∙ ap (λ n. shard_length s.location n held.end) size_is) in
+    let total = subst (λ (ps : List Pair). IsTotalOf contents ps c.total.result) (sym c.index.ensures) (told_total s held c.total.result told long) in
+    let read = subst (λ (ps : List Pair). ListsRead s.elements s.shape (shard_cells s.inner s.elements s.shape s.subchunk (unwrap_or contents []) ps numbers) result) c.index.ensures (c.read_numbers.ensures.part honest total) in
+    part_read_back s numbers (asked_of c.args.indexer) self.fit c.in_default.ensures (c.as_slice-2.ensures.value ∙ c.in_ok-numbers.ensures.numbers) (ap (list_all (λ n. nat_lt n (product s.shape))) c.as_slice-2.ensures.value ∙ c.in_ok-numbers.ensures.within) held result
+    (pairs_count s self.pairs_shape.items held.pairs self.cut self.many) told read
