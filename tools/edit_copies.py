@@ -181,6 +181,14 @@ def copy_of(edit: Edit, function: Function, number: int, sources: Sources) -> Op
     return named_copy(function, edited, f"{function.name}_edit_{number}", cycle, texts[function.file], sources, control)
 
 
+def calls_itself_anew(edit: Edit, function: Function, sources: Sources) -> bool:
+    """Whether a function calls itself with an edit, and not as it stands. A copy of it would call the function as it was, and be proved."""
+    if not any(f"{function.name}(" in it.new for it in edit.changes) or sources.cycle_of(function):
+        return False
+    edited = Sources({**sources.texts, **apply_edit(edit, sources.texts.__getitem__)})
+    return any(it.path == function.path and edited.calls_itself(it) for it in edited.functions)
+
+
 def copy_with_no_edit(function: Function, sources: Sources) -> Copy:
     """A copy of a function as it stands."""
     return named_copy(function, function, f"{function.name}_with_no_edit", sources.cycle_of(function), sources.texts[function.file], sources)

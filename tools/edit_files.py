@@ -1,7 +1,8 @@
 """Reads must-fail edits: files with a line `file: PATH` and pairs of lines `old: TEXT` and `new: TEXT`, and perhaps a line `law: FUNCTION`,
 where an edit of a definition is one of a certain function's contract: it is tried in that function first. A line `goal: NAME` may name the
 goal of the function that the edit makes false: the edit is then tried by that goal's answer first. Where the function's proof files have no
-answer for it, a line `by: TERM` may say what proves that goal of the function as it stands, in place of what usually does.
+answer for it, a line `by: TERM` may say what proves that goal of the function as it stands, in place of what usually does. `by: search` says
+that no answer shows the edit to be false, as where the function as it stands has no such goal: it is searched for at once.
 
 PATH is below src/, specs/ or proofs/ of the crate, and each TEXT under `old:` stands in that file exactly once.
 All other lines are comments. An edit lies right in crates/NAME/must-fail/ as NAME.edit, where `rt ci` tries it
@@ -15,6 +16,8 @@ from typing import Callable, Dict, List, Tuple
 
 # What usually proves a goal for which a function's proof files have no answer.
 USUAL = "grind (arith, common_steps)"
+# What stands in the place of an answer where none is to be tried.
+SEARCH = "search"
 
 
 class DoesNotApply(Exception):

@@ -41,11 +41,13 @@ class Kept:
 
 
 def holds_proofs(index: str) -> bool:
-    """Whether a library holds what was proved, by the index of its modules; one that was built for its statements alone (`rt ci`) does not."""
+    """Whether a library holds what was proved, by the index of its modules. One that was built for its statements alone (`rt ci`) does not:
+    it holds no module but parts of them, as part/NAME."""
     if not os.path.isfile(index):
         return False
     with open(index, encoding="utf-8") as rows:
-        return any(json.loads(row)[0].endswith(".Code") for row in rows)
+        modules = [json.loads(row)[0] for row in rows]
+    return any(it.endswith(".Code") and "/" not in it for it in modules)
 
 
 def unpack(toolchain: str, folder: str) -> None:

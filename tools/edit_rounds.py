@@ -12,9 +12,9 @@ from itertools import combinations
 from typing import Callable, Dict, List, Optional, Set, Tuple
 
 from check_output import CheckOutput, Placed
-from edit_copies import Copy, answer_alone, answers_given, answers_of, copy_of, copy_with_no_edit, goals_answered, has_answers_of_its_own
-from edit_copies import tried_by_name, unoffered, with_copies
-from edit_files import USUAL, DoesNotApply, Edit, apply_edit
+from edit_copies import Copy, answer_alone, answers_given, answers_of, calls_itself_anew, copy_of, copy_with_no_edit, goals_answered
+from edit_copies import has_answers_of_its_own, tried_by_name, unoffered, with_copies
+from edit_files import SEARCH, USUAL, DoesNotApply, Edit, apply_edit
 from edit_laws import Laws, with_modules
 from rattle_names import Names
 from rattle_sources import Function, Sources
@@ -173,9 +173,13 @@ def trial_of(edit: Edit, number: int, sources: Sources, names: Names) -> Trial:
     function = own_function(edit, sources)
     if not function:
         return Trial(edit, None)
+    if calls_itself_anew(edit, function, sources):
+        return Trial(edit, function.path, way=Way.WHOLE)
     copy = copy_of(edit, function, number, sources)
     trial = Trial(edit, function.path, copy, way=Way.ANSWERS if copy and copy.has_answers else Way.GOALS)
-    if edit.goal and trial.is_of_code and has_answers_of_its_own(function, sources):
+    if edit.by == SEARCH:
+        trial.way = Way.GOALS
+    elif edit.goal and trial.is_of_code and has_answers_of_its_own(function, sources):
         is_answered = edit.goal in goals_answered(sources.texts.get(answers_of(function), ""))
         trial.edit = replace(edit, by="" if is_answered else edit.by or USUAL)
         trial.way = Way.NAMED
@@ -197,9 +201,9 @@ class Rounds:
         self.functions = {it.path: it for it in sources.functions}
         names = Names(sources)
         self.trials = [trial_of(it, number, sources, names) for number, it in enumerate(edits)]
-        by_answers = [it for it in self.trials if it.way is Way.ANSWERS]
+        by_answers = [it for it in self.trials if it.way in (Way.NAMED, Way.ANSWERS)]
         for trial in by_answers if len(by_answers) < FEW else []:
-            trial.way = Way.GOALS
+            trial.way = trial.way if trial.way is Way.NAMED else Way.GOALS
         self._give_answers()
         self._copy_laws()
 
@@ -389,6 +393,9 @@ class Rounds:
         judgement = refusal(trial.function or "", faults, "")
         if faults and judgement.verdict is Verdict.REFUSED:
             self._end(trial, judgement)
+        elif faults and trial.way is Way.GOALS:
+            # By its shape alone: that is believed of the function in its place, and whole.
+            trial.copy, trial.way = None, Way.WHOLE
         else:
             trial.more()
 

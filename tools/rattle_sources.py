@@ -137,9 +137,10 @@ class Sources:
         return bool(has_body) and function.path != "main" and not function.path.startswith("tests::")
 
     def calls_itself(self, function: Function) -> bool:
-        """Whether a function calls itself: by its bare name, or a method by `self` or `Self`."""
+        """Whether a function calls itself: by its bare name, or one of a type by `self`, `Self` or the type's name."""
         text = self.texts[function.file][function.start : function.end]
-        before = r"\b(?:self\.|Self::)" if text.startswith((" ", "\t")) else r"(?<![\w.:])"
+        of_type = "".join(function.path.split("::")[-2:-1])
+        before = rf"\b(?:self\.|Self::|(?<!::){of_type}::)" if text.startswith((" ", "\t")) else r"(?<![\w.:])"
         return bool(re.search(rf"{before}{function.name}\(", text.partition(f"fn {function.name}")[2]))
 
     def cycle_of(self, function: Function) -> Optional[str]:

@@ -60,6 +60,11 @@ small-returns g t c =
         wanted = answers.replace("a.+small.", "a.small_edit_7.").replace("requires t c", "requires c")
         self.assertEqual(copy.proofs, {"proofs/a/small_edit_7/Answers.antt": wanted})
 
+    def test_what_an_edit_makes_call_itself_is_tried_in_its_place_and_whole(self):
+        for code, call in ("fn small() {\n    3\n}\n", "small()"), ("struct A;\nimpl A {\n    fn small() {\n    3\n    }\n}\n", "A::small()"):
+            trial = Rounds([edit_of("a", "    3", f"    {call}", "src/a.rt")], Sources({"src/a.rt": code}), None).trials[0]
+            self.assertEqual((trial.copy, trial.way), (None, Way.WHOLE))
+
     def test_a_copy_is_not_believed_where_its_control_is_not_proved(self):
         sources = Sources({"src/a.rt": "fn small() {\n    3\n    small()\n}\n"})
         said = "note: src/a.rt:6:1: it is not proved (`returns`)\nfn tiny::a::small_edit_0: not proved\nfn tiny::a::small_with_no_edit: {}\nonly=2 proved=0"
@@ -91,6 +96,13 @@ class OfferingNothing(unittest.TestCase):
             trial = rounds.trials[0]
             self.assertEqual((trial.way, bool(trial.judgement)), (way, way is Way.GOALS))
             self.assertEqual(any(ON_PURPOSE in it for it in rounds._applied([trial]).values()), way is Way.GOALS)
+
+    def test_what_fails_by_its_shape_alone_is_tried_whole_and_in_its_place(self):
+        gone = "./proofs/a/small_edit_0/Answers.antt:5:4: error: `returns`: record `View` has no field `if-x`\n"
+        rounds = self.rounds("fn small() {\n    3\n}\n", gone + "fn tiny::a::small_edit_0: not proved\nonly=1 proved=0")
+        rounds._try_batch(*rounds._next_batch())
+        trial = rounds.trials[0]
+        self.assertEqual((trial.judgement, trial.path, trial.way), (None, "a::small", Way.WHOLE))
 
     def test_a_copy_with_answers_is_first_tried_by_them_alone(self):
         code, answers = "#[tactic(auto)]\nfn small() {\n    3\n}\n", {"a/small/Answers": "pub returns : goal.returns\nreturns c = refl\n"}

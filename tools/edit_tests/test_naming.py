@@ -1,11 +1,12 @@
 """Edits that name the goal that they make false."""
 import unittest
+import unittest.mock
 from dataclasses import replace
 
 from check_output import read_output
 from edit_copies import answer_alone
 from edit_files import parse_edit, with_names
-from edit_names import Naming
+from edit_names import COSTLIEST, Naming, costliest_in
 from edit_rounds import Rounds, Way
 from rattle_sources import Sources
 from samples import edit_of
@@ -89,7 +90,8 @@ class NamingGoals(unittest.TestCase):
             rounds._try_batch(batch, texts)
             self.assertEqual((rounds.trials[0].way, bool(rounds.trials[0].judgement)), (way, way is Way.NAMED))
 
-    def test_a_costly_edit_names_the_goal_that_failed_and_the_first_form_that_proves_it_without_the_edit(self):
+    def named(self, seconds_by_name):
+        """What a costly edit names, where its search takes 9 seconds, and its goal by name so many; and the forms that were tried."""
         forms = []
 
         def check(texts, functions):
@@ -98,9 +100,46 @@ class NamingGoals(unittest.TestCase):
             forms.append(form)
             said = "" if form else "note: src/a.rt:6:1: it is not proved (`returns`)\n"
             output = read_output(1, said + self.said(bool(form), "taken" if form == "search rules" else "refused"))
-            output.seconds_of = {"a::small_edit_0": 9.0}
+            output.seconds_of = {"a::small_edit_0": seconds_by_name / 2 if form else 9.0, "a::small_with_no_edit": seconds_by_name / 2}
             return output
 
         named = Naming([edit_of("a", "    3", "    4", "src/a.rt")], Sources({"src/a.rt": self.CODE}), check).run()
-        self.assertEqual([(it.goal, it.by) for it, _ in named], [("returns", "search rules")])
+        return [(it.goal, it.by) for it, _ in named], forms
+
+    def test_a_costly_edit_names_the_goal_that_failed_and_the_first_form_that_proves_it_without_the_edit(self):
+        named, forms = self.named(6.0)
+        self.assertEqual(named, [("returns", "search rules")])
         self.assertEqual((forms[0], forms[-1]), ("", "search rules"))
+
+    def test_a_costly_edit_names_no_goal_where_that_and_the_function_as_it_stands_take_as_long(self):
+        self.assertEqual(self.named(10.0)[0], [("", "")])
+
+    def test_what_a_run_said_of_costly_edits_is_read_again(self):
+        found = costliest_in("tiny/a: refused\n" + COSTLIEST.format(seconds=12.3, checks=2, label="tiny/a", goal="returns") + "\n")
+        self.assertEqual([(label, it.goal_name, it.seconds, it.checks) for label, it in found.items()], [("tiny/a", "returns", 12.0, 2)])
+
+    def test_what_no_answer_refuses_is_searched_for_at_once(self):
+        answers = {"a/small/Answers": "pub overflow : goal.overflow\noverflow c = refl\n"}
+        said = "fn tiny::a::small_edit_0: not proved\nonly=1 proved=0"
+        checks = iter(["", "note: src/a.rt:6:1: it is not proved (`returns-anew`)\n", *[self.said(True, "refused")] * 9])
+        sources = Sources({"src/a.rt": self.CODE, **{f"proofs/{name}.antt": it for name, it in answers.items()}})
+        with unittest.mock.patch("edit_rounds.FEW", 1):
+            edit = edit_of("a", "    3", "    4", "src/a.rt")
+            named = Naming([edit], sources, lambda texts, functions: read_output(1, next(checks) + said)).run()
+            self.assertEqual([(it.goal, it.by) for it, _ in named], [("returns-anew", "search")])
+            self.assertEqual(Rounds([edit], sources, None).trials[0].way, Way.ANSWERS)
+            self.assertEqual(Rounds([named[0][0]], sources, None).trials[0].way, Way.GOALS)
+
+    def test_an_edit_in_its_place_names_a_goal_only_where_the_function_has_an_answer_to_it(self):
+        given = "pub returns : goal.returns\nreturns c = refl\n"
+        for answers, goal in ({"proofs/a/AT/small/Answers.antt": given}, "returns"), ({}, ""):
+            checked = []
+
+            def check(texts, functions):
+                checked.append(functions)
+                output = read_output(1, "note: src/a.rt:3:1: it is not proved (`returns`)\nfn tiny::a::AT::small: not proved\nonly=1 proved=0")
+                output.seconds_of = {"a::AT::small": 9.0}
+                return output
+
+            named = Naming([edit_of("a", "    3", "    4", "src/a.rt")], Sources({"src/a.rt": self.IN_PLACE, **answers}), check).run()
+            self.assertEqual(([it.goal for it, _ in named], len(checked)), ([goal], 1))

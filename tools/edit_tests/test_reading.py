@@ -85,6 +85,7 @@ class TakingWhatABuildProved(unittest.TestCase):
             files = [(name, os.stat(f"{at}/{name}").st_size) for at, _, names in os.walk(f"{room}/kept") for name in sorted(names)]
             self.assertEqual(sorted(files), [("low.first.Code.oantt", 3), ("low.first.oantt", 3)])
             self.assertFalse(Kept.fill(f"{room}/none.rlib", f"{room}/kept", CHECK))
-            with open(f"{room}/low.rlib/toolchain/checked.json", "w", encoding="utf-8") as it:
-                it.write('["low.first",8,3]\n')
-            self.assertFalse(Kept.fill(f"{room}/low.rlib", f"{room}/kept", CHECK), "a library of statements alone holds no proofs")
+            for statements in '["low.first",8,3]\n', '["part/low.first",8,3]\n["part/low.first.Code",11,3]\n':
+                with open(f"{room}/low.rlib/toolchain/checked.json", "w", encoding="utf-8") as it:
+                    it.write(statements)
+                self.assertFalse(Kept.fill(f"{room}/low.rlib", f"{room}/kept", CHECK), "a library of statements alone holds no proofs")

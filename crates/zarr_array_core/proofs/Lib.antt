@@ -13,3 +13,4 @@ pub mod ChunkWritten
 pub mod ChunksWritten
 pub mod BoxWalks
 mod SeenFrom
+pub mod Overlapping

@@ -4,7 +4,7 @@ use std::alloc::{AllocError, Global};
 use zarr_codecs_traits::ArrayToBytesCodecTraits;
 use zarr_grids_boxes::ArraySubset;
 use zarr_grids_chunk_grids::ChunkGridTraits;
-use zarr_grids_cover::chunk::chunk_region;
+use zarr_grids_cover::chunk_box_into;
 use zarr_grids_keys::{StoreKey, chunk_key};
 
 impl<C: ArrayToBytesCodecTraits> ArrayCore<C> {
@@ -27,13 +27,21 @@ impl<C: ArrayToBytesCodecTraits> ArrayCore<C> {
         }
     }
 
-    /// The box of a chunk in the grid.
-    pub(crate) fn box_of(&self, alloc: Global, chunk: &[u64]) -> Result<ArraySubset, AllocError>
+    /// The box of a chunk in the grid, in the memory of a box that is no longer needed.
+    pub(crate) fn box_of(&self, room: ArraySubset, chunk: &[u64]) -> Result<ArraySubset, AllocError>
         requires below { (box : Region)
             × IsInGrid (document_of C.meaning self.now).grid chunk.now box }
         ensures { IfOk result (λ region.
             IsInGrid (document_of C.meaning self.now).grid chunk.now (region_of region)) }
     {
-        chunk_region(alloc, self.grid().dimensions(), chunk)
+        let grid = self.grid().dimensions();
+        let ArraySubset {
+            mut start,
+            mut shape,
+        } = room;
+        start.resize(grid.len(), 0)?;
+        shape.resize(grid.len(), 0)?;
+        chunk_box_into(grid, chunk, start.as_mut_slice(), shape.as_mut_slice());
+        Ok(ArraySubset { start, shape })
     }
 }

@@ -7,7 +7,9 @@ ghost use Rattle.zarr_array_elements.specs.Boxes.{cells_of};
 
 use crate::array_core::ArrayCore;
 use crate::error::ChunkError;
+use crate::moving::{overlap_in, seen_from};
 use crate::reading::ReadBox;
+use crate::rooms::ChunkRooms;
 use crate::store_calls::size_key;
 use crate::store_source::StoreSource;
 use zarr_array_elements::BoxElements;
@@ -61,6 +63,7 @@ impl<C: ArrayToBytesCodecTraits> ArrayCore<C> {
     /// does not fit its codecs.
     pub(crate) fn read_chunk<S: ReadableStorageTraits>(
         &self,
+        rooms: &mut ChunkRooms,
         store: &mut S,
         chunk: &[u64],
         read: ReadBox,
@@ -90,10 +93,12 @@ impl<C: ArrayToBytesCodecTraits> ArrayCore<C> {
             refused_after (S.refused_calls store.old) result }
         ensures accepted { S.accepted_writes store.new ≡ S.accepted_writes store.old }
     {
-        match self.chunk_part(store, chunk, read) {
+        match self.chunk_part(rooms, store, chunk, read) {
             Ok(Some(part)) => {
                 let (bytes, shared) = (&part.bytes, &part.shared);
-                Ok(shown.put(read.alloc, read.region, bytes, shared, &self.elements)?)
+                let made = shown.put(read.alloc, read.region, bytes, shared, &self.elements)?;
+                rooms.keep_shared(part.shared);
+                Ok(made)
             }
             Ok(None) => Ok(shown),
             Err(error) => Err(error),
@@ -104,6 +109,7 @@ impl<C: ArrayToBytesCodecTraits> ArrayCore<C> {
     /// it does not fit its codecs.
     fn chunk_part<S: ReadableStorageTraits>(
         &self,
+        rooms: &mut ChunkRooms,
         store: &mut S,
         chunk: &[u64],
         read: ReadBox,
@@ -137,12 +143,13 @@ impl<C: ArrayToBytesCodecTraits> ArrayCore<C> {
         ensures accepted { S.accepted_writes store.new ≡ S.accepted_writes store.old }
     {
         let key = self.key_of(read.alloc, chunk)?;
-        let own = self.box_of(read.alloc, chunk)?;
-        let Ok(shared) = read.region.overlap(read.alloc, &own) else {
-            return Err(ChunkError::Memory);
-        };
-        match self.part_of(store, &key, &own, &shared, read) {
-            Ok(Some(bytes)) => Ok(Some(ChunkPart { shared, bytes })),
+        let own = self.box_of(rooms.take_own(), chunk)?;
+        let shared = overlap_in(rooms.take_shared(), read.region, &own)?;
+        match self.part_of(store, &key, &own, shared, read) {
+            Ok(Some(part)) => {
+                rooms.keep_own(own);
+                Ok(Some(part))
+            }
             Ok(None) => match size_key(store, &key)? {
                 Some(_) => Err(ChunkError::Fit),
                 None => Ok(None),
@@ -159,23 +166,26 @@ impl<C: ArrayToBytesCodecTraits> ArrayCore<C> {
         store: &mut S,
         key: &StoreKey,
         own: &ArraySubset,
-        shared: &ArraySubset,
+        shared: ArraySubset,
         read: ReadBox,
-    ) -> Result<Option<ArrayBytes>, ChunkError>
-        requires shared { region_of shared.now
+    ) -> Result<Option<ChunkPart>, ChunkError>
+        requires shared { region_of shared
             ≡ overlapped (region_of read.region.now) (region_of own.now) }
         requires shares { share_place own.now.start.items own.now.shape.items
             read.region.now.start.items read.region.now.shape.items ≡ true }
         requires small { ¬ IsTooLarge (document_of C.meaning self.now).elements.type
             (product own.now.shape.items) }
+        ensures shared { IfOk result (λ found. IfSome found (λ part. region_of part.shared
+            ≡ overlapped (region_of read.entry.region.now) (region_of own.now))) }
         ensures counted { IfOk result (λ found. IfSome found (λ part. AreOfBox
-            (document_of C.meaning self.now).elements.type (payload_of part)
-            (region_of shared.now))) }
+            (document_of C.meaning self.now).elements.type (payload_of part.bytes)
+            (region_of part.shared))) }
         ensures part { IsTrue (S.is_honest store.old) → IfOk result (λ found. IfSome found
             (λ part. IsPart (document_of C.meaning self.now).chain
             (document_of C.meaning self.now).elements own.now.shape.items
             (map.get (S.held store.old) key.now)
-            (in_box (relative (region_of shared.now) own.now.start.items)) (payload_of part))) }
+            (in_box (relative (region_of part.shared) own.now.start.items))
+            (payload_of part.bytes))) }
         ensures unfit { IsTrue (S.is_honest store.old) → IfOk result (λ found. found ≡ None
             → fits_box (document_of C.meaning self.now) (region_of own.now) ≡ false) }
         ensures err { IsTrue (S.is_honest store.old) → IfErr result
@@ -187,19 +197,18 @@ impl<C: ArrayToBytesCodecTraits> ArrayCore<C> {
             refused_after (S.refused_calls store.old) result }
         ensures accepted { S.accepted_writes store.new ≡ S.accepted_writes store.old }
     {
-        let Ok(part) = shared.relative_to(read.alloc, own.start()) else {
-            return Err(ChunkError::Memory);
-        };
+        let part = seen_from(shared, own.start());
         let bytes = match self.decode_part(store, key, own.shape(), &part, read) {
             Ok(Some(bytes)) => bytes,
             Ok(None) => return Ok(None),
             Err(error) => return Err(error),
         };
-        let count = self.count_elements(shared.shape());
+        let count = self.count_elements(part.shape());
         if !are_so_many(&bytes, &self.elements, count) {
             return Err(ChunkError::Damage);
         }
-        Ok(Some(bytes))
+        let shared = overlap_in(part, read.region, own)?;
+        Ok(Some(ChunkPart { shared, bytes }))
     }
 
     /// The elements at the places of a box of a chunk, of what a store holds at a key. Where the

@@ -4,7 +4,8 @@ use crate::chunk_value::BoxWrite;
 use crate::chunk_writing::put_value;
 use crate::error::ChunkError;
 use crate::holding::holds_box;
-use crate::moving::seen_from;
+use crate::moving::{overlap_in, seen_from};
+use crate::rooms::ChunkRooms;
 use crate::store_calls::{set_partial, size_key};
 use std::alloc::Global;
 use zarr_array_storage::{ValuePatch, WritableStorageTraits};
@@ -72,6 +73,7 @@ impl<C: ArrayToBytesCodecTraits> ArrayCore<C> {
     /// chunk may lose its key, or they lie on too many lines to be worth a range each.
     fn chunk_patches(
         &self,
+        rooms: &mut ChunkRooms,
         write: &BoxWrite,
         own: &ArraySubset,
     ) -> Result<Option<Vec<ValuePatch>>, ChunkError>
@@ -93,9 +95,7 @@ impl<C: ArrayToBytesCodecTraits> ArrayCore<C> {
             (extent_of write.now.region) (region_of own.now)) (region_of own.now) patches.items)) }
         ensures err { IfErr result (λ e. e ≡ Memory) }
     {
-        let Ok(shared) = write.subset.overlap(write.alloc, own) else {
-            return Err(ChunkError::Memory);
-        };
+        let shared = overlap_in(rooms.take_shared(), write.subset, own)?;
         let bytes = self.whole_cells(write, &shared)?;
         let empty = self.stores_fill(write, own);
         if !empty && self.is_all_fill(&bytes) {
@@ -105,7 +105,9 @@ impl<C: ArrayToBytesCodecTraits> ArrayCore<C> {
         if !has_few_lines(&part, own.shape()) {
             return Ok(None);
         }
-        match self.encode_part(write.alloc, bytes, own.shape(), &part, write.options) {
+        let made = self.encode_part(write.alloc, bytes, own.shape(), &part, write.options);
+        rooms.keep_shared(part);
+        match made {
             Ok(patches) => Ok(patches),
             Err(_) => Err(ChunkError::Memory),
         }
@@ -188,6 +190,7 @@ impl<C: ArrayToBytesCodecTraits> ArrayCore<C> {
     /// fetched. `false` where it can't be written so; then nothing has changed.
     pub(crate) fn patch_chunk<S: WritableStorageTraits>(
         &self,
+        rooms: &mut ChunkRooms,
         store: &mut S,
         key: &StoreKey,
         write: &BoxWrite,
@@ -241,7 +244,7 @@ impl<C: ArrayToBytesCodecTraits> ArrayCore<C> {
         {
             return Err(ChunkError::Fit);
         }
-        let Some(patches) = self.chunk_patches(write, own)? else {
+        let Some(patches) = self.chunk_patches(rooms, write, own)? else {
             return Ok(false);
         };
         let Some(size) = size_key(store, key)? else {

@@ -2,6 +2,7 @@
 use crate::array_core::ArrayCore;
 use crate::error::ChunkError;
 use crate::region_chunks::RegionChunks;
+use crate::rooms::ChunkRooms;
 use std::alloc::Global;
 use zarr_array_elements::BoxElements;
 use zarr_array_storage::ReadableStorageTraits;
@@ -40,7 +41,7 @@ impl<C: ArrayToBytesCodecTraits> ArrayCore<C> {
     /// `Storage` where the store refuses.
     pub fn read_region<S: ReadableStorageTraits>(
         &self,
-        alloc: Global,
+        rooms: &mut ChunkRooms,
         store: &mut S,
         target: RegionChunks,
         options: &CodecOptions,
@@ -64,6 +65,7 @@ impl<C: ArrayToBytesCodecTraits> ArrayCore<C> {
         ensures accepted { S.accepted_writes store.new ≡ S.accepted_writes store.old }
     {
         let RegionChunks { region, chunks } = target;
+        let alloc = rooms.alloc();
         let shown = BoxElements::new_fill_value(alloc, region, &self.elements)?;
         let read = ReadBox {
             alloc,
@@ -71,7 +73,7 @@ impl<C: ArrayToBytesCodecTraits> ArrayCore<C> {
             chunks,
             options,
         };
-        match self.read_chunks(store, read, shown) {
+        match self.read_chunks(rooms, store, read, shown) {
             Ok(shown) => match shown.into_bytes(alloc, region, &self.elements) {
                 Ok(bytes) => Ok(bytes),
                 Err(_) => Err(ChunkError::Memory),
@@ -84,6 +86,7 @@ impl<C: ArrayToBytesCodecTraits> ArrayCore<C> {
     /// intersects were put over them.
     fn read_chunks<S: ReadableStorageTraits>(
         &self,
+        rooms: &mut ChunkRooms,
         store: &mut S,
         read: ReadBox,
         shown: BoxElements,
@@ -114,16 +117,18 @@ impl<C: ArrayToBytesCodecTraits> ArrayCore<C> {
         let first = read.chunks.start();
         let shape = read.chunks.shape();
         let count = count_places(shape).unwrap();
-        let mut room = vec![in read.alloc; 0; first.len()]?;
+        let mut room = rooms.take_indices();
+        room.resize(first.len(), 0)?;
         let chunk = room.as_mut_slice();
         let mut target = shown;
         for n in 0..count {
             place_into(first, shape, count, n, chunk);
-            match self.read_chunk(store, chunk, read, target) {
+            match self.read_chunk(rooms, store, chunk, read, target) {
                 Ok(next) => target = next,
                 Err(error) => return Err(error),
             }
         }
+        rooms.keep_indices(room);
         Ok(target)
     }
 }

@@ -3,7 +3,7 @@ use crate::array_core::ArrayCore;
 use crate::chunk_value::BoxWrite;
 use crate::error::{ChunkError, ManyError};
 use crate::region_chunks::RegionChunks;
-use std::alloc::Global;
+use crate::rooms::ChunkRooms;
 use zarr_array_storage::WritableStorageTraits;
 use zarr_codecs_arrays::ArrayBytes;
 use zarr_codecs_options::CodecOptions;
@@ -43,7 +43,7 @@ impl<C: ArrayToBytesCodecTraits> ArrayCore<C> {
     /// The chunks before the one that stopped stay written.
     pub fn write_region<S: WritableStorageTraits>(
         &self,
-        alloc: Global,
+        rooms: &mut ChunkRooms,
         store: &mut S,
         target: RegionChunks,
         bytes: &ArrayBytes,
@@ -71,6 +71,7 @@ impl<C: ArrayToBytesCodecTraits> ArrayCore<C> {
             (S.accepted_writes store.old) (S.accepted_writes store.new) }
     {
         let (start, shape) = (target.region.start(), target.region.shape());
+        let alloc = rooms.alloc();
         let write = BoxWrite {
             alloc,
             subset: target.region,
@@ -78,12 +79,13 @@ impl<C: ArrayToBytesCodecTraits> ArrayCore<C> {
             bytes,
             options,
         };
-        self.write_chunks(store, &write, target.chunks)
+        self.write_chunks(rooms, store, &write, target.chunks)
     }
 
     /// Writes the elements of a box to each chunk that it intersects.
     fn write_chunks<S: WritableStorageTraits>(
         &self,
+        rooms: &mut ChunkRooms,
         store: &mut S,
         write: &BoxWrite,
         chunks: &ArraySubset,
@@ -114,24 +116,27 @@ impl<C: ArrayToBytesCodecTraits> ArrayCore<C> {
             (S.accepted_writes store.old) (S.accepted_writes store.new) }
     {
         let count = count_places(chunks.shape()).unwrap();
-        let Ok(mut room) = vec![in write.alloc; 0; chunks.dimensionality()] else {
+        let mut room = rooms.take_indices();
+        if room.resize(chunks.dimensionality(), 0).is_err() {
             let error = ChunkError::Memory;
             return Err(ManyError { applied: 0, error });
-        };
+        }
         let chunk = room.as_mut_slice();
         for n in 0..count {
             place_into(chunks.start(), chunks.shape(), count, n, chunk);
-            match self.write_at(store, write, chunk) {
+            match self.write_at(rooms, store, write, chunk) {
                 Ok(()) => {}
                 Err(error) => return Err(ManyError { applied: n, error }),
             }
         }
+        rooms.keep_indices(room);
         Ok(())
     }
 
     /// Writes the elements of a box that lie in a chunk.
     fn write_at<S: WritableStorageTraits>(
         &self,
+        rooms: &mut ChunkRooms,
         store: &mut S,
         write: &BoxWrite,
         chunk: &[u64],
@@ -172,10 +177,11 @@ impl<C: ArrayToBytesCodecTraits> ArrayCore<C> {
         ensures counts { CountsUpTo 1 (S.accepted_writes store.old) (S.accepted_writes store.new) }
     {
         let key = self.key_of(write.alloc, chunk)?;
-        let own = self.box_of(write.alloc, chunk)?;
-        if self.patch_chunk(store, &key, write, &own)? {
-            return Ok(());
+        let own = self.box_of(rooms.take_own(), chunk)?;
+        if !self.patch_chunk(rooms, store, &key, write, &own)? {
+            self.write_chunk(store, &key, write, &own)?;
         }
-        self.write_chunk(store, &key, write, &own)
+        rooms.keep_own(own);
+        Ok(())
     }
 }

@@ -1,7 +1,9 @@
 //! Codecs and chains: their metadata, and what they tell of arrays.
 use crate::byte_codecs::TestCodec;
 use crate::types::type_in;
-use crate::words::{cut, metadata_in, metadatas_in, numbers, numbers_in, refused, text_of, truth};
+use crate::words::{
+    cut, metadata_in, metadatas_in, numbers, numbers_in, push_word, refused, text_of, truth, word,
+};
 use anyhow::Result;
 use std::alloc::Global;
 use zarr_codecs_array_to_array::ArrayToArrayCodec;
@@ -11,16 +13,16 @@ use zarr_grids_metadata::MetadataV3;
 use zarr_sharding_arrays::ArrayChain;
 
 /// What a call of chains gives.
-pub(crate) fn answer(alloc: Global, name: &str, rest: &str) -> Result<Option<String>> {
+pub(crate) fn answer(alloc: Global, name: &str, rest: &str) -> Option<Result<String>> {
     match name {
-        "chain" => Ok(Some(written(alloc, rest)?)),
-        "fits" => Ok(Some(fits(alloc, rest)?)),
-        "size" => Ok(Some(size(alloc, rest)?)),
-        "parts" => Ok(Some(by_parts(alloc, rest)?)),
-        "unread" => Ok(Some(unread(alloc, rest)?)),
-        "shape" => Ok(Some(new_shape(alloc, rest)?)),
-        "shape_before" => Ok(Some(old_shape(alloc, rest)?)),
-        _ => Ok(None),
+        "chain" => Some(written(alloc, rest)),
+        "fits" => Some(fits(alloc, rest)),
+        "size" => Some(size(alloc, rest)),
+        "parts" => Some(by_parts(alloc, rest)),
+        "unread" => Some(unread(alloc, rest)),
+        "shape" => Some(new_shape(alloc, rest)),
+        "shape_before" => Some(old_shape(alloc, rest)),
+        _ => None,
     }
 }
 
@@ -28,6 +30,11 @@ pub(crate) fn answer(alloc: Global, name: &str, rest: &str) -> Result<Option<Str
 pub(crate) fn chain_in(alloc: Global, text: &str) -> Result<ArrayChain<TestCodec>> {
     let metadatas = metadatas_in(alloc, text)?;
     Ok(ArrayChain::from_metadata(alloc, metadatas.as_slice())?)
+}
+
+/// The copy of the chain of a JSON list of codecs.
+pub(crate) fn copied_chain(alloc: Global, text: &str) -> Result<ArrayChain<TestCodec>> {
+    Ok(chain_in(alloc, text)?.try_clone(alloc)?)
 }
 
 /// The metadata of a chain, as one text for each codec.
@@ -43,10 +50,7 @@ fn written(alloc: Global, rest: &str) -> Result<String> {
 pub(crate) fn texts(alloc: Global, metadatas: &[MetadataV3]) -> Result<String> {
     let mut all = String::new(alloc);
     for metadata in metadatas {
-        if !all.is_empty() {
-            all.push_str(" ")?;
-        }
-        all.push_str(text_of(alloc, metadata)?.as_str())?;
+        push_word(&mut all, text_of(alloc, metadata)?.as_str())?;
     }
     Ok(all)
 }
@@ -99,12 +103,14 @@ fn by_parts(alloc: Global, rest: &str) -> Result<String> {
     let (codecs, shape) = cut(rest)?;
     let shape = numbers_in(alloc, shape)?;
     let chain = chain_in(alloc, codecs)?;
-    let (decoder, encoder) = (
-        chain.partial_decoder_capability(),
-        chain.partial_encoder_capability(),
-    );
-    let part = chain.partial_decode_granularity(alloc, shape.as_slice())?;
+    told(alloc, &chain, shape.as_slice())
+}
+
+fn told(alloc: Global, chain: &ArrayChain<TestCodec>, shape: &[u64]) -> Result<String> {
+    let part = chain.partial_decode_granularity(alloc, shape)?;
     let part = part.as_slice();
+    let decoder = chain.partial_decoder_capability();
+    let encoder = chain.partial_encoder_capability();
     Ok(format!(in alloc; "decoded {decoder}, encoded {encoder}, by {part:?}")?)
 }
 
@@ -132,11 +138,15 @@ fn old_shape(alloc: Global, rest: &str) -> Result<String> {
     let shape = numbers_in(alloc, shape)?;
     let metadata = metadata_in(alloc, codec)?;
     match ArrayToArrayCodec::from_metadata(alloc, &metadata) {
-        Ok(codec) => match codec.decoded_shape(alloc, shape.as_slice()) {
-            Ok(Some(decoded)) => numbers(alloc, decoded.as_slice()),
-            Ok(None) => Ok(String::from_str(alloc, "none")?),
-            Err(error) => refused(alloc, &error),
-        },
+        Ok(codec) => decoded_shape(alloc, &codec, shape.as_slice()),
+        Err(error) => refused(alloc, &error),
+    }
+}
+
+fn decoded_shape(alloc: Global, codec: &ArrayToArrayCodec, shape: &[u64]) -> Result<String> {
+    match codec.decoded_shape(alloc, shape) {
+        Ok(Some(decoded)) => numbers(alloc, decoded.as_slice()),
+        Ok(None) => word(alloc, "none"),
         Err(error) => refused(alloc, &error),
     }
 }

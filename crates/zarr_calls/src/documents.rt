@@ -6,18 +6,19 @@ use anyhow::{Context, Result};
 use serde_json::Value;
 use std::alloc::Global;
 use zarr_array_metadata::{ArrayDocument, read_document, written_document};
+use zarr_codecs_arrays::Elements;
 use zarr_grids_chunk_grids::ChunkGridTraits;
 
 /// What a call of documents gives.
-pub(crate) fn answer(alloc: Global, name: &str, rest: &str) -> Result<Option<String>> {
+pub(crate) fn answer(alloc: Global, name: &str, rest: &str) -> Option<Result<String>> {
     match name {
-        "document" => Ok(Some(read(alloc, rest)?)),
-        "written" => Ok(Some(written(alloc, rest)?)),
-        "document_type" => Ok(Some(data_type(alloc, &document_in(alloc, rest)?)?)),
-        "document_codecs" => Ok(Some(codecs(alloc, &document_in(alloc, rest)?)?)),
-        "document_chunk" => Ok(Some(chunk(alloc, rest)?)),
-        "document_chunk_key" => Ok(Some(key(alloc, rest)?)),
-        _ => Ok(None),
+        "document" => Some(read(alloc, rest)),
+        "written" => Some(written(alloc, rest)),
+        "document_type" => Some(data_type(alloc, rest)),
+        "document_codecs" => Some(codecs(alloc, rest)),
+        "document_chunk" => Some(chunk(alloc, rest)),
+        "document_chunk_key" => Some(key(alloc, rest)),
+        _ => None,
     }
 }
 
@@ -27,8 +28,8 @@ fn document_in(alloc: Global, text: &str) -> Result<ArrayDocument<TestCodec>> {
 }
 
 /// The metadata of each codec of a document.
-fn codecs(alloc: Global, document: &ArrayDocument<TestCodec>) -> Result<String> {
-    let metadatas = document.codecs.create_metadatas(alloc)?;
+fn codecs(alloc: Global, text: &str) -> Result<String> {
+    let metadatas = document_in(alloc, text)?.codecs.create_metadatas(alloc)?;
     texts(alloc, metadatas.as_slice())
 }
 
@@ -46,28 +47,33 @@ fn written(alloc: Global, text: &str) -> Result<String> {
     Ok(written_document(alloc, &document)?.to_string(alloc)?)
 }
 
+/// The data type of elements.
+fn name_of(alloc: Global, elements: &Elements) -> Result<String> {
+    let name = elements.data_type().metadata(alloc)?;
+    Ok(name.context("a type has no name")?.to_string(alloc)?)
+}
+
+/// The fill value of elements.
+fn fill_of(alloc: Global, elements: &Elements) -> Result<String> {
+    let data_type = elements.data_type();
+    let fill = elements.fill_value().to_metadata(alloc, data_type)?;
+    Ok(fill.context("a fill value has no text")?.to_string(alloc)?)
+}
+
 /// The data type and the fill value of a document.
-fn data_type(alloc: Global, document: &ArrayDocument<TestCodec>) -> Result<String> {
-    let data_type = document.elements.data_type();
-    let fill = document
-        .elements
-        .fill_value()
-        .to_metadata(alloc, data_type)?;
-    let name = data_type.metadata(alloc)?.context("a type has no name")?;
-    let (name, fill) = (
-        name.to_string(alloc)?,
-        fill.context("a fill value has no text")?,
-    );
-    let fill = fill.to_string(alloc)?;
+fn data_type(alloc: Global, text: &str) -> Result<String> {
+    let elements = document_in(alloc, text)?.elements;
+    let name = name_of(alloc, &elements)?;
+    let fill = fill_of(alloc, &elements)?;
     Ok(format!(in alloc; "{name} {fill}")?)
 }
 
 /// How many dimensions a document's grid has, and the shape of a chunk.
 fn chunk(alloc: Global, rest: &str) -> Result<String> {
     let (text, chunk) = cut(rest)?;
-    let document = document_in(alloc, text)?;
     let chunk = numbers_in(alloc, chunk)?;
-    match document.grid.chunk_shape_u64(alloc, chunk.as_slice())? {
+    let grid = document_in(alloc, text)?.grid;
+    match grid.chunk_shape_u64(alloc, chunk.as_slice())? {
         Some(shape) => numbers(alloc, shape.as_slice()),
         None => word(alloc, "none"),
     }
@@ -76,10 +82,7 @@ fn chunk(alloc: Global, rest: &str) -> Result<String> {
 /// The name that a document's encoding gives a chunk.
 fn key(alloc: Global, rest: &str) -> Result<String> {
     let (text, chunk) = cut(rest)?;
-    let document = document_in(alloc, text)?;
-    Ok(
-        document
-            .keys
-            .encode(alloc, numbers_in(alloc, chunk)?.as_slice())?,
-    )
+    let chunk = numbers_in(alloc, chunk)?;
+    let keys = document_in(alloc, text)?.keys;
+    Ok(keys.encode(alloc, chunk.as_slice())?)
 }

@@ -9,15 +9,15 @@ use zarr_codecs_json::{Printed, push_elements};
 use zarr_codecs_types::DataType;
 
 /// What a call of elements gives.
-pub(crate) fn answer(alloc: Global, name: &str, rest: &str) -> Result<Option<String>> {
+pub(crate) fn answer(alloc: Global, name: &str, rest: &str) -> Option<Result<String>> {
     match name {
-        "cells" => Ok(Some(read(alloc, rest)?)),
-        "text" => Ok(Some(printed(alloc, rest)?)),
-        "valid" => Ok(Some(validated(alloc, rest)?)),
-        "filled" => Ok(Some(filled(alloc, rest)?)),
-        "fills" => Ok(Some(are_fill(alloc, rest)?)),
-        "offsets" => Ok(Some(cut_at(alloc, rest)?)),
-        _ => Ok(None),
+        "cells" => Some(read(alloc, rest)),
+        "text" => Some(printed(alloc, rest)),
+        "valid" => Some(validated(alloc, rest)),
+        "filled" => Some(filled(alloc, rest)),
+        "fills" => Some(are_fill(alloc, rest)),
+        "offsets" => Some(cut_at(alloc, rest)),
+        _ => None,
     }
 }
 

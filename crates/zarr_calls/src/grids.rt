@@ -1,74 +1,70 @@
 //! Chunk grids.
 use crate::words::{box_in, cut, metadata_in, numbers, numbers_in, refused, truth, word};
 use anyhow::{Result, bail};
-use serde_json::Value;
+use serde_json::{Map, Value};
 use std::alloc::{AllocError, Global};
 use zarr_grids_boxes::ArraySubset;
 use zarr_grids_chunk_grids::{ChunkGrid, ChunkGridTraits};
 use zarr_grids_dimensions::LookupError;
 
 /// What a call of a grid gives. Its first two arguments are the metadata of the grid and the shape of the array.
-pub(crate) fn answer(alloc: Global, name: &str, rest: &str) -> Result<Option<String>> {
+pub(crate) fn answer(alloc: Global, name: &str, rest: &str) -> Option<Result<String>> {
     match name {
-        "grid" => Ok(Some(read(alloc, rest)?)),
-        "grids" => Ok(Some(same(alloc, rest)?)),
-        "chunks" => Ok(Some(walked(alloc, &grid_in(alloc, rest)?)?)),
-        "boxes" => Ok(Some(boxes(alloc, &grid_in(alloc, rest)?)?)),
-        _ => asked(alloc, name, rest),
-    }
-}
-
-/// What a grid gives that is asked about a place, a chunk, or a box of these.
-fn asked(alloc: Global, name: &str, rest: &str) -> Result<Option<String>> {
-    match name {
+        "grid" => Some(read(alloc, rest)),
+        "grids" => Some(same(alloc, rest)),
+        "chunks" => Some(walked(alloc, rest)),
+        "boxes" => Some(boxes(alloc, rest)),
+        "box" | "meets" | "spans" => Some(of_box(alloc, name, rest)),
         "chunk" | "within" | "origin" | "edges" | "has_chunk" | "has_place" => {
-            let (grid, rest) = cut_grid(alloc, rest)?;
-            let indices = numbers_in(alloc, rest)?;
-            Ok(Some(of_indices(alloc, &grid, name, indices.as_slice())?))
+            Some(of_indices(alloc, name, rest))
         }
-        "box" | "meets" | "spans" => {
-            let (grid, rest) = cut_grid(alloc, rest)?;
-            Ok(Some(of_box(alloc, &grid, name, rest)?))
-        }
-        _ => Ok(None),
+        _ => None,
     }
 }
 
-/// The grid of a text over an array of a shape, both of one argument.
+/// The grid of a text over an array of a shape.
+fn grid_of(alloc: Global, text: &str, shape: &str) -> Result<ChunkGrid> {
+    let shape = numbers_in(alloc, shape)?;
+    let metadata = metadata_in(alloc, text)?;
+    Ok(ChunkGrid::from_metadata(alloc, &metadata, shape.as_slice())?)
+}
+
+/// The grid of two arguments.
 fn grid_in(alloc: Global, rest: &str) -> Result<ChunkGrid> {
     let (text, shape) = cut(rest)?;
-    let (metadata, shape) = (metadata_in(alloc, text)?, numbers_in(alloc, shape)?);
-    Ok(ChunkGrid::from_metadata(alloc, &metadata, shape.as_slice())?)
+    grid_of(alloc, text, shape)
 }
 
 /// The grid of the first two arguments, and the others.
 fn cut_grid(alloc: Global, rest: &str) -> Result<(ChunkGrid, &str)> {
     let (text, rest) = cut(rest)?;
     let (shape, rest) = cut(rest)?;
-    let (metadata, shape) = (metadata_in(alloc, text)?, numbers_in(alloc, shape)?);
-    Ok((
-        ChunkGrid::from_metadata(alloc, &metadata, shape.as_slice())?,
-        rest,
-    ))
+    Ok((grid_of(alloc, text, shape)?, rest))
 }
 
 /// How many chunks the grid of a text has along each dimension, and its configuration.
 fn read(alloc: Global, rest: &str) -> Result<String> {
     let (text, shape) = cut(rest)?;
-    let (metadata, shape) = (metadata_in(alloc, text)?, numbers_in(alloc, shape)?);
+    let shape = numbers_in(alloc, shape)?;
+    let metadata = metadata_in(alloc, text)?;
     match ChunkGrid::from_metadata(alloc, &metadata, shape.as_slice()) {
         Ok(grid) => configured(alloc, &grid),
         Err(error) => refused(alloc, &error),
     }
 }
 
+/// The members of the configuration of a grid.
+fn members_of(alloc: Global, grid: &ChunkGrid) -> Result<Map<String, Value>, AllocError> {
+    match grid {
+        ChunkGrid::Regular(grid) => grid.configuration(alloc),
+        ChunkGrid::RegularBounded(grid) => grid.configuration(alloc),
+        ChunkGrid::Rectangular(grid) => grid.configuration(alloc),
+        ChunkGrid::Rectilinear(grid) => grid.configuration(alloc),
+    }
+}
+
 fn configured(alloc: Global, grid: &ChunkGrid) -> Result<String> {
-    let members = match grid {
-        ChunkGrid::Regular(grid) => grid.configuration(alloc)?,
-        ChunkGrid::RegularBounded(grid) => grid.configuration(alloc)?,
-        ChunkGrid::Rectangular(grid) => grid.configuration(alloc)?,
-        ChunkGrid::Rectilinear(grid) => grid.configuration(alloc)?,
-    };
+    let members = members_of(alloc, grid)?;
     let configuration = Value::Object(members).to_string(alloc)?;
     let counts = grid.grid_shape(alloc)?;
     let counts = counts.as_slice();
@@ -94,7 +90,13 @@ fn found(alloc: Global, found: Result<Option<Vec<u64>>, LookupError>) -> Result<
 }
 
 /// What a grid gives for a place or a chunk.
-fn of_indices(alloc: Global, grid: &ChunkGrid, name: &str, indices: &[u64]) -> Result<String> {
+fn of_indices(alloc: Global, name: &str, rest: &str) -> Result<String> {
+    let (grid, rest) = cut_grid(alloc, rest)?;
+    let indices = numbers_in(alloc, rest)?;
+    asked_at(alloc, &grid, name, indices.as_slice())
+}
+
+fn asked_at(alloc: Global, grid: &ChunkGrid, name: &str, indices: &[u64]) -> Result<String> {
     match name {
         "chunk" => found(alloc, grid.chunk_indices(alloc, indices)),
         "within" => found(alloc, grid.chunk_element_indices(alloc, indices)),
@@ -128,43 +130,75 @@ fn found_box(alloc: Global, found: Result<Option<ArraySubset>, LookupError>) -> 
 }
 
 /// The box of a chunk; the chunks that a box meets; the places of a box of chunks.
-fn of_box(alloc: Global, grid: &ChunkGrid, name: &str, rest: &str) -> Result<String> {
+fn of_box(alloc: Global, name: &str, rest: &str) -> Result<String> {
+    let (grid, rest) = cut_grid(alloc, rest)?;
     match name {
-        "box" => {
-            let chunk = numbers_in(alloc, rest)?;
-            found_box(alloc, grid.subset(alloc, chunk.as_slice()))
-        }
-        "meets" => found_box(
-            alloc,
-            grid.chunks_in_array_subset(alloc, &box_in(alloc, rest)?),
-        ),
-        _ => found_box(alloc, grid.chunks_subset(alloc, &box_in(alloc, rest)?)),
+        "box" => box_of_chunk(alloc, &grid, rest),
+        "meets" => met(alloc, &grid, rest),
+        _ => spanned(alloc, &grid, rest),
     }
 }
 
+fn box_of_chunk(alloc: Global, grid: &ChunkGrid, text: &str) -> Result<String> {
+    let chunk = numbers_in(alloc, text)?;
+    found_box(alloc, grid.subset(alloc, chunk.as_slice()))
+}
+
+fn met(alloc: Global, grid: &ChunkGrid, text: &str) -> Result<String> {
+    let region = box_in(alloc, text)?;
+    found_box(alloc, grid.chunks_in_array_subset(alloc, &region))
+}
+
+fn spanned(alloc: Global, grid: &ChunkGrid, text: &str) -> Result<String> {
+    let chunks = box_in(alloc, text)?;
+    found_box(alloc, grid.chunks_subset(alloc, &chunks))
+}
+
+/// Appends a space and numbers.
+fn push_numbers(alloc: Global, all: &mut String, numbers: &[u64]) -> Result<(), AllocError> {
+    Ok(all.push_str(format!(in alloc; " {numbers:?}")?.as_str())?)
+}
+
+/// Appends a chunk and its box.
+fn push_box(
+    alloc: Global,
+    all: &mut String,
+    chunk: &[u64],
+    subset: &ArraySubset,
+) -> Result<(), AllocError> {
+    push_numbers(alloc, all, chunk)?;
+    all.push_str(":")?;
+    Ok(all.push_str(text_of(alloc, subset)?.as_str())?)
+}
+
 /// Each chunk of a grid, in the order of its walk.
-fn walked(alloc: Global, grid: &ChunkGrid) -> Result<String> {
+fn walked(alloc: Global, rest: &str) -> Result<String> {
+    let grid = grid_in(alloc, rest)?;
     let mut all = String::from_str(alloc, "chunks")?;
     for chunk in grid.iter_chunk_indices(alloc)? {
-        let chunk = chunk?;
-        let chunk = chunk.as_slice();
-        all.push_str(format!(in alloc; " {chunk:?}")?.as_str())?;
+        push_numbers(alloc, &mut all, chunk?.as_slice())?;
     }
     Ok(all)
 }
 
-/// How many boxes the chunks of a grid have, and each chunk that has one with it.
-fn boxes(alloc: Global, grid: &ChunkGrid) -> Result<String> {
+/// How many boxes the chunks of a grid have.
+fn count_boxes(alloc: Global, grid: &ChunkGrid) -> Result<usize> {
     let mut count = 0usize;
     for subset in grid.iter_chunk_subsets(alloc)? {
         let _subset = subset?;
         count = count.saturating_add(1);
     }
+    Ok(count)
+}
+
+/// How many boxes the chunks of a grid have, and each chunk that has one with it.
+fn boxes(alloc: Global, rest: &str) -> Result<String> {
+    let grid = grid_in(alloc, rest)?;
+    let count = count_boxes(alloc, &grid)?;
     let mut all = format!(in alloc; "{count} boxes")?;
     for pair in grid.iter_chunk_indices_and_subsets(alloc)? {
         let (chunk, subset) = pair?;
-        let (chunk, subset) = (chunk.as_slice(), text_of(alloc, &subset)?);
-        all.push_str(format!(in alloc; " {chunk:?}:{subset}")?.as_str())?;
+        push_box(alloc, &mut all, chunk.as_slice(), &subset)?;
     }
     Ok(all)
 }

@@ -8,16 +8,16 @@ use zarr_grids_keys::{
 };
 
 /// What a call of keys gives.
-pub(crate) fn answer(alloc: Global, name: &str, rest: &str) -> Result<Option<String>> {
+pub(crate) fn answer(alloc: Global, name: &str, rest: &str) -> Option<Result<String>> {
     match name {
-        "encoding" => Ok(Some(written(alloc, rest)?)),
-        "key" => Ok(Some(key(alloc, rest)?)),
-        "chunk_key" => Ok(Some(key_of_chunk(alloc, rest)?)),
-        "document_key" => Ok(Some(key_of_document(alloc, rest)?)),
-        "path" => Ok(Some(path(alloc, rest)?)),
-        "related" => Ok(Some(related(alloc, rest)?)),
-        "store_key" => Ok(Some(store_key(alloc, rest)?)),
-        _ => Ok(None),
+        "encoding" => Some(written(alloc, rest)),
+        "key" => Some(key(alloc, rest)),
+        "chunk_key" => Some(key_of_chunk(alloc, rest)),
+        "document_key" => Some(key_of_document(alloc, rest)),
+        "path" => Some(path(alloc, rest)),
+        "related" => Some(related(alloc, rest)),
+        "store_key" => Some(store_key(alloc, rest)),
+        _ => None,
     }
 }
 

@@ -7,32 +7,32 @@ use std::io::{BufRead, BufReader, Read, Write};
 /// What the call of a line gives.
 fn answer(alloc: Global, line: &str) -> Result<String> {
     let (name, rest) = line.split_once(' ').context("a call has no argument")?;
-    if let Some(answer) = metadata::answer(alloc, name, rest)? {
-        return Ok(answer);
+    if let Some(answer) = metadata::answer(alloc, name, rest) {
+        return answer;
     }
-    if let Some(answer) = keys::answer(alloc, name, rest)? {
-        return Ok(answer);
+    if let Some(answer) = keys::answer(alloc, name, rest) {
+        return answer;
     }
-    if let Some(answer) = grids::answer(alloc, name, rest)? {
-        return Ok(answer);
+    if let Some(answer) = grids::answer(alloc, name, rest) {
+        return answer;
     }
-    if let Some(answer) = types::answer(alloc, name, rest)? {
-        return Ok(answer);
+    if let Some(answer) = types::answer(alloc, name, rest) {
+        return answer;
     }
-    if let Some(answer) = elements::answer(alloc, name, rest)? {
-        return Ok(answer);
+    if let Some(answer) = elements::answer(alloc, name, rest) {
+        return answer;
     }
-    if let Some(answer) = chains::answer(alloc, name, rest)? {
-        return Ok(answer);
+    if let Some(answer) = chains::answer(alloc, name, rest) {
+        return answer;
     }
-    if let Some(answer) = arrays::answer(alloc, name, rest)? {
-        return Ok(answer);
+    if let Some(answer) = arrays::answer(alloc, name, rest) {
+        return answer;
     }
-    if let Some(answer) = parts::answer(alloc, name, rest)? {
-        return Ok(answer);
+    if let Some(answer) = parts::answer(alloc, name, rest) {
+        return answer;
     }
-    if let Some(answer) = documents::answer(alloc, name, rest)? {
-        return Ok(answer);
+    if let Some(answer) = documents::answer(alloc, name, rest) {
+        return answer;
     }
     bail!("there is no such call: {name}")
 }

@@ -5,12 +5,12 @@ use std::alloc::Global;
 use zarr_grids_metadata::MetadataV3;
 
 /// What a call of metadata gives.
-pub(crate) fn answer(alloc: Global, name: &str, rest: &str) -> Result<Option<String>> {
+pub(crate) fn answer(alloc: Global, name: &str, rest: &str) -> Option<Result<String>> {
     match name {
-        "metadata" => Ok(Some(read(alloc, rest)?)),
-        "same" => Ok(Some(same(alloc, rest)?)),
-        "said" => Ok(Some(said(alloc, rest)?)),
-        _ => Ok(None),
+        "metadata" => Some(read(alloc, rest)),
+        "same" => Some(same(alloc, rest)),
+        "said" => Some(said(alloc, rest)),
+        _ => None,
     }
 }
 

@@ -2,24 +2,26 @@
 use crate::arrays::{Array, array_in};
 use crate::counting_source::CountingSource;
 use crate::elements::{given_in, json};
-use crate::words::{box_in, bytes_in, cut, digits, numbers_in, refused, word};
+use crate::words::{box_in, bytes_in, cut, digits, numbers_in, push_word, refused, word};
 use anyhow::{Result, bail};
 use std::alloc::Global;
+use zarr_codecs_arrays::{ArrayBytes, CodecError};
 use zarr_codecs_options::CodecOptions;
 use zarr_codecs_traits::{
     ArrayPart, ArrayToBytesCodecTraits, BytesPartialEncoderTraits, Indexer, MemorySource,
     ValuePatch,
 };
+use zarr_codecs_types::DataType;
 use zarr_grids_boxes::ArraySubset;
 
 /// What a call on parts gives.
-pub(crate) fn answer(alloc: Global, name: &str, rest: &str) -> Result<Option<String>> {
+pub(crate) fn answer(alloc: Global, name: &str, rest: &str) -> Option<Result<String>> {
     match name {
-        "read" => Ok(Some(read(alloc, rest)?)),
-        "put" => Ok(Some(put(alloc, rest)?)),
-        "patches" => Ok(Some(patches(alloc, rest)?)),
-        "write" => Ok(Some(write(alloc, rest)?)),
-        _ => Ok(None),
+        "read" => Some(read(alloc, rest)),
+        "put" => Some(put(alloc, rest)),
+        "patches" => Some(patches(alloc, rest)),
+        "write" => Some(write(alloc, rest)),
+        _ => None,
     }
 }
 
@@ -39,12 +41,32 @@ fn places_in(alloc: Global, text: &str) -> Result<Places> {
     }
 }
 
-/// The part of an array at places.
-fn part_of<'a>(array: &'a Array, places: &'a Places) -> ArrayPart<'a> {
+/// An array, and places of it.
+#[derive(Drop)]
+struct Part {
+    array: Array,
+    places: Places,
+}
+
+/// The part of an array that the first five arguments say, and the others.
+fn part_in(alloc: Global, text: &str) -> Result<(Part, &str)> {
+    let (array, rest) = array_in(alloc, text)?;
+    let (places, rest) = cut_places(alloc, rest)?;
+    Ok((Part { array, places }, rest))
+}
+
+/// The places of the first argument, and the others.
+fn cut_places(alloc: Global, text: &str) -> Result<(Places, &str)> {
+    let (places, rest) = cut(text)?;
+    Ok((places_in(alloc, places)?, rest))
+}
+
+/// The part as codecs take it.
+fn asked(part: &Part) -> ArrayPart<'_> {
     ArrayPart {
-        elements: &array.elements,
-        shape: array.shape.as_slice(),
-        indexer: match places {
+        elements: &part.array.elements,
+        shape: part.array.shape.as_slice(),
+        indexer: match &part.places {
             Places::Region(region) => Indexer::Subset(region),
             Places::Numbers(numbers) => Indexer::List(numbers.as_slice()),
         },
@@ -65,24 +87,38 @@ fn source_in(alloc: Global, text: &str) -> Result<CountingSource> {
     })
 }
 
+/// The cells of a part.
+fn cells_of(
+    alloc: Global,
+    part: &Part,
+    source: &mut CountingSource,
+) -> Result<ArrayBytes, CodecError> {
+    let options = CodecOptions::default();
+    part.array
+        .chain
+        .partial_decode(alloc, source, asked(part), &options)
+}
+
 /// The cells at places that are read of a value, how many calls read it, and how many bytes these took.
 fn read(alloc: Global, rest: &str) -> Result<String> {
-    let (array, rest) = array_in(alloc, rest)?;
-    let (places, value) = cut(rest)?;
-    let places = places_in(alloc, places)?;
+    let (part, value) = part_in(alloc, rest)?;
     let mut source = source_in(alloc, value)?;
-    let (part, options) = (part_of(&array, &places), CodecOptions::default());
-    match array
-        .chain
-        .partial_decode(alloc, &mut source, part, &options)
-    {
-        Ok(cells) => {
-            let cells = json(alloc, array.elements.data_type(), &cells)?;
-            let (calls, bytes) = (source.reads, source.given);
-            Ok(format!(in alloc; "{cells} of {bytes} bytes by {calls} call")?)
-        }
+    match cells_of(alloc, &part, &mut source) {
+        Ok(cells) => told(alloc, part.array.elements.data_type(), &cells, &source),
         Err(error) => refused(alloc, &error),
     }
+}
+
+/// Cells, and what a source was asked for.
+fn told(
+    alloc: Global,
+    data_type: &DataType,
+    cells: &ArrayBytes,
+    source: &CountingSource,
+) -> Result<String> {
+    let cells = json(alloc, data_type, cells)?;
+    let (calls, bytes) = (source.reads, source.given);
+    Ok(format!(in alloc; "{cells} of {bytes} bytes by {calls} call")?)
 }
 
 /// The value of a source, or `none`.
@@ -93,70 +129,109 @@ fn value_of(alloc: Global, source: MemorySource) -> Result<String> {
     }
 }
 
+/// Puts cells at the places of a part.
+fn put_cells(
+    alloc: Global,
+    part: &Part,
+    source: &mut CountingSource,
+    cells: ArrayBytes,
+) -> Result<(), CodecError> {
+    let options = CodecOptions::default();
+    part.array
+        .chain
+        .partial_encode(alloc, source, cells, asked(part), &options)
+}
+
 /// The value once cells are put at places, and how many calls read and wrote it.
 fn put(alloc: Global, rest: &str) -> Result<String> {
-    let (array, rest) = array_in(alloc, rest)?;
-    let (places, rest) = cut(rest)?;
+    let (part, rest) = part_in(alloc, rest)?;
     let (value, cells) = cut(rest)?;
-    let places = places_in(alloc, places)?;
     let mut source = source_in(alloc, value)?;
-    let given = given_in(alloc, array.elements.data_type(), cells)?;
-    let (part, options) = (part_of(&array, &places), CodecOptions::default());
-    let done = array
-        .chain
-        .partial_encode(alloc, &mut source, given, part, &options);
+    let cells = given_in(alloc, part.array.elements.data_type(), cells)?;
+    match put_cells(alloc, &part, &mut source, cells) {
+        Ok(()) => left(alloc, source),
+        Err(error) => left_by(alloc, &error, source),
+    }
+}
+
+/// What a source holds, and how many calls wrote and read it.
+fn left(alloc: Global, source: CountingSource) -> Result<String> {
     let (writes, reads) = (source.writes, source.reads);
     let value = value_of(alloc, source.inner)?;
-    let calls = format!(in alloc; "written by {writes} call and read by {reads}")?;
-    match done {
-        Ok(()) => Ok(format!(in alloc; "{value}, {calls}")?),
-        Err(error) => Ok(format!(in alloc; "refused {error:?}: {value}, {calls}")?),
-    }
+    Ok(format!(in alloc; "{value}, written by {writes} call and read by {reads}")?)
+}
+
+/// The same after a refusal.
+fn left_by(alloc: Global, error: &CodecError, source: CountingSource) -> Result<String> {
+    let left = left(alloc, source)?;
+    Ok(format!(in alloc; "refused {error:?}: {left}")?)
+}
+
+/// Writes bytes into a source from an offset on.
+fn patch(alloc: Global, source: &mut MemorySource, patch: ValuePatch) -> Result<(), CodecError> {
+    source.partial_encode(alloc, vec![in alloc; patch]?)
+}
+
+/// The bytes of an argument, and the offset of the one before it.
+fn patch_in(alloc: Global, text: &str) -> Result<ValuePatch> {
+    let (offset, bytes) = cut(text)?;
+    Ok(ValuePatch {
+        offset: offset.parse()?,
+        bytes: bytes_in(alloc, bytes)?,
+    })
 }
 
 /// The value once bytes are written into it from an offset on.
 fn write(alloc: Global, rest: &str) -> Result<String> {
     let (value, rest) = cut(rest)?;
-    let (offset, bytes) = cut(rest)?;
+    let bytes = patch_in(alloc, rest)?;
     let mut source = source_in(alloc, value)?.inner;
-    let patch = ValuePatch {
-        offset: offset.parse()?,
-        bytes: bytes_in(alloc, bytes)?,
-    };
-    match source.partial_encode(alloc, vec![in alloc; patch]?) {
-        Ok(()) => value_of(alloc, source),
-        Err(error) => {
-            let value = value_of(alloc, source)?;
-            Ok(format!(in alloc; "refused {error:?}: {value}")?)
-        }
+    let done = patch(alloc, &mut source, bytes);
+    let value = value_of(alloc, source)?;
+    match done {
+        Ok(()) => Ok(value),
+        Err(error) => Ok(format!(in alloc; "refused {error:?}: {value}")?),
     }
+}
+
+/// What is written for cells at the places of a part.
+fn patches_for(
+    alloc: Global,
+    part: &Part,
+    cells: ArrayBytes,
+) -> Result<Option<Vec<ValuePatch>>, CodecError> {
+    let options = CodecOptions::default();
+    part.array
+        .chain
+        .encode_patches(alloc, cells, asked(part), &options)
 }
 
 /// The ranges that are written for cells at places.
 fn patches(alloc: Global, rest: &str) -> Result<String> {
-    let (array, rest) = array_in(alloc, rest)?;
-    let (places, cells) = cut(rest)?;
-    let places = places_in(alloc, places)?;
-    let given = given_in(alloc, array.elements.data_type(), cells)?;
-    let (part, options) = (part_of(&array, &places), CodecOptions::default());
-    match array.chain.encode_patches(alloc, given, part, &options) {
+    let (part, cells) = part_in(alloc, rest)?;
+    let cells = given_in(alloc, part.array.elements.data_type(), cells)?;
+    match patches_for(alloc, &part, cells) {
         Ok(Some(patches)) => texts(alloc, patches.as_slice()),
         Ok(None) => word(alloc, "none"),
         Err(error) => refused(alloc, &error),
     }
 }
 
+/// A range by where it starts and its bytes.
+fn text_of(alloc: Global, patch: &ValuePatch) -> Result<String> {
+    let bytes = digits(alloc, patch.bytes.as_slice())?;
+    let offset = patch.offset;
+    Ok(format!(in alloc; "{offset}:{bytes}")?)
+}
+
 /// Each range by where it starts and its bytes.
 fn texts(alloc: Global, patches: &[ValuePatch]) -> Result<String> {
+    if patches.is_empty() {
+        return word(alloc, "no range");
+    }
     let mut all = String::new(alloc);
     for patch in patches {
-        let bytes = digits(alloc, patch.bytes.as_slice())?;
-        let offset = patch.offset;
-        let between = if all.is_empty() { "" } else { " " };
-        all.push_str(format!(in alloc; "{between}{offset}:{bytes}")?.as_str())?;
-    }
-    if all.is_empty() {
-        return word(alloc, "no range");
+        push_word(&mut all, text_of(alloc, patch)?.as_str())?;
     }
     Ok(all)
 }

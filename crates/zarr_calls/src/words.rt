@@ -1,7 +1,7 @@
 //! The arguments of calls, and what is common to answers.
 use anyhow::{Context, Result, bail};
 use serde_json::Value;
-use std::alloc::Global;
+use std::alloc::{AllocError, Global};
 use std::fmt::Debug;
 use std::ops::Range;
 use zarr_grids_boxes::ArraySubset;
@@ -83,6 +83,14 @@ pub(crate) fn refused<E: Debug>(alloc: Global, error: &E) -> Result<String> {
 /// The answer that is a word.
 pub(crate) fn word(alloc: Global, text: &str) -> Result<String> {
     Ok(String::from_str(alloc, text)?)
+}
+
+/// Appends a word, after a space where it isn't the first.
+pub(crate) fn push_word(all: &mut String, text: &str) -> Result<(), AllocError> {
+    if !all.is_empty() {
+        all.push_str(" ")?;
+    }
+    Ok(all.push_str(text)?)
 }
 
 /// The answer that is true or false.

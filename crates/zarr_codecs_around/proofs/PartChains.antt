@@ -19,7 +19,7 @@ use Rattle.zarr_codecs_regions.specs.Asking.{TestsAsked}
 use Rattle.zarr_codecs_around.specs.Codecs.{all_decoded}
 use Rattle.zarr_codecs_around.specs.Views.{with_codecs}
 use Rattle.zarr_codecs_regions.proofs.InsideArray.{inside_places}
-use Rattle.zarr_codecs_bytes.proofs.BoxLines.{number_below}
+use Rattle.zarr_codecs_bytes.proofs.BoxElements.{number_below}
 use Rattle.zarr_codecs_around.proofs.Chains.{fits_with}
 
 bound_part : (chain : Chain) (codec : ByteCodec) (elements : Elements) (shape ns : List ℕ) (o : Option (List ℕ)) →

@@ -8,6 +8,7 @@ use Rattle.zarr_codecs_meaning.specs.Laws.{IsLawful, IsLawfulChain}
 use Rattle.zarr_codecs_array_to_array.specs.Names.{written_codec}
 use Rattle.zarr_codecs_array_to_array.specs.Views.{codec_of}
 use Rattle.zarr_codecs_array_to_array.specs.declared.codec.ArrayToArrayCodec.{ArrayToArrayCodec}
+use Rattle.zarr_codecs_around.specs.declared.array_codecs.AfterArrayCodecs.{AfterArrayCodecs}
 
 -- a chain, and after it bytes codecs in their order
 abbrev pub with_codecs : Chain → List ByteCodec → Chain
@@ -22,6 +23,10 @@ with_array_codecs (codec ∷ codecs) chain = chains.Chain.after_array_codec code
 -- what array codecs do
 abbrev pub codecs_of : List ArrayToArrayCodec → List ArrayCodec
 codecs_of codecs = map codec_of codecs
+
+-- a codec after the array codecs that come before it
+abbrev pub chain_after : {A : Type 0} → (A → Chain) → AfterArrayCodecs A → Chain
+chain_after meaning codecs = with_array_codecs (codecs_of codecs.array_to_array.now) (meaning codecs.rest.now)
 
 -- array codecs in their order, a chain, and bytes codecs in their order
 abbrev pub chain_between : {B : Type 0} → (B → ByteCodec) → List ArrayToArrayCodec → Chain → List B → Chain

@@ -9,6 +9,13 @@ use zarr_codecs_array_to_array::ArrayToArrayCodec;
 use zarr_codecs_arrays::{ArrayBytes, CodecError, Elements};
 use zarr_codecs_traits::ArrayToArrayCodecTraits;
 
+/// A codec between arrays and bytes, and the array codecs that come before it.
+#[derive(Drop)]
+pub struct AfterArrayCodecs<'a, A> {
+    pub array_to_array: &'a [ArrayToArrayCodec],
+    pub rest: &'a A,
+}
+
 /// The shape of the array after array codecs. `Fit` where one doesn't suit the shape that reaches it.
 pub fn shape_after(
     alloc: Global,

@@ -8,10 +8,10 @@ ghost use Rattle.zarr_codecs_traits.specs.Outcomes.{DecodesPart};
 ghost use Rattle.zarr_codecs_traits.specs.ReadBytes.{most_read};
 ghost use Rattle.zarr_codecs_traits.specs.Sources.{refused_after};
 ghost use Rattle.zarr_codecs_bytes.specs.Parts.{GivesListed, most_of_listed};
-ghost use Rattle.zarr_codecs_around.specs.Views.{codecs_of, with_array_codecs};
+ghost use Rattle.zarr_codecs_around.specs.Views.{chain_after};
 
+use crate::array_codecs::AfterArrayCodecs;
 use std::alloc::Global;
-use zarr_codecs_array_to_array::ArrayToArrayCodec;
 use zarr_codecs_arrays::{ArrayBytes, CodecError};
 use zarr_codecs_bytes::part::ListedPart;
 use zarr_codecs_options::CodecOptions;
@@ -24,24 +24,22 @@ use zarr_grids_boxes::walk::count_places;
 /// The elements at the places that are asked for, of the value that a source holds, each of which
 /// goes through the array codecs. Errors as those of `ArrayToBytesCodecTraits::partial_decode`.
 pub fn decode_part_after<A: ArrayToBytesCodecTraits, D: BytesPartialDecoderTraits>(
-    rest: &A,
+    chain: AfterArrayCodecs<'_, A>,
     alloc: Global,
-    codecs: &[ArrayToArrayCodec],
     source: &mut D,
     part: ArrayPart<'_>,
     options: &CodecOptions,
 ) -> Result<ArrayBytes, CodecError>
     ensures part { IsTrue (D.is_honest source.old) → DecodesPart
-        (with_array_codecs (codecs_of codecs.now) (A.meaning rest.now))
-        (elements_of part.entry.elements.now) part.entry.shape.now (D.contents source.old)
-        (asked_of part.entry.indexer) result }
+        (chain_after A.meaning chain.entry) (elements_of part.entry.elements.now)
+        part.entry.shape.now (D.contents source.old) (asked_of part.entry.indexer) result }
     ensures refused { D.refused_calls source.new ≡
         refused_after (D.refused_calls source.old) result }
-    ensures given { is_plain (with_array_codecs (codecs_of codecs.now) (A.meaning rest.now)) ≡ true →
+    ensures given { is_plain (chain_after A.meaning chain.entry) ≡ true →
         IsTrue (D.is_honest source.old) → D.given_bytes source.new
-        ≤ D.given_bytes source.old + most_read (with_array_codecs (codecs_of codecs.now)
-        (A.meaning rest.now)) (elements_of part.entry.elements.now).type part.entry.shape.now
-        (D.contents source.old) (asked_of part.entry.indexer) }
+        ≤ D.given_bytes source.old + most_read (chain_after A.meaning chain.entry)
+        (elements_of part.entry.elements.now).type part.entry.shape.now (D.contents source.old)
+        (asked_of part.entry.indexer) }
     ensures follows { D.follows source.old source.new }
 {
     let (elements, shape) = (part.elements, part.shape);
@@ -57,33 +55,34 @@ pub fn decode_part_after<A: ArrayToBytesCodecTraits, D: BytesPartialDecoderTrait
         shape,
         numbers: numbers.as_slice(),
     };
-    decode_listed_after(rest, alloc, codecs, source, listed, options)
+    decode_listed_after(chain, alloc, source, listed, options)
 }
 
 /// The elements with some numbers, of the value that a source holds, which the codec, and array
 /// codecs before it, decode.
 fn decode_listed_after<A: ArrayToBytesCodecTraits, D: BytesPartialDecoderTraits>(
-    rest: &A,
+    chain: AfterArrayCodecs<'_, A>,
     alloc: Global,
-    codecs: &[ArrayToArrayCodec],
     source: &mut D,
     part: ListedPart<'_>,
     options: &CodecOptions,
 ) -> Result<ArrayBytes, CodecError>
     requires { product part.shape.now < 2 ^ 63 }
     ensures part { IsTrue (D.is_honest source.old) → GivesListed
-        (with_array_codecs (codecs_of codecs.now) (A.meaning rest.now)) (D.contents source.old)
-        part.entry result }
+        (chain_after A.meaning chain.entry) (D.contents source.old) part.entry result }
     ensures refused { D.refused_calls source.new ≡
         refused_after (D.refused_calls source.old) result }
-    ensures given { is_plain (with_array_codecs (codecs_of codecs.now) (A.meaning rest.now)) ≡ true →
+    ensures given { is_plain (chain_after A.meaning chain.entry) ≡ true →
         IsTrue (D.is_honest source.old) → D.given_bytes source.new ≤ D.given_bytes source.old
-        + most_of_listed (with_array_codecs (codecs_of codecs.now) (A.meaning rest.now))
-        (D.contents source.old) part.entry }
+        + most_of_listed (chain_after A.meaning chain.entry) (D.contents source.old) part.entry }
     ensures follows { D.follows source.old source.new }
 {
     let (elements, shape, numbers) = (part.elements, part.shape, part.numbers);
-    let Some((codec, others)) = codecs.split_first() else {
+    let AfterArrayCodecs {
+        array_to_array,
+        rest,
+    } = chain;
+    let Some((codec, others)) = array_to_array.split_first() else {
         let indexer = Indexer::List(numbers);
         let all = ArrayPart {
             elements,
@@ -102,5 +101,9 @@ fn decode_listed_after<A: ArrayToBytesCodecTraits, D: BytesPartialDecoderTraits>
         shape: encoded.as_slice(),
         numbers: moved.as_slice(),
     };
-    decode_listed_after(rest, alloc, others, source, inner, options)
+    let after = AfterArrayCodecs {
+        array_to_array: others,
+        rest,
+    };
+    decode_listed_after(after, alloc, source, inner, options)
 }

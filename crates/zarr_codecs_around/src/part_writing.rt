@@ -6,10 +6,10 @@ ghost use Rattle.zarr_codecs_arrays.specs.Views.{elements_of, payload_of};
 ghost use Rattle.zarr_codecs_traits.specs.Indexers.{asked_of, listed};
 ghost use Rattle.zarr_codecs_traits.specs.PartWriting.{IsEncodedInto, NotEncodedInto, WritesOnce};
 ghost use Rattle.zarr_codecs_traits.specs.Sources.{refused_after};
-ghost use Rattle.zarr_codecs_around.specs.Views.{codecs_of, with_array_codecs};
+ghost use Rattle.zarr_codecs_around.specs.Views.{chain_after};
 
+use crate::array_codecs::AfterArrayCodecs;
 use std::alloc::Global;
-use zarr_codecs_array_to_array::ArrayToArrayCodec;
 use zarr_codecs_arrays::{ArrayBytes, CodecError};
 use zarr_codecs_bytes::part::ListedPart;
 use zarr_codecs_options::CodecOptions;
@@ -23,23 +23,22 @@ use zarr_grids_boxes::walk::count_places;
 /// holds, each where the array codecs move it. Errors as those of
 /// `ArrayToBytesCodecTraits::partial_encode`.
 pub fn encode_part_after<A: ArrayToBytesCodecTraits, E: BytesPartialEncoderTraits>(
-    rest: &A,
+    chain: AfterArrayCodecs<'_, A>,
     alloc: Global,
-    codecs: &[ArrayToArrayCodec],
     source: &mut E,
     bytes: ArrayBytes,
     part: ArrayPart<'_>,
     options: &CodecOptions,
 ) -> Result<(), CodecError>
     ensures ok { IsTrue (E.is_honest source.old) → OnOk result ((cells : List Cell)
-        × IsEncodedInto (with_array_codecs (codecs_of codecs.now) (A.meaning rest.now))
-        (A.is_function rest.now) (elements_of part.entry.elements.now) part.entry.shape.now
+        × IsEncodedInto (chain_after A.meaning chain.entry)
+        (A.is_function chain.entry.rest.now) (elements_of part.entry.elements.now) part.entry.shape.now
         (asked_of part.entry.indexer) (payload_of bytes) cells (E.contents source.old)
         (E.contents source.new)) }
     ensures err { IsTrue (E.is_honest source.old) →
         OnErr result (E.contents source.new ≡ E.contents source.old) }
     ensures cause { IsTrue (E.is_honest source.old) → NotEncodedInto
-        (with_array_codecs (codecs_of codecs.now) (A.meaning rest.now))
+        (chain_after A.meaning chain.entry)
         (elements_of part.entry.elements.now) part.entry.shape.now (asked_of part.entry.indexer)
         (payload_of bytes) (E.contents source.old) result }
     ensures refused { E.refused_calls source.new ≡
@@ -60,15 +59,14 @@ pub fn encode_part_after<A: ArrayToBytesCodecTraits, E: BytesPartialEncoderTrait
         shape,
         numbers: numbers.as_slice(),
     };
-    encode_listed_after(rest, alloc, codecs, source, bytes, listed, options)
+    encode_listed_after(chain, alloc, source, bytes, listed, options)
 }
 
 /// Puts elements in the place of those with some numbers, in the value that a source holds, which
 /// the codec, and array codecs before it, make: each is put where the array codecs move it.
 fn encode_listed_after<A: ArrayToBytesCodecTraits, E: BytesPartialEncoderTraits>(
-    rest: &A,
+    chain: AfterArrayCodecs<'_, A>,
     alloc: Global,
-    codecs: &[ArrayToArrayCodec],
     source: &mut E,
     bytes: ArrayBytes,
     part: ListedPart<'_>,
@@ -76,14 +74,14 @@ fn encode_listed_after<A: ArrayToBytesCodecTraits, E: BytesPartialEncoderTraits>
 ) -> Result<(), CodecError>
     requires { product part.shape.now < 2 ^ 63 }
     ensures ok { IsTrue (E.is_honest source.old) → OnOk result ((cells : List Cell)
-        × IsEncodedInto (with_array_codecs (codecs_of codecs.now) (A.meaning rest.now))
-        (A.is_function rest.now) (elements_of part.entry.elements.now) part.entry.shape.now
+        × IsEncodedInto (chain_after A.meaning chain.entry)
+        (A.is_function chain.entry.rest.now) (elements_of part.entry.elements.now) part.entry.shape.now
         (listed part.entry.numbers.now) (payload_of bytes) cells (E.contents source.old)
         (E.contents source.new)) }
     ensures err { IsTrue (E.is_honest source.old) →
         OnErr result (E.contents source.new ≡ E.contents source.old) }
     ensures cause { IsTrue (E.is_honest source.old) → NotEncodedInto
-        (with_array_codecs (codecs_of codecs.now) (A.meaning rest.now))
+        (chain_after A.meaning chain.entry)
         (elements_of part.entry.elements.now) part.entry.shape.now
         (listed part.entry.numbers.now) (payload_of bytes) (E.contents source.old) result }
     ensures refused { E.refused_calls source.new ≡
@@ -92,7 +90,11 @@ fn encode_listed_after<A: ArrayToBytesCodecTraits, E: BytesPartialEncoderTraits>
     ensures rewrites { E.rewrites source.old source.new }
 {
     let (elements, shape, numbers) = (part.elements, part.shape, part.numbers);
-    let Some((codec, others)) = codecs.split_first() else {
+    let AfterArrayCodecs {
+        array_to_array,
+        rest,
+    } = chain;
+    let Some((codec, others)) = array_to_array.split_first() else {
         let indexer = Indexer::List(numbers);
         let all = ArrayPart {
             elements,
@@ -111,5 +113,9 @@ fn encode_listed_after<A: ArrayToBytesCodecTraits, E: BytesPartialEncoderTraits>
         shape: encoded.as_slice(),
         numbers: moved.as_slice(),
     };
-    encode_listed_after(rest, alloc, others, source, bytes, inner, options)
+    let after = AfterArrayCodecs {
+        array_to_array: others,
+        rest,
+    };
+    encode_listed_after(after, alloc, source, bytes, inner, options)
 }

@@ -66,7 +66,8 @@ fn concat_masks(
     mask: Vec<u8>,
     marks: &[u8],
 ) -> Result<ArrayBytes, AllocError>
-    ensures { IfOk result (λ a. payload_of a ≡ optional (payload_of inner) (mask.items ++ marks.now)) }
+    ensures { IfOk result
+        (λ a. payload_of a ≡ optional (payload_of inner) (mask.items ++ marks.now)) }
 {
     let mut mask = mask;
     mask.extend_from_slice(marks)?;

@@ -67,7 +67,8 @@ fn masked_count(count: Option<usize>, mask: &[u8]) -> Option<usize>
 /// Why elements are none of a data type's, where they are not.
 pub(crate) fn form_error(elements: &ArrayBytes, data_type: &DataType) -> CodecError
     ensures { payloads.cells_in (type_of data_type.now) (payload_of elements.now) ≡ None
-        → (count : ℕ) → IsMiscounted (type_of data_type.now) (payload_of elements.now) count result }
+        → (count : ℕ)
+        → IsMiscounted (type_of data_type.now) (payload_of elements.now) count result }
 {
     match data_type {
         DataType::String | DataType::Bytes => CodecError::ExpectedVariableLengthBytes,

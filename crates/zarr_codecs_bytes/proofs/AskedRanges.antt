@@ -12,7 +12,8 @@ use Rattle.zarr_codecs_arrays.proofs.FixedCells.{same_bytes}
 use Rattle.zarr_codecs_regions.proofs.AskedPlaces.{asked_places}
 use Rattle.zarr_codecs_traits.specs.Indexers.{in_box, numbers_of}
 use Rattle.zarr_codecs_traits.specs.declared.byte_range.ByteRange.{ByteRange}
-use Rattle.zarr_codecs_bytes.specs.Lines.{ArePartRanges, bytes_in_ranges, bytes_of_lines, ends_after}
+use Rattle.zarr_codecs_traits.specs.Sources.{bytes_in_ranges}
+use Rattle.zarr_codecs_bytes.specs.Lines.{ArePartRanges, bytes_of_lines, ends_after}
 use Rattle.zarr_codecs_bytes.specs.Parts.{part_width}
 use Rattle.zarr_codecs_bytes.specs.Writing.{AreRangesOf}
 use Rattle.zarr_codecs_bytes.specs.declared.lines.PartRanges.{PartRanges}

@@ -16,7 +16,7 @@ use Rattle.zarr_codecs_meaning.proofs.Covers.{zeros, length-zeros, ravel_place}
 use Rattle.zarr_codecs_meaning.proofs.Lists.{Each, every}
 use Rattle.zarr_codecs_regions.proofs.InsideArray.{all_places, each_place}
 use Rattle.zarr_codecs_traits.specs.Patches.{overwritten}
-use Rattle.zarr_codecs_bytes.proofs.BoxLines.{from_zero, number_below, same_flat, mul_le}
+use Rattle.zarr_codecs_bytes.proofs.BoxElements.{from_zero, number_below, same_flat, mul_le}
 use Rattle.zarr_codecs_bytes.proofs.Scattered.{scatter, scatter_range, scatter_append}
 
 -- ---- one element

@@ -2,8 +2,8 @@ pub mod Orders
 pub mod Types
 pub mod Decoding
 pub mod PartDecoding
-pub mod BoxLines
-mod PartRanges
+pub mod BoxElements
+pub mod BoxRanges
 pub mod PartReading
 pub mod PartWriting
 pub mod Scattered
@@ -11,7 +11,6 @@ pub mod BoxScattered
 pub mod Encoding
 mod ListedParts
 mod PartBytes
-mod OneLine
 pub mod ElementWrites
 pub mod ElementsPut
 pub mod AskedRanges

@@ -14,9 +14,9 @@ use Rattle.zarr_codecs_meaning.specs.Types.{Cell}
 use Rattle.zarr_codecs_meaning.proofs.Lists.{some_same}
 use Rattle.zarr_codecs_arrays.proofs.FixedCells.{fixed_cells-cons, fixed_cells-nil, get_or-fixed_cells}
 use Rattle.zarr_codecs_traits.specs.Indexers.{numbers_of}
-use Rattle.zarr_codecs_traits.specs.Sources.{value_bytes}
+use Rattle.zarr_codecs_traits.specs.Sources.{bytes_in_ranges, value_bytes}
 use Rattle.zarr_codecs_regions.proofs.InsideArray.{inside_product}
-use Rattle.zarr_codecs_bytes.specs.Lines.{bytes_in_ranges, bytes_of_lines, line_ends_within}
+use Rattle.zarr_codecs_bytes.specs.Lines.{bytes_of_lines, line_ends_within}
 use Rattle.zarr_codecs_bytes.specs.Parts.{HasFound, HasListed, HasPart, IsListed, most_of_listed, most_of_part, listed_width, part_width}
 use Rattle.zarr_codecs_bytes.specs.Views.{bytes_chain}
 use Rattle.zarr_codecs_bytes.specs.declared.bytes.BytesCodec.{BytesCodec}

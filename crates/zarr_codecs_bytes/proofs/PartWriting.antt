@@ -37,12 +37,13 @@ use Rattle.zarr_codecs_traits.specs.Patches.{any_too_far, overwritten, patched, 
 use Rattle.zarr_codecs_traits.specs.declared.byte_range.ByteRange.{ByteRange}
 use Rattle.zarr_codecs_traits.specs.declared.value_patch.ValuePatch.{ValuePatch}
 use Rattle.zarr_codecs_traits.proofs.PartValues.{whole_where_decoded}
-use Rattle.zarr_codecs_bytes.specs.Lines.{ArePartRanges, bytes_in_ranges, cut, ends_after, patch_bytes, patch_offsets, range_offsets, total_length}
+use Rattle.zarr_codecs_traits.specs.Sources.{bytes_in_ranges}
+use Rattle.zarr_codecs_bytes.specs.Lines.{ArePartRanges, cut, ends_after, patch_bytes, patch_offsets, range_offsets, total_length}
 use Rattle.zarr_codecs_bytes.specs.Orders.{all_ordered}
 use Rattle.zarr_codecs_bytes.specs.Parts.{IsExtracted, PatchesPart, part_width}
 use Rattle.zarr_codecs_bytes.specs.declared.lines.PartRanges.{PartRanges}
 use Rattle.zarr_codecs_bytes.specs.declared.part.BoxPart.{BoxPart}
-use Rattle.zarr_codecs_bytes.proofs.BoxLines.{mul_le, number_below, same_flat}
+use Rattle.zarr_codecs_bytes.proofs.BoxElements.{mul_le, number_below, same_flat}
 use Rattle.zarr_codecs_bytes.proofs.BoxScattered.{element_positions, scatter_box}
 use Rattle.zarr_codecs_bytes.proofs.Decoding.{IsRead, decoded_made, fixed_cells_in}
 use Rattle.zarr_codecs_bytes.proofs.Orders.{cells_ordered, length-all_ordered}

@@ -8,7 +8,8 @@ use Rattle.zarr_grids_boxes.proofs.Places.{range_with_len-append}
 use Rattle.zarr_grids_overlay.proofs.Blocks.{take_front, drop_front, drop_front_more}
 use Rattle.zarr_codecs_traits.specs.Patches.{overwritten}
 use Rattle.zarr_codecs_traits.specs.declared.byte_range.ByteRange.{ByteRange}
-use Rattle.zarr_codecs_bytes.specs.Lines.{bytes_in_ranges, ends_after, total_length}
+use Rattle.zarr_codecs_traits.specs.Sources.{bytes_in_ranges}
+use Rattle.zarr_codecs_bytes.specs.Lines.{ends_after, total_length}
 
 -- ---- bytes over others
 

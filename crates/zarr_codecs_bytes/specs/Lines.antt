@@ -1,29 +1,15 @@
--- Lines of a box of an array: the elements that differ in the last dimension alone, which lie one after another in a value.
-use Rattle.std.specs.Prelude.{◌≡◌, ℕ, ◌+◌, ◌-◌, ◌*◌, ◌^◌, ◌<◌, List, [], ◌∷◌, Bool, false, true, length, map, take, drop, flat_map, nat_le, nat_lt, slice_index, slice_set}
-use Rattle.std.specs.List.{list_all, list_any}
-use Rattle.zarr_grids_boxes.specs.Boxes.{Region, product}
-use Rattle.zarr_grids_boxes.specs.Cuts.{IsAtMost, ends}
-use Rattle.zarr_grids_boxes.specs.Subsets.{region_of}
-use Rattle.zarr_grids_boxes.specs.Walks.{linearised}
-use Rattle.zarr_codecs_traits.specs.Sources.{bytes_at}
+-- The ranges of bytes in which elements stand.
+use Rattle.std.specs.Prelude.{◌≡◌, ℕ, ◌+◌, ◌*◌, ◌^◌, ◌<◌, List, [], ◌∷◌, Bool, false, length, map, take, drop, flat_map, nat_le, nat_lt}
+use Rattle.std.specs.List.{list_any, range_with_len}
+use Rattle.zarr_grids_boxes.specs.Boxes.{product}
+use Rattle.zarr_codecs_traits.specs.Indexers.{numbers_of}
+use Rattle.zarr_codecs_traits.specs.Sources.{bytes_in_ranges}
 use Rattle.zarr_codecs_traits.specs.declared.byte_range.ByteRange.{ByteRange}
 use Rattle.zarr_codecs_traits.specs.declared.value_patch.ValuePatch.{ValuePatch}
 use Rattle.zarr_codecs_bytes.specs.Parts.{HasPart, part_width}
 use Rattle.zarr_codecs_bytes.specs.declared.part.BoxPart.{BoxPart}
 use Rattle.zarr_codecs_bytes.specs.declared.lines.LineSizes.{LineSizes}
 use Rattle.zarr_codecs_bytes.specs.declared.lines.PartRanges.{PartRanges}
-
--- the first place of each line of a box
-abbrev pub line_starts : Region → Region
-line_starts region = record { start = region.start; shape = slice_set region.shape (length region.shape - 1) 1 }
-
--- how many elements a line of a box has
-abbrev pub line_length : Region → ℕ
-line_length region = slice_index region.shape (length region.shape - 1)
-
--- the bytes of a value in ranges, in their order
-abbrev pub bytes_in_ranges : List ℕ → List ByteRange → List ℕ
-bytes_in_ranges value ranges = flat_map (bytes_at value) ranges
 
 -- so many bytes from each of the elements with these numbers on, each element of one width
 abbrev pub bytes_of_lines : ℕ → ℕ → List ℕ → List ℕ → List ℕ
@@ -32,6 +18,10 @@ bytes_of_lines width line value numbers = flat_map (λ n. take line (drop (n * w
 -- whether a range ends after so many bytes
 abbrev pub ends_after : ℕ → ByteRange → Bool
 ends_after size range = nat_lt size (range.offset + range.length)
+
+-- a range, so many bytes further on
+abbrev pub moved_by : ℕ → ByteRange → ByteRange
+moved_by count range = record { offset = count + range.offset; length = range.length }
 
 -- how many bytes ranges have together
 abbrev pub total_length : List ByteRange → ℕ
@@ -59,21 +49,17 @@ patch_bytes patches = map (λ (patch : ValuePatch). patch.bytes.items) patches
 abbrev pub line_ends_within : LineSizes → ℕ → Bool
 line_ends_within sizes n = nat_le (n * sizes.width + sizes.line) sizes.value
 
--- lines that start at these places of an array lie in it, and each in the value
-pub record AreLinesInside (starts : Region) (shape : List ℕ) (sizes : LineSizes) : Type 0 where
-  pub inside : IsAtMost (ends starts) shape
-  pub few : product shape < 2 ^ 64
-  pub within : list_all (line_ends_within sizes) (linearised starts shape) ≡ true
+-- the ranges in which the elements of a box stand, one after another, of the value of an array whose elements have one width
+pub record AreBoxRanges (width : ℕ) (start region shape : List ℕ) (found : PartRanges) : Type 0 where
+  pub size : found.size ≡ product shape * width
+  pub within : list_any (ends_after found.size) found.ranges.items ≡ false
+  pub are : (value : List ℕ) → bytes_in_ranges value found.ranges.items ≡ bytes_of_lines width width value (numbers_of shape (record { start = start; shape = region }))
 
--- how many bytes an element, a line and the value have, of a part with one dimension or more that has an element
-pub record AreLineSizes (part : BoxPart) (sizes : LineSizes) : Type 0 where
-  pub dimensions : 0 < length part.region.now.shape.items
-  pub some : 0 < product part.region.now.shape.items
-  pub positive : 0 < part_width part
-  pub width : sizes.width ≡ part_width part
-  pub line : sizes.line ≡ line_length (region_of part.region.now) * part_width part
-  pub value : sizes.value ≡ product part.shape.now * part_width part
-  pub small : sizes.value < 2 ^ 63
+-- of a value of so many rows, the ranges that are found of one of them, in each of `count` rows from `start` on
+pub record AreRowsRanges (row : PartRanges) (start count rows : ℕ) (found : PartRanges) : Type 0 where
+  pub size : found.size ≡ rows * row.size
+  pub within : list_any (ends_after found.size) found.ranges.items ≡ false
+  pub are : (value : List ℕ) → bytes_in_ranges value found.ranges.items ≡ flat_map (λ n. bytes_in_ranges (drop (n * row.size) value) row.ranges.items) (range_with_len start count)
 
 -- the ranges of a value in which the elements of a part stand, one after another
 pub record ArePartRanges (part : BoxPart) (found : PartRanges) : Type 0 where

@@ -6,7 +6,8 @@ use Rattle.zarr_codecs_traits.specs.Indexers.{put}
 use Rattle.zarr_codecs_traits.specs.Patches.{any_too_far, patched}
 use Rattle.zarr_codecs_traits.specs.declared.byte_range.ByteRange.{ByteRange}
 use Rattle.zarr_codecs_traits.specs.declared.value_patch.ValuePatch.{ValuePatch}
-use Rattle.zarr_codecs_bytes.specs.Lines.{bytes_in_ranges, bytes_of_lines, ends_after, patch_bytes}
+use Rattle.zarr_codecs_traits.specs.Sources.{bytes_in_ranges}
+use Rattle.zarr_codecs_bytes.specs.Lines.{bytes_of_lines, ends_after, patch_bytes}
 
 -- ranges of a value of so many bytes have the bytes of the elements with these numbers, in their order
 pub record AreRangesOf (width size : ℕ) (numbers : List ℕ) (ranges : List ByteRange) : Type 0 where

@@ -1,22 +1,18 @@
 //! The ranges of bytes in which the elements of a box of an array stand.
-ghost use Rattle.std.specs.Prelude.{◌≡◌, ◌≢◌, ◌*◌, ◌^◌, ◌++◌, ◌<◌, ℕ, List, [], ◌∷◌, length, false, true, take, drop, IfOk, IfErr, IfNone, IfSome, OnOk};
+ghost use Rattle.std.specs.Prelude.{◌≡◌, ◌≢◌, ◌*◌, ◌^◌, ◌++◌, ◌+◌, ◌<◌, ◌≤◌, ℕ, List, [], ◌∷◌, length, map, false, true, take, drop, IsTrue, IfOk, IfErr, IfNone, IfSome, OnOk};
 ghost use Rattle.std.specs.List.{list_any};
-ghost use Rattle.zarr_grids_boxes.specs.Boxes.{product};
-ghost use Rattle.zarr_grids_boxes.specs.Subsets.{region_of};
-ghost use Rattle.zarr_grids_boxes.specs.Walks.{linearised};
+ghost use Rattle.zarr_grids_boxes.specs.Boxes.{each2, product};
+ghost use Rattle.zarr_grids_boxes.specs.Cuts.{IsAtMost};
 ghost use Rattle.zarr_codecs_meaning.specs.Types.{is_fixed};
 ghost use Rattle.zarr_codecs_arrays.specs.Outcomes.{IsTooLarge};
 ghost use Rattle.zarr_codecs_arrays.specs.Views.{elements_of};
-ghost use Rattle.zarr_codecs_traits.specs.Sources.{bytes_at};
+ghost use Rattle.zarr_codecs_traits.specs.Sources.{bytes_at, bytes_in_ranges};
 
 use crate::part::BoxPart;
 use crate::sizes::array_size;
 use std::alloc::{AllocError, Global};
 use zarr_codecs_arrays::CodecError;
 use zarr_codecs_traits::ByteRange;
-use zarr_grids_boxes::ArraySubset;
-use zarr_grids_boxes::ravel::ravel_indices;
-use zarr_grids_boxes::walk::count_places;
 
 /// The ranges of a value in which the elements of a part of an array stand, and how many bytes the
 /// value has.
@@ -34,11 +30,11 @@ pub(crate) struct LineSizes {
     pub value: u64,
 }
 
-ghost use Rattle.zarr_codecs_bytes.specs.Lines.{AreLineSizes, AreLinesInside, ArePartRanges, bytes_in_ranges, bytes_of_lines, ends_after, line_ends_within, line_starts};
+ghost use Rattle.zarr_codecs_bytes.specs.Lines.{AreBoxRanges, ArePartRanges, AreRowsRanges, ends_after, line_ends_within, moved_by};
 ghost use Rattle.zarr_codecs_bytes.specs.Parts.{part_width};
 
-/// How many bytes the value has. `Size` where the array has 2^63 elements or bytes or more; `Memory`
-/// where an element has no bytes, which no array holds.
+/// How many bytes the value has. `Size` where the array has 2^63 elements or bytes or more;
+/// `Memory` where an element has no bytes, which no array holds.
 pub(crate) fn value_size(part: BoxPart) -> Result<u64, CodecError>
     requires { is_fixed (elements_of part.elements.now).type ≡ true }
     ensures ok { IfOk result (λ n. n ≡ product part.entry.shape.now * part_width part.entry) }
@@ -51,7 +47,7 @@ pub(crate) fn value_size(part: BoxPart) -> Result<u64, CodecError>
 }
 
 /// The ranges in which the elements of a part of an array stand, in their order, of the value of
-/// this size: one for each line, or for several that lie one after another.
+/// this size; those that lie one after another are one.
 pub(crate) fn box_ranges(alloc: Global, part: BoxPart, size: u64) -> Result<PartRanges, AllocError>
     requires fixed { is_fixed (elements_of part.elements.now).type ≡ true }
     requires some { 0 < part_width part }
@@ -59,143 +55,118 @@ pub(crate) fn box_ranges(alloc: Global, part: BoxPart, size: u64) -> Result<Part
     requires small { size < 2 ^ 63 }
     ensures { IfOk result (ArePartRanges part.entry) }
 {
-    if part.region.shape().is_empty() {
-        return whole_range(alloc, size);
-    }
-    let Some(sizes) = line_sizes(part, size) else {
+    let Some(width) = element_width(part, size) else {
         let ranges = Vec::new(alloc);
         return Ok(PartRanges { size, ranges });
     };
-    let ranges = ranges_of(alloc, part, sizes)?;
-    Ok(PartRanges { size, ranges })
+    let region = part.region;
+    ranges_in(alloc, region.start(), region.shape(), part.shape, width)
 }
 
-/// The ranges in which the lines of a part stand, of which those that lie one after another are one.
-fn ranges_of(alloc: Global, part: BoxPart, sizes: LineSizes) -> Result<Vec<ByteRange>, AllocError>
-    requires { AreLineSizes part sizes }
-    ensures are { IfOk result (λ ranges. (value : List ℕ) → bytes_in_ranges value ranges.items
-        ≡ bytes_of_lines sizes.width sizes.line value
-        (linearised (line_starts (region_of part.entry.region.now)) part.entry.shape.now)) }
-    ensures within { IfOk result
-        (λ ranges. list_any (ends_after sizes.value) ranges.items ≡ false) }
-{
-    if let Some(number) = only_line(part) {
-        return one_range(alloc, line_range(number, sizes));
-    }
-    let starts = line_starts(alloc, part.region)?;
-    line_ranges(alloc, &starts, part.shape, sizes)
-}
-
-/// The number of the first element of a part that is one line. `None` where it may be more.
-fn only_line(part: BoxPart) -> Option<u64>
-    requires dimensions { 0 < length part.region.now.shape.items }
-    requires some { 0 < product part.region.now.shape.items }
-    ensures { IfSome result (λ n.
-        linearised (line_starts (region_of part.entry.region.now)) part.entry.shape.now
-        ≡ n ∷ []) }
-{
-    let shape = part.region.shape();
-    let Some(count) = count_places(shape) else {
-        return None;
-    };
-    if count != shape[shape.len() - 1] {
-        return None;
-    }
-    ravel_indices(part.region.start(), part.shape)
-}
-
-/// One range.
-fn one_range(alloc: Global, range: ByteRange) -> Result<Vec<ByteRange>, AllocError>
-    ensures { IfOk result (λ ranges. ranges.items ≡ range ∷ []) }
-{
-    let mut ranges = Vec::with_capacity(alloc, 1)?;
-    ranges.push(range)?;
-    Ok(ranges)
-}
-
-/// The one range of the whole value of this size.
-fn whole_range(alloc: Global, size: u64) -> Result<PartRanges, AllocError>
-    ensures size { IfOk result (λ found. found.size ≡ size) }
-    ensures whole { IfOk result (λ found.
-        found.ranges.items ≡ record { offset = 0; length = size } ∷ []) }
-{
-    let mut ranges = Vec::new(alloc);
-    ranges.push(ByteRange {
-        offset: 0,
-        length: size,
-    })?;
-    Ok(PartRanges { size, ranges })
-}
-
-/// How many bytes an element, a line of the part and the value have. `None` where the part has no
-/// element.
-fn line_sizes(part: BoxPart, size: u64) -> Option<LineSizes>
+/// How many bytes an element of a part has. `None` where the part has no element.
+fn element_width(part: BoxPart, size: u64) -> Option<u64>
     requires fixed { is_fixed (elements_of part.elements.now).type ≡ true }
-    requires some { 0 < part_width part }
     requires size { size ≡ product part.shape.now * part_width part }
     requires small { size < 2 ^ 63 }
-    requires dimensions { 0 < length part.region.now.shape.items }
     ensures none { IfNone result (product part.entry.region.now.shape.items ≡ 0) }
-    ensures some { IfSome result (AreLineSizes part.entry) }
+    ensures width { IfSome result (λ width. width ≡ part_width part.entry) }
+    ensures some { IfSome result (λ width. 0 < product part.entry.region.now.shape.items) }
 {
-    let shape = part.region.shape();
     if part.region.is_empty() {
         return None;
     }
     let Some(width) = part.elements.data_type().byte_width() else {
         return None;
     };
-    Some(LineSizes {
-        width: width as u64,
-        line: shape[shape.len() - 1] * width as u64,
-        value: size,
+    Some(width as u64)
+}
+
+/// The ranges in which the elements of a box stand, of an array of this shape whose elements have
+/// `width` bytes each.
+fn ranges_in(
+    alloc: Global,
+    start: &[u64],
+    region: &[u64],
+    shape: &[u64],
+    width: u64,
+) -> Result<PartRanges, AllocError>
+    requires same { length region.now ≡ length start.now }
+    requires rank { length shape.now ≡ length start.now }
+    requires some { 0 < product region.now }
+    requires inside { IsAtMost (each2 (λ s e. s + e) start.now region.now) shape.now }
+    requires small { product shape.now * width < 2 ^ 63 }
+    ensures { IfOk result (AreBoxRanges width start.now region.now shape.now) }
+{
+    let Some((count, counts)) = region.split_first() else {
+        return one_range(alloc, 0, width, width);
+    };
+    let row = ranges_in(alloc, &start[1..], counts, &shape[1..], width)?;
+    ranges_of_rows(alloc, &row, start[0], *count, shape[0])
+}
+
+/// The ranges of a box in an array of so many rows, of the rows from `start` on, as many as `count`;
+/// in each of them the box has the same ranges.
+fn ranges_of_rows(
+    alloc: Global,
+    row: &PartRanges,
+    start: u64,
+    count: u64,
+    rows: u64,
+) -> Result<PartRanges, AllocError>
+    requires fit { start + count ≤ rows }
+    requires small { rows * row.now.size < 2 ^ 63 }
+    requires within { list_any (ends_after row.now.size) row.now.ranges.items ≡ false }
+    ensures { IfOk result (AreRowsRanges row.now start count rows) }
+{
+    if is_whole(row) {
+        return one_range(alloc, start * row.size, count * row.size, rows * row.size);
+    }
+    let room = row.ranges.len().saturating_mul(count as usize);
+    let mut ranges = Vec::with_capacity(alloc, room)?;
+    for n in 0..count {
+        push_row(&mut ranges, row, start + n)?;
+    }
+    Ok(PartRanges {
+        size: rows * row.size,
+        ranges,
     })
 }
 
-/// The first place of each line of a box.
-fn line_starts(alloc: Global, region: &ArraySubset) -> Result<ArraySubset, AllocError>
-    requires dimensions { 0 < length region.now.shape.items }
-    requires some { 0 < product region.now.shape.items }
-    ensures { IfOk result (λ starts. region_of starts ≡ line_starts (region_of region.now)) }
+/// Whether there is one range, of all bytes of the value.
+fn is_whole(found: &PartRanges) -> bool
+    ensures { IsTrue result → found.now.ranges.items
+        ≡ record { offset = 0; length = found.now.size } ∷ [] }
 {
-    let start = region.start().to_vec(alloc)?;
-    let mut shape = region.shape().to_vec(alloc)?;
-    let count = shape.len();
-    shape[count - 1] = 1;
-    Ok(ArraySubset { start, shape })
+    let ranges = found.ranges.as_slice();
+    ranges.len() == 1 && ranges[0].offset == 0 && ranges[0].length == found.size
 }
 
-/// The ranges of lines that start at these places of an array, of which those that lie one after
-/// another are one.
-fn line_ranges(
-    alloc: Global,
-    starts: &ArraySubset,
-    shape: &[u64],
-    sizes: LineSizes,
-) -> Result<Vec<ByteRange>, AllocError>
-    requires { AreLinesInside (region_of starts.now) shape.now sizes }
-    ensures are { IfOk result (λ ranges. (value : List ℕ) → bytes_in_ranges value ranges.items
-        ≡ bytes_of_lines sizes.width sizes.line value (linearised (region_of starts.now) shape.now)) }
-    ensures within { IfOk result
-        (λ ranges. list_any (ends_after sizes.value) ranges.items ≡ false) }
+/// One range, of a value of this size.
+fn one_range(alloc: Global, offset: u64, length: u64, size: u64) -> Result<PartRanges, AllocError>
+    ensures size { IfOk result (λ found. found.size ≡ size) }
+    ensures range { IfOk result (λ found.
+        found.ranges.items ≡ record { offset = offset; length = length } ∷ []) }
 {
-    let mut ranges = Vec::new(alloc);
-    let mut open = ByteRange {
-        offset: 0,
-        length: 0,
-    };
-    for number in starts.linearised_indices(shape).unwrap() {
-        let line = line_range(number, sizes);
-        open = match joined(open, line) {
-            Some(both) => both,
-            None => {
-                push_range(&mut ranges, open)?;
-                line
-            }
-        };
+    let mut ranges = Vec::with_capacity(alloc, 1)?;
+    ranges.push(ByteRange { offset, length })?;
+    Ok(PartRanges { size, ranges })
+}
+
+/// Puts the ranges of a row at the end of others, for the row with this number.
+fn push_row(ranges: &mut Vec<ByteRange>, row: &PartRanges, number: u64) -> Result<(), AllocError>
+    requires small { number * row.now.size + row.now.size < 2 ^ 63 }
+    requires within { list_any (ends_after row.now.size) row.now.ranges.items ≡ false }
+    ensures { OnOk result (ranges.new.items
+        ≡ ranges.old.items ++ map (moved_by (number * row.now.size)) row.now.ranges.items) }
+{
+    let offset = number * row.size;
+    for range in row.ranges.as_slice() {
+        ranges.push(ByteRange {
+            offset: offset + range.offset,
+            length: range.length,
+        })?;
     }
-    push_range(&mut ranges, open)?;
-    Ok(ranges)
+    Ok(())
 }
 
 /// The range of the line that starts at the element with this number.
@@ -215,7 +186,8 @@ pub(crate) fn line_range(number: u64, sizes: LineSizes) -> ByteRange
 pub(crate) fn joined(first: ByteRange, second: ByteRange) -> Option<ByteRange>
     ensures are { IfSome result (λ both. (value : List ℕ)
         → bytes_at value both ≡ bytes_at value first ++ bytes_at value second) }
-    ensures within { IfSome result (λ both. (size : ℕ) → ends_after size both ≡ ends_after size second) }
+    ensures within { IfSome result
+        (λ both. (size : ℕ) → ends_after size both ≡ ends_after size second) }
 {
     match first.offset.checked_add(first.length) {
         Some(end) if end == second.offset => {}

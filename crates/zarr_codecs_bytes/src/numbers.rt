@@ -4,7 +4,8 @@ ghost use Rattle.std.specs.List.{list_all, list_any};
 ghost use Rattle.zarr_grids_boxes.specs.Boxes.{product};
 ghost use Rattle.zarr_codecs_meaning.specs.Types.{is_fixed};
 ghost use Rattle.zarr_codecs_arrays.specs.Views.{elements_of};
-ghost use Rattle.zarr_codecs_bytes.specs.Lines.{bytes_in_ranges, bytes_of_lines, ends_after, line_ends_within};
+ghost use Rattle.zarr_codecs_traits.specs.Sources.{bytes_in_ranges};
+ghost use Rattle.zarr_codecs_bytes.specs.Lines.{bytes_of_lines, ends_after, line_ends_within};
 ghost use Rattle.zarr_codecs_bytes.specs.Parts.{listed_width};
 
 use crate::lines::{LineSizes, joined, line_range, push_range};

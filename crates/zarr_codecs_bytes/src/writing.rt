@@ -146,7 +146,8 @@ fn element_patches(
     requires size { size ≡
         product part.shape.now * bytes_in (components (elements_of part.elements.now).type) }
     requires small { size < 2 ^ 63 }
-    requires long { length content.now ≡ length (numbers_asked part.shape.now (asked_of part.indexer))
+    requires long { length content.now ≡
+        length (numbers_asked part.shape.now (asked_of part.indexer))
         * bytes_in (components (elements_of part.elements.now).type) }
     ensures { IfOk result (λ patches. PutsElements
         (bytes_in (components (elements_of part.entry.elements.now).type)) size

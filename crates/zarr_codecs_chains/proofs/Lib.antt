@@ -13,3 +13,4 @@ pub mod Names
 pub mod Configured
 pub mod Refused
 pub mod LongIndex
+pub mod Alone

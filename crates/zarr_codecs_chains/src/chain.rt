@@ -8,6 +8,7 @@ use crate::fitting::fits_chain;
 use crate::reading::read_chain;
 use crate::writing::chain_metadatas;
 use std::alloc::{AllocError, Global};
+use zarr_codecs_around::array_codecs::AfterArrayCodecs;
 use zarr_codecs_around::array_metadata::array_copies;
 use zarr_codecs_around::part_reading::decode_part_after;
 use zarr_codecs_around::part_writing::encode_part_after;
@@ -222,8 +223,13 @@ impl<B: BytesToBytesCodecTraits> ArrayToBytesCodecTraits for CodecChain<B> {
         if self.array_to_array.is_empty() {
             return self.others.partial_decode(alloc, source, part, options);
         }
-        let codecs = self.array_to_array.as_slice();
-        decode_part_after(&self.others, alloc, codecs, source, part, options)
+        let array_to_array = self.array_to_array.as_slice();
+        let rest = &self.others;
+        let chain = AfterArrayCodecs {
+            array_to_array,
+            rest,
+        };
+        decode_part_after(chain, alloc, source, part, options)
     }
 
     fn takes_patches(&self, data_type: &DataType) -> bool {
@@ -256,8 +262,13 @@ impl<B: BytesToBytesCodecTraits> ArrayToBytesCodecTraits for CodecChain<B> {
                 .others
                 .partial_encode(alloc, source, bytes, part, options);
         }
-        let codecs = self.array_to_array.as_slice();
-        encode_part_after(&self.others, alloc, codecs, source, bytes, part, options)
+        let array_to_array = self.array_to_array.as_slice();
+        let rest = &self.others;
+        let chain = AfterArrayCodecs {
+            array_to_array,
+            rest,
+        };
+        encode_part_after(chain, alloc, source, bytes, part, options)
     }
 
     fn compact(

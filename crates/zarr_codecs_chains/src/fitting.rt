@@ -30,13 +30,12 @@ pub(crate) fn fits_chain<B: BytesToBytesCodecTraits>(
     ensures { IfOk result (λ fit. fit ≡ fits (meaning_of B.meaning chain.now)
         (type_of data_type.now) shape.now) }
 {
+    let codec = &chain.others.array_to_bytes;
+    if chain.array_to_array.is_empty() {
+        return fits_codec(codec, alloc, data_type, shape);
+    }
     match shape_after(alloc, chain.array_to_array.as_slice(), shape) {
-        Ok(last) => fits_codec(
-            &chain.others.array_to_bytes,
-            alloc,
-            data_type,
-            last.as_slice(),
-        ),
+        Ok(last) => fits_codec(codec, alloc, data_type, last.as_slice()),
         Err(CodecError::Fit) => Ok(false),
         Err(_) => Err(AllocError),
     }

@@ -72,7 +72,8 @@ impl<B: BytesToBytesCodecTraits> OptionalCodec<B> {
         ensures mask_names { IfOk result
             (λ codec. NamesChain (optional_mask codec) (optional_points configuration.now).mask) }
         ensures data_names { IfOk result
-            (λ codec. NamesChain (optional_data codec) (optional_points configuration.now).content) }
+            (λ codec. NamesChain (optional_data codec)
+            (optional_points configuration.now).content) }
         ensures err { IfErr result (λ e. e ≢ PluginCreateError.Memory
             → configured_optional B.reads (optional_points configuration.now) ≡ None) }
         ensures refused { IfErr result (λ e. e ≢ PluginCreateError.Memory

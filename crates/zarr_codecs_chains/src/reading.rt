@@ -190,7 +190,8 @@ fn boxed_vlen<B: BytesToBytesCodecTraits>(
     alloc: Global,
     read: Result<VlenCodec<B>, PluginCreateError>,
 ) -> Result<ArrayToBytesCodec<B>, PluginCreateError>
-    ensures ok { (said : Option Chain) → IfOk read (λ codec. said ≡ Some (vlen_chain B.meaning codec))
+    ensures ok { (said : Option Chain)
+        → IfOk read (λ codec. said ≡ Some (vlen_chain B.meaning codec))
         → IfOk result (λ codec. said ≡ Some (codec_chain B.meaning codec)) }
     ensures names { (point : ExtensionPoint) → IfOk read (λ codec. NamesVlen codec point)
         → IfOk result (λ codec. Names codec point) }

@@ -1,12 +1,14 @@
 -- Texts of lists that grow element by element.
-use Rattle.std.proofs.Common.{◌≡◌, ℕ, suc, ◌+◌, ◌-◌, ◌*◌, ◌<◌, ◌≤◌, pos, negsuc, List, [], ◌∷◌, ◌++◌, length, map, take, drop, get_or, ap, ◌∙◌, sym, refl, arith, Result, Ok, Err, OnOk, OnErr, Bool, true, if◌then◌else◌, decimal, append-nil, append_assoc, length-take, take-append-drop}
+use Rattle.std.proofs.Common.{◌≡◌, ℕ, suc, ◌+◌, ◌-◌, ◌*◌, ◌<◌, ◌≤◌, pos, negsuc, List, [], ◌∷◌, ◌++◌, length, map, take, drop, get_or, ap, ◌∙◌, sym, refl, arith, Result, Ok, Err, OnOk, OnErr, Bool, true, false, if◌then◌else◌, ◌&&◌, ◌==◌, not, decimal, append-nil, append_assoc, length-take, take-append-drop}
 use Rattle.std.specs.Prelude.{nat_lt}
-use Rattle.std.specs.List.{range_with_len}
+use Rattle.std.specs.List.{list_all, range_with_len}
+use Rattle.std.specs.Result.{is_ok}
 use Rattle.std.proofs.Math.Nat.{div-eq_of_lt}
-use Rattle.std.proofs.lemmas.Bool.{le-ltb}
+use Rattle.std.proofs.lemmas.Bool.{le-ltb, ltb-true, eq-eqb, and_parts}
 use Rattle.std.proofs.lemmas.List.{take-append-le, take-take}
 use Rattle.std.proofs.lemmas.Result.{on_ok_weaker}
-use Rattle.json.specs.Print.{print, print_from, quoted}
+use Rattle.json.proofs.Printed.Strings.{escape_byte_plain}
+use Rattle.json.specs.Print.{escape, escape_byte, print, print_from, quoted}
 use Rattle.json.specs.Token.{string}
 use Rattle.json.specs.Written.{Written, Writes}
 use Rattle.serde_json.specs.Data.{item}
@@ -109,3 +111,29 @@ string_written (Ok x) old new before s out first none w is =
 string_written (Err x) old new before s out first none w is =
     let start : new.before ≡ before = w.room.0 ∙ first in
     (tt, is ∙ (ap (λ ns. ns ++ print new.tokens) start ∙ (ap (λ ts. before ++ print ts) (w.err ∙ none) ∙ (nothing_printed before))))
+
+abbrev pub is_plain : ℕ → Bool
+is_plain b = (nat_lt 31 b && not (b == 34)) && not (b == 92)
+
+no_both : (b : Bool) → not b ≡ true → b ≡ true → ⊥
+no_both true h is = cc
+no_both false h is = cc
+
+plain_byte : (b : ℕ) → is_plain b ≡ true → escape_byte b ≡ b ∷ []
+plain_byte b h =
+    let outer = and_parts (nat_lt 31 b && not (b == 34)) (not (b == 92)) h in
+    let inner = and_parts (nat_lt 31 b) (not (b == 34)) outer.0 in
+    let high = ltb-true 31 b inner.0 in
+    escape_byte_plain b (λ e. no_both (b == 34) inner.1 (eq-eqb b 34 e)) (λ e. no_both (b == 92) outer.1 (eq-eqb b 92 e)) (omega arith)
+
+plain_text : (bs : List ℕ) → list_all is_plain bs ≡ true → escape bs ≡ bs
+plain_text [] h = refl
+plain_text (b ∷ bs) h = let t = and_parts (is_plain b) (list_all is_plain bs) h in ap (λ ns. ns ++ escape bs) (plain_byte b t.0) ∙ ap (λ ns. b ∷ ns) (plain_text bs t.1)
+
+pub plain_quoted : (tested given s : List ℕ) → tested ≡ s → list_all is_plain tested ≡ true → given ≡ s → 34 ∷ (given ++ 34 ∷ []) ≡ quoted s
+plain_quoted tested given s same h is = ap (λ ns. 34 ∷ (ns ++ 34 ∷ [])) (is ∙ sym (plain_text s (sym (ap (list_all is_plain) same) ∙ h)))
+
+-- an escaped text after another, where there was room for it
+pub escaped_appended : {A E : Type 0} (r : Result A E) (old more text new : List ℕ) → more ≡ text → new ≡ (if is_ok r then old ++ more else old) → OnOk r (new ≡ old ++ text)
+escaped_appended (Ok x) old more text new is h = h ∙ ap (λ ns. old ++ ns) is
+escaped_appended (Err e) old more text new is h = tt

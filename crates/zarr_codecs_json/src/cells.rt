@@ -1,5 +1,6 @@
 //! The texts of elements, one by one.
-ghost use Rattle.std.specs.Prelude.{◌≡◌, ℕ, ◌≤◌, ◌<◌, ◌*◌, ◌+◌, ◌++◌, Some, None, true, IfOk, OnOk, OnErr, length, slice_index_or};
+ghost use Rattle.std.specs.Prelude.{◌≡◌, ◌==◌, ◌&&◌, ℕ, ◌≤◌, ◌<◌, ◌*◌, ◌+◌, ◌++◌, [], ◌∷◌, Some, None, true, not, nat_lt, IfOk, OnOk, OnErr, length, slice_index_or};
+ghost use Rattle.std.specs.List.{list_all};
 ghost use Rattle.serde_json.specs.Data.{array};
 ghost use Rattle.serde_json.specs.Written.{compact_text};
 ghost use Rattle.json.specs.Print.{quoted};
@@ -13,7 +14,6 @@ ghost use Rattle.zarr_codecs_json.specs.Texts.{Appends, Begins, all_cells, eleme
 use crate::numbers::{Kind, number_width, push_element, push_numbers};
 use json::Writer;
 use std::alloc::AllocError;
-use std::mem::replace;
 use zarr_codecs_arrays::{ArrayBytes, ArrayBytesOffsets};
 use zarr_codecs_types::{DataType, is_value_in_bytes};
 
@@ -197,15 +197,51 @@ fn push_string(text: &mut Vec<u8>, bytes: &[u8]) -> Result<bool, AllocError>
     Ok(true)
 }
 
+/// Appends a string in quotes, with the shortest escapes.
 fn push_quoted(text: &mut Vec<u8>, string: &str) -> Result<(), AllocError>
+    ensures ok { OnOk result (text.new.items ≡ text.old.items ++ quoted string.now) }
+    ensures err { OnErr result (Begins text.old.items text.new.items) }
+{
+    if are_plain(string.as_bytes()) {
+        return push_plain(text, string.as_bytes());
+    }
+    push_escaped(text, string)
+}
+
+/// Whether all bytes stand for themselves in a string in quotes.
+fn are_plain(bytes: &[u8]) -> bool
+    ensures { result
+        ≡ list_all (λ b. (nat_lt 31 b && not (b == 34)) && not (b == 92)) bytes.now }
+{
+    bytes
+        .iter()
+        .all(|byte| *byte > 31 && *byte != b'"' && *byte != b'\\')
+}
+
+/// Appends bytes in quotes.
+fn push_plain(text: &mut Vec<u8>, bytes: &[u8]) -> Result<(), AllocError>
+    ensures ok { OnOk result
+        (text.new.items ≡ text.old.items ++ 34 ∷ (bytes.now ++ 34 ∷ [])) }
+    ensures err { OnErr result (Begins text.old.items text.new.items) }
+{
+    text.push(b'"')?;
+    text.extend_from_slice(bytes)?;
+    text.push(b'"')?;
+    Ok(())
+}
+
+/// As `push_quoted`, by a writer that begins with no text: a writer over one that it is to follow
+/// clears much of the memory behind it first.
+fn push_escaped(text: &mut Vec<u8>, string: &str) -> Result<(), AllocError>
     ensures ok { OnOk result (text.new.items ≡ text.old.items ++ quoted string.now) }
     ensures err { OnErr result (text.new.items ≡ text.old.items) }
 {
-    let empty = Vec::new(*text.allocator());
-    let mut writer = Writer::new(replace(text, empty));
-    let written = writer.string(string);
-    *text = writer.into_inner();
-    written
+    let room = string.len().saturating_add(16);
+    let mut writer = Writer::new(Vec::with_capacity(*text.allocator(), room)?);
+    match writer.string(string) {
+        Ok(()) => text.extend_from_slice(writer.into_inner().as_slice()),
+        Err(error) => Err(error),
+    }
 }
 
 /// Appends a list of bytes.

@@ -50,7 +50,8 @@ pub(crate) fn box_runs(
 ) -> Result<Vec<Run>, AllocError>
     requires inside { lies_in shape.now (region_of region.now) ≡ true }
     requires small { product shape.now < 2 ^ 63 }
-    ensures { IfOk result (λ runs. AreRuns (numbers_of shape.now (region_of region.now)) runs.items) }
+    ensures { IfOk result
+        (λ runs. AreRuns (numbers_of shape.now (region_of region.now)) runs.items) }
 {
     let mut runs = Vec::new(alloc);
     if region.is_empty() {

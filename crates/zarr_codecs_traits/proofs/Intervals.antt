@@ -1,12 +1,13 @@
 -- Ranges of an interval of a value.
 use Rattle.std.proofs.Common.{◌≡◌, ℕ, ◌+◌, ◌-◌, ◌≤◌, List, [], ◌∷◌, length, take, drop, map, ap, ◌∙◌, sym, refl, arith, Option, None, Some, Bool, true, false, ◌||◌, Result, Ok, Err, IsTrue, length-take, length-drop}
 use Rattle.std.specs.Prelude.{OnOk, nat_lt}
-use Rattle.std.specs.List.{list_any}
+use Rattle.std.specs.List.{flat_map, list_any}
 use Rattle.std.proofs.lemmas.Bool.{false≢true, le-ltb, leb-true, ltb-false}
 use Rattle.std.proofs.lemmas.List.{drop-drop, drop-take, take-take}
+use Rattle.std.proofs.lemmas.List.Folds.{flat_map-map}
 use Rattle.zarr_codecs_arrays.specs.declared.error.CodecError.{CodecError}
 use Rattle.zarr_codecs_arrays.specs.declared.error.CodecError.TheVariants as error
-use Rattle.zarr_codecs_traits.specs.Sources.{RangesRefused, any_past_end, bytes_at, ends_past, has_range, interval_of, is_outside, moved_range, parts_of}
+use Rattle.zarr_codecs_traits.specs.Sources.{RangesRefused, any_past_end, bytes_at, concat_of, ends_past, has_range, interval_of, is_outside, moved_range, parts_of}
 use Rattle.zarr_codecs_traits.specs.declared.byte_range.ByteRange.{ByteRange}
 
 -- a part of an interval is a part of the whole
@@ -33,6 +34,12 @@ interval_bytes value interval (range ∷ ranges) inside =
 pub interval_parts : (contents : Option (List ℕ)) (interval : ByteRange) (ranges : List ByteRange) → list_any (is_outside interval) ranges ≡ false → parts_of contents (map (moved_range interval) ranges) ≡ parts_of (interval_of contents interval) ranges
 interval_parts None interval ranges inside = refl
 interval_parts (Some value) interval ranges inside = ap Some (interval_bytes value interval ranges inside)
+
+pub interval_concat : (contents : Option (List ℕ)) (interval : ByteRange) (ranges : List ByteRange) → list_any (is_outside interval) ranges ≡ false → concat_of contents (map (moved_range interval) ranges) ≡ concat_of (interval_of contents interval) ranges
+interval_concat None interval ranges inside = refl
+interval_concat (Some value) interval ranges inside =
+    let part = λ (bytes : List ℕ). bytes in
+    ap Some (sym (flat_map-map part (bytes_at value) (map (moved_range interval) ranges)) ∙ (ap (flat_map part) (interval_bytes value interval ranges inside) ∙ flat_map-map part (bytes_at (bytes_at value interval)) ranges))
 
 -- ranges that lie in an interval of a value lie in the value
 ranges_end : (value : List ℕ) (interval : ByteRange) (ranges : List ByteRange) → interval.offset + interval.length ≤ length value → list_any (is_outside interval) ranges ≡ false → list_any (ends_past value) (map (moved_range interval) ranges) ≡ false

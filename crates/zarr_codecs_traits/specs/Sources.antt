@@ -1,5 +1,5 @@
 -- What sources of bytes answer.
-use Rattle.std.specs.Prelude.{ℕ, ◌+◌, ◌-◌, ◌^◌, min, map, List, Vec, Bool, Option, None, Some, option_map, length, take, drop, false, nat_lt, IsTrue, Result, Ok, Err, nat_le, sum_by}
+use Rattle.std.specs.Prelude.{◌≡◌, ◌≤◌, ℕ, ◌+◌, ◌-◌, ◌^◌, min, map, List, Vec, flat_map, Bool, Option, None, Some, option_map, length, take, drop, false, nat_lt, IsTrue, Result, Ok, Err, nat_le, sum_by}
 use Rattle.std.specs.List.{list_any}
 use Rattle.std.specs.Option.{option_map_or}
 use Rattle.std.specs.declared.alloc.Global.{Global}
@@ -16,6 +16,14 @@ bytes_at value range = take range.length (drop range.offset value)
 -- the bytes in each of the ranges, or none where there is no value
 abbrev pub parts_of : Option (List ℕ) → List ByteRange → Option (List (List ℕ))
 parts_of contents ranges = option_map (λ value. map (bytes_at value) ranges) contents
+
+-- the bytes of a value in each of the ranges, one after another
+abbrev pub bytes_in_ranges : List ℕ → List ByteRange → List ℕ
+bytes_in_ranges value ranges = flat_map (bytes_at value) ranges
+
+-- the bytes in each of the ranges, one after another, or none where there is no value
+abbrev pub concat_of : Option (List ℕ) → List ByteRange → Option (List ℕ)
+concat_of contents ranges = option_map (λ value. bytes_in_ranges value ranges) contents
 
 -- whether a range ends past the end of a value
 abbrev pub ends_past : List ℕ → ByteRange → Bool
@@ -53,6 +61,16 @@ given_after count (Err e) = count
 abbrev pub value_length : Option (List ℕ) → ℕ
 value_length contents = option_map_or length contents 0
 
+-- the bytes of a value, if there is one
+abbrev pub value_bytes : Option (Vec ℕ Global) → Option (List ℕ)
+value_bytes value = option_map (λ (bytes : Vec ℕ Global). bytes.items) value
+
+-- whether the second is the count of bytes given after ranges were asked for in one piece: as many more as were given, and none where the call was refused; but where memory ran out, bytes may have been given before (a count stands still at 2^128 - 1)
+abbrev pub IsGivenAfter : ℕ → Result (Option (Vec ℕ Global)) CodecError → ℕ → Type 0
+IsGivenAfter count (Ok found) after = after ≡ min (count + value_length (value_bytes found)) (2 ^ 128 - 1)
+IsGivenAfter count (Err error.Memory) after = min count (2 ^ 128 - 1) ≤ after
+IsGivenAfter count (Err e) after = after ≡ count
+
 -- why a source is not read: it refuses, or memory ran out
 abbrev pub ReadRefused : {A : Type 0} → Result A CodecError → Type 0
 ReadRefused (Ok value) = Unit {0}
@@ -88,10 +106,6 @@ value_lent None = None
 value_lent (Some value) = Some value.now
 
 -- ---- the source in memory
-
--- the bytes of a value, if there is one
-abbrev pub value_bytes : Option (Vec ℕ Global) → Option (List ℕ)
-value_bytes value = option_map (λ (bytes : Vec ℕ Global). bytes.items) value
 
 -- the value that a source in memory holds, if it holds one
 abbrev pub source_contents : MemorySource → Option (List ℕ)

@@ -1,8 +1,8 @@
 //! Sources of bytes that are read in part.
-ghost use Rattle.std.specs.Prelude.{◌≡◌, ◌≤◌, ℕ, List, Bool, Option, IsTrue, IfOk, OnOk, option_map, is_some, length, false};
-ghost use Rattle.zarr_codecs_traits.specs.Sources.{ReadRefused, RangesRefused, any_past_end, given_after, part_lists, parts_of, refused_after};
+ghost use Rattle.std.specs.Prelude.{◌≡◌, ◌≤◌, ◌+◌, ℕ, List, Bool, Option, IsTrue, IfOk, OnOk, option_map, is_some, length, false};
+ghost use Rattle.zarr_codecs_traits.specs.Sources.{IsGivenAfter, ReadRefused, RangesRefused, any_past_end, concat_of, given_after, part_lists, parts_of, refused_after, value_bytes, value_length};
 
-use crate::byte_range::ByteRange;
+use crate::byte_range::{ByteRange, concat};
 use std::alloc::Global;
 use zarr_codecs_arrays::CodecError;
 
@@ -18,7 +18,8 @@ pub trait BytesPartialDecoderTraits {
     /// How many calls were refused by what stands behind it.
     ghost refused_calls: { Self → ℕ };
 
-    /// How many bytes `partial_decode` gave. At 2^128 - 1 each count stands still.
+    /// How many bytes `partial_decode` and `partial_decode_concat` gave. At 2^128 - 1 each count
+    /// stands still.
     ghost given_bytes: { Self → ℕ };
 
     /// Whether the second is the first after calls: a source of the same value, with all else that
@@ -54,6 +55,32 @@ pub trait BytesPartialDecoderTraits {
         ensures refused { refused_calls self.new ≡ refused_after (refused_calls self.old) result }
         ensures given { given_bytes self.new ≡ given_after (given_bytes self.old) result }
         ensures follows { follows self.old self.new };
+
+    /// The bytes of the value in each range, one after another, or `None` where there is no value.
+    /// `Source` where the source refuses, and `Damage` where a range ends past the end of the value.
+    /// Where memory runs out, bytes may have been given before.
+    fn partial_decode_concat(
+        &mut self,
+        alloc: Global,
+        ranges: &[ByteRange],
+    ) -> Result<Option<Vec<u8>>, CodecError>
+        ensures bytes { IsTrue (is_honest self.old) → IfOk result
+            (λ found. value_bytes found ≡ concat_of (contents self.old) ranges.now) }
+        ensures in_range { IsTrue (is_honest self.old) →
+            OnOk result (any_past_end (contents self.old) ranges.now ≡ false) }
+        ensures cause { IsTrue (is_honest self.old) →
+            RangesRefused (contents self.old) ranges.now result }
+        ensures refused { refused_calls self.new ≡ refused_after (refused_calls self.old) result }
+        ensures given { IsGivenAfter (given_bytes self.old) result (given_bytes self.new) }
+        ensures most { IsTrue (is_honest self.old) → given_bytes self.new
+            ≤ given_bytes self.old + value_length (concat_of (contents self.old) ranges.now) }
+        ensures follows { follows self.old self.new }
+    {
+        match self.partial_decode(alloc, ranges)? {
+            Some(parts) => Ok(Some(concat(alloc, parts)?)),
+            None => Ok(None),
+        }
+    }
 
     /// Whether there is a value. `Source` where the source refuses.
     fn exists(&mut self) -> Result<bool, CodecError>

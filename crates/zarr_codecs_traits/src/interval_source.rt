@@ -95,6 +95,17 @@ impl<'a, D: BytesPartialDecoderTraits> BytesPartialDecoderTraits for IntervalSou
         }
     }
 
+    fn partial_decode_concat(
+        &mut self,
+        alloc: Global,
+        ranges: &[ByteRange],
+    ) -> Result<Option<Vec<u8>>, CodecError> {
+        match moved_ranges(alloc, self.range, ranges)? {
+            Some(moved) => self.source.partial_decode_concat(alloc, moved.as_slice()),
+            None => Err(CodecError::Damage),
+        }
+    }
+
     fn size_held(&self) -> usize {
         0
     }

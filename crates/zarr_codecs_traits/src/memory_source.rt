@@ -3,7 +3,7 @@ ghost use Rattle.std.specs.Prelude.{◌≡◌, Some, true, false, OnOk, OnErr};
 ghost use Rattle.zarr_codecs_traits.specs.Patches.{any_too_far, patched_contents};
 ghost use Rattle.zarr_codecs_traits.specs.Sources.{source_accepted, source_contents, source_given, source_length, value_bytes};
 
-use crate::byte_range::{ByteRange, any_ends_past, count_parts, read_ranges};
+use crate::byte_range::{ByteRange, any_ends_past, count_parts, read_concat, read_ranges};
 use crate::byte_source::BytesPartialDecoderTraits;
 use crate::byte_target::BytesPartialEncoderTraits;
 use crate::value_patch;
@@ -88,6 +88,23 @@ impl BytesPartialDecoderTraits for MemorySource {
         let parts = read_ranges(alloc, value, ranges)?;
         self.given = count_parts(given, parts.as_slice());
         Ok(Some(parts))
+    }
+
+    fn partial_decode_concat(
+        &mut self,
+        alloc: Global,
+        ranges: &[ByteRange],
+    ) -> Result<Option<Vec<u8>>, CodecError> {
+        let given = self.given;
+        match &self.value {
+            Some(value) if any_ends_past(value, ranges) => Err(CodecError::Damage),
+            Some(value) => {
+                let bytes = read_concat(alloc, value, ranges)?;
+                self.given = given.saturating_add(bytes.len() as u128);
+                Ok(Some(bytes))
+            }
+            _ => Ok(None),
+        }
     }
 
     fn size_held(&self) -> usize {

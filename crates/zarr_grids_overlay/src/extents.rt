@@ -20,8 +20,10 @@ impl<'a> Extent<'a> {
         ensures low { result.0 ≡ max (slice_index self.entry.start.now dimension)
             (slice_index other.entry.start.now dimension) }
         ensures high { result.1 ≡ min
-            (slice_index self.entry.start.now dimension + slice_index self.entry.shape.now dimension)
-            (slice_index other.entry.start.now dimension + slice_index other.entry.shape.now dimension) }
+            (slice_index self.entry.start.now dimension
+            + slice_index self.entry.shape.now dimension)
+            (slice_index other.entry.start.now dimension
+            + slice_index other.entry.shape.now dimension) }
     {
         let (start, other_start) = (self.start[dimension], other.start[dimension]);
         let end = start + self.shape[dimension];

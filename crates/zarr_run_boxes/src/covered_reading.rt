@@ -11,7 +11,7 @@ ghost use Rattle.zarr_run_boxes.specs.Outcomes.{GivesCovered, CoveredReadRefused
 use crate::refusal::cause_of;
 use crate::targets::small_chunks_intersecting;
 use std::alloc::Global;
-use zarr_array_core::{ArrayCore, RegionChunks};
+use zarr_array_core::{ArrayCore, ChunkRooms, RegionChunks};
 use zarr_array_storage::ReadableStorageTraits;
 use zarr_codecs_arrays::ArrayBytes;
 use zarr_codecs_options::CodecOptions;
@@ -37,7 +37,7 @@ fn no_cells<C: ArrayToBytesCodecTraits>(
 
 /// The cells of a covered region, row-major.
 pub(crate) fn read_covered<C: ArrayToBytesCodecTraits, S: ReadableStorageTraits>(
-    alloc: Global,
+    rooms: &mut ChunkRooms,
     array: &ArrayCore<C>,
     store: &mut S,
     region: &ArraySubset,
@@ -54,6 +54,7 @@ pub(crate) fn read_covered<C: ArrayToBytesCodecTraits, S: ReadableStorageTraits>
     ensures honest { S.is_honest store.new ≡ S.is_honest store.old }
     ensures refused { S.refused_calls store.new ≡ refused_with (S.refused_calls store.old) result }
 {
+    let alloc = rooms.alloc();
     let Some(count) = count_places(&region.shape) else {
         return Err(Cause::Size);
     };
@@ -65,7 +66,7 @@ pub(crate) fn read_covered<C: ArrayToBytesCodecTraits, S: ReadableStorageTraits>
         region,
         chunks: &chunks,
     };
-    match array.read_region(alloc, store, target, options) {
+    match array.read_region(rooms, store, target, options) {
         Ok(bytes) => Ok(bytes),
         Err(error) => Err(cause_of(&error)),
     }

@@ -17,7 +17,7 @@ use crate::refusal::Refusal;
 use crate::targets::small_chunks_intersecting;
 use serde_json::Value;
 use std::alloc::Global;
-use zarr_array_core::{ArrayCore, RegionChunks};
+use zarr_array_core::{ArrayCore, ChunkRooms, RegionChunks};
 use zarr_array_storage::WritableStorageTraits;
 use zarr_codecs_arrays::ArrayBytes;
 use zarr_codecs_json::{elements_in, elements_of_numbers};
@@ -30,7 +30,7 @@ use zarr_run_meaning::Cause;
 
 /// Writes the cells of a covered region, row-major.
 pub(crate) fn write_covered<C: ArrayToBytesCodecTraits, S: WritableStorageTraits>(
-    alloc: Global,
+    rooms: &mut ChunkRooms,
     array: &ArrayCore<C>,
     store: &mut S,
     region: &ArraySubset,
@@ -49,14 +49,15 @@ pub(crate) fn write_covered<C: ArrayToBytesCodecTraits, S: WritableStorageTraits
     ensures honest { S.is_honest store.new ≡ S.is_honest store.old }
     ensures refused { S.refused_calls store.new ≡ refused_by (S.refused_calls store.old) result }
 {
+    let alloc = rooms.alloc();
     match cells {
-        CommandCells::Bytes(bytes) => write_elements(alloc, array, store, region, bytes, options),
+        CommandCells::Bytes(bytes) => write_elements(rooms, array, store, region, bytes, options),
         CommandCells::Json(value) => match json_elements(alloc, array, value) {
-            Ok(bytes) => write_elements(alloc, array, store, region, &bytes, options),
+            Ok(bytes) => write_elements(rooms, array, store, region, &bytes, options),
             Err(cause) => Err(Refusal::whole(cause)),
         },
         CommandCells::Numbers(numbers) => match number_elements(alloc, array, numbers.as_slice()) {
-            Ok(bytes) => write_elements(alloc, array, store, region, &bytes, options),
+            Ok(bytes) => write_elements(rooms, array, store, region, &bytes, options),
             Err(cause) => Err(Refusal::whole(cause)),
         },
     }
@@ -133,7 +134,7 @@ fn count_values<C: ArrayToBytesCodecTraits>(
 
 /// Writes elements to a covered region, row-major.
 fn write_elements<C: ArrayToBytesCodecTraits, S: WritableStorageTraits>(
-    alloc: Global,
+    rooms: &mut ChunkRooms,
     array: &ArrayCore<C>,
     store: &mut S,
     region: &ArraySubset,
@@ -157,7 +158,7 @@ fn write_elements<C: ArrayToBytesCodecTraits, S: WritableStorageTraits>(
         Ok(count) => count,
         Err(cause) => return Err(Refusal::whole(cause)),
     };
-    let chunks = match small_chunks_intersecting(alloc, array, region, count) {
+    let chunks = match small_chunks_intersecting(rooms.alloc(), array, region, count) {
         Ok(chunks) => chunks,
         Err(cause) => return Err(Refusal::whole(cause)),
     };
@@ -165,7 +166,7 @@ fn write_elements<C: ArrayToBytesCodecTraits, S: WritableStorageTraits>(
         region,
         chunks: &chunks,
     };
-    match array.write_region(alloc, store, target, elements, options) {
+    match array.write_region(rooms, store, target, elements, options) {
         Ok(()) => Ok(()),
         Err(stopped) => Err(Refusal::at_chunk(&stopped)),
     }

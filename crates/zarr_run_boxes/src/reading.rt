@@ -8,8 +8,7 @@ ghost use Rattle.zarr_run_boxes.specs.Outcomes.{ReadsTarget, ReadRefused, refuse
 
 use crate::covered_reading::read_covered;
 use crate::targets::{chunk_region, is_covered};
-use std::alloc::Global;
-use zarr_array_core::ArrayCore;
+use zarr_array_core::{ArrayCore, ChunkRooms};
 use zarr_array_storage::ReadableStorageTraits;
 use zarr_codecs_arrays::ArrayBytes;
 use zarr_codecs_options::CodecOptions;
@@ -22,7 +21,7 @@ use zarr_run_meaning::Cause;
 /// bytes or more, `Fit` where such a chunk has a value and does not fit its codecs, `Damage` where
 /// a place cannot be decoded, `Store` where the store refuses.
 pub fn read_box<C: ArrayToBytesCodecTraits, S: ReadableStorageTraits>(
-    alloc: Global,
+    rooms: &mut ChunkRooms,
     array: &ArrayCore<C>,
     store: &mut S,
     region: &ArraySubset,
@@ -41,13 +40,13 @@ pub fn read_box<C: ArrayToBytesCodecTraits, S: ReadableStorageTraits>(
     if !is_covered(array, region) {
         return Err(Cause::Region);
     }
-    read_covered(alloc, array, store, region, options)
+    read_covered(rooms, array, store, region, options)
 }
 
 /// The cells of a chunk, row-major. As `read_box`; `Region` where the chunk is none in the grid or
 /// has no box.
 pub fn read_chunk<C: ArrayToBytesCodecTraits, S: ReadableStorageTraits>(
-    alloc: Global,
+    rooms: &mut ChunkRooms,
     array: &ArrayCore<C>,
     store: &mut S,
     chunk: &[u64],
@@ -63,6 +62,6 @@ pub fn read_chunk<C: ArrayToBytesCodecTraits, S: ReadableStorageTraits>(
     ensures honest { S.is_honest store.new ≡ S.is_honest store.old }
     ensures refused { S.refused_calls store.new ≡ refused_with (S.refused_calls store.old) result }
 {
-    let region = chunk_region(alloc, array, chunk)?;
-    read_covered(alloc, array, store, &region, options)
+    let region = chunk_region(rooms.alloc(), array, chunk)?;
+    read_covered(rooms, array, store, &region, options)
 }

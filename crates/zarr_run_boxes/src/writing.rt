@@ -9,8 +9,7 @@ ghost use Rattle.zarr_run_commands.specs.Commands.{given};
 use crate::covered_writing::write_covered;
 use crate::refusal::Refusal;
 use crate::targets::{chunk_region, is_covered};
-use std::alloc::Global;
-use zarr_array_core::ArrayCore;
+use zarr_array_core::{ArrayCore, ChunkRooms};
 use zarr_array_storage::WritableStorageTraits;
 use zarr_codecs_options::CodecOptions;
 use zarr_codecs_traits::ArrayToBytesCodecTraits;
@@ -26,7 +25,7 @@ use zarr_run_meaning::Cause;
 /// where a codec refuses to encode, `Size` where its value is too large, `Store` where the store
 /// refuses.
 pub fn write_box<C: ArrayToBytesCodecTraits, S: WritableStorageTraits>(
-    alloc: Global,
+    rooms: &mut ChunkRooms,
     array: &ArrayCore<C>,
     store: &mut S,
     region: &ArraySubset,
@@ -47,13 +46,13 @@ pub fn write_box<C: ArrayToBytesCodecTraits, S: WritableStorageTraits>(
     if !is_covered(array, region) {
         return Err(Refusal::whole(Cause::Region));
     }
-    write_covered(alloc, array, store, region, cells, options)
+    write_covered(rooms, array, store, region, cells, options)
 }
 
 /// Writes the cells of a chunk, row-major. As `write_box`; `Region` where the chunk is none in the
 /// grid or has no box.
 pub fn write_chunk<C: ArrayToBytesCodecTraits, S: WritableStorageTraits>(
-    alloc: Global,
+    rooms: &mut ChunkRooms,
     array: &ArrayCore<C>,
     store: &mut S,
     chunk: &[u64],
@@ -71,8 +70,8 @@ pub fn write_chunk<C: ArrayToBytesCodecTraits, S: WritableStorageTraits>(
     ensures honest { S.is_honest store.new ≡ S.is_honest store.old }
     ensures refused { S.refused_calls store.new ≡ refused_by (S.refused_calls store.old) result }
 {
-    match chunk_region(alloc, array, chunk) {
-        Ok(region) => write_covered(alloc, array, store, &region, cells, options),
+    match chunk_region(rooms.alloc(), array, chunk) {
+        Ok(region) => write_covered(rooms, array, store, &region, cells, options),
         Err(cause) => Err(Refusal::whole(cause)),
     }
 }

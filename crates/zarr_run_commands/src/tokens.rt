@@ -17,6 +17,9 @@ use json::{Invalid, Reader, Scratch, Token};
 use std::alloc::{AllocError, AllocFailed, Global};
 use zarr_grids_boxes::ArraySubset;
 
+/// A list gets room for so many numbers at first.
+const FEW_NUMBERS: usize = 16;
+
 /// What the members of a line say, by their names. A member that comes twice counts as the last one
 /// of its name.
 #[derive(Drop)]
@@ -107,6 +110,7 @@ fn next_text<'a>(reader: &mut Reader<'a>) -> Result<&'a str, NotRead>
 }
 
 /// The next token, where it is a whole number.
+#[inline(always)]
 fn next_number(reader: &mut Reader<'_>) -> Result<u64, NotRead>
     ensures ok { IfOk result (λ n. (depth : ℕ) → converted of_json (value depth reader.old)
         ≡ Some (number (unsigned n), reader.new)) }
@@ -201,7 +205,7 @@ fn read_numbers(alloc: Global, reader: &mut Reader<'_>) -> Result<Vec<u64>, NotR
         ≡ Some (number_items v.items, reader.new)) }
     ensures shorter { OnOk result (length reader.new < length reader.old) }
 {
-    let mut found = Vec::new(alloc);
+    let mut found = Vec::with_capacity(alloc, FEW_NUMBERS)?;
     'items: while !reader.take_end_array() {
         let number = next_number(reader)?;
         found.push(number)?;

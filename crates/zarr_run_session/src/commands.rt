@@ -74,7 +74,7 @@ impl<S: WritableStorageTraits, B: BytesToBytesCodecTraits> Session<S, B> {
             Err(cause) => return Reply::Refused { cause, applied: 0 },
         };
         reply_to_change(write_box(
-            self.alloc,
+            &mut self.rooms,
             &array.core,
             &mut self.store,
             region,
@@ -103,7 +103,7 @@ impl<S: WritableStorageTraits, B: BytesToBytesCodecTraits> Session<S, B> {
             Err(cause) => return Reply::Refused { cause, applied: 0 },
         };
         reply_to_change(write_chunk(
-            self.alloc,
+            &mut self.rooms,
             &array.core,
             &mut self.store,
             chunk,
@@ -129,7 +129,13 @@ impl<S: WritableStorageTraits, B: BytesToBytesCodecTraits> Session<S, B> {
             Ok(array) => array,
             Err(cause) => return Reply::Refused { cause, applied: 0 },
         };
-        reply_to_read(read_box(self.alloc, &array.core, &mut self.store, region, options))
+        reply_to_read(read_box(
+            &mut self.rooms,
+            &array.core,
+            &mut self.store,
+            region,
+            options,
+        ))
     }
 
     /// Reads the cells of a chunk of the array at a path.
@@ -144,7 +150,13 @@ impl<S: WritableStorageTraits, B: BytesToBytesCodecTraits> Session<S, B> {
             Ok(array) => array,
             Err(cause) => return Reply::Refused { cause, applied: 0 },
         };
-        reply_to_read(read_chunk(self.alloc, &array.core, &mut self.store, chunk, options))
+        reply_to_read(read_chunk(
+            &mut self.rooms,
+            &array.core,
+            &mut self.store,
+            chunk,
+            options,
+        ))
     }
 
     /// Erases the chunks of a box of chunk indices of the array at a path.

@@ -1,6 +1,7 @@
 //! A session: the arrays that are held, over a store.
 use std::alloc::Global;
 use std::collections::BTreeMap;
+use zarr_array_core::ChunkRooms;
 use zarr_array_storage::WritableStorageTraits;
 use zarr_codecs_traits::BytesToBytesCodecTraits;
 use zarr_codecs_types::DataType;
@@ -13,6 +14,7 @@ use zarr_run_opening::HeldArray;
 #[derive(Drop)]
 pub struct Session<S, B: BytesToBytesCodecTraits> {
     pub(crate) alloc: Global,
+    pub(crate) rooms: ChunkRooms,
     pub(crate) store: S,
     pub(crate) arrays: BTreeMap<String, HeldArray<B>>,
 }
@@ -33,6 +35,7 @@ impl<S: WritableStorageTraits, B: BytesToBytesCodecTraits> Session<S, B> {
     {
         Session {
             alloc,
+            rooms: ChunkRooms::new(alloc),
             store,
             arrays: BTreeMap::new(alloc),
         }

@@ -4,6 +4,7 @@ ghost use Rattle.zarr_codecs_around.specs.Views.{codecs_of};
 ghost use Rattle.zarr_sharding_arrays.specs.Reshapes.{any_reshape};
 
 use std::alloc::{AllocError, Global};
+use zarr_codecs_around::array_codecs::AfterArrayCodecs;
 use zarr_codecs_around::array_metadata::array_copies;
 use zarr_codecs_around::part_reading::decode_part_after;
 use zarr_codecs_around::part_writing::encode_part_after;
@@ -159,8 +160,13 @@ impl<B: BytesToBytesCodecTraits, I: InnerCodec> ArrayToBytesCodecTraits for Shar
         if self.array_to_array.is_empty() {
             return self.others.partial_decode(alloc, source, part, options);
         }
-        let codecs = self.array_to_array.as_slice();
-        decode_part_after(&self.others, alloc, codecs, source, part, options)
+        let array_to_array = self.array_to_array.as_slice();
+        let rest = &self.others;
+        let chain = AfterArrayCodecs {
+            array_to_array,
+            rest,
+        };
+        decode_part_after(chain, alloc, source, part, options)
     }
 
     fn takes_patches(&self, _: &DataType) -> bool {
@@ -190,11 +196,16 @@ impl<B: BytesToBytesCodecTraits, I: InnerCodec> ArrayToBytesCodecTraits for Shar
                 .others
                 .partial_encode(alloc, source, bytes, part, options);
         }
-        let codecs = self.array_to_array.as_slice();
-        if has_reshape(codecs) {
+        let array_to_array = self.array_to_array.as_slice();
+        if has_reshape(array_to_array) {
             return encode_whole(self, alloc, source, bytes, part, options);
         }
-        encode_part_after(&self.others, alloc, codecs, source, bytes, part, options)
+        let rest = &self.others;
+        let chain = AfterArrayCodecs {
+            array_to_array,
+            rest,
+        };
+        encode_part_after(chain, alloc, source, bytes, part, options)
     }
 
     fn compact(

@@ -1,9 +1,8 @@
 -- Elements were put at places of an array, or why they weren't.
-use Rattle.std.proofs.Common.{◌≡◌, ◌∙◌, inr, ℕ, ◌<◌, ◌^◌, List, length, ap, sym, subst, Bool, true, OnOk, IfErr, Result, Ok, Err}
+use Rattle.std.proofs.Common.{◌≡◌, ◌∙◌, inr, ℕ, ◌<◌, ◌^◌, List, length, subst, Bool, true, OnOk, IfErr, Result, Ok, Err}
 use Rattle.std.specs.Prelude.{nat_lt}
 use Rattle.std.specs.List.{list_all}
 use Rattle.zarr_grids_boxes.specs.Boxes.{product}
-use Rattle.zarr_codecs_arrays.specs.Outcomes.{IsValid}
 use Rattle.zarr_codecs_arrays.specs.declared.error.CodecError.{CodecError}
 use Rattle.zarr_codecs_meaning.specs.Fits.{fits}
 use Rattle.zarr_codecs_meaning.specs.Laws.{IsLawfulChain}
@@ -25,10 +24,6 @@ pub record IsKnown (s : ShardOf) (held : Held) : Type 0 where
   pub small : product s.shape < 2 ^ 63
   pub count : length held.pairs ≡ length (parts_of s.shape s.subchunk)
   pub told : IsTold s held
-
--- valid elements, for as many numbers as are lent
-pub lent_valid : (s : ShardOf) (asked : Asked) (payload : Payload) (numbers lent : List ℕ) → (a : AreAsked s.elements s.shape asked payload numbers) → lent ≡ numbers → IsValid s.elements.type payload (length lent) a.cells
-lent_valid s asked payload numbers lent a are = subst (λ n. IsValid s.elements.type payload n a.cells) (ap (λ (ns : List ℕ). length ns) (sym (are ∙ a.are))) a.given.valid
 
 pub put_ok : {A : Type 0} (result : Result A CodecError) (s : ShardOf) (exact one : Bool) (asked : Asked) (payload : Payload) (numbers lent : List ℕ) (old new : Held) → (a : AreAsked s.elements s.shape asked payload numbers) → lent ≡ numbers
     → list_all (λ n. nat_lt n (product s.shape)) numbers ≡ true → IsKnown s old → OnOk result (IsWritten s exact one (put_at s.shape s.subchunk lent a.cells) old new) → OnOk result ((cells : List Cell) × IsPutInto s exact one asked payload cells old new)

@@ -1,39 +1,50 @@
 //! Elements that are given for places of an array.
-ghost use Rattle.std.specs.Prelude.{◌≡◌, ◌<◌, ◌^◌, IfErr, IfOk, nat_lt, true};
-ghost use Rattle.std.specs.List.{list_all};
+ghost use Rattle.std.specs.Prelude.{◌≡◌, ◌<◌, ◌≤◌, ◌^◌, IfErr, IfNone, IfSome, OnOk, length, true};
 ghost use Rattle.zarr_codecs_arrays.specs.Views.{elements_of, payload_of};
-ghost use Rattle.zarr_codecs_traits.specs.Indexers.{asked_of};
+ghost use Rattle.zarr_codecs_traits.specs.Indexers.{are_inside, asked_of, numbers_asked};
 ghost use Rattle.zarr_grids_boxes.specs.Boxes.{product};
 ghost use Rattle.zarr_sharding_cells.specs.Puts.{AreAsked, NotGiven};
 
-use std::alloc::Global;
 use zarr_codecs_arrays::{ArrayBytes, CodecError};
-use zarr_codecs_regions::{numbers_asked, test_asked};
+use zarr_codecs_regions::test_asked;
 use zarr_codecs_traits::{Indexer, WholeArray};
+use zarr_grids_boxes::walk::count_places;
 
-/// The row-major numbers of the places that are asked for. `IncompatibleIndexer` where a place is
-/// none of the array's; `InvalidNumberOfElements`, `Expected..` or `CellOutOfRange` where these are
-/// not elements, one for each place.
+/// Nothing, where these are elements for the places that are asked for, one for each.
+/// `IncompatibleIndexer` where a place is none of the array's; `InvalidNumberOfElements`,
+/// `Expected..` or `CellOutOfRange` where these are not elements, one for each place.
 pub(crate) fn test_given(
-    alloc: Global,
     array: WholeArray<'_>,
     indexer: Indexer<'_>,
     bytes: &ArrayBytes,
-) -> Result<Vec<u64>, CodecError>
+) -> Result<(), CodecError>
     requires { product array.shape.now < 2 ^ 63 }
-    ensures ok { IfOk result (λ numbers. AreAsked (elements_of array.entry.elements.now)
-        array.entry.shape.now (asked_of indexer.entry) (payload_of bytes.now) numbers.items) }
-    ensures below { IfOk result
-        (λ numbers. list_all (λ n. nat_lt n (product array.entry.shape.now)) numbers.items ≡ true) }
+    ensures ok { OnOk result (AreAsked (elements_of array.entry.elements.now)
+        array.entry.shape.now (asked_of indexer.entry) (payload_of bytes.now)
+        (numbers_asked array.entry.shape.now (asked_of indexer.entry))) }
     ensures cause { IfErr result (NotGiven (elements_of array.entry.elements.now)
         array.entry.shape.now (asked_of indexer.entry) (payload_of bytes.now)) }
 {
     if let Err(error) = test_asked(array.shape, indexer) {
         return Err(error);
     }
-    let numbers = numbers_asked(alloc, array.shape, indexer)?;
-    match bytes.validate(array.elements.data_type(), numbers.len() as u64) {
-        Ok(()) => Ok(numbers),
+    let Some(count) = count_asked(array.shape, indexer) else {
+        return Err(CodecError::Memory);
+    };
+    match bytes.validate(array.elements.data_type(), count) {
+        Ok(()) => Ok(()),
         Err(error) => Err(error),
+    }
+}
+
+/// How many places are asked for, if that is below 2^63.
+fn count_asked(shape: &[u64], indexer: Indexer<'_>) -> Option<u64>
+    requires inside { are_inside shape.now (asked_of indexer) ≡ true }
+    ensures { IfSome result (λ count.
+        count ≡ length (numbers_asked shape.now (asked_of indexer.entry))) }
+{
+    match indexer {
+        Indexer::Subset(region) => count_places(region.shape()),
+        Indexer::List(numbers) => Some(numbers.len() as u64),
     }
 }

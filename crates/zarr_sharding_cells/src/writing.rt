@@ -5,7 +5,7 @@ use std::alloc::Global;
 use zarr_codecs_arrays::{ArrayBytes, CodecError};
 use zarr_codecs_options::CodecOptions;
 use zarr_codecs_traits::{ArrayToBytesCodecTraits, BytesPartialEncoderTraits, Indexer, WholeArray};
-use zarr_sharding_codec::{NumberedElements, ShardInSource};
+use zarr_sharding_codec::{AskedElements, ShardInSource};
 use zarr_sharding_index::IndexLayout;
 
 impl<
@@ -14,15 +14,13 @@ impl<
     X: ArrayToBytesCodecTraits,
     E: BytesPartialEncoderTraits,
 > ShardState<'a, I, X, E> {
-    ghost use Rattle.std.specs.Prelude.{◌≡◌, List, length, nat_lt, true, IfErr, IsTrue, OnErr, OnOk};
-    ghost use Rattle.std.specs.List.{list_all};
+    ghost use Rattle.std.specs.Prelude.{◌≡◌, List, length, true, IfErr, IsTrue, OnErr, OnOk};
     ghost use Rattle.zarr_codecs_arrays.specs.Outcomes.{IsValid};
     ghost use Rattle.zarr_codecs_arrays.specs.Views.{payload_of};
     ghost use Rattle.zarr_codecs_meaning.specs.Types.{Cell};
-    ghost use Rattle.zarr_codecs_traits.specs.Indexers.{asked_of};
+    ghost use Rattle.zarr_codecs_traits.specs.Indexers.{are_inside, asked_of, numbers_asked};
     ghost use Rattle.zarr_codecs_traits.specs.Sources.{refused_after};
     ghost use Rattle.zarr_codecs_traits.specs.Writes.{WriteRefused, accepted_after};
-    ghost use Rattle.zarr_grids_boxes.specs.Boxes.{product};
     ghost use Rattle.zarr_sharding_cells.specs.Puts.{IsPutInto, IsWritten, NotPutInto, NotWritten};
     ghost use Rattle.zarr_sharding_cells.specs.Tables.{IsErased, IsTold};
     ghost use Rattle.zarr_sharding_cells.specs.Views.{codec_of, held_of, known_of, shard_of, source_of};
@@ -74,32 +72,36 @@ impl<
             elements: self.elements,
             shape: self.shape,
         };
-        match test_given(alloc, array, indexer, &bytes) {
-            Ok(numbers) => self.put_numbers(alloc, numbers.as_slice(), &bytes, options),
+        match test_given(array, indexer, &bytes) {
+            Ok(()) => self.put_asked(alloc, indexer, bytes, options),
             Err(error) => Err(error),
         }
     }
 
-    /// Puts elements at the places with these numbers. Errors as those of `partial_encode`.
-    fn put_numbers(
+    /// Puts elements at the places that are asked for, which are the array's. Errors as those of
+    /// `partial_encode`.
+    fn put_asked(
         &mut self,
         alloc: Global,
-        numbers: &[u64],
-        bytes: &ArrayBytes,
+        indexer: Indexer<'_>,
+        bytes: ArrayBytes,
         options: &CodecOptions,
     ) -> Result<(), CodecError>
-        requires { list_all (λ n. nat_lt n
-            (product (shard_of I.meaning X.meaning self.old).shape)) numbers.now ≡ true }
+        requires { are_inside (shard_of I.meaning X.meaning self.old).shape (asked_of indexer)
+            ≡ true }
         ensures ok { IsTrue (E.is_honest (source_of self.old)) → IsTold
             (shard_of I.meaning X.meaning self.old) (held_of E.contents self.old)
             → (cells : List Cell)
-            → IsValid (shard_of I.meaning X.meaning self.old).elements.type (payload_of bytes.now)
-            (length numbers.now) cells → OnOk result
+            → IsValid (shard_of I.meaning X.meaning self.old).elements.type (payload_of bytes)
+            (length (numbers_asked (shard_of I.meaning X.meaning self.old).shape
+            (asked_of indexer.entry))) cells → OnOk result
             (IsWritten (shard_of I.meaning X.meaning self.old)
             (I.is_function (inner_of (codec_of self.old)))
             (X.is_function (index_of (codec_of self.old)))
             (put_at (shard_of I.meaning X.meaning self.old).shape
-            (shard_of I.meaning X.meaning self.old).subchunk numbers.now cells)
+            (shard_of I.meaning X.meaning self.old).subchunk
+            (numbers_asked (shard_of I.meaning X.meaning self.old).shape (asked_of indexer.entry))
+            cells)
             (held_of E.contents self.old) (held_of E.contents self.new)) }
         ensures err { IsTrue (E.is_honest (source_of self.old)) →
             OnErr result (held_of E.contents self.new ≡ held_of E.contents self.old) }
@@ -107,12 +109,15 @@ impl<
         ensures cause { IsTrue (E.is_honest (source_of self.old)) → IsTold
             (shard_of I.meaning X.meaning self.old) (held_of E.contents self.old)
             → (cells : List Cell)
-            → IsValid (shard_of I.meaning X.meaning self.old).elements.type (payload_of bytes.now)
-            (length numbers.now) cells → IfErr result
+            → IsValid (shard_of I.meaning X.meaning self.old).elements.type (payload_of bytes)
+            (length (numbers_asked (shard_of I.meaning X.meaning self.old).shape
+            (asked_of indexer.entry))) cells → IfErr result
             (NotWritten (shard_of I.meaning X.meaning self.old)
             (I.is_function (inner_of (codec_of self.old)))
             (put_at (shard_of I.meaning X.meaning self.old).shape
-            (shard_of I.meaning X.meaning self.old).subchunk numbers.now cells)
+            (shard_of I.meaning X.meaning self.old).subchunk
+            (numbers_asked (shard_of I.meaning X.meaning self.old).shape (asked_of indexer.entry))
+            cells)
             (held_of E.contents self.old)) }
         ensures refused { E.refused_calls (source_of self.new) ≡
             refused_after (E.refused_calls (source_of self.old)) result }
@@ -133,14 +138,14 @@ impl<
             layout,
             elements: self.elements,
         };
-        let given = NumberedElements {
+        let given = AskedElements {
             shape: self.shape,
-            numbers,
+            indexer,
             bytes,
         };
         match self
             .codec
-            .update_slices(alloc, &mut self.source, shard, given, options)
+            .update_asked(alloc, &mut self.source, shard, given, options)
         {
             Ok(changes) => self.known.write_slices(
                 alloc,

@@ -57,7 +57,7 @@ stored_exactly inner exact elements (p ∷ ps) (Some s ∷ ss) is are =
     ∙ (ap (λ (o : Option (List ℕ)). next (option_map Some o)) (are.0.encodes is)
     ∙ ap (λ (o : Option (List (Option (List ℕ)))). option_map (λ (rest : List (Option (List ℕ))). Some s ∷ rest) o) (stored_exactly inner exact elements ps ss is are.1))
 
-base_small : (location : Location) (size : ℕ) → base_of location size ≤ size
+pub base_small : (location : Location) (size : ℕ) → base_of location size ≤ size
 base_small at_start size = omega arith
 base_small at_end size = omega arith
 
@@ -126,23 +126,23 @@ shard_encoded subchunk inner index location row one two elements shape value pay
 -- ---- refusals
 
 -- where what is stored of the subchunks is refused, so is the array
-pub pieces_refused : (subchunk : List ℕ) (inner index : Chain) (location : Location) (exact all : Bool) (elements : Elements) (shape : List ℕ) (payload : Payload) (cells : List Cell) (e : CodecError) → fits (sharded subchunk inner index location) elements.type shape ≡ true
-    → IsValid elements.type payload (product shape) cells → StoresPieces inner exact elements shape (pieces_of elements.fill cells (parts_of shape subchunk)) (Err e) → Encodes (sharded subchunk inner index location) all elements shape payload (Err e)
-pieces_refused subchunk inner index location exact all elements shape payload cells error.Codec fit valid h = (cells, record { valid = valid; fit = fit; is = inl h })
-pieces_refused subchunk inner index location exact all elements shape payload cells error.Size fit valid (inl h) = inl h
-pieces_refused subchunk inner index location exact all elements shape payload cells error.Size fit valid (inr h) = inr (cells, record { valid = valid; fit = fit; is = inl h })
-pieces_refused subchunk inner index location exact all elements shape payload cells error.Memory fit valid h = tt
-pieces_refused subchunk inner index location exact all elements shape payload cells error.Fit fit valid h = elim h [ ]
-pieces_refused subchunk inner index location exact all elements shape payload cells error.Damage fit valid h = elim h [ ]
-pieces_refused subchunk inner index location exact all elements shape payload cells error.Source fit valid h = elim h [ ]
-pieces_refused subchunk inner index location exact all elements shape payload cells error.IncompatibleIndexer fit valid h = elim h [ ]
-pieces_refused subchunk inner index location exact all elements shape payload cells error.Unsupported fit valid h = elim h [ ]
-pieces_refused subchunk inner index location exact all elements shape payload cells (error.Other text) fit valid h = elim h [ ]
-pieces_refused subchunk inner index location exact all elements shape payload cells error.ExpectedFixedLengthBytes fit valid h = elim h [ ]
-pieces_refused subchunk inner index location exact all elements shape payload cells error.ExpectedVariableLengthBytes fit valid h = elim h [ ]
-pieces_refused subchunk inner index location exact all elements shape payload cells error.ExpectedOptionalBytes fit valid h = elim h [ ]
-pieces_refused subchunk inner index location exact all elements shape payload cells error.InvalidNumberOfElements fit valid h = elim h [ ]
-pieces_refused subchunk inner index location exact all elements shape payload cells error.CellOutOfRange fit valid h = elim h [ ]
+pub pieces_refused : (subchunk : List ℕ) (inner index : Chain) (location : Location) (exact all : Bool) (elements : Elements) (shape : List ℕ) (base : ℕ) (payload : Payload) (cells : List Cell) (e : CodecError) → fits (sharded subchunk inner index location) elements.type shape ≡ true
+    → IsValid elements.type payload (product shape) cells → StoresPieces inner exact elements shape (pieces_of elements.fill cells (parts_of shape subchunk)) base (Err e) → Encodes (sharded subchunk inner index location) all elements shape payload (Err e)
+pieces_refused subchunk inner index location exact all elements shape base payload cells error.Codec fit valid h = (cells, record { valid = valid; fit = fit; is = inl h })
+pieces_refused subchunk inner index location exact all elements shape base payload cells error.Size fit valid (inl h) = inl h
+pieces_refused subchunk inner index location exact all elements shape base payload cells error.Size fit valid (inr h) = inr (cells, record { valid = valid; fit = fit; is = inl h })
+pieces_refused subchunk inner index location exact all elements shape base payload cells error.Memory fit valid h = tt
+pieces_refused subchunk inner index location exact all elements shape base payload cells error.Fit fit valid h = elim h [ ]
+pieces_refused subchunk inner index location exact all elements shape base payload cells error.Damage fit valid h = elim h [ ]
+pieces_refused subchunk inner index location exact all elements shape base payload cells error.Source fit valid h = elim h [ ]
+pieces_refused subchunk inner index location exact all elements shape base payload cells error.IncompatibleIndexer fit valid h = elim h [ ]
+pieces_refused subchunk inner index location exact all elements shape base payload cells error.Unsupported fit valid h = elim h [ ]
+pieces_refused subchunk inner index location exact all elements shape base payload cells (error.Other text) fit valid h = elim h [ ]
+pieces_refused subchunk inner index location exact all elements shape base payload cells error.ExpectedFixedLengthBytes fit valid h = elim h [ ]
+pieces_refused subchunk inner index location exact all elements shape base payload cells error.ExpectedVariableLengthBytes fit valid h = elim h [ ]
+pieces_refused subchunk inner index location exact all elements shape base payload cells error.ExpectedOptionalBytes fit valid h = elim h [ ]
+pieces_refused subchunk inner index location exact all elements shape base payload cells error.InvalidNumberOfElements fit valid h = elim h [ ]
+pieces_refused subchunk inner index location exact all elements shape base payload cells error.CellOutOfRange fit valid h = elim h [ ]
 
 -- as many slices as subchunks
 pub slices_many : (inner : Chain) (exact : Bool) (elements : Elements) (shape subchunk : List ℕ) (cells : List Cell) (stored : List (Option (List ℕ))) → ArePiecesStored inner exact elements (pieces_of elements.fill cells (parts_of shape subchunk)) stored

@@ -25,3 +25,4 @@ pub mod PartKept
 pub mod PartWritten
 pub mod PartAppended
 pub mod GivenSoFar
+pub mod WholeSubchunk

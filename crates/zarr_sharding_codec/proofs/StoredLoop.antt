@@ -1,12 +1,11 @@
 -- What is stored of one subchunk after another.
-use Rattle.std.proofs.Common.{◌≡◌, ℕ, ◌+◌, ◌*◌, ◌^◌, ◌<◌, ◌≤◌, List, [], ◌∷◌, ◌++◌, length, get_or, take, ap, ◌∙◌, sym, arith, subst, inl, inr, Option, Some, None, Bool, true, false, Err, Vec, MatchOption, take_all, not, is_some, ◌&&◌}
-use Rattle.std.specs.declared.alloc.Global.{Global}
-use Rattle.std.proofs.lemmas.List.{take_more, get_or-map, map-append, length-map}
+use Rattle.std.proofs.Common.{◌≡◌, ℕ, ◌+◌, ◌*◌, ◌^◌, ◌<◌, ◌≤◌, List, [], ◌∷◌, ◌++◌, length, get_or, take, ap, ◌∙◌, sym, arith, subst, inl, inr, Option, Some, None, Bool, true, false, Err, MatchOption, take_all, not, is_some, ◌&&◌}
+use Rattle.std.proofs.lemmas.List.{take_more, get_or-map, length-map}
 use Rattle.std.proofs.Math.Nat.{mul-le-mul_right}
 use Rattle.zarr_grids_boxes.specs.Boxes.{product}
 use Rattle.std.proofs.lemmas.Bool.{and_parts}
 use Rattle.zarr_codecs_meaning.specs.Chains.{Chain, Location, sharded}
-use Rattle.zarr_codecs_meaning.specs.Encoding.{Piece, piece_of, pieces_of}
+use Rattle.zarr_codecs_meaning.specs.Encoding.{Pair, Piece, pair_at, piece_of, pieces_of, slice_bytes}
 use Rattle.zarr_codecs_meaning.specs.Fits.{can_cut, divides, fits}
 use Rattle.zarr_codecs_meaning.specs.Payloads.{Payload, cells_in}
 use Rattle.zarr_codecs_meaning.specs.Places.{Part, gather, grid_of, index_shape, parts_of}
@@ -20,9 +19,9 @@ use Rattle.zarr_codecs_meaning.proofs.Positions.{each_at}
 use Rattle.zarr_codecs_arrays.specs.Outcomes.{IsTooLarge, IsValid}
 use Rattle.zarr_codecs_arrays.specs.declared.error.CodecError.{CodecError}
 use Rattle.zarr_codecs_arrays.specs.declared.error.CodecError.TheVariants as error
-use Rattle.zarr_sharding_codec.specs.Slices.{ArePiecesStored, IsPieceStored, StoresPiece, StoresPieces, slice_of, slices_of}
+use Rattle.zarr_sharding_codec.specs.Slices.{AreLaidOut, ArePiecesStored, IsPieceStored, StoresPiece, StoresPieces}
 use Rattle.zarr_sharding_codec.proofs.EvenParts.{part_at, part_fewer, parts_fit, part_number, whole_part}
-use Rattle.zarr_sharding_codec.proofs.StoredParts.{refused_at, stored_more}
+use Rattle.zarr_sharding_codec.proofs.StoredParts.{refused_at, slice_pushed, stored_more}
 
 -- a subchunk that is to be stored: it is there, and the subchunk shape divides the shape
 pub record IsSubchunk (shape subchunk : List ℕ) (n : ℕ) : Type 0 where
@@ -67,27 +66,34 @@ piece_valid elements shape subchunk edges numbers n cells whole payload fill is 
       values = values_gathered (is_value elements.type) elements.fill cells places fill valid.values;
     }
 
-pub stored_step : (inner : Chain) (exact : Bool) (elements : Elements) (shape subchunk edges : List ℕ) (n : ℕ) (cells : List Cell) (slices made : List (Option (Vec ℕ Global))) (slice : Option (Vec ℕ Global)) → IsSubchunk shape subchunk n → edges ≡ subchunk
-    → ArePiecesStored inner exact elements (take n (pieces_of elements.fill cells (parts_of shape subchunk))) (slices_of slices) → IsPieceStored inner exact elements (edges, gather elements.fill cells (part_at shape subchunk n).places) (slice_of slice)
-    → made ≡ slices ++ slice ∷ [] → ArePiecesStored inner exact elements (take (n + 1) (pieces_of elements.fill cells (parts_of shape subchunk))) (slices_of made)
-stored_step inner exact elements shape subchunk edges n cells slices made slice is same are one more =
+-- what is stored of one subchunk more is laid out behind the others
+pub stored_step : (inner : Chain) (exact : Bool) (elements : Elements) (shape subchunk edges : List ℕ) (n base : ℕ) (cells : List Cell) («data» more : List ℕ) (pairs index : List Pair) (slice : Option (List ℕ)) → IsSubchunk shape subchunk n → edges ≡ subchunk
+    → AreLaidOut inner exact elements (take n (pieces_of elements.fill cells (parts_of shape subchunk))) base «data» pairs → IsPieceStored inner exact elements (edges, gather elements.fill cells (part_at shape subchunk n).places) slice
+    → more ≡ «data» ++ slice_bytes slice → index ≡ pairs ++ pair_at (base + length «data») slice ∷ []
+    → AreLaidOut inner exact elements (take (n + 1) (pieces_of elements.fill cells (parts_of shape subchunk))) base more index
+stored_step inner exact elements shape subchunk edges n base cells «data» more pairs index slice is same laid one is_more is_index =
     let pieces = pieces_of elements.fill cells (parts_of shape subchunk) in
     let places = (part_at shape subchunk n).places in
     let count = length-pieces elements.fill cells shape subchunk in
     let below = is.below in
-    let here = subst (λ (s : List ℕ). IsPieceStored inner exact elements (s, gather elements.fill cells places) (slice_of slice)) same one in
-    let there = subst (λ (piece : Piece). IsPieceStored inner exact elements piece (slice_of slice)) (sym (piece_number elements.fill cells shape subchunk n is)) here in
-    let all = stored_more inner exact elements (take n pieces) (slices_of slices) (get_or pieces n no_piece) (slice_of slice) are there in
+    let here = subst (λ (s : List ℕ). IsPieceStored inner exact elements (s, gather elements.fill cells places) slice) same one in
+    let there = subst (λ (piece : Piece). IsPieceStored inner exact elements piece slice) (sym (piece_number elements.fill cells shape subchunk n is)) here in
+    let all = stored_more inner exact elements (take n pieces) laid.stored (get_or pieces n no_piece) slice laid.are there in
     let front = take_more pieces n no_piece (omega (arith, count, below)) in
-    let back = ap slices_of more ∙ map-append slice_of slices (slice ∷ []) in
-    subst (λ (ps : List Piece). ArePiecesStored inner exact elements ps (slices_of made)) (sym front) (subst (λ (ss : List (Option (List ℕ))). ArePiecesStored inner exact elements (take n pieces ++ get_or pieces n no_piece ∷ []) ss) (sym back) all)
+    let now = slice_pushed base laid.stored slice «data» more pairs index laid.in_row laid.indexed is_more is_index in
+    record {
+      stored = laid.stored ++ slice ∷ [];
+      are = subst (λ (ps : List Piece). ArePiecesStored inner exact elements ps (laid.stored ++ slice ∷ [])) (sym front) all;
+      in_row = now.0;
+      indexed = now.1;
+    }
 
-pub stored_end : (inner : Chain) (exact : Bool) (elements : Elements) (shape subchunk : List ℕ) (n : ℕ) (cells : List Cell) (slices : List (Option (List ℕ))) → product (grid_of shape subchunk) ≤ n
-    → ArePiecesStored inner exact elements (take n (pieces_of elements.fill cells (parts_of shape subchunk))) slices → ArePiecesStored inner exact elements (pieces_of elements.fill cells (parts_of shape subchunk)) slices
-stored_end inner exact elements shape subchunk n cells slices past are =
+pub stored_end : (inner : Chain) (exact : Bool) (elements : Elements) (shape subchunk : List ℕ) (n base : ℕ) (cells : List Cell) («data» : List ℕ) (pairs : List Pair) → product (grid_of shape subchunk) ≤ n
+    → AreLaidOut inner exact elements (take n (pieces_of elements.fill cells (parts_of shape subchunk))) base «data» pairs → AreLaidOut inner exact elements (pieces_of elements.fill cells (parts_of shape subchunk)) base «data» pairs
+stored_end inner exact elements shape subchunk n base cells «data» pairs past laid =
     let pieces = pieces_of elements.fill cells (parts_of shape subchunk) in
     let count = length-pieces elements.fill cells shape subchunk in
-    subst (λ (ps : List Piece). ArePiecesStored inner exact elements ps slices) (take_all n pieces (omega (arith, count, past))) are
+    subst (λ (ps : List Piece). AreLaidOut inner exact elements ps base «data» pairs) (take_all n pieces (omega (arith, count, past))) laid
 
 -- ---- a subchunk that is refused
 
@@ -109,24 +115,24 @@ refused_piece refuses fill cells shape subchunk edges n is same some one =
     refused_at refuses fill pieces n no_piece (omega (arith, count, below)) (subst (λ (piece : Piece). is_fill fill piece.1 ≡ false) number some)
     (subst (λ (piece : Piece). refuses piece.0 piece.1) number (subst (λ (s : List ℕ). refuses s (gather fill cells (part_at shape subchunk n).places)) same one))
 
-pub refused_step : (inner : Chain) (exact : Bool) (elements : Elements) (shape subchunk edges : List ℕ) (n : ℕ) (cells : List Cell) (e : CodecError) → IsSubchunk shape subchunk n → edges ≡ subchunk
-    → StoresPiece inner exact elements (edges, gather elements.fill cells (part_at shape subchunk n).places) (Err e) → StoresPieces inner exact elements shape (pieces_of elements.fill cells (parts_of shape subchunk)) (Err e)
-refused_step inner exact elements shape subchunk edges n cells error.Codec is same h = refused_piece (CodecRefuses inner elements) elements.fill cells shape subchunk edges n is same h.0 h.1
-refused_step inner exact elements shape subchunk edges n cells error.Size is same (inl h) =
+pub refused_step : (inner : Chain) (exact : Bool) (elements : Elements) (shape subchunk edges : List ℕ) (n base : ℕ) (cells : List Cell) (e : CodecError) → IsSubchunk shape subchunk n → edges ≡ subchunk
+    → StoresPiece inner exact elements (edges, gather elements.fill cells (part_at shape subchunk n).places) (Err e) → StoresPieces inner exact elements shape (pieces_of elements.fill cells (parts_of shape subchunk)) base (Err e)
+refused_step inner exact elements shape subchunk edges n base cells error.Codec is same h = refused_piece (CodecRefuses inner elements) elements.fill cells shape subchunk edges n is same h.0 h.1
+refused_step inner exact elements shape subchunk edges n base cells error.Size is same (inl h) =
     inl (too_large elements.type (product edges) (product shape) (subst (λ m. m ≤ product shape) (ap product (sym same)) (part_fewer shape subchunk n is.cuts is.even is.below)) h)
-refused_step inner exact elements shape subchunk edges n cells error.Size is same (inr h) = inr (refused_piece (PassesIndex inner elements) elements.fill cells shape subchunk edges n is same h.0 h.1)
-refused_step inner exact elements shape subchunk edges n cells error.Memory is same h = tt
-refused_step inner exact elements shape subchunk edges n cells error.Fit is same h = h
-refused_step inner exact elements shape subchunk edges n cells error.Damage is same h = h
-refused_step inner exact elements shape subchunk edges n cells error.Source is same h = h
-refused_step inner exact elements shape subchunk edges n cells error.IncompatibleIndexer is same h = h
-refused_step inner exact elements shape subchunk edges n cells error.Unsupported is same h = h
-refused_step inner exact elements shape subchunk edges n cells (error.Other text) is same h = h
-refused_step inner exact elements shape subchunk edges n cells error.ExpectedFixedLengthBytes is same h = h
-refused_step inner exact elements shape subchunk edges n cells error.ExpectedVariableLengthBytes is same h = h
-refused_step inner exact elements shape subchunk edges n cells error.ExpectedOptionalBytes is same h = h
-refused_step inner exact elements shape subchunk edges n cells error.InvalidNumberOfElements is same h = h
-refused_step inner exact elements shape subchunk edges n cells error.CellOutOfRange is same h = h
+refused_step inner exact elements shape subchunk edges n base cells error.Size is same (inr h) = inr (refused_piece (PassesIndex inner elements) elements.fill cells shape subchunk edges n is same h.0 h.1)
+refused_step inner exact elements shape subchunk edges n base cells error.Memory is same h = tt
+refused_step inner exact elements shape subchunk edges n base cells error.Fit is same h = h
+refused_step inner exact elements shape subchunk edges n base cells error.Damage is same h = h
+refused_step inner exact elements shape subchunk edges n base cells error.Source is same h = h
+refused_step inner exact elements shape subchunk edges n base cells error.IncompatibleIndexer is same h = h
+refused_step inner exact elements shape subchunk edges n base cells error.Unsupported is same h = h
+refused_step inner exact elements shape subchunk edges n base cells (error.Other text) is same h = h
+refused_step inner exact elements shape subchunk edges n base cells error.ExpectedFixedLengthBytes is same h = h
+refused_step inner exact elements shape subchunk edges n base cells error.ExpectedVariableLengthBytes is same h = h
+refused_step inner exact elements shape subchunk edges n base cells error.ExpectedOptionalBytes is same h = h
+refused_step inner exact elements shape subchunk edges n base cells error.InvalidNumberOfElements is same h = h
+refused_step inner exact elements shape subchunk edges n base cells error.CellOutOfRange is same h = h
 
 -- a shard that fits is cut evenly
 pub is_subchunk : (subchunk : List ℕ) (inner index : Chain) (location : Location) (elements : Elements) (shape : List ℕ) (n : ℕ) → fits (sharded subchunk inner index location) elements.type shape ≡ true → n < product (grid_of shape subchunk) → IsSubchunk shape subchunk n

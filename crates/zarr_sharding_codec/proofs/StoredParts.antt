@@ -3,7 +3,7 @@ use Rattle.std.proofs.Common.{◌≡◌, ℕ, zero, suc, ◌+◌, ◌*◌, ◌<�
 use Rattle.std.specs.List.{list_all}
 use Rattle.zarr_grids_boxes.specs.Boxes.{product}
 use Rattle.zarr_codecs_meaning.specs.Chains.{Chain}
-use Rattle.zarr_codecs_meaning.specs.Encoding.{Piece}
+use Rattle.zarr_codecs_meaning.specs.Encoding.{Pair, Piece, joined_slices, pair_at, pairs_from, slice_bytes}
 use Rattle.zarr_codecs_meaning.specs.Fits.{fits}
 use Rattle.std.proofs.lemmas.Nat.{mod-mul-add}
 use Rattle.zarr_codecs_meaning.specs.Payloads.{Payload, cells_in, fixed, fixed_cells, fixed_in}
@@ -17,6 +17,7 @@ use Rattle.zarr_codecs_arrays.specs.declared.error.CodecError.{CodecError}
 use Rattle.zarr_codecs_arrays.specs.declared.error.CodecError.TheVariants as error
 use Rattle.zarr_codecs_traits.specs.Outcomes.{Encodes}
 use Rattle.zarr_codecs_traits.specs.Sources.{refused_after}
+use Rattle.zarr_sharding_compaction.proofs.Copying.{joined_more, pairs_more}
 use Rattle.zarr_sharding_codec.specs.Slices.{ArePiecesStored, IsPieceStored, StoresPiece}
 
 -- a subchunk that isn't all fill is refused as its chain refuses it
@@ -63,6 +64,14 @@ pub refused_at : (refuses : List ℕ → List Cell → Type 0) (fill : Cell) (pi
 refused_at refuses fill [] n d below some is = absurd (omega arith)
 refused_at refuses fill (p ∷ ps) zero d below some is = inl (some, is)
 refused_at refuses fill (p ∷ ps) (suc n) d below some is = inr (refused_at refuses fill ps n d (omega arith) some is)
+
+-- its slice behind the others, and its pair
+pub slice_pushed : (base : ℕ) (stored : List (Option (List ℕ))) (slice : Option (List ℕ)) («data» more : List ℕ) (pairs index : List Pair) → «data» ≡ joined_slices stored → pairs ≡ pairs_from base stored → more ≡ «data» ++ slice_bytes slice → index ≡ pairs ++ pair_at (base + length «data») slice ∷ []
+    → (more ≡ joined_slices (stored ++ slice ∷ [])) × (index ≡ pairs_from base (stored ++ slice ∷ []))
+slice_pushed base stored slice «data» more pairs index in_row indexed is_more is_index = (
+  is_more ∙ (ap (λ ns. ns ++ slice_bytes slice) in_row ∙ sym (joined_more stored slice)),
+  is_index ∙ (ap (λ ps. ps ++ pair_at (base + length «data») slice ∷ []) indexed ∙ (ap (λ (ns : List ℕ). pairs_from base stored ++ pair_at (base + length ns) slice ∷ []) in_row ∙ sym (pairs_more base stored slice))),
+)
 
 -- ---- the elements of a box
 

@@ -4,7 +4,7 @@ use Rattle.std.specs.declared.alloc.Global.{Global}
 use Rattle.zarr_grids_boxes.specs.Boxes.{product}
 use Rattle.zarr_codecs_meaning.specs.Chains.{Chain, Location}
 use Rattle.zarr_codecs_meaning.specs.Encoding.{Pair, absent_pair}
-use Rattle.zarr_codecs_meaning.specs.Places.{gather}
+use Rattle.zarr_codecs_meaning.specs.Places.{Part, gather, parts_of}
 use Rattle.zarr_codecs_meaning.specs.Refusals.{CodecRefuses, PassesIndex}
 use Rattle.zarr_codecs_meaning.specs.Types.{Cell, Elements, is_fill}
 use Rattle.zarr_codecs_arrays.specs.Outcomes.{IsTooLarge}
@@ -147,6 +147,15 @@ positions group = map (λ (place : AskedPlace). place.position) group
 -- the cells of a subchunk after those for places in it were put, as they stand among all new ones
 abbrev pub group_put : Cell → List AskedPlace → List Cell → List Cell → List Cell
 group_put fill group given before = put (insides group) (gather fill given (positions group)) before
+
+-- what is put at these places of a subchunk is all that is there afterwards
+abbrev pub PutsAll : List ℕ → Cell → List AskedPlace → List Cell → Type 0
+PutsAll subchunk fill group given = (before : List Cell) → length before ≡ product subchunk → group_put fill group given before ≡ given
+
+-- places are all those of one subchunk, in its order: of the one with this number
+pub record AreSubchunk (shape subchunk numbers : List ℕ) (k : ℕ) : Type 0 where
+  pub below : k < length (parts_of shape subchunk)
+  pub is : (d : Part) → (get_or (parts_of shape subchunk) k d).places ≡ numbers
 
 -- what is stored of the cells of a subchunk after the new ones were put
 pub record IsGroupUpdated (stored : Stored) (subchunk : List ℕ) (k : ℕ) (group : List AskedPlace) (given : List Cell) (change : Change) : Type 0 where

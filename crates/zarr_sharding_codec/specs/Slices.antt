@@ -1,9 +1,9 @@
 -- What is stored of the subchunks of a shard.
-use Rattle.std.specs.Prelude.{◌≡◌, ◌⊎◌, ℕ, List, [], ◌∷◌, map, length, Option, None, Some, option_map, Bool, true, false, IsTrue, Vec, Result, Ok, Err}
+use Rattle.std.specs.Prelude.{◌≡◌, ◌⊎◌, ℕ, List, [], ◌∷◌, length, Option, None, Some, option_map, Bool, true, false, IsTrue, Vec, Result, Ok, Err}
 use Rattle.std.specs.declared.alloc.Global.{Global}
 use Rattle.zarr_grids_boxes.specs.Boxes.{product}
 use Rattle.zarr_codecs_meaning.specs.Chains.{Chain}
-use Rattle.zarr_codecs_meaning.specs.Encoding.{Piece, encoded}
+use Rattle.zarr_codecs_meaning.specs.Encoding.{Pair, Piece, encoded, joined_slices, pairs_from}
 use Rattle.zarr_codecs_meaning.specs.Fits.{is_lossless, is_size_as, representation_of}
 use Rattle.zarr_codecs_meaning.specs.Refusals.{CodecRefuses, PassesIndex, PieceRefused}
 use Rattle.zarr_codecs_meaning.specs.Standing.{Stands}
@@ -11,14 +11,12 @@ use Rattle.zarr_codecs_meaning.specs.Types.{Elements, is_fill}
 use Rattle.zarr_codecs_arrays.specs.Outcomes.{IsTooLarge}
 use Rattle.zarr_codecs_arrays.specs.declared.error.CodecError.{CodecError}
 use Rattle.zarr_codecs_arrays.specs.declared.error.CodecError.TheVariants as error
+use Rattle.zarr_sharding_index.specs.Views.{pairs_of}
+use Rattle.zarr_sharding_index.specs.declared.index.ShardIndex.{ShardIndex}
 
 -- the bytes of a slice, if there is one
 abbrev pub slice_of : Option (Vec ℕ Global) → Option (List ℕ)
 slice_of slice = option_map (λ (bytes : Vec ℕ Global). bytes.items) slice
-
--- the bytes of each slice that there is
-abbrev pub slices_of : List (Option (Vec ℕ Global)) → List (Option (List ℕ))
-slices_of slices = map slice_of slices
 
 -- the slice of a subchunk that isn't all fill: what encoding it means, where that is a function; it stands for the subchunk's cells, where every bit is kept
 pub record IsSlice (inner : Chain) (exact : Bool) (elements : Elements) (piece : Piece) (slice : List ℕ) : Type 0 where
@@ -47,10 +45,17 @@ StoresPiece inner exact elements piece (Err error.Size) = IsTooLarge elements.ty
 StoresPiece inner exact elements piece (Err error.Memory) = Unit {0}
 StoresPiece inner exact elements piece (Err e) = ⊥
 
--- what is stored of the subchunks of a shape, or why nothing is
-abbrev pub StoresPieces : Chain → Bool → Elements → List ℕ → List Piece → Result (Vec (Option (Vec ℕ Global)) Global) CodecError → Type 0
-StoresPieces inner exact elements shape pieces (Ok slices) = ArePiecesStored inner exact elements pieces (slices_of slices.items)
-StoresPieces inner exact elements shape pieces (Err error.Codec) = PieceRefused (CodecRefuses inner elements) elements.fill pieces
-StoresPieces inner exact elements shape pieces (Err error.Size) = IsTooLarge elements.type (product shape) ⊎ PieceRefused (PassesIndex inner elements) elements.fill pieces
-StoresPieces inner exact elements shape pieces (Err error.Memory) = Unit {0}
-StoresPieces inner exact elements shape pieces (Err e) = ⊥
+-- what is stored of subchunks is laid out without gaps: these bytes are the slices in a row, and these pairs their index, where the first slice begins at an offset
+pub record AreLaidOut (inner : Chain) (exact : Bool) (elements : Elements) (pieces : List Piece) (base : ℕ) («data» : List ℕ) (pairs : List Pair) : Type 0 where
+  pub stored : List (Option (List ℕ))
+  pub are : ArePiecesStored inner exact elements pieces stored
+  pub in_row : «data» ≡ joined_slices stored
+  pub indexed : pairs ≡ pairs_from base stored
+
+-- what is stored of the subchunks of a shape, laid out, or why nothing is
+abbrev pub StoresPieces : Chain → Bool → Elements → List ℕ → List Piece → ℕ → Result (Vec ℕ Global × ShardIndex) CodecError → Type 0
+StoresPieces inner exact elements shape pieces base (Ok made) = AreLaidOut inner exact elements pieces base made.0.items (pairs_of made.1)
+StoresPieces inner exact elements shape pieces base (Err error.Codec) = PieceRefused (CodecRefuses inner elements) elements.fill pieces
+StoresPieces inner exact elements shape pieces base (Err error.Size) = IsTooLarge elements.type (product shape) ⊎ PieceRefused (PassesIndex inner elements) elements.fill pieces
+StoresPieces inner exact elements shape pieces base (Err error.Memory) = Unit {0}
+StoresPieces inner exact elements shape pieces base (Err e) = ⊥

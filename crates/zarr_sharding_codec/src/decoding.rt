@@ -1,25 +1,20 @@
 //! The elements of an array that a shard is decoded to.
-ghost use Rattle.std.specs.Prelude.{◌≡◌, IfOk};
 ghost use Rattle.zarr_codecs_arrays.specs.Views.{elements_of};
-ghost use Rattle.zarr_codecs_traits.specs.Indexers.{numbers_of};
-ghost use Rattle.zarr_grids_boxes.specs.Subsets.{region_of};
 ghost use Rattle.zarr_sharding_codec.specs.Reading.{FillsPiece};
 
 use crate::codec::ShardingCodec;
 use crate::subchunks::subchunk_region;
-use std::alloc::{AllocError, Global};
+use std::alloc::Global;
 use zarr_codecs_arrays::{ArrayBytes, CodecError, Elements};
 use zarr_codecs_options::CodecOptions;
-use zarr_codecs_regions::{is_inside, numbers_asked};
-use zarr_codecs_traits::{ArrayToBytesCodecTraits, Indexer, WholeArray};
+use zarr_codecs_traits::{ArrayToBytesCodecTraits, WholeArray};
 use zarr_codecs_types::DataType;
-use zarr_grids_boxes::ArraySubset;
 use zarr_grids_boxes::walk::count_places;
 use zarr_sharding_index::held::decode_index;
 use zarr_sharding_index::pair::{is_absent, slice_at};
 use zarr_sharding_index::shapes::{grid_of, index_shape};
 use zarr_sharding_index::{IndexLayout, ShardIndex};
-use zarr_sharding_places::PlacedElements;
+use zarr_sharding_places::BoxedElements;
 
 /// A shard: its value, and the index that it holds.
 #[derive(Clone, Copy)]
@@ -116,17 +111,16 @@ impl<I: ArrayToBytesCodecTraits, X: ArrayToBytesCodecTraits> ShardingCodec<I, X>
         let Some(total) = count_places(array.shape) else {
             return Err(CodecError::Size);
         };
-        let filled = PlacedElements::new_fill_value(alloc, total as usize, array.elements)?;
+        let filled = BoxedElements::new_fill_value(alloc, total as usize, array.elements)?;
         let mut all = filled;
         for n in 0..count {
             let region = subchunk_region(alloc, edges, grid.as_slice(), count, n)?;
-            let at = box_numbers(alloc, array.shape, &region)?;
             match self.decode_piece(alloc, shard, n as usize, array.elements, options) {
-                Ok(piece) => all = all.put(alloc, at.as_slice(), &piece, array.elements)?,
+                Ok(piece) => all = all.put(alloc, array, &region, &piece)?,
                 Err(error) => return Err(error),
             }
         }
-        Ok(all.gather(alloc, array.elements)?)
+        Ok(all.into_bytes(alloc, array.elements)?)
     }
 
     /// The elements of the subchunk with this number: fill values where it is absent. `Damage` where
@@ -172,23 +166,4 @@ pub(crate) fn fill_piece(
         return Err(CodecError::Size);
     };
     ArrayBytes::new_fill_value(alloc, elements, count)
-}
-
-/// The numbers of the places of a box in an array of this shape. `Err` where an allocation failed,
-/// and where the box doesn't lie in the array.
-pub(crate) fn box_numbers(
-    alloc: Global,
-    shape: &[u64],
-    region: &ArraySubset,
-) -> Result<Vec<u64>, AllocError>
-    ensures { IfOk result
-        (λ numbers. numbers.items ≡ numbers_of shape.now (region_of region.now)) }
-{
-    if !is_inside(shape, region) {
-        return Err(AllocError);
-    }
-    if count_places(shape).is_none() {
-        return Err(AllocError);
-    }
-    numbers_asked(alloc, shape, Indexer::Subset(region))
 }

@@ -39,11 +39,10 @@ impl<I: ArrayToBytesCodecTraits, X: ArrayToBytesCodecTraits> ShardingCodec<I, X>
             (elements_of array.entry.elements.now) array.entry.shape.now (payload_of bytes.now)
             result }
     {
-        match self.store_pieces(alloc, bytes, array, options) {
-            Ok(slices) => {
+        match self.store_pieces(alloc, bytes, array, size, options) {
+            Ok((data, index)) => {
                 let pairs_shape = index_shape(alloc, array.shape, &self.subchunk_shape)?;
-                let pairs_shape = pairs_shape.as_slice();
-                self.assemble(alloc, slices.as_slice(), pairs_shape, size, options)
+                self.assemble(alloc, data, index, pairs_shape.as_slice(), options)
             }
             Err(error) => Err(error),
         }

@@ -22,6 +22,7 @@ mod slices;
 mod storing;
 mod subchunks;
 pub mod updating;
+mod whole_subchunk;
 mod whole_values;
 
 pub use chain_metadata::ChainOfMetadata;
@@ -30,5 +31,5 @@ pub use index_codec::IndexCodec;
 pub use options::{ShardingCodecOptions, TakesShardingOptions};
 pub use part_writing::TestedPart;
 pub use partial::{NumberedPlaces, OpenedShard};
-pub use updating::{NumberedElements, ShardInSource};
+pub use updating::{AskedElements, NumberedElements, ShardInSource};
 pub use zarr_sharding_configurations::ShardingCodecConfiguration;

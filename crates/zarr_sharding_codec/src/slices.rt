@@ -1,13 +1,13 @@
 //! The slices of a shard's subchunks, and how they are laid out.
-ghost use Rattle.std.specs.Prelude.{◌≡◌, ◌^◌, ◌<◌, ℕ, List, length, true, IfOk};
+ghost use Rattle.std.specs.Prelude.{◌≡◌, ◌+◌, ◌^◌, ◌<◌, ◌∷◌, ◌++◌, ℕ, List, [], length, true, IfOk, OnOk};
 ghost use Rattle.zarr_codecs_arrays.specs.Outcomes.{IsValid};
 ghost use Rattle.zarr_codecs_arrays.specs.Views.{elements_of, payload_of};
-ghost use Rattle.zarr_codecs_meaning.specs.Encoding.{joined, joined_slices, pairs_from};
+ghost use Rattle.zarr_codecs_meaning.specs.Encoding.{joined, pair_at, slice_bytes};
 ghost use Rattle.zarr_codecs_meaning.specs.Fits.{fits};
 ghost use Rattle.zarr_codecs_meaning.specs.Types.{Cell};
 ghost use Rattle.zarr_codecs_traits.specs.Sources.{refused_after};
 ghost use Rattle.zarr_grids_boxes.specs.Boxes.{product};
-ghost use Rattle.zarr_sharding_codec.specs.Slices.{StoresPiece, slices_of};
+ghost use Rattle.zarr_sharding_codec.specs.Slices.{StoresPiece, slice_of};
 ghost use Rattle.zarr_sharding_index.specs.Views.{location_of, pairs_of};
 
 use std::alloc::{AllocError, Global};
@@ -42,32 +42,31 @@ pub(crate) fn store_piece<I: ArrayToBytesCodecTraits>(
     }
 }
 
-/// The slices in a row without gaps, and the index of them, where the first begins at `base`.
-pub(crate) fn lay_out(
-    alloc: Global,
+/// Adds what is stored of one subchunk more to the slices in a row and to the index of them, where
+/// the first begins at `base`.
+pub(crate) fn push_slice(
     base: u64,
-    slices: &[Option<Vec<u8>>],
-) -> Result<(Vec<u8>, ShardIndex), AllocError>
+    stored: Option<Vec<u8>>,
+    data: &mut Vec<u8>,
+    index: &mut ShardIndex,
+) -> Result<(), AllocError>
     requires { base < 2 ^ 63 }
-    ensures data { IfOk result (λ made. made.0.items ≡ joined_slices (slices_of slices.now)) }
-    ensures index { IfOk result
-        (λ made. pairs_of made.1 ≡ pairs_from base (slices_of slices.now)) }
+    ensures slice { OnOk result
+        (data.new.items ≡ data.old.items ++ slice_bytes (slice_of stored)) }
+    ensures pair { OnOk result (pairs_of index.new ≡ pairs_of index.old
+        ++ pair_at (base + length data.old.items) (slice_of stored) ∷ []) }
 {
-    let mut data = Vec::new(alloc);
-    let mut index = ShardIndex::new(alloc);
-    for slice in slices {
-        match slice {
-            Some(bytes) => {
-                index.push(ByteRange {
-                    offset: base + data.len() as u64,
-                    length: bytes.len() as u64,
-                })?;
-                data.extend_from_slice(bytes)?;
-            }
-            None => index.push(ABSENT)?,
+    match stored {
+        Some(slice) => {
+            index.push(ByteRange {
+                offset: base + data.len() as u64,
+                length: slice.len() as u64,
+            })?;
+            data.extend_from_slice(slice.as_slice())?;
+            Ok(())
         }
+        None => index.push(ABSENT),
     }
-    Ok((data, index))
 }
 
 /// The index before or behind the data.
@@ -84,5 +83,6 @@ pub(crate) fn join(
         ShardingIndexLocation::End => (data, index),
     };
     front.extend_from_slice(back.as_slice())?;
+    front.shrink_to_fit();
     Ok(front)
 }

@@ -1,5 +1,5 @@
 //! Subchunks of a shard in a source, encoded anew where elements are put at places in them.
-ghost use Rattle.std.specs.Prelude.{◌≡◌, ◌<◌, List, length, Some, true, get_or, nat_lt, IfOk};
+ghost use Rattle.std.specs.Prelude.{◌≡◌, ◌<◌, ◌∷◌, List, [], length, Some, true, get_or, nat_lt, IfOk};
 ghost use Rattle.std.specs.List.{list_all};
 ghost use Rattle.zarr_codecs_arrays.specs.Outcomes.{IsCounted};
 ghost use Rattle.zarr_codecs_arrays.specs.Views.{elements_of, payload_of};
@@ -15,7 +15,7 @@ use crate::slices::store_piece;
 use std::alloc::{AllocError, Global};
 use zarr_codecs_arrays::{ArrayBytes, CodecError, Elements};
 use zarr_codecs_options::CodecOptions;
-use zarr_codecs_regions::{gather_elements, update_array_bytes};
+use zarr_codecs_regions::{gather_elements, numbers_asked, update_array_bytes};
 use zarr_codecs_traits::{ArrayToBytesCodecTraits, BytesPartialDecoderTraits, Indexer};
 use zarr_sharding_index::IndexLayout;
 use zarr_sharding_places::{AskedPlace, insides_of, leading_group, positions_of};
@@ -39,6 +39,21 @@ pub struct NumberedElements<'a> {
     pub bytes: &'a ArrayBytes,
 }
 
+/// All elements of the subchunk with this number, in its order.
+#[derive(Drop)]
+struct SubchunkElements {
+    number: usize,
+    bytes: ArrayBytes,
+}
+
+/// New elements for the places of an array of this shape that are asked for, one for each place.
+#[derive(Drop)]
+pub struct AskedElements<'a> {
+    pub shape: &'a [u64],
+    pub indexer: Indexer<'a>,
+    pub bytes: ArrayBytes,
+}
+
 impl<I: ArrayToBytesCodecTraits, X: ArrayToBytesCodecTraits> ShardingCodec<I, X> {
     ghost use Rattle.std.specs.Prelude.{◌≡◌, ◌<◌, ◌≤◌, ◌+◌, ◌^◌, ℕ, List, Some, true, length, get_or, nat_lt, unwrap_or, [], IsTrue, IfOk};
     ghost use Rattle.std.specs.List.{list_all};
@@ -48,17 +63,81 @@ impl<I: ArrayToBytesCodecTraits, X: ArrayToBytesCodecTraits> ShardingCodec<I, X>
     ghost use Rattle.zarr_codecs_meaning.specs.Fits.{fits};
     ghost use Rattle.zarr_codecs_meaning.specs.Places.{parts_of};
     ghost use Rattle.zarr_codecs_meaning.specs.Types.{Cell};
+    ghost use Rattle.zarr_codecs_traits.specs.Indexers.{are_inside, asked_of, numbers_asked};
     ghost use Rattle.zarr_codecs_traits.specs.Sources.{refused_after};
     ghost use Rattle.zarr_grids_boxes.specs.Boxes.{product};
     ghost use Rattle.zarr_sharding_codec.specs.BytesMet.{bytes_met};
-    ghost use Rattle.zarr_sharding_codec.specs.PartWriting.{IsOf, UpdatesGroup, UpdatesSlices, insides, positions, put_at, stored_in};
+    ghost use Rattle.zarr_sharding_codec.specs.PartWriting.{IsOf, PutsAll, UpdatesGroup, UpdatesSlices, insides, positions, put_at, stored_in};
     ghost use Rattle.zarr_sharding_codec.specs.Reading.{ListsRead};
     ghost use Rattle.zarr_sharding_codec.specs.Views.{inner_of, shard_chain, subchunk_of};
     ghost use Rattle.zarr_sharding_index.specs.Views.{location_of};
     ghost use Rattle.zarr_sharding_places.specs.Groups.{no_place};
+    ghost use Rattle.zarr_sharding_places.specs.declared.locating.AskedPlace.{AskedPlace};
     ghost use Rattle.zarr_sharding_places.specs.Pieces.{piece_decoded};
     ghost use Rattle.zarr_sharding_state.specs.States.{end_of, pairs_in, slice_length};
     ghost use Rattle.zarr_sharding_state.specs.Views.{is_below};
+
+    /// The new slices of the subchunks that the places lie in that are asked for, as `update_slices`
+    /// makes them. Where the places are one whole subchunk, its elements take the place of the old ones
+    /// as they are. Errors as those of `update_slices`.
+    pub fn update_asked<D: BytesPartialDecoderTraits>(
+        &self,
+        alloc: Global,
+        source: &mut D,
+        shard: ShardInSource<'_>,
+        given: AskedElements<'_>,
+        options: &CodecOptions,
+    ) -> Result<Vec<SliceChange>, CodecError>
+        requires fit { fits (shard_chain I.meaning X.meaning self.now)
+            (elements_of shard.elements.now).type given.shape.now ≡ true }
+        requires many { length (pairs_in shard.known.now)
+            ≡ length (parts_of given.shape.now (subchunk_of self.now)) }
+        requires inside { are_inside given.shape.now (asked_of given.indexer) ≡ true }
+        requires small { product given.shape.now < 2 ^ 63 }
+        requires low { shard.layout.size < 2 ^ 63 }
+        ensures changes { IsTrue (D.is_honest source.old) → IsOf
+            (location_of shard.entry.layout.location) shard.entry.layout.size
+            (D.contents source.old) (pairs_in shard.entry.known.now) (end_of shard.entry.known.now)
+            → (cells : List Cell) → IsValid (elements_of shard.entry.elements.now).type
+            (payload_of given.entry.bytes)
+            (length (numbers_asked given.entry.shape.now (asked_of given.entry.indexer))) cells
+            → UpdatesSlices (stored_in (I.meaning (inner_of self.now))
+            (I.is_function (inner_of self.now)) (elements_of shard.entry.elements.now)
+            (D.contents source.old) (pairs_in shard.entry.known.now))
+            (put_at given.entry.shape.now (subchunk_of self.now)
+            (numbers_asked given.entry.shape.now (asked_of given.entry.indexer)) cells) result }
+        ensures below { IfOk result (λ changes. list_all
+            (is_below (length (pairs_in shard.entry.known.now))) changes.items ≡ true) }
+        ensures refused { D.refused_calls source.new ≡
+            refused_after (D.refused_calls source.old) result }
+        ensures given { IsTrue (D.is_honest source.old) → D.given_bytes source.new
+            ≤ D.given_bytes source.old + bytes_met given.entry.shape.now (subchunk_of self.now)
+            (numbers_asked given.entry.shape.now (asked_of given.entry.indexer))
+            (pairs_in shard.entry.known.now) }
+        ensures follows { D.follows source.old source.new }
+    {
+        match self.whole_subchunk(alloc, given.shape, given.indexer)? {
+            Some(n) => {
+                let whole = SubchunkElements {
+                    number: n as usize,
+                    bytes: given.bytes,
+                };
+                match self.replace_subchunk(alloc, source, shard, whole, options) {
+                    Ok(change) => Ok(one_change(alloc, change)?),
+                    Err(error) => Err(error),
+                }
+            }
+            None => {
+                let numbers = numbers_asked(alloc, given.shape, given.indexer)?;
+                let numbered = NumberedElements {
+                    shape: given.shape,
+                    numbers: numbers.as_slice(),
+                    bytes: &given.bytes,
+                };
+                self.update_slices(alloc, source, shard, numbered, options)
+            }
+        }
+    }
 
     /// The new slices of the subchunks that places lie in: each of these is decoded, the elements
     /// are put at the places in it, and it is encoded anew and whole; one that became all fill gets
@@ -168,6 +247,60 @@ impl<I: ArrayToBytesCodecTraits, X: ArrayToBytesCodecTraits> ShardingCodec<I, X>
         }
     }
 
+    /// The new slice of a subchunk all of whose elements are given; the old one is decoded all the
+    /// same.
+    fn replace_subchunk<D: BytesPartialDecoderTraits>(
+        &self,
+        alloc: Global,
+        source: &mut D,
+        shard: ShardInSource<'_>,
+        given: SubchunkElements,
+        options: &CodecOptions,
+    ) -> Result<SliceChange, CodecError>
+        requires fit { fits (I.meaning (inner_of self.now)) (elements_of shard.elements.now).type
+            (subchunk_of self.now) ≡ true }
+        requires pair { given.number < length (pairs_in shard.known.now) }
+        requires low { shard.layout.size < 2 ^ 63 }
+        ensures change { IsTrue (D.is_honest source.old) → IsOf
+            (location_of shard.entry.layout.location) shard.entry.layout.size
+            (D.contents source.old) (pairs_in shard.entry.known.now) (end_of shard.entry.known.now)
+            → (cells : List Cell) (group : List AskedPlace)
+            → IsValid (elements_of shard.entry.elements.now).type (payload_of given.bytes)
+            (product (subchunk_of self.now)) cells
+            → PutsAll (subchunk_of self.now) (elements_of shard.entry.elements.now).fill group cells
+            → UpdatesGroup (stored_in (I.meaning (inner_of self.now))
+            (I.is_function (inner_of self.now)) (elements_of shard.entry.elements.now)
+            (D.contents source.old) (pairs_in shard.entry.known.now)) (subchunk_of self.now)
+            given.number group cells result }
+        ensures number { IfOk result (λ change. change.number ≡ given.number) }
+        ensures refused { D.refused_calls source.new ≡
+            refused_after (D.refused_calls source.old) result }
+        ensures given { IsTrue (D.is_honest source.old) → D.given_bytes source.new
+            ≤ D.given_bytes source.old
+            + slice_length (get_or (pairs_in shard.entry.known.now) given.number absent_pair) }
+        ensures follows { D.follows source.old source.new }
+    {
+        let number = given.number;
+        let elements = shard.elements;
+        let edges = self.subchunk_shape.as_slice();
+        match self.read_subchunk(alloc, source, shard, number, options) {
+            Ok(_old) => {
+                match store_piece(
+                    alloc,
+                    &self.inner_codecs,
+                    given.bytes,
+                    elements,
+                    edges,
+                    options,
+                ) {
+                    Ok(slice) => Ok(SliceChange { number, slice }),
+                    Err(error) => Err(error),
+                }
+            }
+            Err(error) => Err(error),
+        }
+    }
+
     /// The elements of the subchunk with this number: fill values where it is absent. `Damage` where
     /// its slice is not one of the inner codecs', and `Source` where the source refuses.
     pub fn read_subchunk<D: BytesPartialDecoderTraits>(
@@ -207,6 +340,15 @@ impl<I: ArrayToBytesCodecTraits, X: ArrayToBytesCodecTraits> ShardingCodec<I, X>
             Err(error) => Err(error),
         }
     }
+}
+
+/// One change alone.
+fn one_change(alloc: Global, change: SliceChange) -> Result<Vec<SliceChange>, AllocError>
+    ensures { IfOk result (λ changes. changes.items ≡ change ∷ []) }
+{
+    let mut changes = Vec::with_capacity(alloc, 1)?;
+    changes.push(change)?;
+    Ok(changes)
 }
 
 /// The elements of a subchunk of this shape after those for places in it were put, as they stand

@@ -91,7 +91,7 @@ fn write_slices<X: ArrayToBytesCodecTraits>(
         return Err(CodecError::Damage);
     };
     let pairs_shape = index_shape(alloc, layout.shape, layout.subchunk_shape)?;
-    match write_index(alloc, codecs, &index, pairs_shape.as_slice(), options) {
+    match write_index(alloc, codecs, index, pairs_shape.as_slice(), options) {
         Ok(stored) => Ok(Some(join_shard(layout.index_location, stored, data)?)),
         Err(error) => Err(error),
     }

@@ -1,7 +1,9 @@
 -- What the values of `src/` stand for.
-use Rattle.std.specs.Prelude.{ℕ, List, map, Option, None, Some}
+use Rattle.std.specs.Prelude.{ℕ, List, Option, None, Some}
 use Rattle.zarr_codecs_meaning.specs.Chains as chains
+use Rattle.zarr_codecs_meaning.specs.Decoding.{pairs_of_cells}
 use Rattle.zarr_codecs_meaning.specs.Encoding.{Pair}
+use Rattle.zarr_codecs_meaning.specs.Payloads.{fixed_cells}
 use Rattle.zarr_codecs_traits.specs.declared.byte_range.ByteRange.{ByteRange}
 use Rattle.zarr_sharding_index.specs.declared.location.ShardingIndexLocation.{ShardingIndexLocation}
 use Rattle.zarr_sharding_index.specs.declared.location.ShardingIndexLocation.TheVariants.{Start, End}
@@ -17,9 +19,13 @@ location_of End = chains.Location.at_end
 abbrev pub pair_of : ByteRange → Pair
 pair_of range = (range.offset, range.length)
 
+-- the pairs that bytes hold, sixteen bytes each
+abbrev pub pairs_of_bytes : List ℕ → List Pair
+pairs_of_bytes bytes = pairs_of_cells (fixed_cells 8 bytes)
+
 -- all pairs of an index
 abbrev pub pairs_of : ShardIndex → List Pair
-pairs_of index = map pair_of index.pairs.items
+pairs_of index = pairs_of_bytes index.bytes.items
 
 -- the bytes that are lent, if some are
 abbrev pub slice_lent : Option (Bor (List ℕ)) → Option (List ℕ)

@@ -1,14 +1,7 @@
 //! The index of a shard in memory.
-ghost use Rattle.std.specs.Prelude.{◌≡◌, ◌∷◌, ◌++◌, ◌<◌, ◌*◌, ◌^◌, List, [], length, get_or, slice_set, replicate, Some, IfOk, OnOk, OnErr};
-ghost use Rattle.zarr_codecs_arrays.specs.Views.{payload_of};
-ghost use Rattle.zarr_codecs_meaning.specs.Decoding.{pairs_of_cells};
-ghost use Rattle.zarr_codecs_meaning.specs.Encoding.{absent_pair, pair_cells};
-ghost use Rattle.zarr_codecs_meaning.specs.Payloads.{cells_in};
-ghost use Rattle.zarr_codecs_meaning.specs.Types.{Cell, uint64};
-ghost use Rattle.zarr_sharding_index.specs.Views.{pair_of, pairs_of};
+ghost use Rattle.std.specs.Prelude.{◌≡◌, ◌%◌, length};
 
-use crate::numbers::{bytes_of, pairs_in};
-use crate::pair::ABSENT;
+use crate::numbers::{count_pairs, pair_at, pair_bytes, put_pair};
 use std::alloc::{AllocError, Global};
 use zarr_codecs_arrays::ArrayBytes;
 use zarr_codecs_traits::ByteRange;
@@ -18,49 +11,73 @@ use zarr_codecs_traits::ByteRange;
 /// format"). A contract sees it as the list of all pairs.
 #[derive(Debug, Drop)]
 pub struct ShardIndex {
-    pairs: Vec<ByteRange>,
+    bytes: Vec<u8>,
+    ghost whole: { length bytes.items % 16 ≡ 0 },
 }
 
 impl ShardIndex {
+    ghost use Rattle.std.specs.Prelude.{◌≡◌, ◌∷◌, ◌++◌, ◌<◌, ◌*◌, ◌^◌, List, [], length, get_or, slice_set, replicate, Some, IfOk, OnOk, OnErr};
+    ghost use Rattle.zarr_codecs_arrays.specs.Views.{payload_of};
+    ghost use Rattle.zarr_codecs_meaning.specs.Decoding.{pairs_of_cells};
+    ghost use Rattle.zarr_codecs_meaning.specs.Encoding.{absent_pair, pair_cells};
+    ghost use Rattle.zarr_codecs_meaning.specs.Payloads.{cells_in};
+    ghost use Rattle.zarr_codecs_meaning.specs.Types.{Cell, uint64};
+    ghost use Rattle.zarr_sharding_index.specs.Views.{pair_of, pairs_of};
+
     /// An index without subchunks.
+    #[tactic(auto, using(crate::proofs::PairBytes::no_pairs))]
     pub fn new(alloc: Global) -> ShardIndex
         ensures { pairs_of result ≡ [] }
     {
         ShardIndex {
-            pairs: Vec::new(alloc),
+            bytes: Vec::new(alloc),
         }
     }
 
-    /// The index that numbers of 64 bits are, in pairs. `Err` only where an allocation failed, and
-    /// where these are no such numbers.
-    pub fn from_numbers(alloc: Global, numbers: &ArrayBytes) -> Result<ShardIndex, AllocError>
-        ensures { (cells : List Cell) → cells_in uint64 (payload_of numbers.now) ≡ Some cells
+    /// The index that numbers of 64 bits are, in pairs. `Err` only where these are no such numbers.
+    pub fn from_numbers(numbers: ArrayBytes) -> Result<ShardIndex, AllocError>
+        ensures { (cells : List Cell) → cells_in uint64 (payload_of numbers) ≡ Some cells
             → IfOk result (λ index. pairs_of index ≡ pairs_of_cells cells) }
     {
-        let ArrayBytes::Fixed(bytes) = numbers else {
-            return Err(AllocError);
-        };
+        match numbers {
+            ArrayBytes::Fixed(bytes) => {
+                if bytes.len() % 16 != 0 {
+                    return Err(AllocError);
+                }
+                Ok(ShardIndex { bytes })
+            }
+            _ => Err(AllocError),
+        }
+    }
+
+    /// The offsets and lengths as numbers of 64 bits.
+    pub fn into_numbers(self) -> ArrayBytes
+        ensures cells { cells_in uint64 (payload_of result)
+            ≡ Some (pair_cells (pairs_of self)) }
+        ensures room { 16 * length (pairs_of self) < 2 ^ 63 }
+    {
+        let _known = count_pairs(self.bytes.as_slice());
+        ArrayBytes::Fixed(self.bytes)
+    }
+
+    /// An equal index. `Err` only where an allocation failed.
+    pub fn try_clone(&self, alloc: Global) -> Result<ShardIndex, AllocError>
+        ensures { IfOk result (λ copy. pairs_of copy ≡ pairs_of self.now) }
+    {
         Ok(ShardIndex {
-            pairs: pairs_in(alloc, bytes.as_slice())?,
+            bytes: self.bytes.as_slice().to_vec(alloc)?,
         })
     }
 
-    /// The offsets and lengths as numbers of 64 bits. `Err` only where an allocation failed.
-    pub fn to_numbers(&self, alloc: Global) -> Result<ArrayBytes, AllocError>
-        ensures cells { IfOk result (λ numbers. cells_in uint64 (payload_of numbers)
-            ≡ Some (pair_cells (pairs_of self.now))) }
-        ensures room { IfOk result (λ _. 16 * length (pairs_of self.now) < 2 ^ 63) }
-    {
-        Ok(ArrayBytes::Fixed(bytes_of(alloc, self.pairs.as_slice())?))
-    }
-
     /// The index of so many subchunks, each of which is absent.
-    #[tactic(auto, using(crate::proofs::Grids::map_replicate))]
     pub fn all_absent(alloc: Global, count: usize) -> Result<ShardIndex, AllocError>
         ensures { IfOk result (λ index. pairs_of index ≡ replicate count absent_pair) }
     {
+        let Some(total) = count.checked_mul(16) else {
+            return Err(AllocError);
+        };
         Ok(ShardIndex {
-            pairs: vec![in alloc; ABSENT; count]?,
+            bytes: vec![in alloc; 255u8; total]?,
         })
     }
 
@@ -68,7 +85,7 @@ impl ShardIndex {
     pub fn len(&self) -> usize
         ensures { result ≡ length (pairs_of self.now) }
     {
-        self.pairs.len()
+        count_pairs(self.bytes.as_slice())
     }
 
     /// The pair of the subchunk with this number.
@@ -76,7 +93,7 @@ impl ShardIndex {
         requires { n < length (pairs_of self.now) }
         ensures { pair_of result ≡ get_or (pairs_of self.now) n absent_pair }
     {
-        self.pairs[n]
+        pair_at(self.bytes.as_slice(), n)
     }
 
     /// Replaces the pair of the subchunk with this number.
@@ -84,7 +101,7 @@ impl ShardIndex {
         requires { n < length (pairs_of self.old) }
         ensures { pairs_of self.new ≡ slice_set (pairs_of self.old) n (pair_of pair) }
     {
-        self.pairs[n] = pair;
+        put_pair(self.bytes.as_mut_slice(), n, pair);
     }
 
     /// Adds the pair of one subchunk more. An `Err` leaves the index as it was.
@@ -92,9 +109,7 @@ impl ShardIndex {
         ensures ok { OnOk result (pairs_of self.new ≡ pairs_of self.old ++ (pair_of pair ∷ [])) }
         ensures err { OnErr result (pairs_of self.new ≡ pairs_of self.old) }
     {
-        match self.pairs.push(pair) {
-            Ok(()) => Ok(()),
-            Err(_failed) => Err(AllocError),
-        }
+        let bytes = pair_bytes(pair.offset, pair.length);
+        self.bytes.extend_from_slice(&bytes)
     }
 }

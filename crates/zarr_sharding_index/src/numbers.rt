@@ -1,57 +1,68 @@
 //! Pairs of an index as numbers of eight bytes, little endian.
-ghost use Rattle.std.specs.Prelude.{◌≡◌, ◌*◌, ◌^◌, ◌<◌, ◌++◌, length, map, Some, IfOk, OnOk};
-ghost use Rattle.zarr_codecs_meaning.specs.Decoding.{pairs_of_cells};
-ghost use Rattle.zarr_codecs_meaning.specs.Encoding.{pair_cells};
+ghost use Rattle.std.specs.Prelude.{◌≡◌, ◌+◌, ◌*◌, ◌^◌, ◌≤◌, ◌<◌, ◌%◌, ◌++◌, get_or, length, slice_set, Some};
+ghost use Rattle.zarr_codecs_meaning.specs.Encoding.{absent_pair, pair_cells};
 ghost use Rattle.zarr_codecs_meaning.specs.Numbers.{number, word};
-ghost use Rattle.zarr_codecs_meaning.specs.Payloads.{cells_in, fixed, fixed_cells};
+ghost use Rattle.zarr_codecs_meaning.specs.Payloads.{cells_in, fixed};
 ghost use Rattle.zarr_codecs_meaning.specs.Types.{uint64};
-ghost use Rattle.zarr_sharding_index.specs.Views.{pair_of};
+ghost use Rattle.zarr_sharding_index.specs.Views.{pair_of, pairs_of_bytes};
 
-use std::alloc::{AllocError, Global};
 use zarr_codecs_traits::ByteRange;
 
-/// The bytes of the offset and of the length of each pair.
-pub(crate) fn bytes_of(alloc: Global, pairs: &[ByteRange]) -> Result<Vec<u8>, AllocError>
-    ensures cells { IfOk result (λ bytes. cells_in uint64 (fixed bytes.items)
-        ≡ Some (pair_cells (map pair_of pairs.now))) }
-    ensures room { IfOk result (λ _. 16 * length pairs.now < 2 ^ 63) }
+/// How many pairs bytes hold, whose numbers they are where they hold nothing else.
+pub(crate) fn count_pairs(bytes: &[u8]) -> usize
+    ensures count { result ≡ length (pairs_of_bytes bytes.now) }
+    ensures room { 16 * length (pairs_of_bytes bytes.now) < 2 ^ 63 }
+    ensures within { 16 * length (pairs_of_bytes bytes.now) ≤ length bytes.now }
+    ensures cells { length bytes.now % 16 ≡ 0 → cells_in uint64 (fixed bytes.now)
+        ≡ Some (pair_cells (pairs_of_bytes bytes.now)) }
 {
-    let Some(total) = pairs.len().checked_mul(16) else {
-        return Err(AllocError);
-    };
-    let mut bytes = Vec::with_capacity(alloc, total)?;
-    for pair in pairs {
-        push_word(&mut bytes, pair.offset)?;
-        push_word(&mut bytes, pair.length)?;
-    }
-    Ok(bytes)
+    bytes.len() / 16
 }
 
-/// Appends the bytes of a number.
-fn push_word(bytes: &mut Vec<u8>, number: u64) -> Result<(), AllocError>
-    ensures { OnOk result (bytes.new.items ≡ bytes.old.items ++ word number) }
+/// The pair with a number that bytes hold.
+pub(crate) fn pair_at(bytes: &[u8], n: usize) -> ByteRange
+    requires { n < length (pairs_of_bytes bytes.now) }
+    ensures { pair_of result ≡ get_or (pairs_of_bytes bytes.now) n absent_pair }
 {
-    bytes.extend_from_slice(&number.to_le_bytes())?;
-    Ok(())
+    let start = pair_start(bytes, n);
+    ByteRange {
+        offset: number(&bytes[start..start + 8]),
+        length: number(&bytes[start + 8..start + 16]),
+    }
 }
 
-/// The pairs of offsets and lengths.
-pub(crate) fn pairs_in(alloc: Global, bytes: &[u8]) -> Result<Vec<ByteRange>, AllocError>
-    ensures { IfOk result
-        (λ pairs. map pair_of pairs.items ≡ pairs_of_cells (fixed_cells 8 bytes.now)) }
+/// Replaces the pair with a number that bytes hold.
+pub(crate) fn put_pair(bytes: &mut [u8], n: usize, pair: ByteRange)
+    requires { n < length (pairs_of_bytes bytes.old) }
+    ensures pairs { pairs_of_bytes bytes.new
+        ≡ slice_set (pairs_of_bytes bytes.old) n (pair_of pair) }
+    ensures long { length bytes.new ≡ length bytes.old }
 {
-    let mut pairs = Vec::with_capacity(alloc, bytes.len() / 16)?;
-    let mut rest = bytes;
-    while rest.len() >= 16 {
-        let (first, later) = rest.split_at(8);
-        let (second, others) = later.split_at(8);
-        pairs.push(ByteRange {
-            offset: number(first),
-            length: number(second),
-        })?;
-        rest = others;
-    }
-    Ok(pairs)
+    let start = pair_start(bytes, n);
+    let new = pair_bytes(pair.offset, pair.length);
+    bytes[start..start + 16].copy_from_slice(&new);
+}
+
+/// Where the pair with a number begins.
+fn pair_start(bytes: &[u8], n: usize) -> usize
+    requires { n < length (pairs_of_bytes bytes.now) }
+    ensures start { result ≡ 16 * n }
+    ensures within { result + 16 ≤ length bytes.now }
+    ensures room { result + 16 < 2 ^ 64 }
+{
+    let _known = count_pairs(bytes);
+    16 * n
+}
+
+/// The bytes of an offset, and then those of a length.
+pub(crate) fn pair_bytes(offset: u64, size: u64) -> [u8; 16]
+    ensures bytes { result ≡ word offset ++ word size }
+    ensures offset { offset < 2 ^ 64 }
+    ensures size { size < 2 ^ 64 }
+{
+    let [a, b, c, d, e, f, g, h] = offset.to_le_bytes();
+    let [i, j, k, l, m, n, o, p] = size.to_le_bytes();
+    [a, b, c, d, e, f, g, h, i, j, k, l, m, n, o, p]
 }
 
 /// The number that eight bytes write, the lowest first.
@@ -60,10 +71,7 @@ fn number(bytes: &[u8]) -> u64
     ensures { result ≡ number 256 bytes.now }
 {
     match bytes {
-        [a, b, c, d, e, f, g, h] => {
-            let high = *e as u64 + 256 * (*f as u64 + 256 * (*g as u64 + 256 * *h as u64));
-            *a as u64 + 256 * (*b as u64 + 256 * (*c as u64 + 256 * (*d as u64 + 256 * high)))
-        }
+        [a, b, c, d, e, f, g, h] => u64::from_le_bytes([*a, *b, *c, *d, *e, *f, *g, *h]),
         _ => unreachable!(),
     }
 }

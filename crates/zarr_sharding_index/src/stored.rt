@@ -43,18 +43,17 @@ pub fn index_size<X: ArrayToBytesCodecTraits>(
 pub fn write_index<X: ArrayToBytesCodecTraits>(
     alloc: Global,
     codec: &X,
-    index: &ShardIndex,
+    index: ShardIndex,
     shape: &[u64],
     options: &CodecOptions,
 ) -> Result<Vec<u8>, CodecError>
     requires fit { index_fits (X.meaning codec.now) shape.now ≡ true }
-    requires many { product shape.now ≡ 2 * length (pairs_of index.now) }
+    requires many { product shape.now ≡ 2 * length (pairs_of index) }
     ensures { WritesIndex (X.meaning codec.now) (X.is_function codec.now) shape.now
-        (pairs_of index.now) result }
+        (pairs_of index) result }
 {
     let elements = numbers(alloc)?;
-    let pairs = index.to_numbers(alloc)?;
-    codec.encode(alloc, pairs, &elements, shape, options)
+    codec.encode(alloc, index.into_numbers(), &elements, shape, options)
 }
 
 /// The index of this shape that a codec reads from bytes. `Damage` where it reads none.
@@ -71,7 +70,7 @@ pub fn read_index<X: ArrayToBytesCodecTraits>(
 {
     let elements = numbers(alloc)?;
     match codec.decode(alloc, bytes, &elements, shape, options) {
-        Ok(pairs) => Ok(ShardIndex::from_numbers(alloc, &pairs)?),
+        Ok(pairs) => Ok(ShardIndex::from_numbers(pairs)?),
         Err(CodecError::Damage) => Err(CodecError::Damage),
         Err(_) => Err(CodecError::Memory),
     }

@@ -4,3 +4,4 @@ pub mod PartPlaces
 pub mod ReadPieces
 pub mod LocatedPlaces
 pub mod Stable
+pub mod BoxPuts

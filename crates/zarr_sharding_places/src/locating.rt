@@ -89,7 +89,8 @@ fn push_axes(
     grid: &[u64],
     axes: &mut Vec<Axis>,
 ) -> Result<(), AllocError>
-    ensures { OnOk result (axes.new.items ≡ axes.old.items ++ axes_of shape.now edges.now grid.now) }
+    ensures { OnOk result
+        (axes.new.items ≡ axes.old.items ++ axes_of shape.now edges.now grid.now) }
 {
     let Some((_, sizes)) = shape.split_first() else {
         return Ok(());

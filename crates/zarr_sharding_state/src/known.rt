@@ -3,7 +3,8 @@ ghost use Rattle.std.specs.Prelude.{◌^◌, ◌<◌};
 
 use crate::opening::open_fetched;
 use crate::writing::{
-    SliceChange, appended_length, are_absent, changed_index, join_slices, slice_patches,
+    ShardBytes, SliceChange, appended_length, are_absent, changed_index, join_slices, put_changes,
+    slice_patches,
 };
 use std::alloc::Global;
 use zarr_codecs_arrays::CodecError;
@@ -254,49 +255,55 @@ impl KnownShard {
                 Err(error) => Err(error),
             }
         } else {
-            match write_index(alloc, codecs, &index, layout.shape, options) {
-                Ok(stored) => self.append(alloc, source, layout.location, index, stored, slices),
+            match write_index(alloc, codecs, index, layout.shape, options) {
+                Ok(index) => {
+                    let bytes = ShardBytes { index, slices };
+                    self.append(alloc, source, layout.location, changes, bytes)
+                }
                 Err(error) => Err(error),
             }
         }
     }
 
-    /// Appends slices to the data part, and puts another index in the place of the one that was
-    /// there. An `Err` leaves the shard and what is known of it as they were.
+    /// Appends the slices of changes to the data part, and puts another index in the place of the one
+    /// that was there. An `Err` leaves the shard and what is known of it as they were.
     fn append<E: BytesPartialEncoderTraits>(
         &mut self,
         alloc: Global,
         source: &mut E,
         location: ShardingIndexLocation,
-        index: ShardIndex,
-        stored: Vec<u8>,
-        slices: Vec<u8>,
+        changes: &[SliceChange],
+        bytes: ShardBytes,
     ) -> Result<(), CodecError>
-        requires { end_of self.old + length slices.items < 2 ^ 63 }
-        ensures index { OnOk result ((pairs_in self.new ≡ pairs_of index)
-            × (end_of self.new ≡ end_of self.old + length slices.items)) }
+        requires slices { bytes.slices.items ≡ appended (changes_of changes.now) }
+        requires room { end_of self.old + length (appended (changes_of changes.now)) < 2 ^ 63 }
+        requires below { list_all (is_below (length (pairs_in self.old))) changes.now ≡ true }
+        ensures pairs { OnOk result (pairs_in self.new
+            ≡ pairs_after (end_of self.old) (changes_of changes.now) (pairs_in self.old)) }
+        ensures end { OnOk result (end_of self.new
+            ≡ end_of self.old + length (appended (changes_of changes.now))) }
         ensures ok { IsTrue (E.is_honest source.old) → OnOk result
             (E.contents source.new ≡ Some (with_slices (location_of location)
-            (end_of self.old) stored.items slices.items
+            (end_of self.old) bytes.index.items (appended (changes_of changes.now))
             (unwrap_or (E.contents source.old) []))) }
         ensures err { IsTrue (E.is_honest source.old) →
             OnErr result (E.contents source.new ≡ E.contents source.old) }
         ensures same { OnErr result ((pairs_in self.new ≡ pairs_in self.old)
             × (end_of self.new ≡ end_of self.old)) }
         ensures cause { IsTrue (E.is_honest source.old) → AppendRefused
-            (shard_length (location_of location) (length stored.items)
-            (end_of self.old + length slices.items)) result }
+            (shard_length (location_of location) (length bytes.index.items)
+            (end_of self.old + length (appended (changes_of changes.now)))) result }
         ensures refused { E.refused_calls source.new ≡
             refused_after (E.refused_calls source.old) result }
         ensures accepted { E.accepted_writes source.new ≡
             accepted_after (E.accepted_writes source.old) result }
         ensures rewrites { E.rewrites source.old source.new }
     {
-        let end = self.end + slices.len() as u64;
-        let patches = slice_patches(alloc, location, self.end, stored, slices)?;
+        let end = self.end + bytes.slices.len() as u64;
+        let patches = slice_patches(alloc, location, self.end, bytes.index, bytes.slices)?;
         match source.partial_encode(alloc, patches) {
             Ok(()) => {
-                self.index = index;
+                put_changes(&mut self.index, changes, self.end);
                 self.end = end;
                 Ok(())
             }

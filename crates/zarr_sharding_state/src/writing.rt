@@ -21,6 +21,13 @@ pub struct SliceChange {
     pub slice: Option<Vec<u8>>,
 }
 
+/// The bytes of an index, and slices in a row.
+#[derive(Drop)]
+pub(crate) struct ShardBytes {
+    pub index: Vec<u8>,
+    pub slices: Vec<u8>,
+}
+
 /// The slices of changes in a row.
 pub(crate) fn join_slices(alloc: Global, changes: &[SliceChange]) -> Result<Vec<u8>, AllocError>
     ensures { IfOk result (λ made. made.items ≡ appended (changes_of changes.now)) }
@@ -49,17 +56,6 @@ pub(crate) fn appended_length(changes: &[SliceChange]) -> Option<u64>
     }
 }
 
-/// An equal index.
-fn copy_index(alloc: Global, index: &ShardIndex) -> Result<ShardIndex, AllocError>
-    ensures { IfOk result (λ copy. pairs_of copy ≡ pairs_of index.now) }
-{
-    let mut copy = ShardIndex::new(alloc);
-    for n in 0..index.len() {
-        copy.push(index.get(n))?;
-    }
-    Ok(copy)
-}
-
 /// The index after changes whose slices are appended from `end` on.
 pub(crate) fn changed_index(
     alloc: Global,
@@ -72,13 +68,13 @@ pub(crate) fn changed_index(
     ensures { IfOk result (λ made. pairs_of made
         ≡ pairs_after end (changes_of changes.now) (pairs_of index.now)) }
 {
-    let mut made = copy_index(alloc, index)?;
+    let mut made = index.try_clone(alloc)?;
     put_changes(&mut made, changes, end);
     Ok(made)
 }
 
 /// Puts the pairs of slices into an index, the first of which begins at `end`.
-fn put_changes(index: &mut ShardIndex, changes: &[SliceChange], end: u64)
+pub(crate) fn put_changes(index: &mut ShardIndex, changes: &[SliceChange], end: u64)
     requires room { end + length (appended (changes_of changes.now)) < 2 ^ 63 }
     requires below { list_all (is_below (length (pairs_of index.old))) changes.now ≡ true }
     ensures { pairs_of index.new ≡ pairs_after end (changes_of changes.now) (pairs_of index.old) }

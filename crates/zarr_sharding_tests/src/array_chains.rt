@@ -1,12 +1,10 @@
-//! Chains of arrays, by the metadata of their codecs.
-use crate::shards::{NONE, elements, with_numbers};
+//! Chains of arrays, whose shards are written by the options that they are given. What else they do is in calls/sharding.calls.
+use crate::shards::{NONE, bytes, with_numbers};
 use std::alloc::{AllocError, Global};
 use zarr_codecs_arrays::{ArrayBytes, CodecError};
 use zarr_codecs_options::{CodecOptions, SubchunkWriteOrder};
 use zarr_codecs_reverse::ReverseCodec;
 use zarr_codecs_traits::ArrayToBytesCodecTraits;
-use zarr_codecs_types::FillValue;
-use zarr_codecs_types::data_type::uint8;
 use zarr_grids_metadata::{MetadataV3, PluginCreateError};
 use zarr_sharding_arrays::ArrayChain;
 use zarr_sharding_codec::{ShardingCodecOptions, TakesShardingOptions};
@@ -29,28 +27,32 @@ fn chain_of(alloc: Global, text: &str) -> Result<ArrayChain<ReverseCodec>, Plugi
 
 /// The same chain, its subchunks written row-major.
 fn row_major(alloc: Global, text: &str) -> Result<ArrayChain<ReverseCodec>, CodecError> {
+    let order = ShardingCodecOptions::default().with_subchunk_write_order(SubchunkWriteOrder::C);
     match chain_of(alloc, text) {
-        Ok(chain) => {
-            let options = ShardingCodecOptions::default();
-            let options = options.with_subchunk_write_order(SubchunkWriteOrder::C);
-            Ok(chain.with_codec_specific_options(options))
-        }
-        Err(_error) => Err(CodecError::Unsupported),
+        Ok(chain) => Ok(chain.with_codec_specific_options(order)),
+        Err(_) => Err(CodecError::Unsupported),
     }
 }
 
-#[test]
-fn shards_of_shards_are_written_as_their_metadata_says(rt: HostRuntime) -> Result<(), CodecError> {
-    let alloc = rt.alloc();
-    let chain = row_major(alloc, TWO_SHARDS)?;
-    let elements = elements(uint8(), FillValue::from_u8(alloc, 0)?)?;
-    let cells = [1u8, 2, 0, 0, 0, 0, 0, 0, 0, 0, 0, 0, 0, 0, 0, 0].to_vec(alloc)?;
-    let given = ArrayBytes::Fixed(cells);
+/// What the chain makes of 16 cells.
+fn encoded(alloc: Global, cells: &[u8; 16]) -> Result<Vec<u8>, CodecError> {
+    let elements = bytes(alloc, 0)?;
+    let given = ArrayBytes::Fixed(cells.to_vec(alloc)?);
     let options = CodecOptions::default();
-    let made = chain.encode(alloc, given, &elements, &[4, 4], &options)?;
-    let inner = with_numbers(alloc, &[1, 2], &[0, 2, NONE, NONE])?;
-    let pairs = [0, 34, NONE, NONE, NONE, NONE, NONE, NONE];
+    row_major(alloc, TWO_SHARDS)?.encode(alloc, given, &elements, &[4, 4], &options)
+}
+
+/// Whether these cells, of which two subchunks of the first shard aren't fill, are stored row-major.
+fn is_row_major(alloc: Global, cells: &[u8; 16]) -> Result<bool, CodecError> {
+    let made = encoded(alloc, cells)?;
+    let inner = with_numbers(alloc, &[1, 2, 3, 4], &[0, 2, 2, 2])?;
+    let pairs = [0, 36, NONE, NONE, NONE, NONE, NONE, NONE];
     let want = with_numbers(alloc, inner.as_slice(), &pairs)?;
-    assert!(rt; made.as_slice() == want.as_slice());
-    Ok(())
+    Ok(made.as_slice() == want.as_slice())
+}
+
+#[test]
+fn shards_of_shards_are_written_in_the_order_of_their_options(rt: HostRuntime) {
+    let cells = [1, 2, 0, 0, 3, 4, 0, 0, 0, 0, 0, 0, 0, 0, 0, 0];
+    assert!(rt; matches!(is_row_major(rt.alloc(), &cells), Ok(true)));
 }

@@ -1,35 +1,59 @@
 //! Shards whose index is kept while they are read in part, typed in by hand.
-use crate::shards::{NONE, elements, shards, with_numbers};
+use crate::shards::{NONE, Shards, Value, bytes, bytes_of, shards};
 use std::alloc::Global;
 use zarr_codecs_arrays::{ArrayBytes, CodecError, Elements};
 use zarr_codecs_chains::BytesCodec;
 use zarr_codecs_options::CodecOptions;
 use zarr_codecs_traits::{Indexer, MemorySource, TargetBytes, WholeArray};
-use zarr_codecs_types::FillValue;
-use zarr_codecs_types::data_type::uint8;
 use zarr_grids_boxes::ArraySubset;
 use zarr_sharding_decoder::ShardingPartialDecoder;
 use zarr_sharding_index::ShardingIndexLocation;
 
-/// Four elements.
-fn whole(elements: &Elements) -> WholeArray<'_> {
-    WholeArray {
+type Decoder<'a> = ShardingPartialDecoder<'a, BytesCodec, BytesCodec, MemorySource>;
+
+/// The shard of four elements that a source holds.
+fn open<'a>(
+    alloc: Global,
+    codec: &'a Shards,
+    elements: &'a Elements,
+    source: &'a mut MemorySource,
+) -> Result<Decoder<'a>, CodecError> {
+    let array = WholeArray {
         elements,
         shape: &[4],
-    }
+    };
+    ShardingPartialDecoder::new(alloc, codec, source, array, &CodecOptions::default())
 }
 
-/// What these numbers of four elements of the type uint8, in subchunks of two, are read as, of the
-/// bytes 1 and 2 with these pairs behind them; and how many bytes the source gave.
+/// The elements with these numbers.
+fn elements_at(
+    alloc: Global,
+    codec: &Shards,
+    source: &mut MemorySource,
+    numbers: &[u64],
+) -> Result<ArrayBytes, CodecError> {
+    let elements = bytes(alloc, 0)?;
+    let mut decoder = open(alloc, codec, &elements, source)?;
+    decoder.partial_decode(alloc, Indexer::List(numbers), &CodecOptions::default())
+}
+
+/// The bytes 1 and 2 with these pairs behind them.
+fn two_bytes(alloc: Global, pairs: &[u64]) -> Result<MemorySource, CodecError> {
+    let value = Value {
+        front: &[1, 2],
+        pairs,
+        back: &[],
+    };
+    Ok(MemorySource::new(Some(bytes_of(alloc, value)?)))
+}
+
+/// What these numbers of four elements in subchunks of two are read as, of the bytes 1 and 2 with
+/// these pairs behind them; and how many bytes the source gave.
 fn read(alloc: Global, pairs: &[u64], numbers: &[u64]) -> Result<(ArrayBytes, u128), CodecError> {
+    let mut source = two_bytes(alloc, pairs)?;
     let codec = shards(alloc, &[2], ShardingIndexLocation::End)?;
-    let elements = elements(uint8(), FillValue::from_u8(alloc, 0)?)?;
-    let mut source = MemorySource::new(Some(with_numbers(alloc, &[1, 2], pairs)?));
-    let (array, options) = (whole(&elements), CodecOptions::default());
-    let mut decoder = ShardingPartialDecoder::new(alloc, &codec, &mut source, array, &options)?;
-    let cells = decoder.partial_decode(alloc, Indexer::List(numbers), &options);
-    drop(decoder);
-    Ok((cells?, source.given_bytes()))
+    let cells = elements_at(alloc, &codec, &mut source, numbers)?;
+    Ok((cells, source.given_bytes()))
 }
 
 /// Whether these elements are read, and the source gives so many bytes for them.
@@ -48,28 +72,28 @@ fn are_read(
 }
 
 #[test]
-fn a_part_takes_the_index_and_the_slices_that_it_meets(rt: HostRuntime) -> Result<(), CodecError> {
+fn a_part_takes_the_index_and_the_slices_that_it_meets(rt: HostRuntime) {
     let alloc = rt.alloc();
-    assert!(rt; are_read(alloc, &[0, 2, 0, 2], &[], &[], 32)?);
-    assert!(rt; are_read(alloc, &[0, 2, 0, 2], &[1, 0, 1], &[2, 1, 2], 34)?);
-    assert!(rt; are_read(alloc, &[NONE, NONE, 0, 2], &[0, 3], &[0, 2], 34)?);
-    Ok(())
+    let none = are_read(alloc, &[0, 2, 0, 2], &[], &[], 32);
+    assert!(rt; matches!(none, Ok(true)));
+    let first = are_read(alloc, &[0, 2, 0, 2], &[1, 0, 1], &[2, 1, 2], 34);
+    assert!(rt; matches!(first, Ok(true)));
+    let second = are_read(alloc, &[NONE, NONE, 0, 2], &[0, 3], &[0, 2], 34);
+    assert!(rt; matches!(second, Ok(true)));
+}
+
+/// Whether elements 0 and 1 are read of the first slice, and element 2 is damage by its pair.
+fn is_met_alone(alloc: Global, pairs: &[u64]) -> bool {
+    matches!(are_read(alloc, pairs, &[0, 1], &[1, 2], 34), Ok(true))
+        && matches!(read(alloc, pairs, &[2]), Err(CodecError::Damage))
 }
 
 #[test]
-fn a_pair_that_points_anywhere_is_no_concern_until_it_is_met(
-    rt: HostRuntime,
-) -> Result<(), CodecError> {
-    let alloc = rt.alloc();
-    for pair in [[100, 2], [0, NONE], [NONE, 0]] {
-        let pairs = [0, 2, pair[0], pair[1]];
-        assert!(rt; are_read(alloc, &pairs, &[0, 1], &[1, 2], 34)?);
-        assert!(rt; matches!(read(alloc, &pairs, &[2]), Err(CodecError::Damage)));
-    }
-    Ok(())
+fn a_pair_that_points_anywhere_is_no_concern_until_it_is_met(rt: HostRuntime) {
+    assert!(rt; is_met_alone(rt.alloc(), &[0, 2, 100, 2]));
+    assert!(rt; is_met_alone(rt.alloc(), &[0, 2, 0, NONE]));
+    assert!(rt; is_met_alone(rt.alloc(), &[0, 2, NONE, 0]));
 }
-
-type Decoder<'a> = ShardingPartialDecoder<'a, BytesCodec, BytesCodec, MemorySource>;
 
 /// Whether a subchunk has this offset and length, or is absent.
 fn has_range(
@@ -83,16 +107,12 @@ fn has_range(
     }
 }
 
-/// Whether of two subchunks the second alone is present, behind an index of 32 bytes.
+/// Whether of two subchunks the second alone is present, behind an index of 32 bytes; and there is no third.
 fn has_the_second(decoder: &Decoder<'_>) -> Result<bool, CodecError> {
     let is_second = has_range(decoder, 0, None)? && has_range(decoder, 1, Some((32, 2)))?;
-    Ok(is_second && decoder.exists() && decoder.size_held() == 32)
-}
-
-/// Whether there is no third subchunk.
-fn has_no_third(decoder: &Decoder<'_>) -> bool {
-    let third = decoder.subchunk_byte_range(&[2]);
-    matches!(third, Err(CodecError::IncompatibleIndexer))
+    let third = has_range(decoder, 2, None);
+    let has_no_third = matches!(third, Err(CodecError::IncompatibleIndexer));
+    Ok(is_second && has_no_third && decoder.exists() && decoder.size_held() == 32)
 }
 
 /// Whether the second subchunk is encoded as these bytes.
@@ -105,28 +125,32 @@ fn is_encoded(alloc: Global, decoder: &mut Decoder<'_>, want: &[u8]) -> Result<b
 
 /// A shard of four elements of which the first two are absent, its index at the start.
 fn half(alloc: Global) -> Result<MemorySource, CodecError> {
-    let mut value = with_numbers(alloc, &[], &[NONE, NONE, 32, 2])?;
-    value.extend_from_slice(&[5u8, 6])?;
-    Ok(MemorySource::new(Some(value)))
+    let value = Value {
+        front: &[],
+        pairs: &[NONE, NONE, 32, 2],
+        back: &[5, 6],
+    };
+    Ok(MemorySource::new(Some(bytes_of(alloc, value)?)))
 }
 
-/// Whether the second subchunk of that shard is found and read, and how many bytes that takes.
+/// Whether the second subchunk of that shard is found and read.
+fn is_found(alloc: Global, codec: &Shards, source: &mut MemorySource) -> Result<bool, CodecError> {
+    let elements = bytes(alloc, 0)?;
+    let mut decoder = open(alloc, codec, &elements, source)?;
+    Ok(has_the_second(&decoder)? && is_encoded(alloc, &mut decoder, &[5, 6])?)
+}
+
+/// The same, and how many bytes that takes.
 fn find_second(alloc: Global) -> Result<(bool, u128), CodecError> {
-    let codec = shards(alloc, &[2], ShardingIndexLocation::Start)?;
-    let elements = elements(uint8(), FillValue::from_u8(alloc, 0)?)?;
     let mut source = half(alloc)?;
-    let (array, options) = (whole(&elements), CodecOptions::default());
-    let mut decoder = ShardingPartialDecoder::new(alloc, &codec, &mut source, array, &options)?;
-    let is_there = has_the_second(&decoder)? && has_no_third(&decoder);
-    let is_read = is_encoded(alloc, &mut decoder, &[5, 6]);
-    drop(decoder);
-    Ok((is_there && is_read?, source.given_bytes()))
+    let codec = shards(alloc, &[2], ShardingIndexLocation::Start)?;
+    let is_found = is_found(alloc, &codec, &mut source)?;
+    Ok((is_found, source.given_bytes()))
 }
 
 #[test]
-fn a_subchunk_is_found_and_its_bytes_are_read_alone(rt: HostRuntime) -> Result<(), CodecError> {
-    assert!(rt; find_second(rt.alloc())? == (true, 34));
-    Ok(())
+fn a_subchunk_is_found_and_its_bytes_are_read_alone(rt: HostRuntime) {
+    assert!(rt; matches!(find_second(rt.alloc()), Ok((true, 34))));
 }
 
 /// Puts the last and the first element of a decoder into two cells.
@@ -135,21 +159,19 @@ fn put_two(
     decoder: &mut Decoder<'_>,
     target: &mut TargetBytes<'_, '_>,
 ) -> Result<(), CodecError> {
-    decoder.partial_decode_into(
-        alloc,
-        Indexer::List(&[3, 0]),
-        target,
-        &CodecOptions::default(),
-    )
+    let options = CodecOptions::default();
+    decoder.partial_decode_into(alloc, Indexer::List(&[3, 0]), target, &options)
 }
 
 /// Puts two elements of no value, which fills with 7, into a target. Whether none is there.
-fn put_fill(alloc: Global, target: &mut TargetBytes<'_, '_>) -> Result<bool, CodecError> {
-    let codec = shards(alloc, &[2], ShardingIndexLocation::End)?;
-    let elements = elements(uint8(), FillValue::from_u8(alloc, 7)?)?;
+fn put_fill(
+    alloc: Global,
+    codec: &Shards,
+    target: &mut TargetBytes<'_, '_>,
+) -> Result<bool, CodecError> {
+    let elements = bytes(alloc, 7)?;
     let mut source = MemorySource::new(None);
-    let (array, options) = (whole(&elements), CodecOptions::default());
-    let mut decoder = ShardingPartialDecoder::new(alloc, &codec, &mut source, array, &options)?;
+    let mut decoder = open(alloc, codec, &elements, &mut source)?;
     put_two(alloc, &mut decoder, target)?;
     Ok(!decoder.exists() && decoder.size_held() == 0)
 }
@@ -157,21 +179,19 @@ fn put_fill(alloc: Global, target: &mut TargetBytes<'_, '_>) -> Result<bool, Cod
 /// Whether the first two of three cells are these once two elements of no value are put there.
 fn are_put(alloc: Global, want: [u8; 3]) -> Result<bool, CodecError> {
     let mut cells = [1u8, 1, 1];
-    let Ok(region) = ArraySubset::new_with_ranges(alloc, &[0..2]) else {
-        return Err(CodecError::Memory);
-    };
+    let region = ArraySubset::new_with_ranges(alloc, &[0..2])?;
+    let codec = shards(alloc, &[2], ShardingIndexLocation::End)?;
     let mut target = TargetBytes {
         bytes: &mut cells,
         shape: &[3],
         region: &region,
         width: 1,
     };
-    let is_absent = put_fill(alloc, &mut target)?;
+    let is_absent = put_fill(alloc, &codec, &mut target)?;
     Ok(is_absent && cells == want)
 }
 
 #[test]
-fn without_a_value_all_places_are_fill(rt: HostRuntime) -> Result<(), CodecError> {
-    assert!(rt; are_put(rt.alloc(), [7, 7, 1])?);
-    Ok(())
+fn without_a_value_all_places_are_fill(rt: HostRuntime) {
+    assert!(rt; matches!(are_put(rt.alloc(), [7, 7, 1]), Ok(true)));
 }

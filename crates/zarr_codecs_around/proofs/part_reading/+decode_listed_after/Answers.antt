@@ -25,7 +25,7 @@ decode_listed_after-requires g t c =
 
 pub returns-clause-part : goal.returns-clause-part
 returns-clause-part g t c = λ honest.
-    let rest = g.A.ArrayToBytesCodecTraits.meaning c.args.rest.now in
+    let rest = g.A.ArrayToBytesCodecTraits.meaning c.args.chain.rest.now in
     let chain = with_array_codecs (codecs_of c.in-Some.others.now) rest in
     let codec = codec_of c.in-Some.codec.now in
     let elements = elements_of c.args.part.elements.now in
@@ -43,7 +43,7 @@ returns-clause-part g t c = λ honest.
 pub returns-clause-given : goal.returns-clause-given
 returns-clause-given g t c = λ plain honest.
     let D = g.D.BytesPartialDecoderTraits in
-    let rest = g.A.ArrayToBytesCodecTraits.meaning c.args.rest.now in
+    let rest = g.A.ArrayToBytesCodecTraits.meaning c.args.chain.rest.now in
     let chain = with_array_codecs (codecs_of c.in-Some.others.now) rest in
     let codec = codec_of c.in-Some.codec.now in
     let type = (elements_of c.args.part.elements.now).type in

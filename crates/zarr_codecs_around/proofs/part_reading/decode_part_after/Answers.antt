@@ -17,8 +17,8 @@ invariant_of-listed g c =
 
 pub returns-clause-part : goal.returns-clause-part
 returns-clause-part g c = λ honest.
-    let rest = g.A.ArrayToBytesCodecTraits.meaning c.args.rest.now in
-    let chain = with_array_codecs (codecs_of c.args.codecs.now) rest in
+    let rest = g.A.ArrayToBytesCodecTraits.meaning c.args.chain.rest.now in
+    let chain = with_array_codecs (codecs_of c.args.chain.array_to_array.now) rest in
     let elements = elements_of c.args.part.elements.now in
     let shape = c.args.part.shape.now in
     let asked = asked_of c.args.part.indexer in
@@ -30,8 +30,8 @@ returns-clause-part g c = λ honest.
 pub returns-clause-given : goal.returns-clause-given
 returns-clause-given g c = λ plain honest.
     let D = g.D.BytesPartialDecoderTraits in
-    let rest = g.A.ArrayToBytesCodecTraits.meaning c.args.rest.now in
-    let chain = with_array_codecs (codecs_of c.args.codecs.now) rest in
+    let rest = g.A.ArrayToBytesCodecTraits.meaning c.args.chain.rest.now in
+    let chain = with_array_codecs (codecs_of c.args.chain.array_to_array.now) rest in
     let type = (elements_of c.args.part.elements.now).type in
     let shape = c.args.part.shape.now in
     let stored = D.contents c.args.source.now in

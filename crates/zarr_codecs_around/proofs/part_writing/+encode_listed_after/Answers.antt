@@ -25,8 +25,8 @@ encode_listed_after-requires g t c =
 pub returns-clause-ok : goal.returns-clause-ok
 returns-clause-ok g t c = λ honest.
     let E = g.E.BytesPartialDecoderTraits in
-    let rest = g.A.ArrayToBytesCodecTraits.meaning c.args.rest.now in
-    let exact = g.A.ArrayToBytesCodecTraits.is_function c.args.rest.now in
+    let rest = g.A.ArrayToBytesCodecTraits.meaning c.args.chain.rest.now in
+    let exact = g.A.ArrayToBytesCodecTraits.is_function c.args.chain.rest.now in
     let chain = with_array_codecs (codecs_of c.in-Some.others.now) rest in
     let codec = codec_of c.in-Some.codec.now in
     let elements = elements_of c.args.part.elements.now in
@@ -46,7 +46,7 @@ returns-clause-ok g t c = λ honest.
 pub returns-clause-cause : goal.returns-clause-cause
 returns-clause-cause g t c = λ honest.
     let E = g.E.BytesPartialDecoderTraits in
-    let rest = g.A.ArrayToBytesCodecTraits.meaning c.args.rest.now in
+    let rest = g.A.ArrayToBytesCodecTraits.meaning c.args.chain.rest.now in
     let chain = with_array_codecs (codecs_of c.in-Some.others.now) rest in
     let codec = codec_of c.in-Some.codec.now in
     let elements = elements_of c.args.part.elements.now in

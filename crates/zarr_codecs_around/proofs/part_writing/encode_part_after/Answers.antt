@@ -20,9 +20,9 @@ invariant_of-listed g c =
 pub returns-clause-ok : goal.returns-clause-ok
 returns-clause-ok g c = λ honest.
     let E = g.E.BytesPartialDecoderTraits in
-    let rest = g.A.ArrayToBytesCodecTraits.meaning c.args.rest.now in
-    let exact = g.A.ArrayToBytesCodecTraits.is_function c.args.rest.now in
-    let chain = with_array_codecs (codecs_of c.args.codecs.now) rest in
+    let rest = g.A.ArrayToBytesCodecTraits.meaning c.args.chain.rest.now in
+    let exact = g.A.ArrayToBytesCodecTraits.is_function c.args.chain.rest.now in
+    let chain = with_array_codecs (codecs_of c.args.chain.array_to_array.now) rest in
     let elements = elements_of c.args.part.elements.now in
     let shape = c.args.part.shape.now in
     let asked = asked_of c.args.part.indexer in
@@ -38,8 +38,8 @@ returns-clause-ok g c = λ honest.
 pub returns-clause-cause : goal.returns-clause-cause
 returns-clause-cause g c = λ honest.
     let E = g.E.BytesPartialDecoderTraits in
-    let rest = g.A.ArrayToBytesCodecTraits.meaning c.args.rest.now in
-    let chain = with_array_codecs (codecs_of c.args.codecs.now) rest in
+    let rest = g.A.ArrayToBytesCodecTraits.meaning c.args.chain.rest.now in
+    let chain = with_array_codecs (codecs_of c.args.chain.array_to_array.now) rest in
     let elements = elements_of c.args.part.elements.now in
     let shape = c.args.part.shape.now in
     let asked = asked_of c.args.part.indexer in

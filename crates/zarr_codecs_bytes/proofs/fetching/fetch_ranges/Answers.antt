@@ -1,26 +1,18 @@
-use Rattle.std.proofs.Common.{◌∙◌, ap, Some, List, ℕ, Vec, Global, arith, flat_map}
-use Rattle.zarr_codecs_traits.specs.Sources.{part_bytes}
-use Rattle.zarr_codecs_bytes.proofs.PartReading.{parts_joined, ranges_given}
+use Rattle.std.proofs.Common.{◌≡◌, ◌≤◌, ◌+◌, subst}
+use Rattle.std.specs.Prelude.{IfOk}
+use Rattle.zarr_codecs_traits.specs.Sources.{concat_of, value_bytes, value_length}
+use Rattle.zarr_codecs_bytes.proofs.PartReading.{ranges_refused}
 use Rattle.zarr_codecs_bytes.proofs.fetching.fetch_ranges.Goals as goal
 
-pub returns-in_err-joined-in-Ok-Some-clause-given :
-    goal.returns-in_err-joined-in-Ok-Some-clause-given
-returns-in_err-joined-in-Ok-Some-clause-given g c = λ honest value is.
-    let D = g.D.BytesPartialDecoderTraits in
-    let most = ranges_given (D.given_bytes c.args.source.now) (D.contents c.args.source.now) value c.args.ranges.now c.partial_decode.result is (c.partial_decode.ensures.parts honest) in
-    omega (arith, c.partial_decode.ensures.given, most)
+pub returns-clause-bytes : goal.returns-clause-bytes
+returns-clause-bytes g c = λ honest value is.
+    subst (λ contents. IfOk c.partial_decode_concat.result (λ found. value_bytes found ≡ concat_of contents c.args.ranges.now)) is (c.partial_decode_concat.ensures.bytes honest)
 
-pub returns-in_ok-joined-in-Ok-Some-clause-bytes :
-    goal.returns-in_ok-joined-in-Ok-Some-clause-bytes
-returns-in_ok-joined-in-Ok-Some-clause-bytes g c = λ honest value is.
-    let D = g.D.BytesPartialDecoderTraits in
-    let found = c.in-Ok-Some in
-    let read = parts_joined (D.contents c.args.source.now) value c.args.ranges.now found.field-0 found.parts is found.field-0-is (found.ensures.parts honest) in
-    ap Some (c.in_ok-joined-in-Ok-Some.ensures ∙ (ap (λ (parts : List (Vec ℕ Global)). flat_map (λ (part : List ℕ). part) (part_bytes parts)) c.as_slice.ensures.value ∙ read))
+pub returns-clause-cause : goal.returns-clause-cause
+returns-clause-cause g c = λ honest value is within.
+    ranges_refused (g.D.BytesPartialDecoderTraits.contents c.args.source.now) value c.args.ranges.now c.partial_decode_concat.result is within (c.partial_decode_concat.ensures.cause honest)
 
-pub returns-in_ok-joined-in-Ok-Some-clause-given :
-    goal.returns-in_ok-joined-in-Ok-Some-clause-given
-returns-in_ok-joined-in-Ok-Some-clause-given g c = λ honest value is.
+pub returns-clause-given : goal.returns-clause-given
+returns-clause-given g c = λ honest value is.
     let D = g.D.BytesPartialDecoderTraits in
-    let most = ranges_given (D.given_bytes c.args.source.now) (D.contents c.args.source.now) value c.args.ranges.now c.partial_decode.result is (c.partial_decode.ensures.parts honest) in
-    omega (arith, c.partial_decode.ensures.given, most)
+    subst (λ contents. D.given_bytes c.partial_decode_concat.new.self ≤ D.given_bytes c.args.source.now + value_length (concat_of contents c.args.ranges.now)) is (c.partial_decode_concat.ensures.most honest)

@@ -1,17 +1,13 @@
-use Rattle.std.proofs.Common.{◌≡◌, ◌∙◌, ◌*◌, length, take, drop, ap, sym, subst, rules, false}
+use Rattle.std.proofs.Common.{◌≡◌, ◌∙◌, ◌+◌, ◌*◌, take, drop, ap, sym, subst, rules}
 use Rattle.std.specs.List.{list_any, flat_map}
-use Rattle.zarr_grids_boxes.specs.Boxes.{Region, product}
+use Rattle.zarr_grids_boxes.specs.Boxes.{each2, product}
+use Rattle.zarr_grids_boxes.specs.Cuts.{IsAtMost}
 use Rattle.zarr_grids_boxes.specs.Subsets.{region_of}
-use Rattle.zarr_grids_boxes.specs.Walks.{linearised}
-use Rattle.zarr_codecs_bytes.specs.Lines.{AreLineSizes, bytes_in_ranges, bytes_of_lines, ends_after, line_starts}
+use Rattle.zarr_codecs_traits.specs.Sources.{bytes_in_ranges}
+use Rattle.zarr_codecs_bytes.specs.Lines.{ends_after}
 use Rattle.zarr_codecs_bytes.specs.Parts.{part_width}
-use Rattle.zarr_codecs_bytes.proofs.BoxLines.{box_has, lines_extracted, no_numbers}
-use Rattle.zarr_codecs_bytes.proofs.PartRanges.{one_range}
+use Rattle.zarr_codecs_bytes.proofs.BoxElements.{box_has, no_numbers, part_found, part_inside}
 use Rattle.zarr_codecs_bytes.proofs.lines.box_ranges.Goals as goal
-
-pub returns-then-is_empty : goal.returns-then-is_empty
-returns-then-is_empty c =
-    one_range c.whole_range.result c.args.part c.args.size (let e : length c.args.part.region.now.shape.items ≡ 0 = search rules in e) c.requires.some c.requires.size c.requires.small c.whole_range.ensures.size c.whole_range.ensures.whole
 
 pub returns-in_default : goal.returns-in_default
 returns-in_default c =
@@ -27,21 +23,16 @@ returns-in_default c =
           (ap (bytes_in_ranges value) c.new-ranges.ensures.items ∙ sym (ap (flat_map (λ n. take width (drop (n * width) value))) empty));
     }
 
+pub ranges_in-requires-clause-inside : goal.ranges_in-requires-clause-inside
+ranges_in-requires-clause-inside c =
+    let part = c.args.part in
+    let start : part.region.now.start.items ≡ c.start.result.now = search rules in
+    let shape : part.region.now.shape.items ≡ c.shape.result.now = search rules in
+    subst (λ ss. IsAtMost (each2 (λ s e. s + e) ss c.shape.result.now) part.shape.now) start (subst (λ es. IsAtMost (each2 (λ s e. s + e) part.region.now.start.items es) part.shape.now) shape (part_inside part c.in-Some.ensures.some))
+
 pub returns : goal.returns
 returns c =
     let part = c.args.part in
-    let shape = part.shape.now in
-    let region : Region = region_of part.region.now in
-    let sizes = c.in-Some.sizes in
-    let known : AreLineSizes part sizes = c.in-Some.ensures.some in
-    let are = c.in_ok-ranges.ensures.are in
-    record {
-      size = c.requires.size;
-      small = c.requires.small;
-      within = subst (λ n. list_any (ends_after n) c.in_ok-ranges.ranges.items ≡ false) (known.value ∙ sym c.requires.size) c.in_ok-ranges.ensures.within;
-      are = λ value whole. record {
-        whole = whole ∙ c.requires.size;
-        are = λ other. lines_extracted (part_width part) sizes.line value shape region c.in_ok-ranges.ranges.items other known.positive (whole ∙ c.requires.size) part.inside part.region.now.same known.dimensions known.line
-            (are value ∙ ap (λ n. bytes_of_lines n sizes.line value (linearised (line_starts region) shape)) known.width);
-      };
-    }
+    let start : c.start.result.now ≡ part.region.now.start.items = search rules in
+    let shape : c.shape.result.now ≡ part.region.now.shape.items = search rules in
+    part_found part c.ranges_in.result c.args.size c.in-Some.width c.start.result.now c.shape.result.now c.requires.some c.in-Some.ensures.width c.requires.size c.requires.small start shape c.ranges_in.ensures

@@ -1,5 +1,5 @@
 use Rattle.std.proofs.Common.{rules, refl}
-use Rattle.zarr_codecs_bytes.proofs.BoxLines.{joined_bytes}
+use Rattle.zarr_codecs_bytes.proofs.BoxElements.{joined_bytes}
 use Rattle.zarr_codecs_bytes.proofs.lines.joined.Goals as goal
 
 pub returns-in-Some-checked_add-clause-are : goal.returns-in-Some-checked_add-clause-are

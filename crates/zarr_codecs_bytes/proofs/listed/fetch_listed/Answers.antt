@@ -1,10 +1,10 @@
 use Rattle.std.proofs.Common.{◌∙◌, ap, arith}
 use Rattle.zarr_grids_boxes.specs.Boxes.{product}
-use Rattle.zarr_codecs_bytes.specs.Lines.{bytes_in_ranges}
 use Rattle.zarr_codecs_bytes.specs.Parts.{listed_width}
 use Rattle.zarr_codecs_bytes.proofs.PartBytes.{found_listed, numbers_end, ranges_listed}
 use Rattle.zarr_codecs_bytes.proofs.PartReading.{ranges_within}
 use Rattle.zarr_codecs_bytes.proofs.listed.fetch_listed.Goals as goal
+use Rattle.zarr_codecs_traits.specs.Sources.{bytes_in_ranges}
 
 pub number_ranges-requires : goal.number_ranges-requires
 number_ranges-requires g c = numbers_end c.args.sizes (listed_width c.args.part) (product c.args.part.shape.now) c.args.part.numbers.now c.requires.width c.requires.line c.requires.value c.args.part.inside

@@ -1,8 +1,8 @@
 use Rattle.std.proofs.Common.{◌∙◌, ap, subst, List, ℕ, [], ◌∷◌, length, arith}
-use Rattle.zarr_codecs_bytes.specs.Lines.{bytes_in_ranges}
 use Rattle.zarr_codecs_bytes.specs.Parts.{IsListed, listed_width}
 use Rattle.zarr_codecs_bytes.proofs.PartBytes.{found_whole, none_found, whole_read}
 use Rattle.zarr_codecs_bytes.proofs.listed.fetch_whole.Goals as goal
+use Rattle.zarr_codecs_traits.specs.Sources.{bytes_in_ranges}
 
 pub returns-then-len-size-clause-cause : goal.returns-then-len-size-clause-cause
 returns-then-len-size-clause-cause g c = λ honest value is long.

@@ -1,7 +1,7 @@
 use Rattle.std.proofs.Common.{◌≡◌, ◌++◌, ℕ, List, false, take}
 use Rattle.std.specs.List.{list_any}
-use Rattle.zarr_codecs_traits.specs.Sources.{bytes_at}
-use Rattle.zarr_codecs_bytes.specs.Lines.{bytes_in_ranges, bytes_of_lines, ends_after}
+use Rattle.zarr_codecs_traits.specs.Sources.{bytes_at, bytes_in_ranges}
+use Rattle.zarr_codecs_bytes.specs.Lines.{bytes_of_lines, ends_after}
 use Rattle.zarr_codecs_bytes.proofs.numbers.number_ranges.Given as goal
 
 abbrev pub invariant-loop-number : goal.invariant-loop-number

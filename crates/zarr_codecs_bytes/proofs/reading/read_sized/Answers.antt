@@ -3,11 +3,11 @@ use Rattle.zarr_grids_boxes.specs.Subsets.{region_of}
 use Rattle.zarr_codecs_arrays.specs.Views.{elements_of}
 use Rattle.zarr_codecs_traits.specs.Indexers.{in_box}
 use Rattle.zarr_codecs_traits.specs.declared.byte_range.ByteRange.{ByteRange}
-use Rattle.zarr_codecs_bytes.specs.Lines.{bytes_in_ranges}
 use Rattle.zarr_codecs_bytes.specs.Views.{bytes_chain}
 use Rattle.zarr_codecs_bytes.proofs.PartBytes.{part_most}
 use Rattle.zarr_codecs_bytes.proofs.PartReading.{part_unread, ranges_within, sized_value}
 use Rattle.zarr_codecs_bytes.proofs.reading.read_sized.Goals as goal
+use Rattle.zarr_codecs_traits.specs.Sources.{bytes_in_ranges}
 
 pub returns-in-Ok-Some-clause-given : goal.returns-in-Ok-Some-clause-given
 returns-in-Ok-Some-clause-given g c = λ honest.

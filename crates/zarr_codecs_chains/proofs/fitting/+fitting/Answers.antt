@@ -1,4 +1,4 @@
-use Rattle.std.proofs.Common.{◌≡◌, ◌∙◌, ◌+◌, Bool, List, [], ◌∷◌, ap, sym, subst, true, false, Err}
+use Rattle.std.proofs.Common.{rules, ◌≡◌, ◌∙◌, ◌+◌, Bool, List, [], ◌∷◌, length, ap, sym, subst, true, false, Err}
 use Rattle.std.specs.Prelude.{IfOk}
 use Rattle.zarr_grids_boxes.specs.Boxes.{product}
 use Rattle.zarr_codecs_meaning.specs.Fits.{fits}
@@ -9,9 +9,18 @@ use Rattle.zarr_codecs_array_to_array.specs.declared.codec.ArrayToArrayCodec.{Ar
 use Rattle.zarr_codecs_around.specs.ArrayCodecs.{EncodesShapes, all_fit, shape_after}
 use Rattle.zarr_codecs_around.specs.Views.{codecs_of}
 use Rattle.zarr_codecs_chains.specs.Views.{codec_chain, meaning_of}
+use Rattle.zarr_codecs_chains.proofs.Alone.{fits_alone}
 use Rattle.zarr_codecs_chains.proofs.LongIndex.{offsets_alike}
 use Rattle.zarr_codecs_around.proofs.AllArrayCodecs.{fits_between, never_between}
 use Rattle.zarr_codecs_chains.proofs.fitting.+fitting.Goals as goal
+
+pub fits_chain-returns-then-is_empty : goal.fits_chain-returns-then-is_empty
+fits_chain-returns-then-is_empty g t c =
+    let meaning = g.B.BytesToBytesCodecTraits.meaning in
+    let chain = c.args.chain.now in
+    let none : length chain.array_to_array.items ≡ 0 = search rules in
+    subst (λ (b : Bool). IfOk c.fits_codec.result (λ fit. fit ≡ b))
+    (fits_alone meaning chain.array_to_array.items (codec_chain meaning chain.others.array_to_bytes) chain.others.bytes_to_bytes.items (type_of c.args.data_type.now) c.args.shape.now none) c.fits_codec.ensures
 
 pub fits_chain-returns-in-Ok : goal.fits_chain-returns-in-Ok
 fits_chain-returns-in-Ok g t c =
@@ -22,8 +31,8 @@ fits_chain-returns-in-Ok g t c =
     let all : all_fit (codecs_of before) shape ≡ true = ap (λ (codecs : List ArrayToArrayCodec). all_fit (codecs_of codecs) shape) (sym c.as_slice.ensures.value) ∙ c.in-Ok.ensures.0 in
     let same : c.as_slice-in-Ok.result.now ≡ shape_after (codecs_of before) shape =
     c.as_slice-in-Ok.ensures.value ∙ (c.in-Ok.ensures.1 ∙ ap (λ (codecs : List ArrayToArrayCodec). shape_after (codecs_of codecs) shape) c.as_slice.ensures.value) in
-    subst (λ (b : Bool). IfOk c.fits_codec.result (λ fit. fit ≡ b))
-    (fits_between meaning before (codec_chain meaning chain.others.array_to_bytes) chain.others.bytes_to_bytes.items (type_of c.args.data_type.now) shape c.as_slice-in-Ok.result.now all same) c.fits_codec.ensures
+    subst (λ (b : Bool). IfOk c.fits_codec-in-Ok.result (λ fit. fit ≡ b))
+    (fits_between meaning before (codec_chain meaning chain.others.array_to_bytes) chain.others.bytes_to_bytes.items (type_of c.args.data_type.now) shape c.as_slice-in-Ok.result.now all same) c.fits_codec-in-Ok.ensures
 
 pub fits_chain-returns-in-Err-Fit : goal.fits_chain-returns-in-Err-Fit
 fits_chain-returns-in-Err-Fit g t c =

@@ -1,13 +1,9 @@
-use Rattle.std.proofs.Common.{◌∙◌, ap}
-use Rattle.zarr_codecs_json.proofs.PrintedTexts.{string_written}
+use Rattle.std.proofs.Common.{◌∙◌, ◌++◌, ap, sym}
+use Rattle.std.proofs.lemmas.Result.{on_ok_weaker}
+use Rattle.zarr_codecs_json.proofs.PrintedTexts.{plain_quoted}
 use Rattle.zarr_codecs_json.proofs.cells.push_quoted.Goals as goal
 
-pub returns-clause-ok : goal.returns-clause-ok
-returns-clause-ok c =
-    (string_written c.string-written.result c.new-writer.result c.string-written.new.self c.args.text.now.items c.args.string.now c.into_inner.result.items
-    (c.new-writer.ensures.before ∙ ap (λ v. v.items) c.replace.ensures.value) c.new-writer.ensures.tokens c.string-written.ensures c.into_inner.ensures.items).0
-
-pub returns-clause-err : goal.returns-clause-err
-returns-clause-err c =
-    (string_written c.string-written.result c.new-writer.result c.string-written.new.self c.args.text.now.items c.args.string.now c.into_inner.result.items
-    (c.new-writer.ensures.before ∙ ap (λ v. v.items) c.replace.ensures.value) c.new-writer.ensures.tokens c.string-written.ensures c.into_inner.ensures.items).1
+pub returns-then-are_plain-clause-ok : goal.returns-then-are_plain-clause-ok
+returns-then-are_plain-clause-ok c =
+    let is = plain_quoted c.as_bytes.result.now c.as_bytes-then-are_plain.result.now c.args.string.now c.as_bytes.ensures.value (sym c.are_plain.ensures ∙ c.if-are_plain.true) c.as_bytes-then-are_plain.ensures.value in
+    on_ok_weaker c.push_plain.result (λ h. h ∙ ap (λ ns. c.args.text.now.items ++ ns) is) c.push_plain.ensures.ok

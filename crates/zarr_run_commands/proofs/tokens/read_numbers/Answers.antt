@@ -8,7 +8,7 @@ use Rattle.zarr_run_commands.proofs.tokens.read_numbers.Goals as goal
 pub items-init : goal.items-init
 items-init c =
     let all = converted of_items (items (value 125) (length c.args.reader.now) c.args.reader.now) in
-    (length c.args.reader.now, omega arith, none_before all ∙ ap (λ ns. parse_map (numbers_before ns) all) (sym c.new-found.ensures.items), omega arith)
+    (length c.args.reader.now, omega arith, none_before all ∙ ap (λ ns. parse_map (numbers_before ns) all) (sym c.in_ok-found.ensures.items), omega arith)
 
 pub items-preserved : goal.items-preserved
 items-preserved c =

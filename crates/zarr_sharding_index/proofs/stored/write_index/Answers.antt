@@ -9,5 +9,5 @@ pub returns : goal.returns
 returns g c =
     let index = g.X.ArrayToBytesCodecTraits.meaning c.args.codec.now in
     let exact = g.X.ArrayToBytesCodecTraits.is_function c.args.codec.now in
-    index_written index exact c.args.shape.now (pairs_of c.args.index.now) (payload_of c.in_ok-pairs.pairs) c.encode.result (g.met.X.ArrayToBytesCodecTraits.lawful c.args.codec.now) c.requires.fit c.requires.many c.in_ok-pairs.ensures.room
-    c.in_ok-pairs.ensures.cells (subst (λ e. Encodes index exact e c.args.shape.now (payload_of c.in_ok-pairs.pairs) c.encode.result) c.in_ok-elements.ensures c.encode.ensures)
+    index_written index exact c.args.shape.now (pairs_of c.args.index) (payload_of c.into_numbers.result) c.encode.result (g.met.X.ArrayToBytesCodecTraits.lawful c.args.codec.now) c.requires.fit c.requires.many c.into_numbers.ensures.room
+    c.into_numbers.ensures.cells (subst (λ e. Encodes index exact e c.args.shape.now (payload_of c.into_numbers.result) c.encode.result) c.in_ok-elements.ensures c.encode.ensures)

@@ -28,39 +28,39 @@ whole_cells-requires-clause-small g c = λ large.
     let document = document_of g.C.ArrayToBytesCodecTraits.meaning c.args.self.now in
     let region : Region = extent_of c.args.write.now.region in
     let box : Region = region_of c.args.own.now in
-    let shared : region_of c.in-Ok.shared ≡ overlapped region box = shared_is (region_of c.args.write.now.subset.now) region box (region_of c.in-Ok.shared) c.args.write.now.same_box c.in-Ok.ensures.made in
+    let shared : region_of c.in_ok-shared.shared ≡ overlapped region box = shared_is (region_of c.args.write.now.subset.now) region box (region_of c.in_ok-shared.shared) c.args.write.now.same_box c.in_ok-shared.ensures in
     c.requires.small (large_grows document.elements.type (product (overlapped region box).shape) (product box.shape) (shared_smaller region box c.requires.shares) (subst (λ (r : Region). IsTooLarge document.elements.type (product r.shape)) shared large))
 
 pub whole_cells-requires-clause-some : goal.whole_cells-requires-clause-some
 whole_cells-requires-clause-some g c =
     let region : Region = extent_of c.args.write.now.region in
     let box : Region = region_of c.args.own.now in
-    let shared : region_of c.in-Ok.shared ≡ overlapped region box = shared_is (region_of c.args.write.now.subset.now) region box (region_of c.in-Ok.shared) c.args.write.now.same_box c.in-Ok.ensures.made in
+    let shared : region_of c.in_ok-shared.shared ≡ overlapped region box = shared_is (region_of c.args.write.now.subset.now) region box (region_of c.in_ok-shared.shared) c.args.write.now.same_box c.in_ok-shared.ensures in
     subst (λ (r : Region). 0 < product r.shape) (sym shared) (meeting region box c.requires.shares).some
 
 pub whole_cells-requires-clause-rank : goal.whole_cells-requires-clause-rank
 whole_cells-requires-clause-rank g c =
     let region : Region = extent_of c.args.write.now.region in
     let box : Region = region_of c.args.own.now in
-    let shared : region_of c.in-Ok.shared ≡ overlapped region box = shared_is (region_of c.args.write.now.subset.now) region box (region_of c.in-Ok.shared) c.args.write.now.same_box c.in-Ok.ensures.made in
+    let shared : region_of c.in_ok-shared.shared ≡ overlapped region box = shared_is (region_of c.args.write.now.subset.now) region box (region_of c.in_ok-shared.shared) c.args.write.now.same_box c.in_ok-shared.ensures in
     sym (ap (λ (r : Region). length r.start) shared ∙ starts_alike region box c.requires.rank)
 
 pub whole_cells-requires-clause-holds : goal.whole_cells-requires-clause-holds
 whole_cells-requires-clause-holds g c =
     let region : Region = extent_of c.args.write.now.region in
     let box : Region = region_of c.args.own.now in
-    let shared : region_of c.in-Ok.shared ≡ overlapped region box = shared_is (region_of c.args.write.now.subset.now) region box (region_of c.in-Ok.shared) c.args.write.now.same_box c.in-Ok.ensures.made in
+    let shared : region_of c.in_ok-shared.shared ≡ overlapped region box = shared_is (region_of c.args.write.now.subset.now) region box (region_of c.in_ok-shared.shared) c.args.write.now.same_box c.in_ok-shared.ensures in
     subst (λ (r : Region). holds_box region r ≡ true) (sym shared) (shared_held region box c.requires.shares)
 
 pub seen_from-part-requires : goal.seen_from-part-requires
 seen_from-part-requires g c =
     let region : Region = extent_of c.args.write.now.region in
     let box : Region = region_of c.args.own.now in
-    let shared : region_of c.in-Ok.shared ≡ overlapped region box = shared_is (region_of c.args.write.now.subset.now) region box (region_of c.in-Ok.shared) c.args.write.now.same_box c.in-Ok.ensures.made in
-    subst (λ (os : List ℕ). IsAtMost os c.in-Ok.shared.start.items) (sym c.start.ensures) (subst (λ (r : Region). IsAtMost box.start r.start) (sym shared) (later_start region.start box.start c.requires.rank))
+    let shared : region_of c.in_ok-shared.shared ≡ overlapped region box = shared_is (region_of c.args.write.now.subset.now) region box (region_of c.in_ok-shared.shared) c.args.write.now.same_box c.in_ok-shared.ensures in
+    subst (λ (os : List ℕ). IsAtMost os c.in_ok-shared.shared.start.items) (sym c.start.ensures) (subst (λ (r : Region). IsAtMost box.start r.start) (sym shared) (later_start region.start box.start c.requires.rank))
 
-pub returns-in-Ok-encode_part-clause-ok : goal.returns-in-Ok-encode_part-clause-ok
-returns-in-Ok-encode_part-clause-ok g c =
+pub returns-in-Ok-clause-ok : goal.returns-in-Ok-clause-ok
+returns-in-Ok-clause-ok g c =
     let document = document_of g.C.ArrayToBytesCodecTraits.meaning c.args.self.now in
     let exact = g.C.ArrayToBytesCodecTraits.is_function c.args.self.now.codecs in
     let region : Region = extent_of c.args.write.now.region in
@@ -70,7 +70,7 @@ returns-in-Ok-encode_part-clause-ok g c =
     let sub = array_cells c.args.self.now c.in_ok-bytes.bytes in
     let fill = document.elements.fill in
     let empty = stores_fill document c.args.write.now.options.now region box in
-    let shared : region_of c.in-Ok.shared ≡ overlapped region box = shared_is (region_of c.args.write.now.subset.now) region box (region_of c.in-Ok.shared) c.args.write.now.same_box c.in-Ok.ensures.made in
+    let shared : region_of c.in_ok-shared.shared ≡ overlapped region box = shared_is (region_of c.args.write.now.subset.now) region box (region_of c.in_ok-shared.shared) c.args.write.now.same_box c.in_ok-shared.ensures in
     let part : region_of c.seen_from-part.result ≡ relative (overlapped region box) box.start =
     c.seen_from-part.ensures ∙ (ap (λ (r : Region). relative r c.start.result.now) shared ∙ ap (relative (overlapped region box)) c.start.ensures) in
     let becomes : CellsBecome document region given None (overlapped region box) sub = subst (λ (r : Region). CellsBecome document region given None r sub) shared (c.in_ok-bytes.ensures.ok None) in
@@ -83,6 +83,6 @@ returns-in-Ok-encode_part-clause-ok g c =
       | else-not-empty-via-else-not-empty w ↦ (λ e. absurd (false≢true (sym e ∙ (sym c.stores_fill-empty.ensures ∙ w.if-not-empty.false))))
     ] in
     let are : AreShared document region box given payload sub empty = record { share = c.requires.shares; rank = c.requires.rank; fit = c.requires.fit; fine = c.args.self.now.elements.fills; are = elements; becomes = becomes; some = some } in
-    let encodes = subst (λ (s : List ℕ). EncodesPart document.chain exact document.elements s (relative (overlapped region box) box.start) payload (Ok c.in-Ok-encode_part.patches)) c.shape-2.ensures
-    (subst (λ (p : Region). EncodesPart document.chain exact document.elements c.shape-2.result.now p payload (Ok c.in-Ok-encode_part.patches)) part c.in-Ok-encode_part.ensures) in
-    found_patches document exact region box given payload sub empty c.in-Ok-encode_part.patches are encodes
+    let encodes = subst (λ (s : List ℕ). EncodesPart document.chain exact document.elements s (relative (overlapped region box) box.start) payload (Ok c.in-Ok.patches)) c.shape-2.ensures
+    (subst (λ (p : Region). EncodesPart document.chain exact document.elements c.shape-2.result.now p payload (Ok c.in-Ok.patches)) part c.in-Ok.ensures) in
+    found_patches document exact region box given payload sub empty c.in-Ok.patches are encodes

@@ -49,8 +49,8 @@ put-requires-clause-inside g c = λ place t.
     let meet = meets region found.0 shared part share found.2 refl in
     (both (is_in_box region.start region.shape place) (is_in_box found.0.start found.0.shape place) (sym (meet.both place) ∙ t)).0
 
-pub returns-in_ok-put-in-Ok-Some-clause-ok : goal.returns-in_ok-put-in-Ok-Some-clause-ok
-returns-in_ok-put-in-Ok-Some-clause-ok g c = λ honest box below.
+pub returns-in_ok-made-in-Ok-Some-clause-ok : goal.returns-in_ok-made-in-Ok-Some-clause-ok
+returns-in_ok-made-in-Ok-Some-clause-ok g c = λ honest box below.
     let document = document_of g.C.ArrayToBytesCodecTraits.meaning c.args.self.now in
     let held = g.S.ReadableStorageTraits.held c.args.store.now in
     let region : Region = region_of c.args.read.region.now in
@@ -63,6 +63,6 @@ returns-in_ok-put-in-Ok-Some-clause-ok g c = λ honest box below.
     let said = of_found (λ part. (x : Region) → IsInGrid document.grid c.args.chunk.now x → IsChunkPart document x stored (region_of part.shared) (payload_of part.bytes)) c.in-Ok-Some.field-0 c.in-Ok-Some.part c.in-Ok-Some.field-0-is (c.in-Ok-Some.ensures.part honest) in
     let is = (said found.0 found.1).is in
     let old = cells_shown document.elements c.args.shown in
-    let new = cells_shown document.elements c.in_ok-put-in-Ok-Some.field-0 in
+    let new = cells_shown document.elements c.in_ok-made-in-Ok-Some.made in
     subst (λ (b : Region). GivesChunk (path_of c.args.self.now) document held region c.args.chunk.now b old new) (same_box document.grid c.args.chunk.now found.0 box found.1 below)
-    (inr (placed document region found.0 shared part stored (payload_of c.in-Ok-Some.part.bytes) old new meet is c.in_ok-put-in-Ok-Some.ensures.cells))
+    (inr (placed document region found.0 shared part stored (payload_of c.in-Ok-Some.part.bytes) old new meet is c.in_ok-made-in-Ok-Some.ensures.cells))

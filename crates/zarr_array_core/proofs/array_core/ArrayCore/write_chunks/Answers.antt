@@ -10,8 +10,8 @@ use Rattle.zarr_array_core.proofs.ChunksWritten.{wrote_none, wrote_next, wrote_a
 use Rattle.zarr_array_core.proofs.MetChunks.{met_here, shares_here}
 use Rattle.zarr_array_core.proofs.array_core.ArrayCore.write_chunks.Goals as goal
 
-pub returns-in_default-clause-err : goal.returns-in_default-clause-err
-returns-in_default-clause-err g c = λ honest.
+pub returns-then-is_err-clause-err : goal.returns-then-is_err-clause-err
+returns-then-is_err-clause-err g c = λ honest.
     let array = c.args.self.now in
     let path = path_of array in
     let document = document_of g.C.ArrayToBytesCodecTraits.meaning array in
@@ -79,7 +79,7 @@ loop-n-preserved g c =
     let at_place = rw (c.start.ensures, c.shape-in-loop-n.ensures) at c.place_into.ensures in
     let total : c.unwrap-count.result ≡ product chunks.shape = search rules in
     let below : c.loop-n.n < product chunks.shape = omega (arith, c.loop-n-test.true) in
-    let step = c.in-Ok-write_at.ensures in
+    let step = c.in-Ok.ensures in
     let kept = c.loop-n.invariant in
     record {
       wrote = λ honest.

@@ -17,11 +17,11 @@ returns-clause-ok g c = λ honest.
     subst
     (λ (codecs : List ArrayToArrayCodec). OnOk c.encode_part_after.result
     ((cells : List Cell) × IsEncodedInto (with_array_codecs (codecs_of codecs) rest) exact (elements_of c.args.part.elements.now) c.args.part.shape.now (asked_of c.args.part.indexer) (payload_of c.args.bytes) cells (E.contents c.args.source.now) (E.contents c.encode_part_after.new.source)))
-    c.as_slice-codecs.ensures.value (c.encode_part_after.ensures.ok honest)
+    c.as_slice-array_to_array.ensures.value (c.encode_part_after.ensures.ok honest)
 
 pub returns-clause-cause : goal.returns-clause-cause
 returns-clause-cause g c = λ honest.
     let E = g.E.BytesPartialDecoderTraits in
     let rest = bytes_meaning g.B.BytesToBytesCodecTraits.meaning c.args.self.now.others in
     subst (λ (codecs : List ArrayToArrayCodec). NotEncodedInto (with_array_codecs (codecs_of codecs) rest) (elements_of c.args.part.elements.now) c.args.part.shape.now (asked_of c.args.part.indexer) (payload_of c.args.bytes) (E.contents c.args.source.now) c.encode_part_after.result)
-    c.as_slice-codecs.ensures.value (c.encode_part_after.ensures.cause honest)
+    c.as_slice-array_to_array.ensures.value (c.encode_part_after.ensures.cause honest)

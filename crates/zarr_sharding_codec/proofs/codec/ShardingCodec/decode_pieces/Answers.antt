@@ -1,10 +1,13 @@
-use Rattle.std.proofs.Common.{◌≡◌, ◌≤◌, ap, ◌∙◌, arith, length}
+use Rattle.std.proofs.Common.{◌≡◌, ◌≤◌, ap, ◌∙◌, sym, arith, length}
 use Rattle.zarr_grids_boxes.specs.Boxes.{product}
 use Rattle.zarr_codecs_arrays.specs.Views.{elements_of}
 use Rattle.zarr_codecs_meaning.specs.Places.{grid_of, parts_of}
 use Rattle.zarr_codecs_meaning.proofs.Fitting.{fitted}
 use Rattle.zarr_codecs_meaning.proofs.Parts.{length-parts}
 use Rattle.zarr_codecs_regions.specs.Updates.{put}
+use Rattle.zarr_codecs_traits.specs.Indexers.{numbers_of}
+use Rattle.zarr_grids_boxes.specs.Subsets.{region_of}
+use Rattle.zarr_sharding_places.proofs.BoxPuts.{length-numbers}
 use Rattle.zarr_sharding_index.specs.Views.{location_of, pairs_of}
 use Rattle.zarr_sharding_places.proofs.ReadPieces.{shown_all}
 use Rattle.zarr_sharding_codec.proofs.DecodedShard.{decode_lost, decode_step}
@@ -55,9 +58,11 @@ loop-n-preserved g c =
     let are = region_numbers shape subchunk c.as_slice-in-loop-n.result.now edges c.in_ok-region.region.start.items c.in_ok-region.region.shape.items n is.cuts is.even is.below grid same c.in_ok-region.ensures.start c.in_ok-region.ensures.shape in
     let before = c.loop-n.invariant in
     let piece = c.in-Ok.ensures in
-    let numbers = c.as_slice-in-Ok.ensures.value ∙ (c.in_ok-at.ensures ∙ are) in
-    let step = decode_step inner elements shape subchunk c.args.shard.value.now (pairs_of c.args.shard.index.now) n c.as_slice-in-Ok.result.now before.0 piece.cells is numbers piece.is before.2 before.3 in
-    (put c.as_slice-in-Ok.result.now piece.cells before.0, c.in_ok-all-in-Ok.ensures before.0 piece.cells before.1 piece.lists step.many, step.whole, step.shows)
+    let region = region_of c.in_ok-region.region in
+    let numbers = numbers_of shape region in
+    let step = decode_step inner elements shape subchunk c.args.shard.value.now (pairs_of c.args.shard.index.now) n numbers before.0 piece.cells is are piece.is before.2 before.3 in
+    let many = step.many ∙ length-numbers shape region (sym c.in_ok-region.region.same) in
+    (put numbers piece.cells before.0, c.in_ok-all-in-Ok.ensures before.0 piece.cells before.1 piece.lists many, step.whole, step.shows)
 
 pub returns : goal.returns
 returns g c =
@@ -75,5 +80,5 @@ returns g c =
       cells = last.0;
       is = shown_all inner elements shape subchunk c.args.shard.value.now (pairs_of c.args.shard.index.now) last.0 c.loop-n.n
           (fitted subchunk inner (g.X.ArrayToBytesCodecTraits.meaning self.index_codecs) (location_of self.index_location) elements shape c.requires.fit).cuts c.requires.many all last.2 last.3;
-      lists = c.in_ok-gather.ensures last.0 last.1;
+      lists = c.in_ok-into_bytes.ensures last.0 last.1;
     }

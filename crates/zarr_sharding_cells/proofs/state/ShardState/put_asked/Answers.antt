@@ -1,0 +1,189 @@
+use Rattle.std.proofs.Common.{◌≡◌, ◌∙◌, ◌*◌, ◌+◌, ◌<◌, ◌^◌, ap, sym, refl, subst, length, IsTrue, List, ℕ, Option, OnErr, OnOk}
+use Rattle.zarr_codecs_arrays.specs.Views.{elements_of}
+use Rattle.zarr_codecs_meaning.specs.Chains.{Location}
+use Rattle.zarr_codecs_meaning.specs.Encoding.{index_size}
+use Rattle.zarr_codecs_meaning.specs.Places.{index_shape}
+use Rattle.zarr_codecs_traits.specs.Indexers.{asked_of, numbers_asked}
+use Rattle.zarr_sharding_changes.specs.Changes.{appended, pairs_after}
+use Rattle.zarr_sharding_codec.specs.PartWriting.{IsOf, put_at}
+use Rattle.zarr_sharding_decoder.specs.Shards.{ShardOf}
+use Rattle.zarr_sharding_index.specs.Views.{location_of}
+use Rattle.zarr_sharding_state.specs.States.{end_of, pairs_in}
+use Rattle.zarr_sharding_state.specs.Views.{changes_of}
+use Rattle.zarr_sharding_state.specs.Written.{ChangesRefused, IsChanged}
+use Rattle.zarr_sharding_cells.specs.Tables.{Held, held_as}
+use Rattle.zarr_sharding_cells.proofs.Changed.{IsAfter, after_count, after_refused, after_told, after_written, changed_as, refused_as}
+use Rattle.zarr_sharding_cells.proofs.Known.{again_told, pairs_count, told_again, told_of}
+use Rattle.zarr_sharding_cells.proofs.Refused.{unchanged}
+use Rattle.zarr_sharding_cells.proofs.state.ShardState.put_asked.Goals as goal
+
+pub update_asked-requires-clause-many : goal.update_asked-requires-clause-many
+update_asked-requires-clause-many g c =
+    let self = c.args.self.now in
+    let codec = self.codec.now in
+    let contents = g.E.BytesPartialDecoderTraits.contents in
+    let s : ShardOf = record {
+      subchunk = codec.subchunk_shape;
+      inner = g.I.ArrayToBytesCodecTraits.meaning codec.inner_codecs;
+      index = g.X.ArrayToBytesCodecTraits.meaning codec.index_codecs;
+      location = location_of codec.index_location;
+      elements = elements_of self.elements.now;
+      shape = self.shape.now;
+    } in
+    let old : Held = held_as (contents self.source) (pairs_in self.known) (end_of self.known) in
+    pairs_count s self.pairs_shape.items old.pairs self.cut self.many
+
+pub update_asked-requires-clause-small : goal.update_asked-requires-clause-small
+update_asked-requires-clause-small g c = c.args.self.now.small
+
+pub invariant_of-self : goal.invariant_of-self
+invariant_of-self g c =
+    let self = c.args.self.now in
+    let codec = self.codec.now in
+    let contents = g.E.BytesPartialDecoderTraits.contents in
+    let s : ShardOf = record {
+      subchunk = codec.subchunk_shape;
+      inner = g.I.ArrayToBytesCodecTraits.meaning codec.inner_codecs;
+      index = g.X.ArrayToBytesCodecTraits.meaning codec.index_codecs;
+      location = location_of codec.index_location;
+      elements = elements_of self.elements.now;
+      shape = self.shape.now;
+    } in
+    let old : Held = held_as (contents self.source) (pairs_in self.known) (end_of self.known) in
+    let count = pairs_count s self.pairs_shape.items old.pairs self.cut self.many in
+    let pairs_shape = c.as_slice.result.now in
+    let shape_is : pairs_shape ≡ index_shape s.shape s.subchunk = c.as_slice.ensures.value ∙ self.cut in
+    let new : Held = held_as (contents c.write_slices.new.source) (pairs_in c.write_slices.new.self) (end_of c.write_slices.new.self) in
+    let changes = changes_of c.in-Ok.changes.items in
+    let lent = changes_of c.deref.result.now in
+    let are = ap changes_of c.deref.ensures.value in
+    let laws = g.met.E.BytesPartialDecoderTraits in
+    let follows = c.in-Ok.ensures.follows in
+    let later = contents c.update_asked.new.source in
+    let same = laws.same _ _ follows in
+    let one = g.X.ArrayToBytesCodecTraits.is_function codec.index_codecs in
+    let result = c.write_slices.result in
+    let after_call : IsTrue (g.E.BytesPartialDecoderTraits.is_honest c.update_asked.new.source) → IsAfter result s one changes old new = λ still. record {
+      pairs = subst (λ cs. OnOk result (new.pairs ≡ pairs_after old.end cs old.pairs)) are c.write_slices.ensures.pairs;
+      room = subst (λ cs. OnOk result (old.end + length (appended cs) < 2 ^ 63)) are c.write_slices.ensures.room;
+      written = changed_as result s.index one s.location (location_of c.index_location.result) (index_shape s.shape s.subchunk) pairs_shape changes lent old.end new.end new.pairs old.contents later new.contents c.index_location.ensures shape_is are same
+          (subst (λ x. OnOk result (IsChanged (g.X.ArrayToBytesCodecTraits.meaning x) (g.X.ArrayToBytesCodecTraits.is_function x) (location_of c.index_location.result) pairs_shape lent old.end new.pairs later new.contents new.end)) c.index_codecs.ensures (c.write_slices.ensures.ok still));
+      same = c.write_slices.ensures.same;
+      err = subst (λ (o : Option (List ℕ)). OnErr result (new.contents ≡ o)) (sym same) (c.write_slices.ensures.err still);
+    } in
+    record {
+      fit = self.fit;
+      small = self.small;
+      cut = self.cut;
+      sized = self.sized;
+      low = self.low;
+      many = self.many ∙ ap (λ n. 2 * n) (sym (after_count result old.end lent old.pairs new.pairs (new.end ≡ old.end) c.write_slices.ensures.pairs c.write_slices.ensures.same));
+      told = λ honest lossless.
+          let still = subst IsTrue (sym (g.met.E.BytesPartialEncoderTraits.still_honest _ _ c.write_slices.ensures.rewrites)) honest in
+          let before = subst IsTrue (sym (laws.honest _ _ follows)) still in
+          told_again s new.contents new.pairs new.end (after_told result s one changes old new (after_call still) count lossless (again_told s old.contents old.pairs old.end (self.told before lossless)));
+    }
+
+pub returns-in-Ok-clause-ok : goal.returns-in-Ok-clause-ok
+returns-in-Ok-clause-ok g c = λ honest told cells valid.
+    let self = c.args.self.now in
+    let codec = self.codec.now in
+    let contents = g.E.BytesPartialDecoderTraits.contents in
+    let s : ShardOf = record {
+      subchunk = codec.subchunk_shape;
+      inner = g.I.ArrayToBytesCodecTraits.meaning codec.inner_codecs;
+      index = g.X.ArrayToBytesCodecTraits.meaning codec.index_codecs;
+      location = location_of codec.index_location;
+      elements = elements_of self.elements.now;
+      shape = self.shape.now;
+    } in
+    let old : Held = held_as (contents self.source) (pairs_in self.known) (end_of self.known) in
+    let pairs_shape = c.as_slice.result.now in
+    let shape_is : pairs_shape ≡ index_shape s.shape s.subchunk = c.as_slice.ensures.value ∙ self.cut in
+    let new : Held = held_as (contents c.write_slices.new.source) (pairs_in c.write_slices.new.self) (end_of c.write_slices.new.self) in
+    let changes = changes_of c.in-Ok.changes.items in
+    let lent = changes_of c.deref.result.now in
+    let are = ap changes_of c.deref.ensures.value in
+    let laws = g.met.E.BytesPartialDecoderTraits in
+    let follows = c.in-Ok.ensures.follows in
+    let later = contents c.update_asked.new.source in
+    let same = laws.same _ _ follows in
+    let one = g.X.ArrayToBytesCodecTraits.is_function codec.index_codecs in
+    let result = c.write_slices.result in
+    let after_call : IsTrue (g.E.BytesPartialDecoderTraits.is_honest c.update_asked.new.source) → IsAfter result s one changes old new = λ still. record {
+      pairs = subst (λ cs. OnOk result (new.pairs ≡ pairs_after old.end cs old.pairs)) are c.write_slices.ensures.pairs;
+      room = subst (λ cs. OnOk result (old.end + length (appended cs) < 2 ^ 63)) are c.write_slices.ensures.room;
+      written = changed_as result s.index one s.location (location_of c.index_location.result) (index_shape s.shape s.subchunk) pairs_shape changes lent old.end new.end new.pairs old.contents later new.contents c.index_location.ensures shape_is are same
+          (subst (λ x. OnOk result (IsChanged (g.X.ArrayToBytesCodecTraits.meaning x) (g.X.ArrayToBytesCodecTraits.is_function x) (location_of c.index_location.result) pairs_shape lent old.end new.pairs later new.contents new.end)) c.index_codecs.ensures (c.write_slices.ensures.ok still));
+      same = c.write_slices.ensures.same;
+      err = subst (λ (o : Option (List ℕ)). OnErr result (new.contents ≡ o)) (sym same) (c.write_slices.ensures.err still);
+    } in
+    let size_is = self.sized ∙ ap (index_size s.index) self.cut in
+    let of : IsOf (location_of c.index_location.result) self.size old.contents old.pairs old.end =
+    subst (λ (l : Location). IsOf l self.size old.contents old.pairs old.end) (sym c.index_location.ensures) (subst (λ n. IsOf s.location n old.contents old.pairs old.end) (sym size_is) (told_of s old told)) in
+    let exact = g.I.ArrayToBytesCodecTraits.is_function codec.inner_codecs in
+    let still = subst IsTrue (laws.honest _ _ follows) honest in
+    after_written result s exact one (put_at s.shape s.subchunk (numbers_asked s.shape (asked_of c.args.indexer)) cells) changes old new (after_call still) (c.in-Ok.ensures.changes honest of cells valid)
+
+pub returns-in-Ok-clause-cause : goal.returns-in-Ok-clause-cause
+returns-in-Ok-clause-cause g c = λ honest told cells valid.
+    let self = c.args.self.now in
+    let codec = self.codec.now in
+    let contents = g.E.BytesPartialDecoderTraits.contents in
+    let s : ShardOf = record {
+      subchunk = codec.subchunk_shape;
+      inner = g.I.ArrayToBytesCodecTraits.meaning codec.inner_codecs;
+      index = g.X.ArrayToBytesCodecTraits.meaning codec.index_codecs;
+      location = location_of codec.index_location;
+      elements = elements_of self.elements.now;
+      shape = self.shape.now;
+    } in
+    let old : Held = held_as (contents self.source) (pairs_in self.known) (end_of self.known) in
+    let pairs_shape = c.as_slice.result.now in
+    let shape_is : pairs_shape ≡ index_shape s.shape s.subchunk = c.as_slice.ensures.value ∙ self.cut in
+    let new : Held = held_as (contents c.write_slices.new.source) (pairs_in c.write_slices.new.self) (end_of c.write_slices.new.self) in
+    let changes = changes_of c.in-Ok.changes.items in
+    let lent = changes_of c.deref.result.now in
+    let are = ap changes_of c.deref.ensures.value in
+    let laws = g.met.E.BytesPartialDecoderTraits in
+    let follows = c.in-Ok.ensures.follows in
+    let later = contents c.update_asked.new.source in
+    let same = laws.same _ _ follows in
+    let one = g.X.ArrayToBytesCodecTraits.is_function codec.index_codecs in
+    let result = c.write_slices.result in
+    let after_call : IsTrue (g.E.BytesPartialDecoderTraits.is_honest c.update_asked.new.source) → IsAfter result s one changes old new = λ still. record {
+      pairs = subst (λ cs. OnOk result (new.pairs ≡ pairs_after old.end cs old.pairs)) are c.write_slices.ensures.pairs;
+      room = subst (λ cs. OnOk result (old.end + length (appended cs) < 2 ^ 63)) are c.write_slices.ensures.room;
+      written = changed_as result s.index one s.location (location_of c.index_location.result) (index_shape s.shape s.subchunk) pairs_shape changes lent old.end new.end new.pairs old.contents later new.contents c.index_location.ensures shape_is are same
+          (subst (λ x. OnOk result (IsChanged (g.X.ArrayToBytesCodecTraits.meaning x) (g.X.ArrayToBytesCodecTraits.is_function x) (location_of c.index_location.result) pairs_shape lent old.end new.pairs later new.contents new.end)) c.index_codecs.ensures (c.write_slices.ensures.ok still));
+      same = c.write_slices.ensures.same;
+      err = subst (λ (o : Option (List ℕ)). OnErr result (new.contents ≡ o)) (sym same) (c.write_slices.ensures.err still);
+    } in
+    let size_is = self.sized ∙ ap (index_size s.index) self.cut in
+    let of : IsOf (location_of c.index_location.result) self.size old.contents old.pairs old.end =
+    subst (λ (l : Location). IsOf l self.size old.contents old.pairs old.end) (sym c.index_location.ensures) (subst (λ n. IsOf s.location n old.contents old.pairs old.end) (sym size_is) (told_of s old told)) in
+    let exact = g.I.ArrayToBytesCodecTraits.is_function codec.inner_codecs in
+    let still = subst IsTrue (laws.honest _ _ follows) honest in
+    after_refused result s exact (put_at s.shape s.subchunk (numbers_asked s.shape (asked_of c.args.indexer)) cells) changes old (c.in-Ok.ensures.changes honest of cells valid)
+    (refused_as result s.index s.location (location_of c.index_location.result) (index_shape s.shape s.subchunk) pairs_shape changes lent old.end old.pairs c.index_location.ensures shape_is are
+    (subst (λ x. ChangesRefused (g.X.ArrayToBytesCodecTraits.meaning x) (location_of c.index_location.result) pairs_shape lent old.end (pairs_after old.end lent old.pairs) result) c.index_codecs.ensures (c.write_slices.ensures.cause still)))
+
+pub returns-in-Err-clause-cause : goal.returns-in-Err-clause-cause
+returns-in-Err-clause-cause g c = λ honest told cells valid.
+    let self = c.args.self.now in
+    let codec = self.codec.now in
+    let contents = g.E.BytesPartialDecoderTraits.contents in
+    let s : ShardOf = record {
+      subchunk = codec.subchunk_shape;
+      inner = g.I.ArrayToBytesCodecTraits.meaning codec.inner_codecs;
+      index = g.X.ArrayToBytesCodecTraits.meaning codec.index_codecs;
+      location = location_of codec.index_location;
+      elements = elements_of self.elements.now;
+      shape = self.shape.now;
+    } in
+    let old : Held = held_as (contents self.source) (pairs_in self.known) (end_of self.known) in
+    let size_is = self.sized ∙ ap (index_size s.index) self.cut in
+    let of : IsOf (location_of c.index_location.result) self.size old.contents old.pairs old.end =
+    subst (λ (l : Location). IsOf l self.size old.contents old.pairs old.end) (sym c.index_location.ensures) (subst (λ n. IsOf s.location n old.contents old.pairs old.end) (sym size_is) (told_of s old told)) in
+    let exact = g.I.ArrayToBytesCodecTraits.is_function codec.inner_codecs in
+    unchanged s exact (put_at s.shape s.subchunk (numbers_asked s.shape (asked_of c.args.indexer)) cells) old c.in-Err.error refl (c.in-Err.ensures.changes honest of cells valid)

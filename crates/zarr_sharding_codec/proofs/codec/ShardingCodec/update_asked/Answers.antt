@@ -1,0 +1,190 @@
+use Rattle.std.proofs.Common.{◌≡◌, ◌∙◌, ◌∷◌, ◌+◌, ◌<◌, ◌≤◌, ℕ, List, [], Option, Some, Err, Ok, IfSome, ap, sym, refl, subst, arith, length, nat_lt, true, unwrap_or}
+use Rattle.std.specs.List.{list_all}
+use Rattle.zarr_codecs_arrays.specs.Outcomes.{IsValid}
+use Rattle.zarr_codecs_arrays.specs.Views.{elements_of, payload_of}
+use Rattle.zarr_codecs_meaning.specs.Types.{Cell}
+use Rattle.zarr_codecs_meaning.proofs.Fitting.{fitted}
+use Rattle.zarr_codecs_regions.proofs.AskedPlaces as regions
+use Rattle.zarr_codecs_traits.specs.Indexers.{asked_of, numbers_asked}
+use Rattle.zarr_grids_boxes.specs.Boxes.{product}
+use Rattle.zarr_sharding_index.specs.Views.{location_of}
+use Rattle.zarr_sharding_places.specs.Locating.{asked_places}
+use Rattle.zarr_sharding_state.specs.States.{pairs_in}
+use Rattle.zarr_sharding_state.specs.Views.{change_of, changes_of, is_below}
+use Rattle.zarr_sharding_state.specs.declared.writing.SliceChange.{SliceChange}
+use Rattle.zarr_sharding_codec.specs.BytesMet.{bytes_met}
+use Rattle.zarr_sharding_codec.specs.PartWriting.{AreChanged, AreSubchunk, UpdatesSlices, put_at, stored_in}
+use Rattle.zarr_sharding_codec.proofs.GroupsRead.{AskedShard}
+use Rattle.zarr_sharding_codec.proofs.ShardSizes.{divides_fit}
+use Rattle.zarr_sharding_codec.proofs.SoFarRead.{askable}
+use Rattle.zarr_sharding_codec.proofs.SoFarWritten.{below_more, put_as, stored_as}
+use Rattle.zarr_sharding_codec.proofs.StoredLoop.{inner_fit, rank_fits}
+use Rattle.zarr_sharding_codec.proofs.WholeSubchunk.{whole_count, whole_given, whole_puts, whole_unwritten, whole_updated}
+use Rattle.zarr_sharding_codec.proofs.codec.ShardingCodec.update_asked.Goals as goal
+
+pub whole_subchunk-requires-clause-cuts : goal.whole_subchunk-requires-clause-cuts
+whole_subchunk-requires-clause-cuts g c =
+    let self = c.args.self.now in
+    (fitted self.subchunk_shape (g.I.ArrayToBytesCodecTraits.meaning self.inner_codecs) (g.X.ArrayToBytesCodecTraits.meaning self.index_codecs) (location_of self.index_location) (elements_of c.args.shard.elements.now) c.args.given.shape.now c.requires.fit).cuts
+
+pub whole_subchunk-requires-clause-even : goal.whole_subchunk-requires-clause-even
+whole_subchunk-requires-clause-even g c =
+    let self = c.args.self.now in
+    divides_fit self.subchunk_shape (g.I.ArrayToBytesCodecTraits.meaning self.inner_codecs) (g.X.ArrayToBytesCodecTraits.meaning self.index_codecs) (location_of self.index_location) (elements_of c.args.shard.elements.now).type c.args.given.shape.now c.requires.fit
+
+pub whole_subchunk-requires-clause-rank : goal.whole_subchunk-requires-clause-rank
+whole_subchunk-requires-clause-rank g c =
+    let self = c.args.self.now in
+    rank_fits self.subchunk_shape (g.I.ArrayToBytesCodecTraits.meaning self.inner_codecs) (g.X.ArrayToBytesCodecTraits.meaning self.index_codecs) (location_of self.index_location) (elements_of c.args.shard.elements.now) c.args.given.shape.now c.requires.fit
+
+pub replace_subchunk-requires-clause-fit : goal.replace_subchunk-requires-clause-fit
+replace_subchunk-requires-clause-fit g c =
+    let self = c.args.self.now in
+    inner_fit self.subchunk_shape (g.I.ArrayToBytesCodecTraits.meaning self.inner_codecs) (g.X.ArrayToBytesCodecTraits.meaning self.index_codecs) (location_of self.index_location) (elements_of c.args.shard.elements.now) c.args.given.shape.now c.requires.fit
+
+pub replace_subchunk-requires-clause-pair : goal.replace_subchunk-requires-clause-pair
+replace_subchunk-requires-clause-pair g c =
+    let self = c.args.self.now in
+    let shape = c.args.given.shape.now in
+    let numbers = numbers_asked shape (asked_of c.args.given.indexer) in
+    let n = c.in-Some.n in
+    let is = subst (λ (o : Option ℕ). IfSome o (AreSubchunk shape self.subchunk_shape numbers)) c.in-Some.is c.in_ok-n.ensures in
+    let below = is.below in
+    let many = c.requires.many in
+    omega (arith, below, many)
+
+pub update_slices-requires-clause-below : goal.update_slices-requires-clause-below
+update_slices-requires-clause-below g c = subst (λ (ns : List ℕ). list_all (λ n. nat_lt n (product c.args.given.shape.now)) ns ≡ true) (sym c.as_slice.ensures.value) c.in_ok-numbers-in-None.ensures.within
+
+pub returns-in_err-one_change-in-Ok-clause-given : goal.returns-in_err-one_change-in-Ok-clause-given
+returns-in_err-one_change-in-Ok-clause-given g c = λ honest.
+    let self = c.args.self.now in
+    let shape = c.args.given.shape.now in
+    let numbers = numbers_asked shape (asked_of c.args.given.indexer) in
+    let n = c.in-Some.n in
+    let is = subst (λ (o : Option ℕ). IfSome o (AreSubchunk shape self.subchunk_shape numbers)) c.in-Some.is c.in_ok-n.ensures in
+    let s : AskedShard = record {
+      inner = g.I.ArrayToBytesCodecTraits.meaning self.inner_codecs;
+      elements = elements_of c.args.shard.elements.now;
+      shape = shape;
+      subchunk = self.subchunk_shape;
+      value = unwrap_or (g.D.BytesPartialDecoderTraits.contents c.args.source.now) [];
+      pairs = pairs_in c.args.shard.known.now;
+      numbers = numbers;
+    } in
+    let can = askable s (g.X.ArrayToBytesCodecTraits.meaning self.index_codecs) (location_of self.index_location) c.requires.fit c.requires.many (regions.asked_places shape (asked_of c.args.given.indexer) c.requires.inside) in
+    let count = g.D.BytesPartialDecoderTraits.given_bytes in
+    whole_given s n can is (count c.args.source.now) (count c.replace_subchunk.new.source) (c.in-Ok.ensures.given honest)
+
+pub returns-in_ok-one_change-in-Ok-clause-given : goal.returns-in_ok-one_change-in-Ok-clause-given
+returns-in_ok-one_change-in-Ok-clause-given g c = λ honest.
+    let self = c.args.self.now in
+    let shape = c.args.given.shape.now in
+    let numbers = numbers_asked shape (asked_of c.args.given.indexer) in
+    let n = c.in-Some.n in
+    let is = subst (λ (o : Option ℕ). IfSome o (AreSubchunk shape self.subchunk_shape numbers)) c.in-Some.is c.in_ok-n.ensures in
+    let s : AskedShard = record {
+      inner = g.I.ArrayToBytesCodecTraits.meaning self.inner_codecs;
+      elements = elements_of c.args.shard.elements.now;
+      shape = shape;
+      subchunk = self.subchunk_shape;
+      value = unwrap_or (g.D.BytesPartialDecoderTraits.contents c.args.source.now) [];
+      pairs = pairs_in c.args.shard.known.now;
+      numbers = numbers;
+    } in
+    let can = askable s (g.X.ArrayToBytesCodecTraits.meaning self.index_codecs) (location_of self.index_location) c.requires.fit c.requires.many (regions.asked_places shape (asked_of c.args.given.indexer) c.requires.inside) in
+    let count = g.D.BytesPartialDecoderTraits.given_bytes in
+    whole_given s n can is (count c.args.source.now) (count c.replace_subchunk.new.source) (c.in-Ok.ensures.given honest)
+
+pub returns-in-Err-clause-given : goal.returns-in-Err-clause-given
+returns-in-Err-clause-given g c = λ honest.
+    let self = c.args.self.now in
+    let shape = c.args.given.shape.now in
+    let numbers = numbers_asked shape (asked_of c.args.given.indexer) in
+    let n = c.in-Some.n in
+    let is = subst (λ (o : Option ℕ). IfSome o (AreSubchunk shape self.subchunk_shape numbers)) c.in-Some.is c.in_ok-n.ensures in
+    let s : AskedShard = record {
+      inner = g.I.ArrayToBytesCodecTraits.meaning self.inner_codecs;
+      elements = elements_of c.args.shard.elements.now;
+      shape = shape;
+      subchunk = self.subchunk_shape;
+      value = unwrap_or (g.D.BytesPartialDecoderTraits.contents c.args.source.now) [];
+      pairs = pairs_in c.args.shard.known.now;
+      numbers = numbers;
+    } in
+    let can = askable s (g.X.ArrayToBytesCodecTraits.meaning self.index_codecs) (location_of self.index_location) c.requires.fit c.requires.many (regions.asked_places shape (asked_of c.args.given.indexer) c.requires.inside) in
+    let count = g.D.BytesPartialDecoderTraits.given_bytes in
+    whole_given s n can is (count c.args.source.now) (count c.replace_subchunk.new.source) (c.in-Err.ensures.given honest)
+
+pub returns-in_ok-one_change-in-Ok-clause-below : goal.returns-in_ok-one_change-in-Ok-clause-below
+returns-in_ok-one_change-in-Ok-clause-below g c =
+    let self = c.args.self.now in
+    let shape = c.args.given.shape.now in
+    let numbers = numbers_asked shape (asked_of c.args.given.indexer) in
+    let n = c.in-Some.n in
+    let is = subst (λ (o : Option ℕ). IfSome o (AreSubchunk shape self.subchunk_shape numbers)) c.in-Some.is c.in_ok-n.ensures in
+    let below = is.below in
+    let many = c.requires.many in
+    let number = c.in-Ok.ensures.number in
+    let count = length (pairs_in c.args.shard.known.now) in
+    ap (list_all (is_below count)) c.in_ok-one_change-in-Ok.ensures ∙ below_more count [] c.in-Ok.change refl (omega (arith, below, many, number))
+
+pub returns-in_ok-one_change-in-Ok-clause-changes : goal.returns-in_ok-one_change-in-Ok-clause-changes
+returns-in_ok-one_change-in-Ok-clause-changes g c = λ honest of cells valid.
+    let self = c.args.self.now in
+    let shape = c.args.given.shape.now in
+    let numbers = numbers_asked shape (asked_of c.args.given.indexer) in
+    let n = c.in-Some.n in
+    let is = subst (λ (o : Option ℕ). IfSome o (AreSubchunk shape self.subchunk_shape numbers)) c.in-Some.is c.in_ok-n.ensures in
+    let s : AskedShard = record {
+      inner = g.I.ArrayToBytesCodecTraits.meaning self.inner_codecs;
+      elements = elements_of c.args.shard.elements.now;
+      shape = shape;
+      subchunk = self.subchunk_shape;
+      value = unwrap_or (g.D.BytesPartialDecoderTraits.contents c.args.source.now) [];
+      pairs = pairs_in c.args.shard.known.now;
+      numbers = numbers;
+    } in
+    let can = askable s (g.X.ArrayToBytesCodecTraits.meaning self.index_codecs) (location_of self.index_location) c.requires.fit c.requires.many (regions.asked_places shape (asked_of c.args.given.indexer) c.requires.inside) in
+    let exact = g.I.ArrayToBytesCodecTraits.is_function self.inner_codecs in
+    let new = subst (λ (m : ℕ). IsValid s.elements.type (payload_of c.args.given.bytes) m cells) (whole_count s n can is) valid in
+    let change = c.in-Ok.change in
+    let made = c.in-Ok.ensures.change honest of cells (asked_places s.shape s.subchunk s.numbers) new (whole_puts s n can is exact cells valid.is.many) in
+    subst (λ (cs : List SliceChange). AreChanged (stored_as s exact) (put_as s cells) (changes_of cs)) (sym c.in_ok-one_change-in-Ok.ensures) (whole_updated s n can is exact cells valid.is.many (change_of change) made)
+
+pub returns-in-Err-clause-changes : goal.returns-in-Err-clause-changes
+returns-in-Err-clause-changes g c = λ honest of cells valid.
+    let self = c.args.self.now in
+    let shape = c.args.given.shape.now in
+    let numbers = numbers_asked shape (asked_of c.args.given.indexer) in
+    let n = c.in-Some.n in
+    let is = subst (λ (o : Option ℕ). IfSome o (AreSubchunk shape self.subchunk_shape numbers)) c.in-Some.is c.in_ok-n.ensures in
+    let s : AskedShard = record {
+      inner = g.I.ArrayToBytesCodecTraits.meaning self.inner_codecs;
+      elements = elements_of c.args.shard.elements.now;
+      shape = shape;
+      subchunk = self.subchunk_shape;
+      value = unwrap_or (g.D.BytesPartialDecoderTraits.contents c.args.source.now) [];
+      pairs = pairs_in c.args.shard.known.now;
+      numbers = numbers;
+    } in
+    let can = askable s (g.X.ArrayToBytesCodecTraits.meaning self.index_codecs) (location_of self.index_location) c.requires.fit c.requires.many (regions.asked_places shape (asked_of c.args.given.indexer) c.requires.inside) in
+    let exact = g.I.ArrayToBytesCodecTraits.is_function self.inner_codecs in
+    let new = subst (λ (m : ℕ). IsValid s.elements.type (payload_of c.args.given.bytes) m cells) (whole_count s n can is) valid in
+    let why = c.in-Err.ensures.change honest of cells (asked_places s.shape s.subchunk s.numbers) new (whole_puts s n can is exact cells valid.is.many) in
+    whole_unwritten s n can is exact cells valid.is.many c.in-Err.error why
+
+pub returns-in_ok-numbers-in-None-clause-changes : goal.returns-in_ok-numbers-in-None-clause-changes
+returns-in_ok-numbers-in-None-clause-changes g c = λ honest of cells valid.
+    let self = c.args.self.now in
+    let elements = elements_of c.args.shard.elements.now in
+    let are : c.as_slice.result.now ≡ numbers_asked c.args.given.shape.now (asked_of c.args.given.indexer) = c.as_slice.ensures.value ∙ c.in_ok-numbers-in-None.ensures.numbers in
+    let stored = stored_in (g.I.ArrayToBytesCodecTraits.meaning self.inner_codecs) (g.I.ArrayToBytesCodecTraits.is_function self.inner_codecs) elements (g.D.BytesPartialDecoderTraits.contents c.args.source.now) (pairs_in c.args.shard.known.now) in
+    subst (λ (ns : List ℕ). UpdatesSlices stored (put_at c.args.given.shape.now self.subchunk_shape ns cells) c.update_slices.result) are
+    (c.update_slices.ensures.changes honest of cells (subst (λ (ns : List ℕ). IsValid elements.type (payload_of c.args.given.bytes) (length ns) cells) (sym are) valid))
+
+pub returns-in_ok-numbers-in-None-clause-given : goal.returns-in_ok-numbers-in-None-clause-given
+returns-in_ok-numbers-in-None-clause-given g c = λ honest.
+    let count = g.D.BytesPartialDecoderTraits.given_bytes in
+    let are : c.as_slice.result.now ≡ numbers_asked c.args.given.shape.now (asked_of c.args.given.indexer) = c.as_slice.ensures.value ∙ c.in_ok-numbers-in-None.ensures.numbers in
+    subst (λ (ns : List ℕ). count c.update_slices.new.source ≤ count c.args.source.now + bytes_met c.args.given.shape.now c.args.self.now.subchunk_shape ns (pairs_in c.args.shard.known.now)) are (c.update_slices.ensures.given honest)
