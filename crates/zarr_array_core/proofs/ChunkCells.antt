@@ -1,48 +1,19 @@
 -- The cells of a chunk after those of a box were put over them.
 use Rattle.std.proofs.Common.{◌≡◌, ◌∙◌, ℕ, zero, suc, ◌+◌, ◌<◌, ◌≤◌, Bool, true, false, ◌&&◌, List, [], ◌∷◌, length, map, get_or, refl, sym, ap, arith, Option, Some}
 use Rattle.std.specs.List.{range_with_len, list_all}
-use Rattle.std.proofs.lemmas.Bool.{le-leb, lt-ltb, leb-true, ltb-true, false≢true}
+use Rattle.std.proofs.lemmas.Bool.{false≢true}
 use Rattle.zarr_grids_boxes.specs.Boxes.{Region, product, place_at, is_in_box, share_place}
-use Rattle.zarr_grids_boxes.proofs.Places.{both}
 use Rattle.zarr_grids_boxes.proofs.Sharing.{share_place-has}
 use Rattle.zarr_grids_boxes.proofs.InBox.{in_box-place_at, ravel-place_at}
 use Rattle.zarr_codecs_meaning.specs.Chunks.{chunk_decoded}
 use Rattle.zarr_codecs_meaning.specs.Types.{is_value, Cell}
 use Rattle.zarr_codecs_meaning.proofs.Lists.{each_passes, each_get}
 use Rattle.zarr_array_meaning.specs.Boxes.{cell_of_box}
-use Rattle.zarr_array_meaning.specs.Chunks.{number_in, contains_box, holds_box}
+use Rattle.zarr_array_meaning.specs.Chunks.{number_in, holds_box}
 use Rattle.zarr_array_meaning.specs.Documents.{Document}
 use Rattle.zarr_array_elements.specs.Boxes.{AreTakenOut, ArePutOver}
 use Rattle.zarr_array_elements.proofs.FixedCells.{number_below}
 use Rattle.zarr_array_core.specs.ChunkValues.{CellsBecome}
-
--- ---- a box in a box
-
-contains_box-place : (ss xs ts us p : List ℕ) → length xs ≡ length ss → length ts ≡ length ss → length us ≡ length ss → contains_box ss xs ts us ≡ true → is_in_box ts us p ≡ true → is_in_box ss xs p ≡ true
-contains_box-place [] [] [] [] [] l m n h t = refl
-contains_box-place [] [] [] [] (q ∷ p) l m n h t = absurd (cc)
-contains_box-place [] [] [] (u ∷ us) p l m n h t = absurd (omega arith)
-contains_box-place [] [] (t ∷ ts) us p l m n h k = absurd (omega arith)
-contains_box-place [] (x ∷ xs) ts us p l m n h t = absurd (omega arith)
-contains_box-place (s ∷ ss) [] ts us p l m n h t = absurd (omega arith)
-contains_box-place (s ∷ ss) (x ∷ xs) [] us p l m n h t = absurd (omega arith)
-contains_box-place (s ∷ ss) (x ∷ xs) (t ∷ ts) [] p l m n h k = absurd (omega arith)
-contains_box-place (s ∷ ss) (x ∷ xs) (t ∷ ts) (u ∷ us) [] l m n h k = absurd (cc)
-contains_box-place (s ∷ ss) (x ∷ xs) (t ∷ ts) (u ∷ us) (q ∷ p) l m n h k =
-    let a = both _ _ h in
-    let b = both _ _ a.1 in
-    let c = both _ _ k in
-    let d = both _ _ c.0 in
-    let low = leb-true s t a.0 in
-    let high = leb-true (t + u) (s + x) b.0 in
-    let from = leb-true t q d.0 in
-    let before = ltb-true q (t + u) d.1 in
-    rw (le-leb s q (omega arith), lt-ltb q (s + x) (omega arith), contains_box-place ss xs ts us p (omega arith) (omega arith) (omega arith) b.1 c.1) refl
-
--- each place of a box that is held lies in the box that holds it
-pub held_place : (region box : Region) (place : List ℕ) → length region.start ≡ length region.shape → length box.start ≡ length box.shape → length region.start ≡ length box.start → holds_box region box ≡ true → is_in_box box.start box.shape place ≡ true
-    → is_in_box region.start region.shape place ≡ true
-held_place region box place r b l h t = contains_box-place region.start region.shape box.start box.shape place (sym r) (sym l) (sym b ∙ sym l) h t
 
 -- ---- values
 

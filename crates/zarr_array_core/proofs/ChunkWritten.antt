@@ -1,6 +1,6 @@
 -- What the new value of one chunk makes of a store.
 use Rattle.std.proofs.Common.{◌≡◌, ◌≢◌, ◌∙◌, ℕ, zero, suc, ◌<◌, Bool, true, false, if◌then◌else◌, ◌&&◌, ◌||◌, cond, List, [], ◌∷◌, length, map, get_or, replicate, refl, sym, ap, subst, arith, Option, Some, None, is_some, ⊎_elim, bytes_eq}
-use Rattle.std.specs.Prelude.{MatchBool}
+use Rattle.std.specs.Prelude.{MatchBool, not}
 use Rattle.std.specs.List.{range_with_len, list_all}
 use Rattle.std.specs.FinMap.{get, get-insert, get-remove}
 use Rattle.std.proofs.Math.Bool.{and-true, and-false}
@@ -36,9 +36,10 @@ use Rattle.zarr_array_meaning.specs.Chunks.{number_in, stored_at, fits_box, deco
 use Rattle.zarr_array_meaning.specs.Documents.{Document}
 use Rattle.zarr_array_meaning.specs.Standing.{ChunkStandsAt, IsLossless, IsGood, AreValues}
 use Rattle.zarr_array_meaning.specs.StoreMaps.{StoreMap}
-use Rattle.zarr_array_meaning.specs.Writing.{HasKeys, WroteChunks, stores_fill}
+use Rattle.zarr_array_meaning.specs.Writing.{ChunkBecomes, IsKeyed, HasKeys, WroteChunks, stores_fill}
 use Rattle.zarr_array_core.specs.ChunkValues.{CellsBecome, MakesValue, with_value}
-use Rattle.zarr_array_core.proofs.ChunkCells.{all_in_range, held_place}
+use Rattle.zarr_array_meaning.proofs.HeldBoxes.{held_place, not_held}
+use Rattle.zarr_array_core.proofs.ChunkCells.{all_in_range}
 use Rattle.zarr_array_elements.proofs.FixedCells.{cell_of_places, number_below}
 use Rattle.zarr_array_core.proofs.Listed.{listed_one, one_listed}
 
@@ -87,12 +88,6 @@ cells_are document region given stored box cells good becomes = record { fill = 
 
 stored_where : (document : Document) (box : Region) (stored : Option (List ℕ)) (cells : List Cell) → fits_box document box ≡ true → ChunkStands document.chain document.elements box.shape stored cells → IsStored document.chain document.elements box.shape stored cells
 stored_where document box stored cells fit stands = subst (λ (b : Bool). MatchBool b (ChunkStands document.chain document.elements box.shape stored cells) ((stored ≡ None) × (is_fill document.elements.fill cells ≡ true))) (sym fit) stands
-
--- where a place isn't the box's, the box doesn't hold the chunk
-not_held : (region box : Region) (place : List ℕ) (t : Bool) → holds_box region box ≡ t → length region.start ≡ length region.shape → length box.start ≡ length box.shape → length region.start ≡ length box.start
-    → is_in_box box.start box.shape place ≡ true → is_in_box region.start region.shape place ≡ false → holds_box region box ≡ false
-not_held region box place true h r b l inside outside = absurd (false≢true (sym outside ∙ held_place region box place r b l h inside))
-not_held region box place false h r b l inside outside = h
 
 -- ---- a key that got a value
 
@@ -265,13 +260,30 @@ keys_one path document region given options chunk box old made w = record {
       (λ e f s. no_fill_value path document region given options chunk box old made value w lossless e f s) empty found;
 }
 
+-- a value is made exactly where one is called for
+called_for : (made : Option (List ℕ)) (store_empty fill : Bool) → (made ≡ None → (store_empty ≡ false) × (fill ≡ true)) → ((value : List ℕ) → made ≡ Some value → store_empty ≡ false → fill ≡ false) → is_some made ≡ (store_empty || not fill)
+called_for None store_empty fill none some = let h = none refl in sym (ap (λ (b : Bool). b || not fill) h.0 ∙ ap not h.1)
+called_for (Some value) true fill none some = refl
+called_for (Some value) false fill none some = sym (ap not (some value refl refl))
+
+pub becomes_at : (path : List ℕ) (document : Document) (region : Region) (given : List Cell) (chunk : List ℕ) (box : Region) (store : StoreMap) (cells : List Cell) → CellsBecome document region given (stored_at path document store chunk) box cells → ChunkBecomes path document store region given chunk box cells
+becomes_at path document region given chunk box store cells becomes = record { many = becomes.many; written = becomes.written; kept = becomes.kept }
+
+keyed_here : (path : List ℕ) (document : Document) (region : Region) (given : List Cell) (options : CodecOptions) (chunk : List ℕ) (box : Region) (old : StoreMap) (made : Option (List ℕ)) (w : IsWrite path document region given options chunk box old made)
+    → IsKeyed path document region given options old (new_store path document old chunk made) chunk box
+keyed_here path document region given options chunk box old made w = record {
+  cells = w.makes.cells;
+  becomes = becomes_at path document region given chunk box old w.makes.cells w.makes.becomes;
+  key = ap is_some (value_same old (chunk_key path document.keys chunk) made) ∙ called_for made (stores_fill document options region box) (is_fill document.elements.fill w.makes.cells) w.makes.is.absent w.makes.is.present;
+}
+
 -- ---- one chunk written
 
 pub wrote_one : (path : List ℕ) (document : Document) (region : Region) (given : List Cell) (options : CodecOptions) (chunk : List ℕ) (box : Region) (old : StoreMap) (made : Option (List ℕ)) → IsWrite path document region given options chunk box old made
     → WroteChunks path document region given options (chunk ∷ []) old (new_store path document old chunk made)
 wrote_one path document region given options chunk box old made w = record {
   fit = λ d other over l. at_one document.grid (λ k r. fits_box document r ≡ true) chunk d box other w.below over l w.makes.fit;
-  undamaged = λ d other over l part whole.
+  undamaged = λ d other over l part.
       at_one document.grid (λ k r. holds_box region r ≡ false → is_some (decoded_at path document old k r) ≡ true) chunk d box other w.below over l (λ h. ap is_some (w.makes.becomes.kept h).1) part;
   shows = λ lossless d other place over l inside.
       at_one document.grid (λ k r. is_in_box r.start r.shape place ≡ true → MatchBool (is_in_box region.start region.shape place) (ReadsCell path document (new_store path document old chunk made) k r place (cell_of_box region given document.elements.fill place))
@@ -283,4 +295,5 @@ wrote_one path document region given options chunk box old made w = record {
       (λ h. makes_here path document region given options chunk box old made w lossless h) holds;
   others = λ key ne. value_other old (chunk_key path document.keys chunk) key made (ne chunk (one_listed chunk chunk refl));
   keys = keys_one path document region given options chunk box old made w;
+  keyed = λ d other over l. at_one document.grid (λ k r. IsKeyed path document region given options old (new_store path document old chunk made) k r) chunk d box other w.below over l (keyed_here path document region given options chunk box old made w);
 }

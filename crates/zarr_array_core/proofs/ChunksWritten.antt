@@ -1,14 +1,11 @@
 -- What a write of a box, chunk by chunk, leaves.
-use Rattle.std.proofs.Common.{◌≡◌, ◌≢◌, ◌∙◌, ℕ, ◌+◌, ◌<◌, Bool, true, false, if◌then◌else◌, ◌&&◌, ◌||◌, List, [], ◌∷◌, ◌++◌, length, map, get_or, slice_get, refl, sym, ap, subst, arith, Option, Some, is_some, inl, ⊎_elim}
+use Rattle.std.proofs.Common.{◌≡◌, ◌≢◌, ◌∙◌, ℕ, ◌+◌, ◌<◌, Bool, true, false, if◌then◌else◌, ◌&&◌, ◌||◌, List, [], ◌∷◌, ◌++◌, length, map, refl, sym, ap, subst, arith, Option, Some, is_some, inl, ⊎_elim}
 use Rattle.std.specs.Prelude.{MatchBool}
 use Rattle.std.specs.List.{list_all, list_any}
 use Rattle.std.proofs.Math.Bool.{and-false}
 use Rattle.std.proofs.lemmas.Bool.{false≢true}
-use Rattle.std.proofs.lemmas.List.FromFn.{get_or-map-range_with_len}
-use Rattle.std.proofs.lemmas.Option.{slice_get-get_or}
 use Rattle.zarr_grids_boxes.specs.Boxes.{Region, product, places, place_at, is_in_box}
-use Rattle.zarr_grids_boxes.proofs.Places.{places_by_number}
-use Rattle.zarr_grids_boxes.proofs.InBox.{ravel-place_at, length-places}
+use Rattle.zarr_grids_boxes.proofs.InBox.{ravel-place_at}
 use Rattle.zarr_grids_boxes.proofs.Walking.{start_in_box}
 use Rattle.zarr_grids_chunks.specs.Grids.{Grid, IsInGrid, IsCovered, lies_in_chunk, intersecting}
 use Rattle.zarr_grids_chunks.proofs.Partition.{intersecting-any}
@@ -20,19 +17,19 @@ use Rattle.zarr_codecs_meaning.specs.Payloads.{Payload, cells_in}
 use Rattle.zarr_codecs_meaning.specs.Types.{Cell, is_value}
 use Rattle.zarr_codecs_options.specs.declared.codec_options.CodecOptions.{CodecOptions}
 use Rattle.zarr_array_meaning.specs.Boxes.{cell_of_box, with_chunks}
-use Rattle.zarr_array_meaning.specs.Chunks.{number_in, stored_at, IsMet, is_listed}
+use Rattle.zarr_array_meaning.specs.Chunks.{number_in, stored_at, is_listed}
 use Rattle.zarr_array_meaning.specs.Documents.{Document}
 use Rattle.zarr_array_meaning.specs.Standing.{ChunkStandsAt, IsGood, AreValues}
 use Rattle.zarr_array_meaning.specs.StoreMaps.{StoreMap}
-use Rattle.zarr_array_meaning.specs.Writing.{ChunkBecomes, HasKeys, WroteChunks, stores_fill}
-use Rattle.zarr_array_core.specs.ChunkValues.{CellsBecome, MakesValue, NewValueStops, with_value}
+use Rattle.zarr_array_meaning.specs.Writing.{IsKeyed, HasKeys, WroteChunks, stores_fill}
+use Rattle.zarr_array_core.specs.ChunkValues.{MakesValue, NewValueStops, with_value}
 use Rattle.zarr_array_core.specs.Outcomes.{ChunkStops, WriteStops}
 use Rattle.zarr_array_core.specs.declared.error.ChunkError.{ChunkError}
 use Rattle.zarr_array_core.specs.declared.error.ChunkError.TheVariants as error
 use Rattle.zarr_array_core.proofs.ChunkCells.{cell_value}
-use Rattle.zarr_array_core.proofs.ChunkWritten.{AreApart, wrote_one}
+use Rattle.zarr_array_core.proofs.ChunkWritten.{AreApart, becomes_at, wrote_one}
 use Rattle.zarr_array_core.proofs.Listed.{list_any-append, listed_one, one_listed, listed_more, before_listed, last_listed, listed_number}
-use Rattle.zarr_array_core.proofs.MetChunks.{first_chunks, first_chunks-more, first_chunks-all, first_chunks-take, first_chunks-below, length-intersecting}
+use Rattle.zarr_array_core.proofs.MetChunks.{first_chunks, first_chunks-more, first_chunks-all, first_chunks-take, first_chunks-below, met_number, length-intersecting}
 
 -- ---- cells of several chunks
 
@@ -63,13 +60,14 @@ stands_same path document store chunk box f g h st = let P : (List ℕ → Cell)
 pub wrote_none : (path : List ℕ) (document : Document) (region : Region) (given : List Cell) (options : CodecOptions) (store : StoreMap) → WroteChunks path document region given options [] store store
 wrote_none path document region given options store = record {
   fit = λ d other over l. absurd (false≢true l);
-  undamaged = λ d other over l part whole. absurd (false≢true l);
+  undamaged = λ d other over l part. absurd (false≢true l);
   shows = λ lossless d other place over l inside. absurd (false≢true l);
   keeps = λ lossless cells values d other over st.
       stands_same path document store d other cells (with_chunks document.grid region [] (cell_of_box region given document.elements.fill) cells) (λ p. sym (with_chunks-none document.grid region (cell_of_box region given document.elements.fill) cells p)) st;
   makes = λ lossless d other over l holds. absurd (false≢true l);
   others = λ key ne. refl;
   keys = record { stored = λ d other over e l. absurd (false≢true l); erased = λ lossless d other over e l value found. absurd (false≢true l) };
+  keyed = λ d other over l. absurd (false≢true l);
 }
 
 -- ---- one more chunk
@@ -120,9 +118,9 @@ pub wrote_more : (path : List ℕ) (document : Document) (region : Region) (give
     → WroteChunks path document region given options cs old mid → WroteChunks path document region given options (c ∷ []) mid new → WroteChunks path document region given options (cs ++ c ∷ []) old new
 wrote_more path document region given options cs c box old mid new is first next = record {
   fit = λ d other over l. ⊎_elim (λ here. next.fit d other over (one_listed c d here)) (λ (ne, k). first.fit d other over k) (listed_more cs c d l);
-  undamaged = λ d other over l part whole. ⊎_elim
-      (λ here. subst (λ (o : Option (List ℕ)). is_some (decoded_of d other o) ≡ true) (before d here) (next.undamaged d other over (one_listed c d here) part whole))
-      (λ (ne, k). first.undamaged d other over k part whole)
+  undamaged = λ d other over l part. ⊎_elim
+      (λ here. subst (λ (o : Option (List ℕ)). is_some (decoded_of d other o) ≡ true) (before d here) (next.undamaged d other over (one_listed c d here) part))
+      (λ (ne, k). first.undamaged d other over k part)
       (listed_more cs c d l);
   shows = λ lossless d other place over l inside. ⊎_elim
       (λ here. subst (λ (o : Option (List ℕ)). Shows document region given other place o (stored_at path document new d)) (before d here) (next.shows lossless d other place over (one_listed c d here) inside))
@@ -140,6 +138,10 @@ wrote_more path document region given options cs c box old mid new is first next
       (listed_more cs c d l);
   others = λ key ne. next.others key (λ d l. ne d (last_listed cs c d (listed_one c d l))) ∙ first.others key (λ d l. ne d (before_listed cs c d l));
   keys = more_keys path document region given options cs c box old mid new is first next;
+  keyed = λ d other over l. ⊎_elim
+      (λ here. keyed_last d other (before d here) (next.keyed d other over (one_listed c d here)))
+      (λ (ne, k). keyed_before d other (stays path document region given options cs c d box other mid new is next over ne) (first.keyed d other over k))
+      (listed_more cs c d l);
 } where
   fill : Cell
   fill = document.elements.fill
@@ -149,6 +151,21 @@ wrote_more path document region given options cs c box old mid new is first next
 
   decoded_of : List ℕ → Region → Option (List ℕ) → Option (List Cell)
   decoded_of d other stored = chunk_decoded document.chain document.elements other.shape stored
+
+  -- what is so of a chunk's cells and key, from the store before the others, and to the one after the last
+  keyed_last : (d : List ℕ) (other : Region) → stored_at path document mid d ≡ stored_at path document old d → IsKeyed path document region given options mid new d other → IsKeyed path document region given options old new d other
+  keyed_last d other same k = record {
+    cells = k.cells;
+    becomes = record {
+      many = k.becomes.many;
+      written = k.becomes.written;
+      kept = λ part. let kept = k.becomes.kept part in (kept.0, ap (decoded_of d other) (sym same) ∙ kept.1, kept.2);
+    };
+    key = k.key;
+  }
+
+  keyed_before : (d : List ℕ) (other : Region) → stored_at path document new d ≡ stored_at path document mid d → IsKeyed path document region given options old mid d other → IsKeyed path document region given options old new d other
+  keyed_before d other same k = record { cells = k.cells; becomes = k.becomes; key = ap is_some same ∙ k.key }
 
   stands_moved : (d : List ℕ) (other : Region) → stored_at path document new d ≡ stored_at path document mid d → ChunkStandsAt path document mid d other (cell_of_box region given document.elements.fill) → ChunkStandsAt path document new d other (cell_of_box region given document.elements.fill)
   stands_moved d other e st = subst (λ (o : Option (List ℕ)). IsStored document.chain document.elements other.shape o (map (cell_of_box region given document.elements.fill) (places other.start other.shape))) (sym e) st
@@ -203,9 +220,6 @@ wrote_all path document region chunks given options n old new walk end wrote =
 
 -- ---- a chunk that is not written
 
-becomes_at : (path : List ℕ) (document : Document) (region : Region) (given : List Cell) (chunk : List ℕ) (box : Region) (store : StoreMap) (cells : List Cell) → CellsBecome document region given (stored_at path document store chunk) box cells → ChunkBecomes path document store region given chunk box cells
-becomes_at path document region given chunk box store cells becomes = record { many = becomes.many; written = becomes.written; kept = becomes.kept }
-
 chunk_stops : (path : List ℕ) (document : Document) (region : Region) (given : List Cell) (options : CodecOptions) (chunk : List ℕ) (box : Region) (store : StoreMap) (e : ChunkError) → NewValueStops document region given (stores_fill document options region box) box (stored_at path document store chunk) e
     → ChunkStops path document store region given options chunk box e
 chunk_stops path document region given options chunk box store error.Fit h = h
@@ -214,14 +228,6 @@ chunk_stops path document region given options chunk box store error.Damage h = 
 chunk_stops path document region given options chunk box store error.Codec h = record { fit = h.fit; cells = h.cells; becomes = becomes_at path document region given chunk box store h.cells h.becomes; called = h.refuses.0; refuses = h.refuses.1 }
 chunk_stops path document region given options chunk box store error.Size h = record { fit = h.fit; cells = h.cells; becomes = becomes_at path document region given chunk box store h.cells h.becomes; called = h.refuses.0; passes = inl h.refuses.1 }
 chunk_stops path document region given options chunk box store error.Memory h = tt
-
-met : (document : Document) (region chunks : Region) (n : ℕ) (chunk : List ℕ) (box : Region) → length chunks.start ≡ length chunks.shape → AreIntersecting document.grid region chunks → n < product chunks.shape → chunk ≡ place_at chunks.start chunks.shape n → IsInGrid document.grid chunk box
-    → IsMet document.grid region n chunk box
-met document region chunks n chunk box l m below e here = record {
-  listed = ap (λ (cs : List (List ℕ)). slice_get cs n) (sym m.listed) ∙ (slice_get-get_or (places chunks.start chunks.shape) n [] (omega (arith, below, length-places chunks.start chunks.shape l))
-      ∙ ap Some (ap (λ (cs : List (List ℕ)). get_or cs n []) (places_by_number chunks.start chunks.shape l) ∙ (get_or-map-range_with_len (place_at chunks.start chunks.shape) 0 (product chunks.shape) n n [] below (omega arith) ∙ sym e)));
-  has_box = here.has_box;
-}
 
 pub write_stops : (path : List ℕ) (document : Document) (region chunks : Region) (given : List Cell) (payload : Payload) (options : CodecOptions) (n : ℕ) (chunk : List ℕ) (box : Region) (e : ChunkError) (old mid new : StoreMap) → IsWalk path document region chunks given
     → cells_in document.elements.type payload ≡ Some given → n < product chunks.shape → chunk ≡ place_at chunks.start chunks.shape n → IsInGrid document.grid chunk box
@@ -235,7 +241,7 @@ write_stops path document region chunks given payload options n chunk box e old 
       lists = lists;
       chunk = chunk;
       box = box;
-      met = met document region chunks n chunk box walk.chunks_rank walk.intersecting below at here;
+      met = met_number document.grid region chunks n chunk box walk.chunks_rank walk.intersecting below at here;
       stops = chunk_stops path document region given options chunk box old e (subst (λ (o : Option (List ℕ)). NewValueStops document region given (stores_fill document options region box) box o e) before stops);
       wrote = subst (λ (cs : List (List ℕ)). WroteChunks path document region given options cs old new) (first_chunks-take document.grid region chunks n walk.chunks_rank walk.intersecting (omega arith))
           (subst (λ (m : StoreMap). WroteChunks path document region given options (first_chunks chunks n) old m) (sym same) wrote);

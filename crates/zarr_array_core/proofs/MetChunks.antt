@@ -1,7 +1,9 @@
 -- The chunks that a box intersects, one by one.
-use Rattle.std.proofs.Common.{◌≡◌, ◌∙◌, ℕ, ◌+◌, ◌<◌, ◌≤◌, true, List, [], ◌∷◌, ◌++◌, length, map, take, sym, ap, arith, bytes_eq}
+use Rattle.std.proofs.Common.{◌≡◌, ◌∙◌, ℕ, zero, suc, ◌+◌, ◌<◌, ◌≤◌, true, List, [], ◌∷◌, ◌++◌, length, map, get_or, slice_get, take, sym, ap, subst, arith, bytes_eq, Some, ⊎_elim}
 use Rattle.std.specs.List.{range_with_len, list_any}
-use Rattle.std.proofs.lemmas.List.FromFn.{map-range_with_len_more}
+use Rattle.std.proofs.lemmas.Bool.{cases_order}
+use Rattle.std.proofs.lemmas.List.FromFn.{get_or-map-range_with_len, map-range_with_len_more}
+use Rattle.std.proofs.lemmas.Option.{slice_get-get_or}
 use Rattle.zarr_grids_boxes.specs.Boxes.{Region, product, places, place_at, is_in_box}
 use Rattle.zarr_grids_boxes.proofs.Places.{places_by_number, take_places}
 use Rattle.zarr_grids_boxes.proofs.InBox.{in_box-place_at, length-places}
@@ -9,8 +11,9 @@ use Rattle.zarr_grids_chunks.specs.Grids.{Grid, IsInGrid, AreInGrid, chunk_indic
 use Rattle.zarr_grids_chunks.proofs.Filters.{filter-any}
 use Rattle.zarr_grids_chunks.proofs.Partition.{any_places}
 use Rattle.zarr_grids_cover.specs.Intersecting.{AreIntersecting}
-use Rattle.zarr_array_meaning.specs.Chunks.{is_listed}
-use Rattle.zarr_array_core.proofs.Listed.{listed_number}
+use Rattle.zarr_codecs_meaning.proofs.Lists.{some_same}
+use Rattle.zarr_array_meaning.specs.Chunks.{IsMet, is_listed}
+use Rattle.zarr_array_core.proofs.Listed.{before_listed, last_listed, listed_number}
 
 -- the first chunks of a box of chunk indices
 abbrev pub first_chunks : Region → ℕ → List (List ℕ)
@@ -53,3 +56,36 @@ first_chunks-below grid chunks n d l below h t =
     let b = k.1 in
     let i : k.0 < product chunks.shape = omega arith in
     met_here grid chunks k.0 d l below i k.2
+
+-- ---- the chunk at a number
+
+at_number : (grid : Grid) (region chunks : Region) (n : ℕ) → length chunks.start ≡ length chunks.shape → AreIntersecting grid region chunks → n < product chunks.shape → slice_get (intersecting grid region) n ≡ Some (place_at chunks.start chunks.shape n)
+at_number grid region chunks n l m below =
+    ap (λ (cs : List (List ℕ)). slice_get cs n) (sym m.listed) ∙ (slice_get-get_or (places chunks.start chunks.shape) n [] (omega (arith, below, length-places chunks.start chunks.shape l))
+    ∙ ap Some (ap (λ (cs : List (List ℕ)). get_or cs n []) (places_by_number chunks.start chunks.shape l) ∙ get_or-map-range_with_len (place_at chunks.start chunks.shape) 0 (product chunks.shape) n n [] below (omega arith)))
+
+pub met_number : (grid : Grid) (region chunks : Region) (n : ℕ) (chunk : List ℕ) (box : Region) → length chunks.start ≡ length chunks.shape → AreIntersecting grid region chunks → n < product chunks.shape → chunk ≡ place_at chunks.start chunks.shape n → IsInGrid grid chunk box
+    → IsMet grid region n chunk box
+met_number grid region chunks n chunk box l m below e here = record { listed = at_number grid region chunks n l m below ∙ ap Some (sym e); has_box = here.has_box }
+
+earlier_listed : (chunks : Region) (n m : ℕ) → m < n → is_listed (first_chunks chunks n) (place_at chunks.start chunks.shape m) ≡ true
+earlier_listed chunks zero m h = absurd (omega arith)
+earlier_listed chunks (suc n) m h =
+    let last = place_at chunks.start chunks.shape n in
+    let here = place_at chunks.start chunks.shape m in
+    let one_more : suc n ≡ n + 1 = omega arith in
+    let listed : is_listed (first_chunks chunks n ++ last ∷ []) here ≡ true = ⊎_elim
+    (λ e. last_listed (first_chunks chunks n) last here (ap (place_at chunks.start chunks.shape) e))
+    (λ apart. ⊎_elim (λ less. before_listed (first_chunks chunks n) last here (earlier_listed chunks n m less)) (λ more. absurd (omega arith)) apart)
+    (cases_order m n) in
+    subst (λ (k : ℕ). is_listed (first_chunks chunks k) here ≡ true) (sym one_more) (subst (λ (cs : List (List ℕ)). is_listed cs here ≡ true) (sym (first_chunks-more chunks n)) listed)
+
+-- a chunk that is met before another
+pub met_before : (grid : Grid) (region chunks : Region) (n m : ℕ) (earlier : List ℕ) (other : Region) → length chunks.start ≡ length chunks.shape → AreIntersecting grid region chunks → n ≤ product chunks.shape → m < n → IsMet grid region m earlier other
+    → (is_listed (first_chunks chunks n) earlier ≡ true) × IsInGrid grid earlier other
+met_before grid region chunks n m earlier other l are h less met =
+    let low : m < product chunks.shape = omega arith in
+    let e : earlier ≡ place_at chunks.start chunks.shape m = some_same (sym met.listed ∙ at_number grid region chunks m l are low) in
+    let found = met_here grid chunks m earlier l are.below low e in
+    let same : found.0 ≡ other = some_same (sym found.1.has_box ∙ met.has_box) in
+    (ap (is_listed (first_chunks chunks n)) e ∙ earlier_listed chunks n m less, subst (λ (b : Region). IsInGrid grid earlier b) same found.1)

@@ -1,7 +1,5 @@
 -- A read of a box, chunk by chunk.
-use Rattle.std.proofs.Common.{◌≡◌, ◌∙◌, ℕ, ◌+◌, ◌*◌, ◌<◌, Bool, true, false, ◌||◌, List, [], ◌∷◌, ◌++◌, length, replicate, take, drop, refl, sym, ap, subst, ⊎_elim, arith, Option, Some, None, is_some, option_map, Result, Ok, Err, IfErr, Vec, bytes_eq}
-use Rattle.std.specs.declared.alloc.Global.{Global}
-use Rattle.std.specs.FinMap.{get}
+use Rattle.std.proofs.Common.{◌≡◌, ◌∙◌, ℕ, ◌+◌, ◌<◌, Bool, true, false, ◌||◌, List, [], ◌∷◌, ◌++◌, length, replicate, refl, sym, ap, subst, ⊎_elim, arith, Option, Some, None, is_some, bytes_eq}
 use Rattle.std.specs.List.{list_any}
 use Rattle.std.specs.Option.{option_map_or}
 use Rattle.std.proofs.lemmas.Bool.{false≢true}
@@ -18,52 +16,17 @@ use Rattle.zarr_grids_cover.proofs.ChunkLaws.{chunks_apart}
 use Rattle.zarr_grids_cover.specs.Intersecting.{AreIntersecting}
 use Rattle.zarr_codecs_meaning.specs.Chunks.{chunk_part}
 use Rattle.zarr_codecs_meaning.specs.Types.{Cell}
-use Rattle.zarr_array_meaning.specs.Boxes.{cell_of_box, IsPlaceOf, IsRead, IsUnfitIn}
+use Rattle.zarr_array_meaning.specs.Boxes.{cell_of_box, IsPlaceOf, IsRead, AreReadBefore}
 use Rattle.zarr_array_meaning.specs.Chunks.{number_in, stored_at, fits_box, ReadsCell, is_listed}
 use Rattle.zarr_array_meaning.specs.Documents.{Document}
 use Rattle.zarr_array_meaning.specs.StoreMaps.{StoreMap}
-use Rattle.zarr_array_storage.specs.Stores.{value_bytes}
-use Rattle.zarr_array_core.specs.Outcomes.{GivesBox, ReadStops, refused_after, refused_with}
-use Rattle.zarr_array_core.specs.Parts.{IsPlaced, GivesChunk, ValueStops}
+use Rattle.zarr_array_core.specs.Outcomes.{ReadStops}
+use Rattle.zarr_array_core.specs.Parts.{GivesChunk, PartStops}
 use Rattle.zarr_array_core.specs.declared.error.ChunkError.{ChunkError}
 use Rattle.zarr_array_core.specs.declared.error.ChunkError.TheVariants as error
 use Rattle.zarr_array_core.proofs.Listed.{list_any-append, listed_more, intersecting_listed}
-use Rattle.zarr_array_core.proofs.MetChunks.{first_chunks, first_chunks-more, first_chunks-all}
+use Rattle.zarr_array_core.proofs.MetChunks.{first_chunks, first_chunks-more, first_chunks-all, shares_here, met_number, met_before}
 use Rattle.zarr_array_core.proofs.Placed.{same_box}
-
--- ---- why a chunk is not read
-pub value_stops : (path : List ℕ) (document : Document) (store : StoreMap) (region : Region) (chunk : List ℕ) (box : Region) (e : ChunkError) → IsInGrid document.grid chunk box
-    → ValueStops document region box (stored_at path document store chunk) e → ReadStops path document store region e
-value_stops path document store region chunk box error.Fit below h = elim h [ ]
-value_stops path document store region chunk box (error.Storage s) below h = tt
-value_stops path document store region chunk box error.Damage below h = record {
-  chunk = chunk;
-  box = box;
-  place = h.place;
-  is = record { below = below; of_region = h.of_region; of_chunk = h.of_chunk };
-  fit = h.fit;
-  lost = h.lost;
-}
-value_stops path document store region chunk box error.Codec below h = h
-value_stops path document store region chunk box error.Size below h = h
-value_stops path document store region chunk box error.Memory below h = h
-
-pub chunk_stops : (path : List ℕ) (document : Document) (store : StoreMap) (region : Region) (chunk : List ℕ) (found : (box : Region) × IsInGrid document.grid chunk box) (e : ChunkError)
-    → ((box : Region) → IsInGrid document.grid chunk box → ValueStops document region box (stored_at path document store chunk) e) → ReadStops path document store region e
-chunk_stops path document store region chunk found e h = value_stops path document store region chunk found.0 e found.1 (h found.0 found.1)
-
--- a value that has a size is there
-has_value : (stored : Option (List ℕ)) (size : Option ℕ) (n : ℕ) → size ≡ option_map length stored → size ≡ Some n → is_some stored ≡ true
-has_value None size n told some = cc
-has_value (Some value) size n told some = refl
-
-pub sized_value : (store mid : StoreMap) (key other : List ℕ) (size : Option ℕ) (n : ℕ) → mid ≡ store → key ≡ other → size ≡ option_map length (get mid key) → size ≡ Some n → is_some (get store other) ≡ true
-sized_value store mid key other size n same is told some = ap is_some (sym (ap (λ (m : StoreMap). get m key) same ∙ ap (get store) is)) ∙ has_value (get mid key) size n told some
-
--- a chunk that is stored and does not fit
-pub unfit_stops : (path : List ℕ) (document : Document) (store : StoreMap) (region : Region) (chunk : List ℕ) (found : (box : Region) × IsInGrid document.grid chunk box) → intersects document.grid region chunk ≡ true
-    → is_some (stored_at path document store chunk) ≡ true → ((box : Region) → IsInGrid document.grid chunk box → fits_box document box ≡ false) → IsUnfitIn path document store region
-unfit_stops path document store region chunk found shares some h = record { chunk = chunk; box = found.0; below = found.1; shares = shares; stored = some; fit = h found.0 found.1 }
 
 -- ---- the chunks that were read so far: their places show what is read of them, and the other places are fill values
 pub record ReadSoFar (path : List ℕ) (document : Document) (store : StoreMap) (region : Region) (chunks : List (List ℕ)) (cells : List Cell) : Type 0 where
@@ -194,3 +157,41 @@ pub read_end : (path : List ℕ) (document : Document) (store : StoreMap) (regio
     → length cells ≡ product region.shape → ReadSoFar path document store region (first_chunks chunks n) cells → IsRead path document store region cells
 read_end path document store region chunks n count cells l are is end many read =
     read_all path document store region cells many (subst (λ (cs : List (List ℕ)). ReadSoFar path document store region cs cells) (first_chunks-all document.grid region chunks n l are (end ∙ is)) read)
+
+-- ---- the first chunk that is not read
+
+read_before : (path : List ℕ) (document : Document) (store : StoreMap) (region chunks : Region) (n : ℕ) (chunk : List ℕ) (box : Region) (cells : List Cell) → length chunks.start ≡ length chunks.shape → AreIntersecting document.grid region chunks → n < product chunks.shape
+    → chunk ≡ place_at chunks.start chunks.shape n → IsInGrid document.grid chunk box → ReadSoFar path document store region (first_chunks chunks n) cells → AreReadBefore path document store region chunk box
+read_before path document store region chunks n chunk box cells l are below at here read = record {
+  number = n;
+  met = met_number document.grid region chunks n chunk box l are below at here;
+  each = λ m earlier other less met.
+      let there = met_before document.grid region chunks n m earlier other l are (omega arith) less met in
+      record {
+        fit = read.fit earlier other there.1 there.0;
+        whole = λ place of_region of_chunk. ap is_some (read.each earlier other place (record { below = there.1; of_region = of_region; of_chunk = of_chunk }) there.0);
+      };
+}
+
+stops_at : (path : List ℕ) (document : Document) (store : StoreMap) (region : Region) (chunk : List ℕ) (box : Region) (e : ChunkError) → IsInGrid document.grid chunk box → intersects document.grid region chunk ≡ true → AreReadBefore path document store region chunk box
+    → PartStops path document store region chunk box e → ReadStops path document store region e
+stops_at path document store region chunk box error.Fit below shares first h = record { chunk = chunk; box = box; below = below; shares = shares; stored = h.0; fit = h.1; first = first }
+stops_at path document store region chunk box (error.Storage s) below shares first h = tt
+stops_at path document store region chunk box error.Damage below shares first h = record {
+  chunk = chunk;
+  box = box;
+  place = h.place;
+  is = record { below = below; of_region = h.of_region; of_chunk = h.of_chunk };
+  fit = h.fit;
+  lost = h.lost;
+  first = first;
+}
+stops_at path document store region chunk box error.Codec below shares first h = h
+stops_at path document store region chunk box error.Size below shares first h = h
+stops_at path document store region chunk box error.Memory below shares first h = tt
+
+pub read_stops : (path : List ℕ) (document : Document) (store : StoreMap) (region chunks : Region) (n : ℕ) (chunk : List ℕ) (cells : List Cell) (e : ChunkError) → length chunks.start ≡ length chunks.shape → AreIntersecting document.grid region chunks → n < product chunks.shape
+    → chunk ≡ place_at chunks.start chunks.shape n → ((box : Region) × IsInGrid document.grid chunk box × PartStops path document store region chunk box e) → ReadSoFar path document store region (first_chunks chunks n) cells → ReadStops path document store region e
+read_stops path document store region chunks n chunk cells e l are below at stops read =
+    stops_at path document store region chunk stops.0 e stops.1 (shares_here document.grid region chunks n chunk l are below at)
+    (read_before path document store region chunks n chunk stops.0 cells l are below at stops.1 read) stops.2

@@ -1,5 +1,5 @@
 -- What reading one chunk of a box does.
-use Rattle.std.specs.Prelude.{◌≡◌, ◌⊎◌, ℕ, List, [], ◌∷◌, Option, Some, None, true, false, Result, Ok, Err}
+use Rattle.std.specs.Prelude.{◌≡◌, ◌⊎◌, ℕ, List, [], ◌∷◌, Option, Some, None, true, false, is_some, Result, Ok, Err}
 use Rattle.zarr_grids_boxes.specs.Boxes.{Region, is_in_box}
 use Rattle.zarr_grids_boxes.specs.Cuts.{relative}
 use Rattle.zarr_codecs_meaning.specs.Chunks.{chunk_part}
@@ -55,3 +55,11 @@ ValueStops document region box stored error.Damage = IsLost document region box 
 ValueStops document region box stored (error.Storage e) = Unit {0}
 ValueStops document region box stored error.Memory = Unit {0}
 ValueStops document region box stored e = ⊥
+
+-- why the part of a chunk that lies in a box is not read: the chunk has a value and does not fit, or a place of both is damaged
+abbrev pub PartStops : List ℕ → Document → StoreMap → Region → List ℕ → Region → ChunkError → Type 0
+PartStops path document store region chunk box error.Fit = (is_some (stored_at path document store chunk) ≡ true) × (fits_box document box ≡ false)
+PartStops path document store region chunk box error.Damage = IsLost document region box (stored_at path document store chunk)
+PartStops path document store region chunk box (error.Storage e) = Unit {0}
+PartStops path document store region chunk box error.Memory = Unit {0}
+PartStops path document store region chunk box e = ⊥

@@ -55,8 +55,8 @@ impl<C: ArrayToBytesCodecTraits> ArrayCore<C> {
     ghost use Rattle.zarr_array_elements.specs.Boxes.{AreOfBox};
     ghost use Rattle.zarr_array_elements.specs.Views.{AreShown, cells_shown};
     ghost use Rattle.zarr_array_core.specs.Views.{document_of, path_of};
-    ghost use Rattle.zarr_array_core.specs.Outcomes.{ReadStops, IsSmall, refused_after};
-    ghost use Rattle.zarr_array_core.specs.Parts.{DecodesElements, GivesChunk, IsChunkPart, ValueStops};
+    ghost use Rattle.zarr_array_core.specs.Outcomes.{IsSmall, refused_after};
+    ghost use Rattle.zarr_array_core.specs.Parts.{DecodesElements, GivesChunk, IsChunkPart, PartStops, ValueStops};
 
     /// The elements of a box after those of a chunk that lie in it were put over them, where
     /// nothing is stored for the chunk fill values. They stay where nothing is stored for it and it
@@ -84,9 +84,10 @@ impl<C: ArrayToBytesCodecTraits> ArrayCore<C> {
             (S.held store.old) (region_of read.entry.region.now) chunk.now box
             (cells_shown (document_of C.meaning self.now).elements shown)
             (cells_shown (document_of C.meaning self.now).elements made)) }
-        ensures err { IsTrue (S.is_honest store.old) → IfErr result
-            (ReadStops (path_of self.now) (document_of C.meaning self.now) (S.held store.old)
-            (region_of read.entry.region.now)) }
+        ensures err { IsTrue (S.is_honest store.old) → IfErr result (λ e. (box : Region)
+            × IsInGrid (document_of C.meaning self.now).grid chunk.now box
+            × PartStops (path_of self.now) (document_of C.meaning self.now)
+            (S.held store.old) (region_of read.entry.region.now) chunk.now box e) }
         ensures held { S.held store.new ≡ S.held store.old }
         ensures honest { S.is_honest store.new ≡ S.is_honest store.old }
         ensures refused { S.refused_calls store.new ≡
@@ -133,9 +134,10 @@ impl<C: ArrayToBytesCodecTraits> ArrayCore<C> {
         ensures absent { IsTrue (S.is_honest store.old) → IfOk result (λ found. found ≡ None
             → stored_at (path_of self.now) (document_of C.meaning self.now) (S.held store.old)
             chunk.now ≡ None) }
-        ensures err { IsTrue (S.is_honest store.old) → IfErr result
-            (ReadStops (path_of self.now) (document_of C.meaning self.now) (S.held store.old)
-            (region_of read.entry.region.now)) }
+        ensures err { IsTrue (S.is_honest store.old) → IfErr result (λ e. (box : Region)
+            × IsInGrid (document_of C.meaning self.now).grid chunk.now box
+            × PartStops (path_of self.now) (document_of C.meaning self.now)
+            (S.held store.old) (region_of read.entry.region.now) chunk.now box e) }
         ensures held { S.held store.new ≡ S.held store.old }
         ensures honest { S.is_honest store.new ≡ S.is_honest store.old }
         ensures refused { S.refused_calls store.new ≡

@@ -59,15 +59,18 @@ impl<C: ArrayToBytesCodecTraits> ArrayCore<C> {
             × IsValid (document_of C.meaning self.now).elements.type
             (payload_of bytes.now) (product target.region.now.shape.items) cells }
         ensures ok { IsTrue (S.is_honest store.old) → OnOk result
-            (WritesBox (path_of self.now) (document_of C.meaning self.now) (region_of target.entry.region.now)
-            (payload_of bytes.now) options.now (S.held store.old) (S.held store.new)) }
+            (WritesBox (path_of self.now) (document_of C.meaning self.now)
+            (region_of target.entry.region.now) (payload_of bytes.now) options.now
+            (S.held store.old) (S.held store.new)) }
         ensures err { IsTrue (S.is_honest store.old) → IfErr result
-            (WriteStops (path_of self.now) (document_of C.meaning self.now) (region_of target.entry.region.now)
-            (payload_of bytes.now) options.now (S.held store.old) (S.held store.new)) }
+            (WriteStops (path_of self.now) (document_of C.meaning self.now)
+            (region_of target.entry.region.now) (payload_of bytes.now) options.now
+            (S.held store.old) (S.held store.new)) }
         ensures honest { S.is_honest store.new ≡ S.is_honest store.old }
         ensures refused { S.refused_calls store.new ≡
             refused_by_many (S.refused_calls store.old) result }
-        ensures counts { CountsWrites (document_of C.meaning self.now) (region_of target.entry.region.now)
+        ensures counts { CountsWrites (document_of C.meaning self.now)
+            (region_of target.entry.region.now)
             (S.accepted_writes store.old) (S.accepted_writes store.new) }
     {
         let (start, shape) = (target.region.start(), target.region.shape());

@@ -1,3 +1,5 @@
+pub mod HeldBoxes
+pub mod OneAnswer
 pub mod Points
 pub mod ReadsBack
 pub mod Showing

@@ -1,10 +1,10 @@
 -- Boxes of cells read from a store, whatever is stored.
-use Rattle.std.specs.Prelude.{◌≡◌, ℕ, List, length, slice_index_or, None, true, false, is_some, ◌&&◌, if◌then◌else◌}
+use Rattle.std.specs.Prelude.{◌≡◌, ℕ, ◌<◌, List, length, slice_index_or, None, true, false, is_some, ◌&&◌, if◌then◌else◌}
 use Rattle.std.specs.List.{list_any}
 use Rattle.zarr_grids_boxes.specs.Boxes.{Region, product, is_in_box}
 use Rattle.zarr_grids_chunks.specs.Grids.{Grid, IsInGrid, intersects, lies_in_chunk}
 use Rattle.zarr_codecs_meaning.specs.Types.{Cell}
-use Rattle.zarr_array_meaning.specs.Chunks.{number_in, stored_at, fits_box, part_at, ReadsCell}
+use Rattle.zarr_array_meaning.specs.Chunks.{number_in, stored_at, fits_box, part_at, ReadsCell, IsMet}
 use Rattle.zarr_array_meaning.specs.Documents.{Document}
 use Rattle.zarr_array_meaning.specs.StoreMaps.{StoreMap}
 
@@ -28,7 +28,18 @@ pub record IsRead (path : List ℕ) (document : Document) (store : StoreMap) (re
   pub each : (chunk : List ℕ) (box : Region) (place : List ℕ) → IsPlaceOf document region chunk box place → ReadsCell path document store chunk box place (cell_of_box region cells document.elements.fill place)
   pub fit : (chunk : List ℕ) (box : Region) → IsInGrid document.grid chunk box → intersects document.grid region chunk ≡ true → is_some (stored_at path document store chunk) ≡ true → fits_box document box ≡ true
 
--- a chunk that a box intersects fits the chain, and a place of both is damaged
+-- the part of a chunk that lies in a box is read: the chunk fits the chain or has no value, and no place of both is damaged
+pub record IsPartRead (path : List ℕ) (document : Document) (store : StoreMap) (region : Region) (chunk : List ℕ) (box : Region) : Type 0 where
+  pub fit : is_some (stored_at path document store chunk) ≡ true → fits_box document box ≡ true
+  pub whole : (place : List ℕ) → is_in_box region.start region.shape place ≡ true → is_in_box box.start box.shape place ≡ true → is_some (part_at path document store chunk box place) ≡ true
+
+-- a chunk is one that a box intersects, and each one before it is read: those are taken row-major
+pub record AreReadBefore (path : List ℕ) (document : Document) (store : StoreMap) (region : Region) (chunk : List ℕ) (box : Region) : Type 0 where
+  pub number : ℕ
+  pub met : IsMet document.grid region number chunk box
+  pub each : (n : ℕ) (earlier : List ℕ) (other : Region) → n < number → IsMet document.grid region n earlier other → IsPartRead path document store region earlier other
+
+-- the first chunk that a box intersects and that isn't read fits the chain, and a place of both is damaged
 pub record IsDamagedIn (path : List ℕ) (document : Document) (store : StoreMap) (region : Region) : Type 0 where
   pub chunk : List ℕ
   pub box : Region
@@ -36,8 +47,9 @@ pub record IsDamagedIn (path : List ℕ) (document : Document) (store : StoreMap
   pub is : IsPlaceOf document region chunk box place
   pub fit : fits_box document box ≡ true
   pub lost : part_at path document store chunk box place ≡ None
+  pub first : AreReadBefore path document store region chunk box
 
--- a chunk that a box intersects does not fit the chain, and has a value
+-- the first chunk that a box intersects and that isn't read does not fit the chain, and has a value
 pub record IsUnfitIn (path : List ℕ) (document : Document) (store : StoreMap) (region : Region) : Type 0 where
   pub chunk : List ℕ
   pub box : Region
@@ -45,3 +57,10 @@ pub record IsUnfitIn (path : List ℕ) (document : Document) (store : StoreMap) 
   pub shares : intersects document.grid region chunk ≡ true
   pub stored : is_some (stored_at path document store chunk) ≡ true
   pub fit : fits_box document box ≡ false
+  pub first : AreReadBefore path document store region chunk box
+
+-- a box is read, or a chunk of it is damaged first, or one doesn't fit first: never two of these
+abbrev pub ReadsOneWay : Type 0
+ReadsOneWay = (path : List ℕ) (document : Document) (store : StoreMap) (region : Region) (cells : List Cell)
+    → (IsDamagedIn path document store region → IsUnfitIn path document store region → ⊥)
+    × (IsRead path document store region cells → IsDamagedIn path document store region → ⊥) × (IsRead path document store region cells → IsUnfitIn path document store region → ⊥)

@@ -53,6 +53,12 @@ may_be_in_part document options region box = options.experimental_partial_encodi
 abbrev pub stores_fill : Document → CodecOptions → Region → Region → Bool
 stores_fill document options region box = options.store_empty_chunks || may_be_in_part document options region box
 
+-- a chunk that was written has its new cells, and a key exactly where these are not all fill or such a chunk is stored, whatever the chain keeps of them
+pub record IsKeyed (path : List ℕ) (document : Document) (region : Region) (values : List Cell) (options : CodecOptions) (old new : StoreMap) (chunk : List ℕ) (box : Region) : Type 0 where
+  pub cells : List Cell
+  pub becomes : ChunkBecomes path document old region values chunk box cells
+  pub key : is_some (stored_at path document new chunk) ≡ (stores_fill document options region box || not (is_fill document.elements.fill cells))
+
 -- of these chunks each that is stored even if all its cells are fill has a key; no other has a value that stands for the fill value alone
 pub record HasKeys (path : List ℕ) (document : Document) (region : Region) (options : CodecOptions) (chunks : List (List ℕ)) (store : StoreMap) : Type 0 where
   pub stored : (chunk : List ℕ) (box : Region) → IsInGrid document.grid chunk box → stores_fill document options region box ≡ true → is_listed chunks chunk ≡ true
@@ -67,10 +73,10 @@ ShowsWritten path document region values chunks old new = (chunk : List ℕ) (bo
     (part_at path document new chunk box place ≡ part_at path document old chunk box place)
 
 -- the cells of a box are given to some of the chunks that it intersects. Where the chain keeps every bit, each chunk is read so afterwards; one that stood for its cells stands for its new ones;
--- and one that lies in the box stands for the given cells, whatever was stored. Each chunk fits, one of which a part is to stay was not damaged, and only those chunks' keys changed
+-- and one that lies in the box stands for the given cells, whatever was stored. Whatever the chain keeps, each chunk fits, one of which a part is to stay was not damaged, each has a key exactly where its new cells call for one, and only those chunks' keys changed
 pub record WroteChunks (path : List ℕ) (document : Document) (region : Region) (values : List Cell) (options : CodecOptions) (chunks : List (List ℕ)) (old new : StoreMap) : Type 0 where
   pub fit : (chunk : List ℕ) (box : Region) → IsInGrid document.grid chunk box → is_listed chunks chunk ≡ true → fits_box document box ≡ true
-  pub undamaged : (chunk : List ℕ) (box : Region) → IsInGrid document.grid chunk box → is_listed chunks chunk ≡ true → holds_box region box ≡ false → may_be_in_part document options region box ≡ false
+  pub undamaged : (chunk : List ℕ) (box : Region) → IsInGrid document.grid chunk box → is_listed chunks chunk ≡ true → holds_box region box ≡ false
       → is_some (decoded_at path document old chunk box) ≡ true
   pub shows : IsLossless document → ShowsWritten path document region values chunks old new
   pub keeps : IsLossless document → (cells : List ℕ → Cell) → AreValues document cells → (chunk : List ℕ) (box : Region) → IsInGrid document.grid chunk box → ChunkStandsAt path document old chunk box cells
@@ -79,8 +85,22 @@ pub record WroteChunks (path : List ℕ) (document : Document) (region : Region)
       → ChunkStandsAt path document new chunk box (cell_of_box region values document.elements.fill)
   pub others : KeepsOtherKeys path document chunks old new
   pub keys : HasKeys path document region options chunks new
+  pub keyed : (chunk : List ℕ) (box : Region) → IsInGrid document.grid chunk box → is_listed chunks chunk ≡ true → IsKeyed path document region values options old new chunk box
 
 -- some chunks are erased: they have no key, and no other key changed
 pub record ErasedChunks (path : List ℕ) (document : Document) (chunks : List (List ℕ)) (old new : StoreMap) : Type 0 where
   pub gone : (chunk : List ℕ) → is_listed chunks chunk ≡ true → stored_at path document new chunk ≡ None
   pub others : KeepsOtherKeys path document chunks old new
+
+-- ---- no two of these
+
+-- no chunk that was written was damaged where a part of it is to stay
+abbrev pub WrittenUndamaged : Type 0
+WrittenUndamaged = (path : List ℕ) (document : Document) (region : Region) (values : List Cell) (options : CodecOptions) (chunks : List (List ℕ)) (old new : StoreMap) (chunk : List ℕ) (box : Region)
+    → WroteChunks path document region values options chunks old new → IsInGrid document.grid chunk box → is_listed chunks chunk ≡ true → IsPartDamaged path document old region chunk box → ⊥
+
+-- two writes of the same cells over the same store leave keys to the same chunks of those that they wrote, whatever the chain keeps
+abbrev pub WrittenKeysAlike : Type 0
+WrittenKeysAlike = (path : List ℕ) (document : Document) (region : Region) (values : List Cell) (options : CodecOptions) (chunks : List (List ℕ)) (old new other : StoreMap) (chunk : List ℕ) (box : Region)
+    → WroteChunks path document region values options chunks old new → WroteChunks path document region values options chunks old other → IsInGrid document.grid chunk box → is_listed chunks chunk ≡ true
+    → length region.start ≡ length region.shape → length region.start ≡ length document.grid → is_some (stored_at path document new chunk) ≡ is_some (stored_at path document other chunk)

@@ -1,7 +1,9 @@
-//! Laws of written documents, and of the cells that a store shows. Each function does nothing: its
-//! contract is the law.
+//! Laws of written documents, of the cells that a store shows, and of what reads and writes of boxes
+//! may leave. Each function does nothing: its contract is the law.
 ghost use Rattle.zarr_array_meaning.specs.Laws.{MetadataReadsBack, DocumentReadsBack, WrittenOnce};
+ghost use Rattle.zarr_array_meaning.specs.Boxes.{ReadsOneWay};
 ghost use Rattle.zarr_array_meaning.specs.Standing.{StandingShows, NothingStoredShows, ShowingSomething, ReadsValues};
+ghost use Rattle.zarr_array_meaning.specs.Writing.{WrittenUndamaged, WrittenKeysAlike};
 
 /// What is written for a document that opens says what that one says, with the mark among its
 /// attributes.
@@ -37,4 +39,21 @@ pub fn showing_something()
 /// A cell that is read of a chunk that fits is a value of the type.
 pub fn reads_values()
     ensures { ReadsValues }
+{}
+
+/// A box is read, or the first chunk of it that isn't read is damaged, or that chunk doesn't fit: over
+/// the same store no two of these hold.
+pub fn reads_one_way()
+    ensures { ReadsOneWay }
+{}
+
+/// No chunk that was written was damaged where a part of it is to stay.
+pub fn written_undamaged()
+    ensures { WrittenUndamaged }
+{}
+
+/// Writes of the same cells over the same store leave keys to the same chunks, whatever the chain keeps
+/// of the cells.
+pub fn written_keys_alike()
+    ensures { WrittenKeysAlike }
 {}

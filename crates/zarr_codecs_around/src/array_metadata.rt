@@ -67,12 +67,13 @@ pub fn array_metadatas(
     Ok(metadatas)
 }
 
-/// Equal codecs. `Err` only where an allocation failed.
+/// Equal codecs, under the names that they have. `Err` only where an allocation failed.
 pub fn array_copies(
     alloc: Global,
     codecs: &[ArrayToArrayCodec],
 ) -> Result<Vec<ArrayToArrayCodec>, AllocError>
-    ensures { IfOk result (λ copies. codecs_of copies.items ≡ codecs_of codecs.now) }
+    ensures meaning { IfOk result (λ copies. codecs_of copies.items ≡ codecs_of codecs.now) }
+    ensures written { IfOk result (λ copies. array_points copies.items ≡ array_points codecs.now) }
 {
     let mut copies = Vec::with_capacity(alloc, codecs.len())?;
     for codec in codecs {

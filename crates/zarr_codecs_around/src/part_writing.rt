@@ -32,7 +32,8 @@ pub fn encode_part_after<A: ArrayToBytesCodecTraits, E: BytesPartialEncoderTrait
 ) -> Result<(), CodecError>
     ensures ok { IsTrue (E.is_honest source.old) → OnOk result ((cells : List Cell)
         × IsEncodedInto (chain_after A.meaning chain.entry)
-        (A.is_function chain.entry.rest.now) (elements_of part.entry.elements.now) part.entry.shape.now
+        (A.is_function chain.entry.rest.now) (elements_of part.entry.elements.now)
+        part.entry.shape.now
         (asked_of part.entry.indexer) (payload_of bytes) cells (E.contents source.old)
         (E.contents source.new)) }
     ensures err { IsTrue (E.is_honest source.old) →
@@ -75,7 +76,8 @@ fn encode_listed_after<A: ArrayToBytesCodecTraits, E: BytesPartialEncoderTraits>
     requires { product part.shape.now < 2 ^ 63 }
     ensures ok { IsTrue (E.is_honest source.old) → OnOk result ((cells : List Cell)
         × IsEncodedInto (chain_after A.meaning chain.entry)
-        (A.is_function chain.entry.rest.now) (elements_of part.entry.elements.now) part.entry.shape.now
+        (A.is_function chain.entry.rest.now) (elements_of part.entry.elements.now)
+        part.entry.shape.now
         (listed part.entry.numbers.now) (payload_of bytes) cells (E.contents source.old)
         (E.contents source.new)) }
     ensures err { IsTrue (E.is_honest source.old) →

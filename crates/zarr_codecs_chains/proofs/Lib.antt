@@ -14,3 +14,4 @@ pub mod Configured
 pub mod Refused
 pub mod LongIndex
 pub mod Alone
+pub mod Copied

@@ -89,8 +89,10 @@ impl<B: BytesToBytesCodecTraits> ArrayToBytesCodec<B> {
 }
 
 impl<B: BytesToBytesCodecTraits> ArrayToBytesCodecTraits for ArrayToBytesCodec<B> {
-    ghost use Rattle.std.specs.Prelude.{true};
-    ghost use Rattle.zarr_codecs_chains.specs.Views.{codec_chain, codec_lawful};
+    ghost use Rattle.std.specs.Prelude.{◌≡◌, IfOk, true};
+    ghost use Rattle.zarr_grids_metadata.specs.ExtensionPoints.{ExtensionPoint};
+    ghost use Rattle.zarr_codecs_chains.specs.Names.{WritesAlike};
+    ghost use Rattle.zarr_codecs_chains.specs.Views.{codec_chain, codec_lawful, codec_point};
 
     ghost meaning = { codec_chain B.meaning };
 
@@ -239,7 +241,15 @@ impl<B: BytesToBytesCodecTraits> ArrayToBytesCodecTraits for ArrayToBytesCodec<B
         Ok(None)
     }
 
-    fn try_clone(&self, alloc: Global) -> Result<ArrayToBytesCodec<B>, AllocError> {
+    /// An equal codec, which keeps its name, as each codec of this library inside of it does. `Err`
+    /// only where an allocation failed.
+    fn try_clone(&self, alloc: Global) -> Result<ArrayToBytesCodec<B>, AllocError>
+        ensures meaning { IfOk result
+            (λ copy. codec_chain B.meaning copy ≡ codec_chain B.meaning self.now) }
+        ensures function { IfOk result (λ copy. true ≡ true) }
+        ensures written { (described : B → ExtensionPoint) → WritesAlike B.meaning described
+            → IfOk result (λ copy. codec_point described copy ≡ codec_point described self.now) }
+    {
         copy_codec(self, alloc)
     }
 

@@ -2,6 +2,7 @@
 use crate::allowing::is_allowed;
 use crate::array_to_bytes::ArrayToBytesCodec;
 use crate::bytes_chain::BytesChain;
+use crate::copying::copy_chain;
 use crate::decoding::decode_chain;
 use crate::encoding::encode_chain;
 use crate::fitting::fits_chain;
@@ -9,7 +10,6 @@ use crate::reading::read_chain;
 use crate::writing::chain_metadatas;
 use std::alloc::{AllocError, Global};
 use zarr_codecs_around::array_codecs::AfterArrayCodecs;
-use zarr_codecs_around::array_metadata::array_copies;
 use zarr_codecs_around::part_reading::decode_part_after;
 use zarr_codecs_around::part_writing::encode_part_after;
 use zarr_codecs_around::whole_arrays::represent_after;
@@ -145,8 +145,10 @@ impl<B: BytesToBytesCodecTraits> CodecChain<B> {
 }
 
 impl<B: BytesToBytesCodecTraits> ArrayToBytesCodecTraits for CodecChain<B> {
-    ghost use Rattle.std.specs.Prelude.{true};
-    ghost use Rattle.zarr_codecs_chains.specs.Views.{meaning_of, lawful_of};
+    ghost use Rattle.std.specs.Prelude.{◌≡◌, IfOk, true};
+    ghost use Rattle.zarr_grids_metadata.specs.ExtensionPoints.{ExtensionPoint};
+    ghost use Rattle.zarr_codecs_chains.specs.Names.{WritesAlike};
+    ghost use Rattle.zarr_codecs_chains.specs.Views.{meaning_of, lawful_of, points_of};
 
     ghost meaning = { meaning_of B.meaning };
 
@@ -285,13 +287,16 @@ impl<B: BytesToBytesCodecTraits> ArrayToBytesCodecTraits for CodecChain<B> {
         Ok(None)
     }
 
-    fn try_clone(&self, alloc: Global) -> Result<Self, AllocError> {
-        let array_to_array = array_copies(alloc, self.array_to_array.as_slice())?;
-        let others = self.others.try_clone(alloc)?;
-        Ok(CodecChain {
-            array_to_array,
-            others,
-        })
+    /// An equal chain, each of whose codecs of this library keeps its name. `Err` only where an
+    /// allocation failed.
+    fn try_clone(&self, alloc: Global) -> Result<CodecChain<B>, AllocError>
+        ensures meaning { IfOk result
+            (λ copy. meaning_of B.meaning copy ≡ meaning_of B.meaning self.now) }
+        ensures function { IfOk result (λ copy. true ≡ true) }
+        ensures written { (described : B → ExtensionPoint) → WritesAlike B.meaning described
+            → IfOk result (λ copy. points_of described copy ≡ points_of described self.now) }
+    {
+        copy_chain(self, alloc)
     }
 
     ghost lawful = { lawful_of B.meaning B.lawful };

@@ -1,6 +1,8 @@
 //! Copies of a chain, and of the chains inside of it.
 ghost use Rattle.std.specs.Prelude.{◌≡◌, IfOk};
-ghost use Rattle.zarr_codecs_chains.specs.Views.{codec_chain, meaning_of, optional_chain, vlen_chain};
+ghost use Rattle.zarr_grids_metadata.specs.ExtensionPoints.{ExtensionPoint};
+ghost use Rattle.zarr_codecs_chains.specs.Names.{WritesAlike, optional_name, vlen_name};
+ghost use Rattle.zarr_codecs_chains.specs.Views.{codec_chain, codec_point, given_to_optional, given_to_vlen, meaning_of, optional_chain, points_of, vlen_chain};
 
 use crate::array_to_bytes::ArrayToBytesCodec;
 use crate::bytes_chain::BytesChain;
@@ -12,14 +14,17 @@ use zarr_codecs_around::array_metadata::array_copies;
 use zarr_codecs_around::byte_codecs::copies;
 use zarr_codecs_traits::BytesToBytesCodecTraits;
 
-/// An equal chain. `Err` only where an allocation failed.
+/// An equal chain, whose codecs keep their names. `Err` only where an allocation failed.
 #[cycle(copying)]
-fn copy_chain<B: BytesToBytesCodecTraits>(
+#[tactic(auto, using(crate::proofs::Copied::described_alike))]
+pub(crate) fn copy_chain<B: BytesToBytesCodecTraits>(
     chain: &CodecChain<B>,
     alloc: Global,
 ) -> Result<CodecChain<B>, AllocError>
-    ensures { IfOk result
+    ensures meaning { IfOk result
         (λ copy. meaning_of B.meaning copy ≡ meaning_of B.meaning chain.now) }
+    ensures written { (described : B → ExtensionPoint) → WritesAlike B.meaning described
+        → IfOk result (λ copy. points_of described copy ≡ points_of described chain.now) }
 {
     let array_to_array = array_copies(alloc, chain.array_to_array.as_slice())?;
     let array_to_bytes = copy_codec(&chain.others.array_to_bytes, alloc)?;
@@ -34,14 +39,16 @@ fn copy_chain<B: BytesToBytesCodecTraits>(
     })
 }
 
-/// An equal array to bytes codec. `Err` only where an allocation failed.
+/// An equal array to bytes codec, under its name. `Err` only where an allocation failed.
 #[cycle(copying)]
 pub(crate) fn copy_codec<B: BytesToBytesCodecTraits>(
     codec: &ArrayToBytesCodec<B>,
     alloc: Global,
 ) -> Result<ArrayToBytesCodec<B>, AllocError>
-    ensures { IfOk result
+    ensures meaning { IfOk result
         (λ copy. codec_chain B.meaning copy ≡ codec_chain B.meaning codec.now) }
+    ensures written { (described : B → ExtensionPoint) → WritesAlike B.meaning described
+        → IfOk result (λ copy. codec_point described copy ≡ codec_point described codec.now) }
 {
     match codec {
         ArrayToBytesCodec::Bytes(codec) => Ok(ArrayToBytesCodec::Bytes(*codec)),
@@ -57,14 +64,17 @@ pub(crate) fn copy_codec<B: BytesToBytesCodecTraits>(
     }
 }
 
-/// An equal codec `vlen`.
+/// An equal codec `vlen`, under its name.
 #[cycle(copying)]
 fn copy_vlen<B: BytesToBytesCodecTraits>(
     codec: &VlenCodec<B>,
     alloc: Global,
 ) -> Result<VlenCodec<B>, AllocError>
-    ensures { IfOk result
+    ensures meaning { IfOk result
         (λ copy. vlen_chain B.meaning copy ≡ vlen_chain B.meaning codec.now) }
+    ensures name { IfOk result (λ copy. vlen_name copy ≡ vlen_name codec.now) }
+    ensures written { (described : B → ExtensionPoint) → WritesAlike B.meaning described → IfOk
+        result (λ copy. given_to_vlen described copy ≡ given_to_vlen described codec.now) }
 {
     let index_codecs = copy_chain(&codec.index_codecs, alloc)?;
     let data_codecs = copy_chain(&codec.data_codecs, alloc)?;
@@ -77,14 +87,17 @@ fn copy_vlen<B: BytesToBytesCodecTraits>(
     })
 }
 
-/// An equal codec `optional`.
+/// An equal codec `optional`, under its name.
 #[cycle(copying)]
 fn copy_optional<B: BytesToBytesCodecTraits>(
     codec: &OptionalCodec<B>,
     alloc: Global,
 ) -> Result<OptionalCodec<B>, AllocError>
-    ensures { IfOk result
+    ensures meaning { IfOk result
         (λ copy. optional_chain B.meaning copy ≡ optional_chain B.meaning codec.now) }
+    ensures name { IfOk result (λ copy. optional_name copy ≡ optional_name codec.now) }
+    ensures written { (described : B → ExtensionPoint) → WritesAlike B.meaning described → IfOk
+        result (λ copy. given_to_optional described copy ≡ given_to_optional described codec.now) }
 {
     let mask_codecs = copy_chain(&codec.mask_codecs, alloc)?;
     let data_codecs = copy_chain(&codec.data_codecs, alloc)?;

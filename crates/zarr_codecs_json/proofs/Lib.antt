@@ -4,3 +4,4 @@ pub mod PrintedTexts
 pub mod PrintedCells
 pub mod NumberLists
 pub mod WholeNumbers
+pub mod FewDigits

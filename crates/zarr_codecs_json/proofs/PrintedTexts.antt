@@ -1,16 +1,15 @@
 -- Texts of lists that grow element by element.
-use Rattle.std.proofs.Common.{◌≡◌, ℕ, suc, ◌+◌, ◌-◌, ◌*◌, ◌<◌, ◌≤◌, pos, negsuc, List, [], ◌∷◌, ◌++◌, length, map, take, drop, get_or, ap, ◌∙◌, sym, refl, arith, Result, Ok, Err, OnOk, OnErr, Bool, true, false, if◌then◌else◌, ◌&&◌, ◌==◌, not, decimal, append-nil, append_assoc, length-take, take-append-drop}
-use Rattle.std.specs.Prelude.{nat_lt}
+use Rattle.std.proofs.Common.{◌≡◌, ℕ, suc, ◌+◌, ◌-◌, ◌*◌, ◌<◌, ◌≤◌, pos, negsuc, List, [], ◌∷◌, ◌++◌, length, map, take, drop, get_or, ap, ◌∙◌, sym, refl, arith, ◌/◌, ◌%◌, zero, Result, Ok, Err, OnOk, OnErr, Bool, true, false, if◌then◌else◌, ◌&&◌, ◌==◌, not, decimal, append-nil, append_assoc, length-take, take-append-drop}
+use Rattle.std.specs.Prelude.{nat_lt, IsAscii}
+use Rattle.std.specs.Char.{digit_char}
 use Rattle.std.specs.List.{list_all, range_with_len}
 use Rattle.std.specs.Result.{is_ok}
 use Rattle.std.proofs.Math.Nat.{div-eq_of_lt}
-use Rattle.std.proofs.lemmas.Bool.{le-ltb, ltb-true, eq-eqb, and_parts}
-use Rattle.std.proofs.lemmas.List.{take-append-le, take-take}
+use Rattle.std.proofs.lemmas.Bool.{le-ltb, lt-ltb, ltb-true, eq-eqb, and_parts}
+use Rattle.std.proofs.lemmas.List.{take-append-le, take-take, take_all}
 use Rattle.std.proofs.lemmas.Result.{on_ok_weaker}
 use Rattle.json.proofs.Printed.Strings.{escape_byte_plain}
-use Rattle.json.specs.Print.{escape, escape_byte, print, print_from, quoted}
-use Rattle.json.specs.Token.{string}
-use Rattle.json.specs.Written.{Written, Writes}
+use Rattle.json.specs.Print.{escape, escape_byte, escape_letter, quoted}
 use Rattle.serde_json.specs.Data.{item}
 use Rattle.serde_json.specs.Find.{of_integer}
 use Rattle.serde_json.specs.View.{items_of}
@@ -94,24 +93,6 @@ after_sign r old mid new digits text signed is h = on_ok_weaker r (λ e. e ∙ (
 
 -- ---- strings
 
-one_printed : (s : List ℕ) → print (string s ∷ []) ≡ quoted s
-unfolding print_from
-one_printed s = append-nil (quoted s)
-
-nothing_printed : (ns : List ℕ) → ns ++ print [] ≡ ns
-unfolding print_from
-nothing_printed ns = append-nil ns
-
--- what a writer leaves that was to write one string
-pub string_written : {E : Type 0} (r : Result (Unit {0}) E) (old new : Written) (before s out : List ℕ) → old.before ≡ before → old.tokens ≡ [] → Writes r old new (string s) → out ≡ new.before ++ print new.tokens
-    → OnOk r (out ≡ before ++ quoted s) × OnErr r (out ≡ before)
-string_written (Ok x) old new before s out first none w is =
-    let start : new.before ≡ before = w.room.0 ∙ first in
-    (is ∙ (ap (λ ns. ns ++ print new.tokens) start ∙ (ap (λ ts. before ++ print ts) (w.ok ∙ ap (λ ts. ts ++ string s ∷ []) none) ∙ ap (λ ns. before ++ ns) (one_printed s))), tt)
-string_written (Err x) old new before s out first none w is =
-    let start : new.before ≡ before = w.room.0 ∙ first in
-    (tt, is ∙ (ap (λ ns. ns ++ print new.tokens) start ∙ (ap (λ ts. before ++ print ts) (w.err ∙ none) ∙ (nothing_printed before))))
-
 abbrev pub is_plain : ℕ → Bool
 is_plain b = (nat_lt 31 b && not (b == 34)) && not (b == 92)
 
@@ -130,10 +111,63 @@ plain_text : (bs : List ℕ) → list_all is_plain bs ≡ true → escape bs ≡
 plain_text [] h = refl
 plain_text (b ∷ bs) h = let t = and_parts (is_plain b) (list_all is_plain bs) h in ap (λ ns. ns ++ escape bs) (plain_byte b t.0) ∙ ap (λ ns. b ∷ ns) (plain_text bs t.1)
 
-pub plain_quoted : (tested given s : List ℕ) → tested ≡ s → list_all is_plain tested ≡ true → given ≡ s → 34 ∷ (given ++ 34 ∷ []) ≡ quoted s
-plain_quoted tested given s same h is = ap (λ ns. 34 ∷ (ns ++ 34 ∷ [])) (is ∙ sym (plain_text s (sym (ap (list_all is_plain) same) ∙ h)))
+-- plain bytes of ASCII
+abbrev pub is_plain_ascii : ℕ → Bool
+is_plain_ascii b = is_plain b && nat_lt b 128
 
--- an escaped text after another, where there was room for it
-pub escaped_appended : {A E : Type 0} (r : Result A E) (old more text new : List ℕ) → more ≡ text → new ≡ (if is_ok r then old ++ more else old) → OnOk r (new ≡ old ++ text)
-escaped_appended (Ok x) old more text new is h = h ∙ ap (λ ns. old ++ ns) is
-escaped_appended (Err e) old more text new is h = tt
+pub plain_of_ascii : (bs : List ℕ) → list_all is_plain_ascii bs ≡ true → list_all is_plain bs ≡ true
+plain_of_ascii [] h = refl
+plain_of_ascii (b ∷ bs) h =
+    let t = and_parts (is_plain_ascii b) (list_all is_plain_ascii bs) h in
+    let u = and_parts (is_plain b) (nat_lt b 128) t.0 in
+    rw (u.0, plain_of_ascii bs t.1) refl
+
+pub ascii_of_plain : (bs : List ℕ) → list_all is_plain_ascii bs ≡ true → IsAscii bs
+ascii_of_plain [] h i = omega arith
+ascii_of_plain (b ∷ bs) h zero =
+    let t = and_parts (is_plain_ascii b) (list_all is_plain_ascii bs) h in
+    ltb-true b 128 (and_parts (is_plain b) (nat_lt b 128) t.0).1
+ascii_of_plain (b ∷ bs) h (suc i) = ascii_of_plain bs (and_parts (is_plain_ascii b) (list_all is_plain_ascii bs) h).1 i
+
+-- a string of plain bytes of ASCII in quotes
+pub plain_string : (bs before text_ : List ℕ) → list_all is_plain_ascii bs ≡ true → text_ ≡ before ++ 34 ∷ (bs ++ 34 ∷ []) → text_ ≡ before ++ quoted bs
+plain_string bs before text_ h is = is ∙ ap (λ ns. before ++ 34 ∷ (ns ++ 34 ∷ [])) (sym (plain_text bs (plain_of_ascii bs h)))
+
+-- ---- escapes
+
+-- a text after another, where there was room for it
+pub text_appended : {A E : Type 0} (r : Result A E) (old more text new : List ℕ) → more ≡ text → new ≡ (if is_ok r then old ++ more else old) → OnOk r (new ≡ old ++ text)
+text_appended (Ok x) old more text new is h = h ∙ ap (λ ns. old ++ ns) is
+text_appended (Err e) old more text new is h = tt
+
+pub by_letter : (b : ℕ) → 0 < escape_letter b → escape_byte b ≡ 92 ∷ escape_letter b ∷ []
+unfolding escape_byte
+by_letter b h = rw (lt-ltb 0 (escape_letter b) h) refl
+
+pub by_code : (b : ℕ) → escape_letter b ≤ 0 → b < 32 → escape_byte b ≡ 92 ∷ 117 ∷ 48 ∷ 48 ∷ digit_char (b / 16) ∷ digit_char (b % 16) ∷ []
+unfolding escape_byte
+by_code b none low = rw (le-ltb 0 (escape_letter b) none, lt-ltb b 32 low) refl
+
+pub by_itself : (b : ℕ) → escape_letter b ≤ 0 → 32 ≤ b → escape_byte b ≡ b ∷ []
+unfolding escape_byte
+by_itself b none high = rw (le-ltb 0 (escape_letter b) none, le-ltb b 32 high) refl
+
+escape_append : (xs ys : List ℕ) → escape (xs ++ ys) ≡ escape xs ++ escape ys
+escape_append [] ys = refl
+escape_append (x ∷ xs) ys = ap (λ ns. escape_byte x ++ ns) (escape_append xs ys) ∙ sym (append_assoc (escape_byte x) (escape xs) (escape ys))
+
+-- a run of plain bytes was appended, and what comes after it is left
+pub run_appended : (bytes old mid : List ℕ) (n : ℕ) → list_all is_plain (take n bytes) ≡ true → mid ≡ old ++ take n bytes → mid ++ escape (drop n bytes) ≡ old ++ escape bytes
+run_appended bytes old mid n plain is =
+    ap (λ ns. ns ++ escape (drop n bytes)) is
+    ∙ (append_assoc old (take n bytes) (escape (drop n bytes))
+    ∙ ap (λ ns. old ++ ns) (ap (λ ns. ns ++ escape (drop n bytes)) (sym (plain_text (take n bytes) plain))
+    ∙ (sym (escape_append (take n bytes) (drop n bytes)) ∙ ap escape (take-append-drop n bytes))))
+
+-- an escape was appended after a run
+pub escape_appended : (b : ℕ) (rest old mid new : List ℕ) → new ≡ mid ++ escape_byte b → mid ++ escape (b ∷ rest) ≡ old → new ++ escape rest ≡ old
+escape_appended b rest old mid new is h = ap (λ ns. ns ++ escape rest) is ∙ (append_assoc mid (escape_byte b) (escape rest) ∙ h)
+
+pub first_and_rest : (bs : List ℕ) → 1 ≤ length bs → get_or bs 0 0 ∷ take (length bs - 1) (drop 1 bs) ≡ bs
+first_and_rest [] h = absurd (omega arith)
+first_and_rest (b ∷ bs) h = ap (λ ns. b ∷ ns) (take_all (length (b ∷ bs) - 1) bs (omega arith))

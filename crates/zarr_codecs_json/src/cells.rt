@@ -1,9 +1,7 @@
 //! The texts of elements, one by one.
-ghost use Rattle.std.specs.Prelude.{◌≡◌, ◌==◌, ◌&&◌, ℕ, ◌≤◌, ◌<◌, ◌*◌, ◌+◌, ◌++◌, [], ◌∷◌, Some, None, true, not, nat_lt, IfOk, OnOk, OnErr, length, slice_index_or};
-ghost use Rattle.std.specs.List.{list_all};
+ghost use Rattle.std.specs.Prelude.{◌≡◌, ℕ, ◌≤◌, ◌<◌, ◌*◌, ◌+◌, ◌++◌, Some, None, IfOk, OnOk, OnErr, length, slice_index_or};
 ghost use Rattle.serde_json.specs.Data.{array};
 ghost use Rattle.serde_json.specs.Written.{compact_text};
-ghost use Rattle.json.specs.Print.{quoted};
 ghost use Rattle.zarr_codecs_meaning.specs.Payloads as payloads;
 ghost use Rattle.zarr_codecs_meaning.specs.Types as types;
 ghost use Rattle.zarr_codecs_types.specs.FillMetadata.{byte_items, bytes_data, cell_data};
@@ -12,7 +10,7 @@ ghost use Rattle.zarr_codecs_arrays.specs.Views.{payload_of, numbers_of};
 ghost use Rattle.zarr_codecs_json.specs.Texts.{Appends, Begins, all_cells, element_data, single_width};
 
 use crate::numbers::{Kind, number_width, push_element, push_numbers};
-use json::Writer;
+use crate::strings::push_string;
 use std::alloc::AllocError;
 use zarr_codecs_arrays::{ArrayBytes, ArrayBytesOffsets};
 use zarr_codecs_types::{DataType, is_value_in_bytes};
@@ -105,7 +103,8 @@ fn push_fixed(
 }
 
 /// Appends the text of an element of variable length.
-fn push_variable(
+#[inline(always)]
+pub(crate) fn push_variable(
     text: &mut Vec<u8>,
     data_type: &DataType,
     bytes: &[u8],
@@ -127,6 +126,7 @@ fn push_variable(
 }
 
 /// Appends the text of an element that is given by its bytes.
+#[inline(always)]
 fn push_value(text: &mut Vec<u8>, data_type: &DataType, bytes: &[u8]) -> Result<bool, AllocError>
     ensures ok { IfOk result (Appends (cell_data (type_of data_type.now)
         (types.of_bytes bytes.now)) text.old.items text.new.items) }
@@ -145,6 +145,7 @@ fn push_value(text: &mut Vec<u8>, data_type: &DataType, bytes: &[u8]) -> Result<
 }
 
 /// Appends the text of a string or of bytes.
+#[inline(always)]
 fn push_other(text: &mut Vec<u8>, data_type: &DataType, bytes: &[u8]) -> Result<bool, AllocError>
     requires { single_width (type_of data_type.now) ≡ None }
     ensures ok { IfOk result (Appends (bytes_data (type_of data_type.now) bytes.now)
@@ -181,66 +182,6 @@ fn push_number(text: &mut Vec<u8>, data_type: &DataType, bytes: &[u8]) -> Result
         DataType::UInt32 => push_element(text, false, Kind::Unsigned, 32, bytes),
         DataType::UInt64 => push_element(text, false, Kind::Unsigned, 64, bytes),
         _ => Ok(()),
-    }
-}
-
-/// Appends a string in quotes, with the shortest escapes. False where the bytes are not UTF-8.
-fn push_string(text: &mut Vec<u8>, bytes: &[u8]) -> Result<bool, AllocError>
-    ensures ok { IfOk result
-        (Appends (bytes_data types.string bytes.now) text.old.items text.new.items) }
-    ensures err { OnErr result (Begins text.old.items text.new.items) }
-{
-    let Ok(string) = str::from_utf8(bytes) else {
-        return Ok(false);
-    };
-    push_quoted(text, string)?;
-    Ok(true)
-}
-
-/// Appends a string in quotes, with the shortest escapes.
-fn push_quoted(text: &mut Vec<u8>, string: &str) -> Result<(), AllocError>
-    ensures ok { OnOk result (text.new.items ≡ text.old.items ++ quoted string.now) }
-    ensures err { OnErr result (Begins text.old.items text.new.items) }
-{
-    if are_plain(string.as_bytes()) {
-        return push_plain(text, string.as_bytes());
-    }
-    push_escaped(text, string)
-}
-
-/// Whether all bytes stand for themselves in a string in quotes.
-fn are_plain(bytes: &[u8]) -> bool
-    ensures { result
-        ≡ list_all (λ b. (nat_lt 31 b && not (b == 34)) && not (b == 92)) bytes.now }
-{
-    bytes
-        .iter()
-        .all(|byte| *byte > 31 && *byte != b'"' && *byte != b'\\')
-}
-
-/// Appends bytes in quotes.
-fn push_plain(text: &mut Vec<u8>, bytes: &[u8]) -> Result<(), AllocError>
-    ensures ok { OnOk result
-        (text.new.items ≡ text.old.items ++ 34 ∷ (bytes.now ++ 34 ∷ [])) }
-    ensures err { OnErr result (Begins text.old.items text.new.items) }
-{
-    text.push(b'"')?;
-    text.extend_from_slice(bytes)?;
-    text.push(b'"')?;
-    Ok(())
-}
-
-/// As `push_quoted`, by a writer that begins with no text: a writer over one that it is to follow
-/// clears much of the memory behind it first.
-fn push_escaped(text: &mut Vec<u8>, string: &str) -> Result<(), AllocError>
-    ensures ok { OnOk result (text.new.items ≡ text.old.items ++ quoted string.now) }
-    ensures err { OnErr result (text.new.items ≡ text.old.items) }
-{
-    let room = string.len().saturating_add(16);
-    let mut writer = Writer::new(Vec::with_capacity(*text.allocator(), room)?);
-    match writer.string(string) {
-        Ok(()) => text.extend_from_slice(writer.into_inner().as_slice()),
-        Err(error) => Err(error),
     }
 }
 

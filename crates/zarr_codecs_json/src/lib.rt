@@ -3,9 +3,11 @@
 
 mod cells;
 mod inside;
+mod naturals;
 mod numbers;
 pub mod printing;
 pub mod reading;
+mod strings;
 pub mod whole_numbers;
 
 pub use printing::{Printed, push_elements};

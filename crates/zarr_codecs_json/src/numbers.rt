@@ -1,5 +1,5 @@
 //! Elements of one number, as JSON.
-ghost use Rattle.std.specs.Prelude.{◌≡◌, ℕ, ◌≤◌, ◌<◌, ◌+◌, ◌/◌, ◌++◌, Some, false, decimal, length, IfSome, OnOk, OnErr};
+ghost use Rattle.std.specs.Prelude.{◌≡◌, ℕ, ◌≤◌, ◌<◌, ◌+◌, ◌/◌, ◌++◌, Some, false, length, IfSome, OnOk, OnErr};
 ghost use Rattle.serde_json.specs.Data.{array};
 ghost use Rattle.serde_json.specs.Written.{compact_text, items_text, comma_if};
 ghost use Rattle.zarr_codecs_meaning.specs.Numbers.{number};
@@ -7,7 +7,7 @@ ghost use Rattle.zarr_codecs_types.specs.Views.{type_of};
 ghost use Rattle.zarr_codecs_json.specs.Texts.{Begins, single_width, kind_type, fixed_data, element_text};
 ghost use Rattle.zarr_codecs_json.specs.declared.numbers.Kind.TheVariants as kind;
 
-use itoa::Buffer;
+use crate::naturals::push_natural;
 use std::alloc::AllocError;
 use zarr_codecs_types::DataType;
 
@@ -140,15 +140,6 @@ fn push_bool(text: &mut Vec<u8>, element: &[u8]) -> Result<(), AllocError>
     } else {
         text.extend_from_slice(b"true")
     }
-}
-
-#[inline(always)]
-fn push_natural(text: &mut Vec<u8>, word: u64) -> Result<(), AllocError>
-    ensures ok { OnOk result (text.new.items ≡ text.old.items ++ decimal word) }
-    ensures err { OnErr result (text.new.items ≡ text.old.items) }
-{
-    let mut buffer = Buffer::new();
-    text.extend_from_slice(buffer.format(word).as_bytes())
 }
 
 /// Appends a number of so many bits that stands in bytes in two's complement.

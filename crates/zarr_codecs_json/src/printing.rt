@@ -1,15 +1,17 @@
 //! Elements printed as JSON.
 ghost use Rattle.std.specs.Prelude.{◌≡◌, ◌<◌, ◌++◌, Some, None, length, IfOk, OnErr, MatchOption, option_map};
+ghost use Rattle.zarr_codecs_meaning.specs.Payloads as payloads;
 ghost use Rattle.zarr_codecs_meaning.specs.Payloads.{cells_in};
+ghost use Rattle.zarr_codecs_meaning.specs.Types as types;
 ghost use Rattle.zarr_codecs_types.specs.Views.{type_of};
-ghost use Rattle.zarr_codecs_arrays.specs.Views.{payload_of};
+ghost use Rattle.zarr_codecs_arrays.specs.Views.{numbers_of, payload_of};
 ghost use Rattle.zarr_codecs_json.specs.Outcomes.{AppendsItems, AreValues, Prints, elements_data, payload_data};
 ghost use Rattle.zarr_codecs_json.specs.Texts.{Begins, all_cells, single_width};
 
-use crate::cells::push_cell;
+use crate::cells::{push_cell, push_variable};
 use crate::numbers::{number_width, push_comma, push_list};
 use std::alloc::AllocError;
-use zarr_codecs_arrays::ArrayBytes;
+use zarr_codecs_arrays::{ArrayBytes, ArrayBytesOffsets};
 use zarr_codecs_types::DataType;
 
 /// What is printed of elements.
@@ -80,7 +82,7 @@ fn push_each(
     };
     let before = text.len();
     text.push(b'[')?;
-    if push_cells(text, data_type, elements, count)? {
+    if push_items(text, data_type, elements, count)? {
         return Ok(Printed::Whole);
     }
     text.truncate(before);
@@ -89,6 +91,53 @@ fn push_each(
 
 /// Appends so many elements with commas between them, and the list's end. False where one has no
 /// text; a part of the list may stand there then.
+fn push_items(
+    text: &mut Vec<u8>,
+    data_type: &DataType,
+    elements: &ArrayBytes,
+    count: usize,
+) -> Result<bool, AllocError>
+    requires { Some count
+        ≡ option_map length (cells_in (type_of data_type.now) (payload_of elements.now)) }
+    ensures ok { IfOk result (AppendsItems
+        (payload_data (type_of data_type.now) (payload_of elements.now))
+        text.old.items text.new.items) }
+    ensures err { OnErr result (Begins text.old.items text.new.items) }
+{
+    match (data_type, elements) {
+        (DataType::String, ArrayBytes::Variable(bytes, offsets)) => {
+            push_strings(text, bytes.as_slice(), offsets, count)
+        }
+        _ => push_cells(text, data_type, elements, count),
+    }
+}
+
+/// As `push_items`, of strings. Compiled for them alone.
+fn push_strings(
+    text: &mut Vec<u8>,
+    bytes: &[u8],
+    offsets: &ArrayBytesOffsets,
+    count: usize,
+) -> Result<bool, AllocError>
+    requires { Some count ≡ option_map length (cells_in types.string
+        (payloads.variable bytes.now (numbers_of offsets.now))) }
+    ensures ok { IfOk result (AppendsItems (payload_data types.string
+        (payloads.variable bytes.now (numbers_of offsets.now)))
+        text.old.items text.new.items) }
+    ensures err { OnErr result (Begins text.old.items text.new.items) }
+{
+    for index in 0..count {
+        let later = index > 0;
+        push_comma(text, later)?;
+        if !push_variable(text, &DataType::String, bytes, offsets, index)? {
+            return Ok(false);
+        }
+    }
+    text.push(b']')?;
+    Ok(true)
+}
+
+/// As `push_items`, of elements of any type.
 fn push_cells(
     text: &mut Vec<u8>,
     data_type: &DataType,

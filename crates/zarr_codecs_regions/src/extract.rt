@@ -26,7 +26,8 @@ pub fn extract_box(
     requires whole { length bytes.now ≡ product shape.now * width }
     ensures elements { (other : Cell) → IfOk result
         (λ extracted. fixed_cells width extracted.items
-        ≡ gather other (fixed_cells width bytes.now) (numbers_of shape.now (region_of region.now))) }
+        ≡ gather other (fixed_cells width bytes.now)
+        (numbers_of shape.now (region_of region.now))) }
     ensures length { IfOk result
         (λ extracted. length extracted.items ≡ product region.now.shape.items * width) }
 {

@@ -79,7 +79,8 @@ fn count_in_ranges(ranges: &[ByteRange]) -> usize
 
 /// The bytes of parts, one after another. The only part is given as it is.
 pub fn concat(alloc: Global, parts: Vec<Vec<u8>>) -> Result<Vec<u8>, AllocError>
-    ensures { IfOk result (λ bytes. bytes.items ≡ flat_map (λ part. part) (part_bytes parts.items)) }
+    ensures { IfOk result (λ bytes.
+        bytes.items ≡ flat_map (λ part. part) (part_bytes parts.items)) }
 {
     let mut parts = parts;
     if parts.len() == 1 {

@@ -9,7 +9,7 @@ ghost use Rattle.zarr_grids_dimensions.specs.Errors.{Tells};
 
 use crate::dimension::Dimension;
 use crate::error::LookupError;
-use crate::lookups::{find_chunk, find_subset, incompatible};
+use crate::lookups::{find_chunk, find_subset, incompatible, into_chunk};
 use std::alloc::{AllocError, Global};
 use zarr_grids_boxes::ArraySubset;
 use zarr_grids_boxes::walk::has_no_place;
@@ -111,11 +111,11 @@ fn find_chunks(
         return Ok(None);
     };
     let place = last_place(alloc, start, shape)?;
-    let found_last = find_chunk(alloc, grid, &place)?;
+    let found_last = into_chunk(grid, place);
     let Some(last) = found_last else {
         return Ok(None);
     };
-    let counts = count_to(alloc, &first, &last)?;
+    let counts = count_to(&first, last);
     Ok(Some(ArraySubset {
         start: first,
         shape: counts,
@@ -136,19 +136,19 @@ fn last_place(alloc: Global, start: &[u64], shape: &[u64]) -> Result<Vec<u64>, A
     Ok(place)
 }
 
-/// How many numbers there are from each first to each last.
-fn count_to(alloc: Global, firsts: &[u64], lasts: &[u64]) -> Result<Vec<u64>, AllocError>
-    requires same { length lasts.now ≡ length firsts.now }
+/// How many numbers there are from each first to each last, in the memory of the lasts.
+fn count_to(firsts: &[u64], mut lasts: Vec<u64>) -> Vec<u64>
+    requires same { length lasts.items ≡ length firsts.now }
     requires order { (k : ℕ) → k < length firsts.now
-        → slice_index firsts.now k ≤ slice_index lasts.now k }
-    requires fit { (k : ℕ) → k < length firsts.now → slice_index lasts.now k + 1 < 2 ^ 64 }
-    ensures { IfOk result (λ counts. counts.items ≡ counts_to firsts.now lasts.now) }
+        → slice_index firsts.now k ≤ slice_index lasts.items k }
+    requires fit { (k : ℕ) → k < length firsts.now → slice_index lasts.items k + 1 < 2 ^ 64 }
+    ensures { result.items ≡ counts_to firsts.now lasts.items }
 {
-    let mut counts = Vec::with_capacity(alloc, firsts.len())?;
     for k in 0..firsts.len() {
-        counts.push(lasts[k] - firsts[k] + 1)?;
+        let last = lasts[k];
+        lasts[k] = last - firsts[k] + 1;
     }
-    Ok(counts)
+    lasts
 }
 
 /// The places of the chunks of a box with the grid's dimensions, which has a chunk.

@@ -179,6 +179,21 @@ pub(crate) fn find_chunk(
     Ok(Some(found))
 }
 
+/// The chunk of a place with the grid's dimensions, in the memory of the place.
+pub(crate) fn into_chunk(grid: &[Dimension], mut place: Vec<u64>) -> Option<Vec<u64>>
+    requires { length place.items ≡ length grid.now }
+    ensures { FindsChunk (grid_of grid.now) place.items (numbers result) }
+{
+    for k in 0..grid.len() {
+        let number = place[k];
+        let Some(chunk) = grid[k].chunk_of(number) else {
+            return None;
+        };
+        place[k] = chunk;
+    }
+    Some(place)
+}
+
 /// The first place of a chunk with the grid's dimensions.
 fn find_origin(
     alloc: Global,

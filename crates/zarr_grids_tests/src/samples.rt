@@ -1,7 +1,7 @@
 //! What the tests share.
 use std::alloc::{AllocError, Global};
 use std::fmt::Display;
-use zarr_grids::{ArraySubset, ArraySubsetError, ChunkShape, GridError, LookupError, MetadataV3};
+use zarr_grids::{ArraySubset, ArraySubsetError, ChunkShape, GridError, MetadataV3};
 
 /// The last number of 64 bits.
 pub(crate) const LAST: u64 = 18446744073709551615;
@@ -43,14 +43,6 @@ pub(crate) fn are(found: Option<Vec<u64>>, want: &[u64]) -> bool {
     match found {
         Some(numbers) => numbers.as_slice() == want,
         None => false,
-    }
-}
-
-/// Whether a look-up found these numbers.
-pub(crate) fn is_found(found: Result<Option<Vec<u64>>, LookupError>, want: &[u64]) -> bool {
-    match found {
-        Ok(numbers) => are(numbers, want),
-        Err(_) => false,
     }
 }
 

@@ -1,6 +1,9 @@
 -- Numbers that are written in digits alone.
-use Rattle.std.proofs.Common.{◌≡◌, ℕ, ◌^◌, ◌<◌, ◌==◌, List, [], length, get_or, true, false, nat_lt, Some, refl, sym, ap, ◌∙◌, append-nil, arith}
+use Rattle.std.proofs.Common.{◌≡◌, ℕ, ◌^◌, ◌<◌, ◌≤◌, take, ◌==◌, List, [], length, get_or, true, false, nat_lt, Some, refl, sym, ap, ◌∙◌, append-nil, arith}
 use Rattle.std.proofs.lemmas.Float.Parse.{scan_numeral-text_of}
+use Rattle.std.proofs.Math.Nat.{pow-le-pow_right}
+use Rattle.std.proofs.lemmas.Int.Digits.{digits_value-lt}
+use Rattle.std.proofs.lemmas.List.{length-take}
 use Rattle.std.proofs.lemmas.Str.Parse.{digit_at}
 use Rattle.std.specs.Float.Numeral.{IsWellFormed, Parts, text_of}
 use Rattle.std.specs.Str.Parse.{AllDigits, digits_value}
@@ -38,3 +41,9 @@ number_of_all_digits s n digits some is small =
     let plain : (get_or s 0 0 == 45) ≡ false = grind (arith, first.0) in
     let read : number_from false (scan s) ≡ number_of s = rw plain in
     sym read ∙ (ap (number_from false) (scan_digits s digits) ∙ from_digits s n some is small)
+
+-- the digits before one of 19 write a number with room for one more
+pub few_below : (bs : List ℕ) (k n : ℕ) → length bs ≤ 19 → k < length bs → AllDigits 10 (take k bs) → n ≡ digits_value 10 (take k bs) → n < 10 ^ 18
+few_below bs k n few less digits is =
+    let short : length (take k bs) ≤ 18 = omega (arith, length-take k bs) in
+    omega (arith, is, digits_value-lt 10 (take k bs) digits, pow-le-pow_right {n = 10} (omega arith) short)

@@ -1,6 +1,6 @@
 //! Lines read token by token, whose members are an operation, a path, a box or a chunk, and whole
 //! numbers for cells, which take eight bytes each.
-ghost use Rattle.std.specs.Prelude.{◌≡◌, ℕ, ◌<◌, ◌+◌, ◌^◌, ◌∷◌, length, Some, IfOk, IfSome, OnOk, string_bytes, option_and_then};
+ghost use Rattle.std.specs.Prelude.{◌≡◌, ℕ, ◌<◌, ◌≤◌, ◌+◌, ◌^◌, ◌∷◌, length, Some, IfOk, IfSome, OnOk, string_bytes, option_and_then};
 ghost use Rattle.std.specs.Str.Parse.{AllDigits, digits_value};
 ghost use Rattle.json.specs.Json.{items, members, value};
 ghost use Rattle.json.specs.Token as token;
@@ -19,6 +19,9 @@ use zarr_grids_boxes::ArraySubset;
 
 /// A list gets room for so many numbers at first.
 const FEW_NUMBERS: usize = 16;
+
+/// No number of so many digits reaches 2^64.
+const FEW_DIGITS: usize = 19;
 
 /// What the members of a line say, by their names. A member that comes twice counts as the last one
 /// of its name.
@@ -58,7 +61,37 @@ impl From<Invalid> for NotRead {
 }
 
 /// The number that digits alone write, where it is below 2^64.
+#[inline(always)]
 fn number_of_digits(bytes: &[u8]) -> Option<u64>
+    ensures digits { IfSome result (λ n. AllDigits 10 bytes.now) }
+    ensures value { IfSome result (λ n. n ≡ digits_value 10 bytes.now) }
+{
+    if bytes.len() <= FEW_DIGITS {
+        number_of_few_digits(bytes)
+    } else {
+        number_of_many_digits(bytes)
+    }
+}
+
+/// The number that few digits alone write.
+#[inline(always)]
+fn number_of_few_digits(bytes: &[u8]) -> Option<u64>
+    requires { length bytes.now ≤ 19 }
+    ensures digits { IfSome result (λ n. AllDigits 10 bytes.now) }
+    ensures value { IfSome result (λ n. n ≡ digits_value 10 bytes.now) }
+{
+    let mut number: u64 = 0;
+    for byte in bytes {
+        if !byte.is_ascii_digit() {
+            return None;
+        }
+        number = number * 10 + (*byte - b'0') as u64;
+    }
+    Some(number)
+}
+
+/// The number that digits alone write, where it is below 2^64, with a test of each step.
+fn number_of_many_digits(bytes: &[u8]) -> Option<u64>
     ensures digits { IfSome result (λ n. AllDigits 10 bytes.now) }
     ensures value { IfSome result (λ n. n ≡ digits_value 10 bytes.now) }
 {

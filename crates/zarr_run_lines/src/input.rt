@@ -1,12 +1,13 @@
 //! The lines of an input, up to limits.
-ghost use Rattle.std.specs.Prelude.{◌≡◌, ◌+◌, ◌≤◌, ℕ, List, [], ◌++◌, length, take, Option, Some, IfOk, IfErr, OnOk, IfSome, IsTrue, false};
+ghost use Rattle.std.specs.Prelude.{◌≡◌, ◌≢◌, ◌+◌, ◌≤◌, ℕ, List, [], ◌++◌, length, take, All, Option, Some, IfOk, IfErr, OnOk, IfSome, IsTrue, false};
 ghost use Rattle.std.specs.Io.BufRead.{take_through, strip_last, DropsThrough};
-ghost use Rattle.std.specs.Io.KnownBytes.{IsAtEnd};
+ghost use Rattle.std.specs.Io.KnownBytes.{Consumes, IsAtEnd};
 ghost use Rattle.std.specs.Io.Buffered.{reader_remaining};
 ghost use Rattle.std.specs.Io.Take.{take_remaining};
 ghost use Rattle.zarr_run_lines.specs.Reading.{IsLeft, TakesLine};
 
 use crate::lines::LinesFault;
+use memchr::memchr;
 use std::alloc::Global;
 use std::io::{BufRead, BufReader, Error, ErrorKind, Read, Take};
 
@@ -17,6 +18,9 @@ const MAX_BYTES: u64 = 4_294_967_296;
 const MAX_LINES: u64 = 1_048_576;
 
 const BUFFER_BYTES: usize = 65_536;
+
+/// The most buffers that are searched for a line feed as a whole, and not byte by byte.
+const MAX_RUNS: u32 = 1_048_576;
 
 /// How much may still be read.
 #[derive(Drop)]
@@ -59,6 +63,55 @@ fn read_fault(error: &Error) -> LinesFault {
     }
 }
 
+/// How many bytes there are before the first line feed.
+fn run_len(bytes: &[u8]) -> usize
+    ensures bound { result ≤ length bytes.now }
+    ensures plain { All (λ x. x ≢ 10) (take result bytes.now) }
+{
+    match memchr(b'\n', bytes) {
+        Some(at) => at,
+        None => bytes.len(),
+    }
+}
+
+/// Appends the buffered bytes before the next line feed. False where the buffer has one, or where
+/// no byte is left.
+fn append_run<B: BufRead>(reader: &mut B, line: &mut Vec<u8>) -> Result<bool, LinesFault>
+    ensures { OnOk result ((run : List ℕ) × (line.new.items ≡ line.old.items ++ run)
+        × Consumes (B.remaining reader.old) (B.remaining reader.new) run
+        × All (λ x. x ≢ 10) run) }
+{
+    let available = match reader.fill_buf() {
+        Ok(available) => available,
+        Err(e) => {
+            return match e.kind() {
+                ErrorKind::Interrupted => Ok(false),
+                _ => Err(read_fault(&e)),
+            };
+        }
+    };
+    let end = run_len(available);
+    let more = (end > 0) & (end == available.len());
+    line.extend_from_slice(&available[..end])?;
+    reader.consume(end);
+    Ok(more)
+}
+
+/// Reads the bytes before the next line feed into an empty line, or some of them.
+fn append_runs<B: BufRead>(reader: &mut B, line: &mut Vec<u8>) -> Result<(), LinesFault>
+    requires { line.old.items ≡ [] }
+    ensures read { OnOk result
+        (Consumes (B.remaining reader.old) (B.remaining reader.new) line.new.items) }
+    ensures run { OnOk result (All (λ x. x ≢ 10) line.new.items) }
+{
+    'runs: for _ in 0..MAX_RUNS {
+        if !append_run(reader, line)? {
+            return Ok(());
+        }
+    }
+    Ok(())
+}
+
 /// Reads through the next line feed, or to the end.
 fn read_piece<B: BufRead>(reader: &mut B, line: &mut Vec<u8>) -> Result<usize, LinesFault>
     ensures count { IfOk result (λ n. length line.new.items ≡ n) }
@@ -67,8 +120,9 @@ fn read_piece<B: BufRead>(reader: &mut B, line: &mut Vec<u8>) -> Result<usize, L
     ensures rest { OnOk result (DropsThrough (B.remaining reader.old) (B.remaining reader.new) 10) }
 {
     line.clear();
+    append_runs(reader, line)?;
     match reader.read_until(b'\n', line) {
-        Ok(count) => Ok(count),
+        Ok(_) => Ok(line.len()),
         Err(e) => Err(read_fault(&e)),
     }
 }

@@ -7,7 +7,7 @@ ghost use Rattle.zarr_run_lines.specs.Sessions.{LeadsTo};
 
 use crate::answers::{answer_line, write_before_wait, write_pending};
 use crate::input::{Limits, limited, next_line};
-use std::alloc::Global;
+use std::alloc::{AllocError, Global};
 use std::io::{Read, Write};
 use zarr_array_storage::WritableStorageTraits;
 use zarr_codecs_traits::BytesToBytesCodecTraits;
@@ -23,6 +23,12 @@ pub enum LinesFault {
     Write,
     /// There was no memory. The answer of the last line that was run may be missing.
     Memory,
+}
+
+impl From<AllocError> for LinesFault {
+    fn from(_error: AllocError) -> LinesFault {
+        LinesFault::Memory
+    }
 }
 
 /// Runs the lines of a reader, and writes a line of answer to each.

@@ -8,6 +8,7 @@ pub mod Tables
 pub mod Keys
 pub mod Effects
 pub mod Reading
+pub mod Apart
 pub mod Beginning
 pub mod Frames
 pub mod Printing

@@ -13,6 +13,7 @@ use Rattle.zarr_codecs_meaning.specs.Types.{Cell}
 use Rattle.zarr_codecs_metadata.specs.Chains.{ReadsCodecs}
 use Rattle.zarr_codecs_options.specs.declared.codec_options.CodecOptions.{CodecOptions}
 use Rattle.zarr_codecs_options.specs.declared.subchunk_write_order.SubchunkWriteOrder.{SubchunkWriteOrder}
+use Rattle.zarr_codecs_types.specs.Given.{GivenCells}
 use Rattle.zarr_array_meaning.specs.Chunks.{stored_at}
 use Rattle.zarr_array_meaning.specs.Documents.{Document, read_document}
 use Rattle.zarr_array_meaning.specs.Standing.{IsGood, IsLossless, AreValues, ValuesFit}
@@ -21,7 +22,7 @@ use Rattle.zarr_array_meaning.specs.Texts.{HasDocument}
 use Rattle.zarr_run_meaning.specs.declared.cause.Cause.TheVariants as cause
 use Rattle.zarr_run_meaning.specs.Causes.{IsChunkKeyIn}
 use Rattle.zarr_run_meaning.specs.Printing.{PrintsValues, IsFormed, GivesValues}
-use Rattle.zarr_run_meaning.specs.Requests.{Target, Request, create, reopen, read, path_of, Answer, done, cells as gives, refused}
+use Rattle.zarr_run_meaning.specs.Requests.{Target, Request, create, reopen, read, write, path_of, Answer, done, cells as gives, refused}
 use Rattle.zarr_run_meaning.specs.Runs.{Run, world_over}
 use Rattle.zarr_run_meaning.specs.Sound.{AreApart, IsSoundAt, IsSound, IsSoundAlone, OpensApart, IsOwned, OwnsAllKeys, OwnsKeysUnder, HasNoChunks, IsStoredAs, BeginsSound, SoundRun, AsksLossless, AllAskLossless, AsksOwned, ReadsLawful, ReadsGood}
 use Rattle.zarr_run_meaning.specs.Steps.{Step}
@@ -52,6 +53,18 @@ HasTables reads world = (path : List ℕ) (h : Held) → held_at path world.arra
 -- where the caller's codecs are lawful, the documents that open are good
 abbrev pub LawfulGood : Type 0
 LawfulGood = (reads : ReadsCodecs) → ReadsLawful reads → ReadsGood reads
+
+-- in one world, whatever is stored: a read that has cells is refused neither for damage nor because a chunk doesn't fit, and none is refused for both
+abbrev pub ReadsApart : Type 0
+ReadsApart = (reads : ReadsCodecs) (old new other : World) (path : List ℕ) (target : Target) (options : CodecOptions) (payload : Payload) (n m : ℕ)
+    → (Step reads old (read path target options) (gives payload) new → Step reads old (read path target options) (refused cause.Damage n) other → ⊥)
+    × (Step reads old (read path target options) (gives payload) new → Step reads old (read path target options) (refused cause.Fit n) other → ⊥)
+    × (Step reads old (read path target options) (refused cause.Damage n) new → Step reads old (read path target options) (refused cause.Fit m) other → ⊥)
+
+-- in one world, whatever is stored: a write that is done is not refused for damage
+abbrev pub WritesApart : Type 0
+WritesApart = (reads : ReadsCodecs) (old new other : World) (path : List ℕ) (target : Target) (given : GivenCells) (options : CodecOptions) (n : ℕ)
+    → Step reads old (write path target given options) done new → Step reads old (write path target given options) (refused cause.Damage n) other → ⊥
 
 -- in a sound world nothing is refused for damage or for a document that has changed
 abbrev pub NeverDamaged : Type 0

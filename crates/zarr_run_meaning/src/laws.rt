@@ -3,6 +3,7 @@ ghost use Rattle.zarr_run_meaning.specs.Laws.{LawfulGood, TableFound, NoArraysSo
 ghost use Rattle.zarr_run_meaning.specs.Laws.{EmptyOwned, StepsOwn, RunsOwn, OwnedHasNoChunks, NoChunksAreFill, CreatesCells, CreatesFill, OpensCells};
 ghost use Rattle.zarr_run_meaning.specs.Laws.{RunsSound, OwnedBegins, OwnedRunsSound, ReopensAlike, ReopenedSound, ReopenedOwned, RunsReopen, RunsGoOn};
 ghost use Rattle.zarr_run_meaning.specs.Laws.{RunsUndamaged, OwnedRunsUndamaged, RunsReopenOne};
+ghost use Rattle.zarr_run_meaning.specs.Laws.{ReadsApart, WritesApart};
 ghost use Rattle.zarr_run_meaning.specs.Laws.{SoundAlone, BeginsAlone, StepsKeepSound, AloneUndamaged, RunsPrint, ReadsPrint};
 
 /// Whatever is stored, there is a table of the cells that it shows.
@@ -191,4 +192,15 @@ pub fn runs_print()
 /// aside.
 pub fn reads_print()
     ensures { ReadsPrint }
+{}
+
+/// Whatever is stored, a read is answered in one way: with cells, or for damage, or because a chunk
+/// does not fit its codecs.
+pub fn reads_apart()
+    ensures { ReadsApart }
+{}
+
+/// Whatever is stored, a write that is done is not refused for damage.
+pub fn writes_apart()
+    ensures { WritesApart }
 {}

@@ -9,15 +9,20 @@
 //!   of a subchunk.
 //! - Writers: a `ShardState` owns its source, and is a table of cells: each part is written by one call that appends the subchunks
 //!   that it intersects. A `ShardingPartialEncoder` is such a state behind a lock.
+//! - Steps: `read_numbers`, `update_asked` and `update_slices` of a `ShardingCodec` are the steps that readers and writers are made of.
+//!   They take an `OpenedShard` or a `ShardInSource`, whose `KnownShard` writes each `SliceChange`.
 #![tactic(auto)]
 
+pub use zarr_codecs_around::InnerCodec;
 pub use zarr_codecs_options::SubchunkWriteOrder;
 pub use zarr_sharding_arrays::{ArrayChain, ShardedChain};
 pub use zarr_sharding_cells::{ShardState, ShardingPartialEncoder};
 pub use zarr_sharding_chains::ShardingCodecBuilder;
 pub use zarr_sharding_codec::{
-    ChainOfMetadata, ShardingCodec, ShardingCodecOptions, TakesShardingOptions,
+    AskedElements, ChainOfMetadata, IndexCodec, NumberedElements, NumberedPlaces, OpenedShard,
+    ShardInSource, ShardingCodec, ShardingCodecOptions, TakesShardingOptions, TestedPart,
 };
 pub use zarr_sharding_configurations::ShardingCodecConfiguration;
 pub use zarr_sharding_decoder::ShardingPartialDecoder;
-pub use zarr_sharding_index::{ShardIndex, ShardingIndexLocation};
+pub use zarr_sharding_index::{FetchedIndex, IndexLayout, ShardIndex, ShardingIndexLocation};
+pub use zarr_sharding_state::{KnownShard, SliceChange};

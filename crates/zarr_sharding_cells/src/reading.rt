@@ -3,9 +3,9 @@ use crate::state::ShardState;
 use std::alloc::Global;
 use zarr_codecs_arrays::{ArrayBytes, CodecError};
 use zarr_codecs_options::CodecOptions;
-use zarr_codecs_regions::{numbers_asked, test_asked};
+use zarr_codecs_regions::test_asked;
 use zarr_codecs_traits::{ArrayToBytesCodecTraits, BytesPartialEncoderTraits, Indexer};
-use zarr_sharding_codec::{NumberedPlaces, OpenedShard};
+use zarr_sharding_codec::{IndexedPlaces, OpenedShard};
 use zarr_sharding_index::IndexLayout;
 
 impl<
@@ -51,7 +51,6 @@ impl<
         if let Err(error) = test_asked(self.shape, indexer) {
             return Err(error);
         }
-        let numbers = numbers_asked(alloc, self.shape, indexer)?;
         let layout = IndexLayout {
             location: self.codec.index_location(),
             shape: self.pairs_shape.as_slice(),
@@ -62,11 +61,11 @@ impl<
             total: self.known.total(layout),
             elements: self.elements,
         };
-        let asked = NumberedPlaces {
+        let asked = IndexedPlaces {
             shape: self.shape,
-            numbers: numbers.as_slice(),
+            indexer,
         };
         self.codec
-            .read_numbers(alloc, &mut self.source, shard, asked, options)
+            .read_asked(alloc, &mut self.source, shard, asked, options)
     }
 }

@@ -14,18 +14,19 @@ impl<
     X: ArrayToBytesCodecTraits,
     E: BytesPartialEncoderTraits,
 > ShardState<'a, I, X, E> {
-    ghost use Rattle.std.specs.Prelude.{◌≡◌, List, length, true, IfErr, IsTrue, OnErr, OnOk};
+    ghost use Rattle.std.specs.Prelude.{◌≡◌, ◌≤◌, ◌+◌, List, Some, length, true, IfErr, IsTrue, OnErr, OnOk};
     ghost use Rattle.zarr_codecs_arrays.specs.Outcomes.{IsValid};
     ghost use Rattle.zarr_codecs_arrays.specs.Views.{payload_of};
     ghost use Rattle.zarr_codecs_meaning.specs.Types.{Cell};
     ghost use Rattle.zarr_codecs_traits.specs.Indexers.{are_inside, asked_of, numbers_asked};
     ghost use Rattle.zarr_codecs_traits.specs.Sources.{refused_after};
     ghost use Rattle.zarr_codecs_traits.specs.Writes.{WriteRefused, accepted_after};
-    ghost use Rattle.zarr_sharding_cells.specs.Puts.{IsPutInto, IsWritten, NotPutInto, NotWritten};
+    ghost use Rattle.zarr_sharding_cells.specs.Puts.{IsPutInto, IsRefusedFirst, IsWritten, NotPutInto, NotWritten};
     ghost use Rattle.zarr_sharding_cells.specs.Tables.{IsErased, IsTold};
     ghost use Rattle.zarr_sharding_cells.specs.Views.{codec_of, held_of, known_of, shard_of, source_of};
     ghost use Rattle.zarr_sharding_codec.specs.PartWriting.{put_at};
     ghost use Rattle.zarr_sharding_codec.specs.Views.{index_of, inner_of};
+    ghost use Rattle.zarr_sharding_decoder.specs.Parts.{slices_met};
 
     /// Puts elements in the place of those at the places that are asked for, in their order; of a
     /// place that is asked for twice the last element stays. Each subchunk that is met is decoded,
@@ -37,7 +38,8 @@ impl<
     /// `Expected..` or `CellOutOfRange` where these are not elements, one for each place; `Damage`
     /// where the slice of a subchunk that is met isn't decoded; `Codec` where a caller's codec
     /// refuses a new slice or the new index; `Size` where a subchunk, an offset or a length is too
-    /// large, or the shard would have 2^63 bytes or more; `Source` where the source refuses.
+    /// large, or the shard would have 2^63 bytes or more; `Source` where the source refuses. Where
+    /// elements are refused, or for damage, an honest source gave at most the slices that are met.
     pub fn partial_encode(
         &mut self,
         alloc: Global,
@@ -61,6 +63,11 @@ impl<
             (payload_of bytes) (held_of E.contents self.old)) }
         ensures refused { E.refused_calls (source_of self.new) ≡
             refused_after (E.refused_calls (source_of self.old)) result }
+        ensures given { IsTrue (E.is_honest (source_of self.old)) → IfErr result (λ error.
+            IsRefusedFirst error → E.given_bytes (source_of self.new)
+            ≤ E.given_bytes (source_of self.old) + slices_met
+            (shard_of I.meaning X.meaning self.old) (Some (known_of self.old).0)
+            (asked_of indexer.entry)) }
         ensures accepted { E.accepted_writes (source_of self.new) ≡
             accepted_after (E.accepted_writes (source_of self.old)) result }
         ensures rewrites { E.rewrites (source_of self.old) (source_of self.new) }
@@ -121,6 +128,11 @@ impl<
             (held_of E.contents self.old)) }
         ensures refused { E.refused_calls (source_of self.new) ≡
             refused_after (E.refused_calls (source_of self.old)) result }
+        ensures given { IsTrue (E.is_honest (source_of self.old)) → IfErr result (λ error.
+            IsRefusedFirst error → E.given_bytes (source_of self.new)
+            ≤ E.given_bytes (source_of self.old) + slices_met
+            (shard_of I.meaning X.meaning self.old) (Some (known_of self.old).0)
+            (asked_of indexer.entry)) }
         ensures accepted { E.accepted_writes (source_of self.new) ≡
             accepted_after (E.accepted_writes (source_of self.old)) result }
         ensures rewrites { E.rewrites (source_of self.old) (source_of self.new) }

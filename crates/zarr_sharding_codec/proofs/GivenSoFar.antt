@@ -1,6 +1,6 @@
 -- How many bytes were given for the subchunks of a shard that were read so far.
 use Rattle.std.proofs.Common.{◌≡◌, ◌∙◌, ℕ, zero, suc, ◌+◌, ◌-◌, ◌<◌, ◌≤◌, List, [], ◌∷◌, ◌++◌, length, get_or, ap, sym, subst, drop, arith, Bool, true, if◌then◌else◌, ◌==◌, sum_by, length-append}
-use Rattle.std.specs.List.{list_any, range_with_len}
+use Rattle.std.specs.List.{range_with_len}
 use Rattle.std.specs.List.Sorted.{IsNonDecreasingBy}
 use Rattle.std.proofs.Math.Arith.{lt_of_le-ne}
 use Rattle.std.proofs.lemmas.Bool.{eq-eqb}
@@ -37,7 +37,7 @@ sum_more f a (suc n) =
     let same : f (a + 1 + n) ≡ f (a + suc n) = ap f e in
     omega (arith, here, there, more, same)
 
-sum_next : (f : ℕ → ℕ) (n : ℕ) → sum_by f (range_with_len 0 (suc n)) ≡ sum_by f (range_with_len 0 n) + f n
+pub sum_next : (f : ℕ → ℕ) (n : ℕ) → sum_by f (range_with_len 0 (suc n)) ≡ sum_by f (range_with_len 0 n) + f n
 sum_next f n =
     let more = sum_more f 0 n in
     let e : 0 + n ≡ n = omega arith in
@@ -56,7 +56,7 @@ sum_grows f n (suc k) =
     let more = sum_more f 0 (n + k) in
     omega (arith, same, less, more)
 
-sum_least : (f : ℕ → ℕ) (n m : ℕ) → n ≤ m → sum_by f (range_with_len 0 n) ≤ sum_by f (range_with_len 0 m)
+pub sum_least : (f : ℕ → ℕ) (n m : ℕ) → n ≤ m → sum_by f (range_with_len 0 n) ≤ sum_by f (range_with_len 0 m)
 sum_least f n m less =
     let e : n + (m - n) ≡ m = omega (arith, less) in
     let grows = sum_grows f n (m - n) in

@@ -3,6 +3,7 @@ pub mod EvenParts
 pub mod StoredParts
 pub mod StoredLoop
 pub mod EncodedShard
+pub mod Gapless
 pub mod DecodedShard
 pub mod ClosedValues
 pub mod LocatedParts
@@ -26,3 +27,7 @@ pub mod PartWritten
 pub mod PartAppended
 pub mod GivenSoFar
 pub mod WholeSubchunk
+pub mod BoxInSubchunk
+pub mod MetBox
+pub mod BoxCuts
+pub mod BoxRead

@@ -15,7 +15,7 @@ use Rattle.zarr_sharding_places.specs.Locating.{inside_of, subchunk_of}
 use Rattle.zarr_sharding_codec.proofs.EvenParts.{whole_box}
 
 -- a place of subchunks that divide the shape, by the index of its subchunk and of itself in it
-record LiesEven (shape subchunk place : List ℕ) : Type 0 where
+pub record LiesEven (shape subchunk place : List ℕ) : Type 0 where
   pub grid : IsIndex (block place subchunk) (grid_of shape subchunk)
   pub within : IsIndex (inside place subchunk) subchunk
   pub is : each2 (λ s i. s + i) (each2 (λ i edge. i * edge) (block place subchunk) subchunk) (inside place subchunk) ≡ place
@@ -28,7 +28,7 @@ lies_along x n p some h =
     let low : x % p < p = omega (arith, some) in
     ((le-div_iff_mul-le {k = p} {x = suc (x / p)} {y = n + (p - 1)} some).1 (omega (arith, split, e, h, some)), low, omega (arith, split, turn))
 
-lies_even : (shape subchunk place : List ℕ) → can_cut shape subchunk ≡ true → IsIndex place shape → LiesEven shape subchunk place
+pub lies_even : (shape subchunk place : List ℕ) → can_cut shape subchunk ≡ true → IsIndex place shape → LiesEven shape subchunk place
 lies_even [] [] [] cuts h = record { grid = IsIndex-nil; within = IsIndex-nil; is = refl }
 lies_even [] [] (x ∷ xs) cuts h = let l = h.same in absurd (omega arith)
 lies_even [] (p ∷ ps) place cuts h = cc

@@ -1,9 +1,7 @@
 -- What is read of one slice, and of a part of a shard.
 use Rattle.std.proofs.Common.{◌≡◌, ◌∙◌, ℕ, zero, suc, ◌<◌, List, [], ◌∷◌, length, map, get_or, replicate, unwrap_or, ap, sym, refl, arith, subst, Bool, true, false, Option, Some, None, option_and_then, option_map, is_some, if◌then◌else◌, Result, Ok, Err}
-use Rattle.std.specs.Prelude.{nat_lt}
 use Rattle.std.specs.List.{list_all}
 use Rattle.std.proofs.lemmas.Bool.{and_parts}
-use Rattle.zarr_grids_boxes.specs.Boxes.{product}
 use Rattle.zarr_codecs_meaning.specs.Chains.{Chain, Location, sharded}
 use Rattle.zarr_codecs_meaning.specs.Decoding.{all_there, cell_at, cell_of_part, is_absent, opens, part_decoded, slice_at}
 use Rattle.zarr_codecs_meaning.specs.Chunks.{chunk_part}
@@ -17,7 +15,7 @@ use Rattle.zarr_codecs_arrays.specs.Views.{payload_of}
 use Rattle.zarr_codecs_arrays.specs.declared.array_bytes.ArrayBytes.{ArrayBytes}
 use Rattle.zarr_codecs_arrays.specs.declared.error.CodecError.{CodecError}
 use Rattle.zarr_codecs_arrays.specs.declared.error.CodecError.TheVariants as error
-use Rattle.zarr_codecs_traits.specs.Indexers.{Asked, are_inside, listed, numbers_asked}
+use Rattle.zarr_codecs_traits.specs.Indexers.{Asked, are_inside, numbers_asked}
 use Rattle.zarr_codecs_traits.specs.Outcomes.{DecodesPart}
 use Rattle.zarr_codecs_traits.specs.Sources.{refused_after}
 use Rattle.zarr_sharding_index.specs.Held.{FetchesIndex, FetchesSlice, IsFetched, IsIndexHeld}
@@ -35,21 +33,21 @@ not_opened chain elements shape value places true opened some h = h
 not_opened chain elements shape value places false closed some h = one_lost (cell_at chain elements shape value) places 0 some (closed_cell chain elements shape value _ closed)
 
 -- what is read of places of a slice, of which there are some
-pub slice_read : (inner : Chain) (elements : Elements) (shape slice places : List ℕ) (result : Result ArrayBytes CodecError) → fits inner elements.type shape ≡ true → 0 < length places → list_all (λ n. nat_lt n (product shape)) places ≡ true → 0 ≡ refused_after 0 result
-    → DecodesPart inner elements shape (Some slice) (listed places) result → Lists elements shape (slice_cells inner elements shape slice places) result
-slice_read inner elements shape slice places (Ok bytes) fit some inside unrefused part = record {
+pub slice_read : (inner : Chain) (elements : Elements) (shape slice : List ℕ) (asked : Asked) (result : Result ArrayBytes CodecError) → fits inner elements.type shape ≡ true → 0 < length (numbers_asked shape asked) → are_inside shape asked ≡ true → 0 ≡ refused_after 0 result
+    → DecodesPart inner elements shape (Some slice) asked result → Lists elements shape (slice_cells inner elements shape slice (numbers_asked shape asked)) result
+slice_read inner elements shape slice asked (Ok bytes) fit some inside unrefused part = record {
   cells = part.cells;
-  is = (if_some (opens inner elements shape slice) (slice_cells inner elements shape slice places) part.cells part.is).1;
+  is = (if_some (opens inner elements shape slice) (slice_cells inner elements shape slice (numbers_asked shape asked)) part.cells part.is).1;
   lists = part.lists;
 }
-slice_read inner elements shape slice places (Err error.Damage) fit some inside unrefused part =
-    not_opened inner elements shape slice places (opens inner elements shape slice) refl some part.2
-slice_read inner elements shape slice places (Err error.Size) fit some inside unrefused part = part
-slice_read inner elements shape slice places (Err error.Memory) fit some inside unrefused part = tt
-slice_read inner elements shape slice places (Err error.Fit) fit some inside unrefused part = cc
-slice_read inner elements shape slice places (Err error.IncompatibleIndexer) fit some inside unrefused part = cc
-slice_read inner elements shape slice places (Err error.Source) fit some inside unrefused part = absurd (omega (arith, unrefused))
-slice_read inner elements shape slice places (Err e) fit some inside unrefused part = absurd part
+slice_read inner elements shape slice asked (Err error.Damage) fit some inside unrefused part =
+    not_opened inner elements shape slice (numbers_asked shape asked) (opens inner elements shape slice) refl some part.2
+slice_read inner elements shape slice asked (Err error.Size) fit some inside unrefused part = part
+slice_read inner elements shape slice asked (Err error.Memory) fit some inside unrefused part = tt
+slice_read inner elements shape slice asked (Err error.Fit) fit some inside unrefused part = cc
+slice_read inner elements shape slice asked (Err error.IncompatibleIndexer) fit some inside unrefused part = cc
+slice_read inner elements shape slice asked (Err error.Source) fit some inside unrefused part = absurd (omega (arith, unrefused))
+slice_read inner elements shape slice asked (Err e) fit some inside unrefused part = absurd part
 
 -- elements in memory aren't refused by a source
 pub lists_unrefused : (elements : Elements) (shape : List ℕ) (found : Option (List Cell)) (result : Result ArrayBytes CodecError) (count : ℕ) → Lists elements shape found result → refused_after count result ≡ count

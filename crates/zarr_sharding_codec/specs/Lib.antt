@@ -2,8 +2,10 @@ pub mod Views
 pub mod Fitting
 pub mod Slices
 pub mod Assembled
+pub mod Gapless
 pub mod Reading
 pub mod PartWriting
 pub mod Appending
 pub mod BytesMet
 pub mod Configured
+pub mod BoxReading

@@ -3,6 +3,7 @@
 use crate::codec::ShardingCodec;
 use crate::decoding::Shard;
 use crate::index_codec::IndexCodec;
+use crate::part_writing::TestedPart;
 use std::alloc::{AllocError, Global};
 use zarr_codecs_arrays::{ArrayBytes, CodecError, Elements};
 use zarr_codecs_options::{CodecOptions, SubchunkWriteOrder};
@@ -16,8 +17,13 @@ use zarr_grids_boxes::walk::count_places;
 use zarr_sharding_compaction::{ShardLayout, compact_shard};
 
 impl<I: ArrayToBytesCodecTraits, X: IndexCodec> ArrayToBytesCodecTraits for ShardingCodec<I, X> {
-    ghost use Rattle.std.specs.Prelude.{◌≡◌, IfOk};
-    ghost use Rattle.zarr_sharding_codec.specs.Views.{makes_a_function, order_of, shard_chain};
+    ghost use Rattle.std.specs.Prelude.{◌≡◌, IfOk, true};
+    ghost use Rattle.zarr_codecs_arrays.specs.Views.{elements_of, payload_of};
+    ghost use Rattle.zarr_codecs_meaning.specs.Fits.{is_lossless};
+    ghost use Rattle.zarr_codecs_meaning.specs.Types.{uint64};
+    ghost use Rattle.zarr_codecs_traits.specs.Outcomes.{Encodes};
+    ghost use Rattle.zarr_sharding_codec.specs.Gapless.{IsGapless};
+    ghost use Rattle.zarr_sharding_codec.specs.Views.{index_of, makes_a_function, order_of, place_of_index, shard_chain, subchunk_of};
 
     ghost meaning = { shard_chain I.meaning X.meaning };
 
@@ -40,7 +46,15 @@ impl<I: ArrayToBytesCodecTraits, X: IndexCodec> ArrayToBytesCodecTraits for Shar
         elements: &Elements,
         shape: &[u64],
         options: &CodecOptions,
-    ) -> Result<Vec<u8>, CodecError> {
+    ) -> Result<Vec<u8>, CodecError>
+        ensures encodes { Encodes (shard_chain I.meaning X.meaning self.now)
+            (makes_a_function I.is_function X.is_function self.now) (elements_of elements.now)
+            shape.now (payload_of bytes) result }
+        ensures gapless { IfOk result (λ value.
+            is_lossless (X.meaning (index_of self.now)) uint64 ≡ true → IsGapless
+            (subchunk_of self.now) (X.meaning (index_of self.now)) (place_of_index self.now)
+            shape.now value.items) }
+    {
         let data_type = elements.data_type();
         let Some(size) = self.suited(alloc, data_type, shape)? else {
             return Err(CodecError::Fit);
@@ -142,11 +156,15 @@ impl<I: ArrayToBytesCodecTraits, X: IndexCodec> ArrayToBytesCodecTraits for Shar
         part: ArrayPart<'_>,
         options: &CodecOptions,
     ) -> Result<(), CodecError> {
-        let tested = match self.test_part(alloc, &bytes, part) {
-            Ok(tested) => tested,
+        let size = match self.test_part(alloc, &bytes, part) {
+            Ok(size) => size,
             Err(error) => return Err(error),
         };
-        match self.append_part(alloc, source, &tested, &bytes, part, options) {
+        let tested = TestedPart {
+            size,
+            bytes: &bytes,
+        };
+        match self.append_part(alloc, source, tested, part, options) {
             Ok(true) => Ok(()),
             Ok(false) => encode_whole(self, alloc, source, bytes, part, options),
             Err(error) => Err(error),

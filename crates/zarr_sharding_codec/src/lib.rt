@@ -4,6 +4,7 @@
 
 mod array_to_bytes;
 mod assembling;
+pub mod box_reading;
 pub mod chain_metadata;
 pub mod codec;
 pub mod configuration;
@@ -25,6 +26,7 @@ pub mod updating;
 mod whole_subchunk;
 mod whole_values;
 
+pub use box_reading::IndexedPlaces;
 pub use chain_metadata::ChainOfMetadata;
 pub use codec::ShardingCodec;
 pub use index_codec::IndexCodec;

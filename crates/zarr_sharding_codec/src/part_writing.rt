@@ -1,23 +1,32 @@
 //! Parts of an array, written into its shard.
+ghost use Rattle.std.specs.Prelude.{◌≡◌, length, true, IfSome};
+ghost use Rattle.zarr_codecs_traits.specs.Indexers.{are_inside, asked_of, numbers_asked};
 
 use crate::codec::ShardingCodec;
-use crate::updating::{NumberedElements, ShardInSource};
+use crate::updating::{AskedElements, ShardInSource};
 use std::alloc::Global;
 use zarr_codecs_arrays::{ArrayBytes, CodecError};
 use zarr_codecs_options::CodecOptions;
-use zarr_codecs_regions::{numbers_asked, test_asked};
-use zarr_codecs_traits::{ArrayPart, ArrayToBytesCodecTraits, BytesPartialEncoderTraits};
+use zarr_codecs_regions::test_asked;
+use zarr_codecs_traits::{ArrayPart, ArrayToBytesCodecTraits, BytesPartialEncoderTraits, Indexer};
 use zarr_grids_boxes::walk::count_places;
 use zarr_sharding_index::IndexLayout;
 use zarr_sharding_index::shapes::index_shape;
 use zarr_sharding_state::{KnownShard, SliceChange};
 
-/// The places of an array that are asked for, by their row-major numbers, and how many bytes the
-/// index of the array's shard has.
-#[derive(Debug, Drop)]
-pub struct TestedPart {
+/// Elements that can be put at the places of an array that are asked for, one for each, and how many
+/// bytes the index of the array's shard has.
+#[derive(Clone, Copy)]
+pub struct TestedPart<'a> {
     pub size: u64,
-    pub numbers: Vec<u64>,
+    pub bytes: &'a ArrayBytes,
+}
+
+/// What replaces the slices of some subchunks of a shard, and how its index is laid out.
+#[derive(Clone, Copy)]
+struct ShardChanges<'a> {
+    layout: IndexLayout<'a>,
+    changes: &'a [SliceChange],
 }
 
 impl<I: ArrayToBytesCodecTraits, X: ArrayToBytesCodecTraits> ShardingCodec<I, X> {
@@ -25,7 +34,7 @@ impl<I: ArrayToBytesCodecTraits, X: ArrayToBytesCodecTraits> ShardingCodec<I, X>
     ghost use Rattle.std.specs.List.{list_all};
     ghost use Rattle.zarr_codecs_arrays.specs.Views.{elements_of, payload_of};
     ghost use Rattle.zarr_codecs_meaning.specs.Encoding.{index_size};
-    ghost use Rattle.zarr_codecs_traits.specs.Indexers.{asked_of};
+    ghost use Rattle.zarr_codecs_traits.specs.Indexers.{asked_of, numbers_asked};
     ghost use Rattle.zarr_codecs_traits.specs.PartWriting.{NotEncodedInto};
     ghost use Rattle.zarr_codecs_traits.specs.Sources.{refused_after};
     ghost use Rattle.zarr_grids_boxes.specs.Boxes.{product};
@@ -37,20 +46,21 @@ impl<I: ArrayToBytesCodecTraits, X: ArrayToBytesCodecTraits> ShardingCodec<I, X>
     ghost use Rattle.zarr_sharding_state.specs.States.{end_of, pairs_in};
     ghost use Rattle.zarr_sharding_state.specs.Views.{changes_of, is_below};
 
-    /// The places that are asked for, where elements can be put at them. `Fit` where the codec
-    /// doesn't suit the array; `IncompatibleIndexer` where a place isn't one of the array's;
-    /// `InvalidNumberOfElements`, `Expected..` or `CellOutOfRange` where these are not elements, one
-    /// for each place; `Size` where the array has 2^63 places or more.
+    /// How many bytes the index of the array's shard has, where elements can be put at the places that
+    /// are asked for. `Fit` where the codec doesn't suit the array; `IncompatibleIndexer` where a place
+    /// isn't one of the array's; `InvalidNumberOfElements`, `Expected..` or `CellOutOfRange` where
+    /// these are not elements, one for each place; `Size` where the array has 2^63 places or more.
+    #[tactic(auto, using(zarr_codecs_regions::proofs::AskedPlaces::asked_places))]
     pub fn test_part(
         &self,
         alloc: Global,
         bytes: &ArrayBytes,
         part: ArrayPart<'_>,
-    ) -> Result<TestedPart, CodecError>
-        ensures ok { IfOk result (λ tested. IsTestedPart
+    ) -> Result<u64, CodecError>
+        ensures ok { IfOk result (λ size. IsTestedPart
             (shard_chain I.meaning X.meaning self.now) (elements_of part.entry.elements.now)
-            part.entry.shape.now (asked_of part.entry.indexer) (payload_of bytes.now) tested.size
-            tested.numbers.items) }
+            part.entry.shape.now (asked_of part.entry.indexer) (payload_of bytes.now) size
+            (numbers_asked part.entry.shape.now (asked_of part.entry.indexer))) }
         ensures cause { (stored : Option (List ℕ)) → NotEncodedInto
             (shard_chain I.meaning X.meaning self.now) (elements_of part.entry.elements.now)
             part.entry.shape.now (asked_of part.entry.indexer) (payload_of bytes.now) stored
@@ -67,9 +77,11 @@ impl<I: ArrayToBytesCodecTraits, X: ArrayToBytesCodecTraits> ShardingCodec<I, X>
         if let Err(error) = test_asked(part.shape, part.indexer) {
             return Err(error);
         }
-        let numbers = numbers_asked(alloc, part.shape, part.indexer)?;
-        match bytes.validate(data_type, numbers.len() as u64) {
-            Ok(()) => Ok(TestedPart { size, numbers }),
+        let Some(count) = count_asked(part.shape, part.indexer) else {
+            return Err(CodecError::Memory);
+        };
+        match bytes.validate(data_type, count) {
+            Ok(()) => Ok(size),
             Err(error) => Err(error),
         }
     }
@@ -82,25 +94,26 @@ impl<I: ArrayToBytesCodecTraits, X: ArrayToBytesCodecTraits> ShardingCodec<I, X>
         &self,
         alloc: Global,
         source: &mut E,
-        tested: &TestedPart,
-        bytes: &ArrayBytes,
+        tested: TestedPart<'_>,
         part: ArrayPart<'_>,
         options: &CodecOptions,
     ) -> Result<bool, CodecError>
         requires tested { IsTestedPart (shard_chain I.meaning X.meaning self.now)
             (elements_of part.elements.now) part.shape.now (asked_of part.indexer)
-            (payload_of bytes.now) tested.now.size tested.now.numbers.items }
+            (payload_of tested.bytes.now) tested.size
+            (numbers_asked part.shape.now (asked_of part.indexer)) }
         ensures ok { IsTrue (E.is_honest source.old) → IfOk result
             (AppendsPart (shard_chain I.meaning X.meaning self.now)
             (makes_a_function I.is_function X.is_function self.now)
             (elements_of part.entry.elements.now) part.entry.shape.now
-            (asked_of part.entry.indexer) (payload_of bytes.now) (E.contents source.old)
+            (asked_of part.entry.indexer) (payload_of tested.entry.bytes.now)
+            (E.contents source.old)
             (E.contents source.new)) }
         ensures err { IsTrue (E.is_honest source.old) →
             OnErr result (E.contents source.new ≡ E.contents source.old) }
         ensures cause { IsTrue (E.is_honest source.old) → NotEncodedInto
             (shard_chain I.meaning X.meaning self.now) (elements_of part.entry.elements.now)
-            part.entry.shape.now (asked_of part.entry.indexer) (payload_of bytes.now)
+            part.entry.shape.now (asked_of part.entry.indexer) (payload_of tested.entry.bytes.now)
             (E.contents source.old) result }
         ensures refused { E.refused_calls source.new ≡
             refused_after (E.refused_calls source.old) result }
@@ -114,6 +127,7 @@ impl<I: ArrayToBytesCodecTraits, X: ArrayToBytesCodecTraits> ShardingCodec<I, X>
             shape: pairs_shape.as_slice(),
             size: tested.size,
         };
+        let bytes = tested.bytes.try_clone(alloc)?;
         match KnownShard::open(alloc, source, &self.index_codecs, layout, options) {
             Ok(known) => {
                 let shard = ShardInSource {
@@ -121,14 +135,16 @@ impl<I: ArrayToBytesCodecTraits, X: ArrayToBytesCodecTraits> ShardingCodec<I, X>
                     layout,
                     elements: part.elements,
                 };
-                let given = NumberedElements {
+                let given = AskedElements {
                     shape: part.shape,
-                    numbers: tested.numbers.as_slice(),
+                    indexer: part.indexer,
                     bytes,
                 };
-                match self.update_slices(alloc, source, shard, given, options) {
+                match self.update_asked(alloc, source, shard, given, options) {
                     Ok(changes) => {
-                        self.append_changes(alloc, source, known, layout, &changes, options)
+                        let changes = changes.as_slice();
+                        let given = ShardChanges { layout, changes };
+                        self.append_changes(alloc, source, known, given, options)
                     }
                     Err(error) => Err(error),
                 }
@@ -144,30 +160,33 @@ impl<I: ArrayToBytesCodecTraits, X: ArrayToBytesCodecTraits> ShardingCodec<I, X>
         alloc: Global,
         source: &mut E,
         known: KnownShard,
-        layout: IndexLayout<'_>,
-        changes: &[SliceChange],
+        given: ShardChanges<'_>,
         options: &CodecOptions,
     ) -> Result<bool, CodecError>
-        requires fit { index_fits (X.meaning (index_of self.now)) layout.shape.now ≡ true }
-        requires size { layout.size ≡ index_size (X.meaning (index_of self.now))
-            layout.shape.now }
-        requires many { product layout.shape.now ≡ 2 * length (pairs_in known) }
-        requires below { list_all (is_below (length (pairs_in known))) changes.now ≡ true }
+        requires fit { index_fits (X.meaning (index_of self.now)) given.layout.shape.now ≡ true }
+        requires size { given.layout.size ≡ index_size (X.meaning (index_of self.now))
+            given.layout.shape.now }
+        requires many { product given.layout.shape.now ≡ 2 * length (pairs_in known) }
+        requires below { list_all (is_below (length (pairs_in known))) given.changes.now ≡ true }
         ensures ok { IsTrue (E.is_honest source.old) → IfOk result
             (AppendsChanges (X.meaning (index_of self.now)) (X.is_function (index_of self.now))
-            (location_of layout.entry.location) layout.entry.shape.now (changes_of changes.now)
-            (end_of known) (pairs_in known) (E.contents source.old) (E.contents source.new)) }
+            (location_of given.entry.layout.location) given.entry.layout.shape.now
+            (changes_of given.entry.changes.now) (end_of known) (pairs_in known)
+            (E.contents source.old) (E.contents source.new)) }
         ensures err { IsTrue (E.is_honest source.old) →
             OnErr result (E.contents source.new ≡ E.contents source.old) }
         ensures cause { IsTrue (E.is_honest source.old) → ChangesUnwritten
-            (X.meaning (index_of self.now)) layout.entry.shape.now
-            (pairs_after (end_of known) (changes_of changes.now) (pairs_in known)) result }
+            (X.meaning (index_of self.now)) given.entry.layout.shape.now
+            (pairs_after (end_of known) (changes_of given.entry.changes.now) (pairs_in known))
+            result }
         ensures refused { E.refused_calls source.new ≡
             refused_after (E.refused_calls source.old) result }
         ensures accepted { E.accepted_writes source.new ≡
             accepted_by (E.accepted_writes source.old) result }
         ensures rewrites { E.rewrites source.old source.new }
     {
+        let layout = given.layout;
+        let changes = given.changes;
         if !known.has_room(layout, changes) {
             return Ok(false);
         }
@@ -176,5 +195,17 @@ impl<I: ArrayToBytesCodecTraits, X: ArrayToBytesCodecTraits> ShardingCodec<I, X>
             Ok(()) => Ok(true),
             Err(error) => Err(error),
         }
+    }
+}
+
+/// How many places are asked for, if that is below 2^63.
+pub fn count_asked(shape: &[u64], indexer: Indexer<'_>) -> Option<u64>
+    requires inside { are_inside shape.now (asked_of indexer) ≡ true }
+    ensures { IfSome result (λ count.
+        count ≡ length (numbers_asked shape.now (asked_of indexer.entry))) }
+{
+    match indexer {
+        Indexer::Subset(region) => count_places(region.shape()),
+        Indexer::List(numbers) => Some(numbers.len() as u64),
     }
 }

@@ -6,6 +6,7 @@ ghost use Rattle.zarr_codecs_meaning.specs.Types.{Cell};
 ghost use Rattle.zarr_codecs_regions.specs.Updates.{put};
 ghost use Rattle.zarr_sharding_places.specs.Placed.{Shows};
 
+use crate::box_reading::IndexedPlaces;
 use crate::codec::ShardingCodec;
 use std::alloc::{AllocError, Global};
 use zarr_codecs_arrays::{ArrayBytes, CodecError, Elements};
@@ -47,7 +48,7 @@ impl<I: ArrayToBytesCodecTraits, X: ArrayToBytesCodecTraits> ShardingCodec<I, X>
     ghost use Rattle.zarr_codecs_meaning.specs.Encoding.{absent_pair, index_size};
     ghost use Rattle.zarr_codecs_meaning.specs.Fits.{fits};
     ghost use Rattle.zarr_codecs_meaning.specs.Places.{grid_of, index_shape, parts_of};
-    ghost use Rattle.zarr_codecs_traits.specs.Indexers.{are_inside, asked_of};
+    ghost use Rattle.zarr_codecs_traits.specs.Indexers.{are_inside, asked_of, numbers_asked};
     ghost use Rattle.zarr_codecs_traits.specs.Outcomes.{DecodesPart};
     ghost use Rattle.zarr_codecs_traits.specs.Sources.{refused_after};
     ghost use Rattle.zarr_grids_boxes.specs.Boxes.{product};
@@ -84,7 +85,6 @@ impl<I: ArrayToBytesCodecTraits, X: ArrayToBytesCodecTraits> ShardingCodec<I, X>
             refused_after (D.refused_calls source.old) result }
         ensures follows { D.follows source.old source.new }
     {
-        let numbers = numbers_asked(alloc, part.shape, part.indexer)?;
         match self.open_index(alloc, source, size, part.shape, options) {
             Ok(Some(fetched)) => {
                 let shard = OpenedShard {
@@ -92,13 +92,16 @@ impl<I: ArrayToBytesCodecTraits, X: ArrayToBytesCodecTraits> ShardingCodec<I, X>
                     total: fetched.total,
                     elements: part.elements,
                 };
-                let asked = NumberedPlaces {
+                let asked = IndexedPlaces {
                     shape: part.shape,
-                    numbers: numbers.as_slice(),
+                    indexer: part.indexer,
                 };
-                self.read_numbers(alloc, source, shard, asked, options)
+                self.read_asked(alloc, source, shard, asked, options)
             }
-            Ok(None) => Ok(fill_elements(alloc, part.elements, numbers.len())?),
+            Ok(None) => {
+                let numbers = numbers_asked(alloc, part.shape, part.indexer)?;
+                Ok(fill_elements(alloc, part.elements, numbers.len())?)
+            }
             Err(error) => Err(error),
         }
     }
@@ -165,7 +168,8 @@ impl<I: ArrayToBytesCodecTraits, X: ArrayToBytesCodecTraits> ShardingCodec<I, X>
             (elements_of shard.elements.now).type asked.shape.now ≡ true }
         requires many { length (pairs_of shard.index.now)
             ≡ length (parts_of asked.shape.now (subchunk_of self.now)) }
-        requires below { list_all (λ n. nat_lt n (product asked.shape.now)) asked.numbers.now ≡ true }
+        requires below { list_all (λ n. nat_lt n (product asked.shape.now))
+            asked.numbers.now ≡ true }
         ensures part { IsTrue (D.is_honest source.old) → IsTotalOf (D.contents source.old)
             (pairs_of shard.entry.index.now) shard.entry.total
             → ListsRead (elements_of shard.entry.elements.now) asked.entry.shape.now
@@ -253,7 +257,8 @@ impl<I: ArrayToBytesCodecTraits, X: ArrayToBytesCodecTraits> ShardingCodec<I, X>
         match fetch_slice(alloc, source, shard.total, pair) {
             Ok(slice) => {
                 let insides = insides_of(alloc, group)?;
-                self.read_slice(alloc, slice, insides.as_slice(), shard.elements, options)
+                let indexer = Indexer::List(insides.as_slice());
+                self.read_slice(alloc, slice, indexer, shard.elements, options)
             }
             Err(error) => Err(error),
         }
@@ -261,29 +266,29 @@ impl<I: ArrayToBytesCodecTraits, X: ArrayToBytesCodecTraits> ShardingCodec<I, X>
 
     /// The elements at places of the subchunk that a slice holds. `Damage` where one of them cannot
     /// be decoded. There is a place.
-    fn read_slice(
+    pub(crate) fn read_slice(
         &self,
         alloc: Global,
         slice: Vec<u8>,
-        insides: &[u64],
+        indexer: Indexer<'_>,
         elements: &Elements,
         options: &CodecOptions,
     ) -> Result<ArrayBytes, CodecError>
         requires fit { fits (I.meaning (inner_of self.now)) (elements_of elements.now).type
             (subchunk_of self.now) ≡ true }
-        requires some { 0 < length insides.now }
-        requires inside { list_all (λ n. nat_lt n (product (subchunk_of self.now))) insides.now
-            ≡ true }
+        requires some { 0 < length (numbers_asked (subchunk_of self.now) (asked_of indexer)) }
+        requires inside { are_inside (subchunk_of self.now) (asked_of indexer) ≡ true }
         ensures part { Lists (elements_of elements.now) (subchunk_of self.now)
             (slice_cells (I.meaning (inner_of self.now)) (elements_of elements.now)
-            (subchunk_of self.now) slice.items insides.now) result }
+            (subchunk_of self.now) slice.items
+            (numbers_asked (subchunk_of self.now) (asked_of indexer.entry))) result }
         ensures no_source { (count : ℕ) → refused_after count result ≡ count }
     {
         let mut source = MemorySource::new(Some(slice));
         let part = ArrayPart {
             elements,
             shape: self.subchunk_shape.as_slice(),
-            indexer: Indexer::List(insides),
+            indexer,
         };
         self.inner_codecs
             .partial_decode(alloc, &mut source, part, options)

@@ -2,11 +2,12 @@
 
 use crate::codec::ShardingCodec;
 use crate::slices::{push_slice, store_piece};
-use crate::subchunks::{subchunk_region, take_box};
+use crate::subchunks::{move_to_subchunk, take_box};
 use std::alloc::Global;
 use zarr_codecs_arrays::{ArrayBytes, CodecError};
 use zarr_codecs_options::CodecOptions;
 use zarr_codecs_traits::{ArrayToBytesCodecTraits, WholeArray};
+use zarr_grids_boxes::ArraySubset;
 use zarr_grids_boxes::walk::count_places;
 use zarr_sharding_index::ShardIndex;
 use zarr_sharding_index::shapes::grid_of;
@@ -53,14 +54,16 @@ impl<I: ArrayToBytesCodecTraits, X: ArrayToBytesCodecTraits> ShardingCodec<I, X>
         let base = self.index_location.base(size);
         let mut data = Vec::with_capacity(alloc, room_for(bytes, size))?;
         let mut index = ShardIndex::new(alloc);
+        let mut region = ArraySubset::new_with_shape(alloc, edges.to_vec(alloc)?)?;
         for n in 0..count {
-            let region = subchunk_region(alloc, edges, grid.as_slice(), count, n)?;
-            let piece = take_box(alloc, bytes, array, &region)?;
+            let moved = move_to_subchunk(alloc, region, grid.as_slice(), count, n)?;
+            let piece = take_box(alloc, bytes, array, &moved)?;
             let inner = &self.inner_codecs;
             match store_piece(alloc, inner, piece, array.elements, edges, options) {
                 Ok(slice) => push_slice(base, slice, &mut data, &mut index)?,
                 Err(error) => return Err(error),
             }
+            region = moved;
         }
         Ok((data, index))
     }

@@ -1,5 +1,5 @@
 //! The subchunks of an array, and their elements.
-ghost use Rattle.std.specs.Prelude.{◌≡◌, ◌*◌, ◌<◌, ◌++◌, List, length, replicate, true, Some, IfOk, IfSome, OnOk};
+ghost use Rattle.std.specs.Prelude.{◌≡◌, ◌*◌, ◌<◌, List, length, replicate, true, Some, IfOk, IfSome, OnOk};
 ghost use Rattle.zarr_codecs_arrays.specs.Outcomes.{IsCounted};
 ghost use Rattle.zarr_codecs_arrays.specs.Views.{elements_of, payload_of};
 ghost use Rattle.zarr_codecs_meaning.specs.Payloads.{cells_in};
@@ -30,10 +30,32 @@ pub(crate) fn subchunk_region(
         (place_at (replicate (length grid.now) 0) grid.now n) edges.now) }
     ensures shape { IfOk result (λ region. region.shape.items ≡ edges.now) }
 {
-    let place = place_of(alloc, grid, count, n)?;
-    let start = products(alloc, place.as_slice(), edges)?;
-    match ArraySubset::new_with_start_shape(start, edges.to_vec(alloc)?) {
-        Ok(region) => Ok(region),
+    let region = ArraySubset::new_with_shape(alloc, edges.to_vec(alloc)?)?;
+    move_to_subchunk(alloc, region, grid, count, n)
+}
+
+/// A box of the shape of a subchunk, put where the one with number `n`, row-major, of `count` is.
+pub(crate) fn move_to_subchunk(
+    alloc: Global,
+    region: ArraySubset,
+    grid: &[u64],
+    count: u64,
+    n: u64,
+) -> Result<ArraySubset, AllocError>
+    requires count { count ≡ product grid.now }
+    requires below { n < product grid.now }
+    ensures start { IfOk result (λ moved. moved.start.items ≡ each2 (λ i edge. i * edge)
+        (place_at (replicate (length grid.now) 0) grid.now n) region.shape.items) }
+    ensures shape { IfOk result (λ moved. moved.shape.items ≡ region.shape.items) }
+{
+    let shape = region.shape;
+    let mut start = place_of(alloc, grid, count, n)?;
+    if start.len() != shape.len() {
+        return Err(AllocError);
+    }
+    multiply(start.as_mut_slice(), shape.as_slice())?;
+    match ArraySubset::new_with_start_shape(start, shape) {
+        Ok(moved) => Ok(moved),
         Err(_) => Err(AllocError),
     }
 }
@@ -51,32 +73,18 @@ fn place_of(alloc: Global, grid: &[u64], count: u64, n: u64) -> Result<Vec<u64>,
     Ok(place)
 }
 
-/// The products of the numbers of each dimension. `Err` also where one is too large.
-fn products(alloc: Global, indices: &[u64], edges: &[u64]) -> Result<Vec<u64>, AllocError>
-    ensures { IfOk result
-        (λ start. start.items ≡ each2 (λ i edge. i * edge) indices.now edges.now) }
+/// Multiplies the number of each dimension by the one of an edge. `Err` where one is too large.
+fn multiply(place: &mut [u64], edges: &[u64]) -> Result<(), AllocError>
+    requires { length edges.now ≡ length place.old }
+    ensures { OnOk result (place.new ≡ each2 (λ i edge. i * edge) place.old edges.now) }
 {
-    let mut start = Vec::with_capacity(alloc, indices.len())?;
-    push_products(indices, edges, &mut start)?;
-    Ok(start)
-}
-
-/// Appends the products of the numbers of each dimension.
-fn push_products(indices: &[u64], edges: &[u64], start: &mut Vec<u64>) -> Result<(), AllocError>
-    ensures { OnOk result (start.new.items
-        ≡ start.old.items ++ each2 (λ i edge. i * edge) indices.now edges.now) }
-{
-    let Some((index, indices)) = indices.split_first() else {
-        return Ok(());
-    };
-    let Some((edge, edges)) = edges.split_first() else {
-        return Ok(());
-    };
-    let Some(first) = index.checked_mul(*edge) else {
-        return Err(AllocError);
-    };
-    start.push(first)?;
-    push_products(indices, edges, start)
+    for k in 0..place.len() {
+        match place[k].checked_mul(edges[k]) {
+            Some(first) => place[k] = first,
+            None => return Err(AllocError),
+        }
+    }
+    Ok(())
 }
 
 /// The elements at the places of a box of an array, row-major: in runs where each element has the

@@ -39,6 +39,13 @@ pub struct NumberedElements<'a> {
     pub bytes: &'a ArrayBytes,
 }
 
+/// New elements for places of an array, and those of its places that lie in one subchunk.
+#[derive(Clone, Copy)]
+struct GroupElements<'a> {
+    bytes: &'a ArrayBytes,
+    group: &'a [AskedPlace],
+}
+
 /// All elements of the subchunk with this number, in its order.
 #[derive(Drop)]
 struct SubchunkElements {
@@ -186,7 +193,9 @@ impl<I: ArrayToBytesCodecTraits, X: ArrayToBytesCodecTraits> ShardingCodec<I, X>
         let mut rest = places.as_slice();
         while rest.len() > 0 {
             let (group, others) = leading_group(rest);
-            match self.update_group(alloc, source, shard, given.bytes, group, options) {
+            let bytes = given.bytes;
+            let part = GroupElements { bytes, group };
+            match self.update_group(alloc, source, shard, part, options) {
                 Ok(change) => changes.push(change)?,
                 Err(error) => return Err(error),
             }
@@ -201,43 +210,43 @@ impl<I: ArrayToBytesCodecTraits, X: ArrayToBytesCodecTraits> ShardingCodec<I, X>
         alloc: Global,
         source: &mut D,
         shard: ShardInSource<'_>,
-        given: &ArrayBytes,
-        group: &[AskedPlace],
+        given: GroupElements<'_>,
         options: &CodecOptions,
     ) -> Result<SliceChange, CodecError>
         requires fit { fits (I.meaning (inner_of self.now)) (elements_of shard.elements.now).type
             (subchunk_of self.now) ≡ true }
-        requires some { 0 < length group.now }
-        requires pair { (get_or group.now 0 no_place).subchunk
+        requires some { 0 < length given.group.now }
+        requires pair { (get_or given.group.now 0 no_place).subchunk
             < length (pairs_in shard.known.now) }
         requires low { shard.layout.size < 2 ^ 63 }
         ensures change { IsTrue (D.is_honest source.old) → IsOf
             (location_of shard.entry.layout.location) shard.entry.layout.size
             (D.contents source.old) (pairs_in shard.entry.known.now) (end_of shard.entry.known.now)
             → (cells : List Cell) (count : ℕ) → IsValid (elements_of shard.entry.elements.now).type
-            (payload_of given.now) count cells
-            → list_all (λ n. nat_lt n count) (positions group.now) ≡ true
-            → list_all (λ n. nat_lt n (product (subchunk_of self.now))) (insides group.now) ≡ true
+            (payload_of given.entry.bytes.now) count cells
+            → list_all (λ n. nat_lt n count) (positions given.entry.group.now) ≡ true
+            → list_all (λ n. nat_lt n (product (subchunk_of self.now)))
+            (insides given.entry.group.now) ≡ true
             → UpdatesGroup (stored_in (I.meaning (inner_of self.now))
             (I.is_function (inner_of self.now)) (elements_of shard.entry.elements.now)
             (D.contents source.old) (pairs_in shard.entry.known.now)) (subchunk_of self.now)
-            (get_or group.now 0 no_place).subchunk group.now cells result }
+            (get_or given.entry.group.now 0 no_place).subchunk given.entry.group.now cells result }
         ensures number { IfOk result
-            (λ change. change.number ≡ (get_or group.now 0 no_place).subchunk) }
+            (λ change. change.number ≡ (get_or given.entry.group.now 0 no_place).subchunk) }
         ensures refused { D.refused_calls source.new ≡
             refused_after (D.refused_calls source.old) result }
         ensures given { IsTrue (D.is_honest source.old) → D.given_bytes source.new
             ≤ D.given_bytes source.old
             + slice_length (get_or (pairs_in shard.entry.known.now)
-            (get_or group.now 0 no_place).subchunk absent_pair) }
+            (get_or given.entry.group.now 0 no_place).subchunk absent_pair) }
         ensures follows { D.follows source.old source.new }
     {
-        let number = group[0].subchunk as usize;
+        let number = given.group[0].subchunk as usize;
         let elements = shard.elements;
         let edges = self.subchunk_shape.as_slice();
         match self.read_subchunk(alloc, source, shard, number, options) {
             Ok(piece) => {
-                let updated = put_given(alloc, piece, edges, group, given, elements)?;
+                let updated = put_given(alloc, piece, edges, given.group, given.bytes, elements)?;
                 match store_piece(alloc, &self.inner_codecs, updated, elements, edges, options) {
                     Ok(slice) => Ok(SliceChange { number, slice }),
                     Err(error) => Err(error),

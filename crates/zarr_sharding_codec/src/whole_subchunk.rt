@@ -79,7 +79,7 @@ fn are_equal(one: &[u64], other: &[u64]) -> bool
 }
 
 /// The number of the subchunk that begins at a place of an array, where one does.
-fn number_near(start: &[u64], edges: &[u64], grid: &[u64]) -> u64 {
+pub(crate) fn number_near(start: &[u64], edges: &[u64], grid: &[u64]) -> u64 {
     let mut n: u64 = 0;
     for k in 0..start.len() {
         if k < edges.len() && k < grid.len() {

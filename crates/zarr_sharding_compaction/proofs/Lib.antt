@@ -1,3 +1,4 @@
 pub mod Copying
 pub mod Parity
 pub mod Once
+pub mod Chains

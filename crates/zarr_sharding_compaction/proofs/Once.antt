@@ -29,7 +29,7 @@ use Rattle.zarr_sharding_compaction.proofs.Copying.{slices_count}
 
 -- ---- what was made
 
-unless_is : (o : Option (List ℕ)) (made : List ℕ) → unless_refused o ≡ compacted_to made → o ≡ Some made
+pub unless_is : (o : Option (List ℕ)) (made : List ℕ) → unless_refused o ≡ compacted_to made → o ≡ Some made
 unless_is None made h = cc
 unless_is (Some bytes) made h = cc
 
@@ -52,7 +52,7 @@ piece_for (Some slice) = ([], of_bytes slice ∷ [])
 abbrev pub IsItself : List ℕ → List ℕ → List Cell → Type 0
 IsItself shape slice cells = cells ≡ of_bytes slice ∷ []
 
-stand_themselves : (stored : List (Option (List ℕ))) → SlicesStand IsItself absent (map piece_for stored) stored
+pub stand_themselves : (stored : List (Option (List ℕ))) → SlicesStand IsItself absent (map piece_for stored) stored
 stand_themselves [] = tt
 stand_themselves (None ∷ others) = (refl, stand_themselves others)
 stand_themselves (Some slice ∷ others) = ((refl, refl), stand_themselves others)
@@ -73,6 +73,22 @@ are_same (Some slice ∷ stored) (None ∷ others) h = let no = h.0 in cc
 are_same (Some slice ∷ stored) (Some other ∷ others) h =
     let same : slice ≡ other = ap slice_of h.0.1 in
     ap (λ (bytes : List ℕ). bytes ++ joined_slices others) (sym same) ∙ ap (λ (bytes : List ℕ). slice ++ bytes) (are_same stored others h.1)
+
+-- ---- slices in a row
+
+-- a shard whose slices stand in a row gains nothing
+pub laid_gains_nothing : (subchunk : List ℕ) (index : Chain) (location : Location) (shape value : List ℕ) (stored : List (Option (List ℕ)))
+    → ShardStands (decoded index (zero_filled uint64) (index_shape shape subchunk)) IsItself location (index_size index (index_shape shape subchunk)) absent (map piece_for stored) value
+    → length value ≡ index_size index (index_shape shape subchunk) + length (joined_slices stored) → shard_compaction subchunk index location shape value ≡ nothing_to_gain
+laid_gains_nothing subchunk index location shape value stored stands long =
+    let pairs_shape = index_shape shape subchunk in
+    let size = index_size index pairs_shape in
+    let read = shard_read (decoded index (zero_filled uint64) pairs_shape) IsItself location size absent (map piece_for stored) value stands in
+    let after = size + length (joined_slices read.0) in
+    let same : length value ≡ after = long ∙ ap (λ (l : List ℕ). size + length l) (sym (are_same stored read.0 read.2)) in
+    let made = compacted subchunk index location shape value in
+    ap (λ (o : Option (List (Option (List ℕ)))). elim o [ None ↦ damaged | Some stored ↦ by_length (length value) (size + length (joined_slices stored)) made ]) read.1
+    ∙ ap (λ (b : Bool). if b then nothing_to_gain else (if nat_lt after (2 ^ 63) then unless_refused made else too_long)) (eq-eqb (length value) after same)
 
 -- ---- the index of a compacted shard
 
@@ -129,9 +145,4 @@ module _ (subchunk : List ℕ) (index : Chain) (location : Location) (shape valu
       let whole = found_is (slices_in subchunk index location shape value) (length value) size (compacted subchunk index location shape value) made h in
       let found = bind_some (shard_of (encoded index (zero_filled uint64) pairs_shape) location size) (slices_in subchunk index location shape value) made whole in
       let stands = made_stands found.0 found.1 found.2 in
-      let again = shard_read (decoded index (zero_filled uint64) pairs_shape) IsItself location size absent (map piece_for found.0) made stands.0 in
-      let after = size + length (joined_slices again.0) in
-      let same : length made ≡ after = stands.1 ∙ ap (λ (l : List ℕ). size + length l) (sym (are_same found.0 again.0 again.2)) in
-      let remade = compacted subchunk index location shape made in
-      ap (λ (o : Option (List (Option (List ℕ)))). elim o [ None ↦ damaged | Some stored ↦ by_length (length made) (size + length (joined_slices stored)) remade ]) again.1
-      ∙ ap (λ (b : Bool). if b then nothing_to_gain else (if nat_lt after (2 ^ 63) then unless_refused remade else too_long)) (eq-eqb (length made) after same)
+      laid_gains_nothing subchunk index location shape made found.0 stands.0 stands.1

@@ -9,7 +9,7 @@ use zarr_codecs_traits::{
 };
 use zarr_grids_boxes::walk::count_places;
 use zarr_sharding_codec::partial::fill_elements;
-use zarr_sharding_codec::{NumberedPlaces, OpenedShard};
+use zarr_sharding_codec::{IndexedPlaces, OpenedShard};
 
 impl<
     'a,
@@ -56,8 +56,8 @@ impl<
         if count_places(self.shape).is_none() {
             return Err(CodecError::Size);
         }
-        let numbers = numbers_asked(alloc, self.shape, indexer)?;
         let Some(fetched) = &self.held else {
+            let numbers = numbers_asked(alloc, self.shape, indexer)?;
             return Ok(fill_elements(alloc, self.elements, numbers.len())?);
         };
         let shard = OpenedShard {
@@ -65,12 +65,12 @@ impl<
             total: fetched.total,
             elements: self.elements,
         };
-        let asked = NumberedPlaces {
+        let asked = IndexedPlaces {
             shape: self.shape,
-            numbers: numbers.as_slice(),
+            indexer,
         };
         self.codec
-            .read_numbers(alloc, self.source, shard, asked, options)
+            .read_asked(alloc, self.source, shard, asked, options)
     }
 
     /// Reads as `partial_decode` does, and puts the elements over those of a target. A refusal leaves

@@ -46,14 +46,13 @@ pub(crate) fn appended_length(changes: &[SliceChange]) -> Option<u64>
     ensures some { IfSome result (λ count. count ≡ length (appended (changes_of changes.now))) }
     ensures none { IfNone result (2 ^ 64 ≤ length (appended (changes_of changes.now))) }
 {
-    let Some((change, others)) = changes.split_first() else {
-        return Some(0);
-    };
-    let rest = appended_length(others)?;
-    match &change.slice {
-        Some(bytes) => (bytes.len() as u64).checked_add(rest),
-        None => Some(rest),
+    let mut count: u64 = 0;
+    for change in changes {
+        if let Some(bytes) = &change.slice {
+            count = count.checked_add(bytes.len() as u64)?;
+        }
     }
+    Some(count)
 }
 
 /// The index after changes whose slices are appended from `end` on.

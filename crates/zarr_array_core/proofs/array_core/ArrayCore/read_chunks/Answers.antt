@@ -5,7 +5,7 @@ use Rattle.zarr_array_elements.specs.Views.{cells_shown}
 use Rattle.zarr_array_elements.proofs.Shown.{length-shown}
 use Rattle.zarr_array_core.specs.Views.{document_of, path_of}
 use Rattle.zarr_array_core.proofs.MetChunks.{met_here, shares_here}
-use Rattle.zarr_array_core.proofs.ReadSoFar.{read_next, read_end}
+use Rattle.zarr_array_core.proofs.ReadSoFar.{read_next, read_end, read_stops}
 use Rattle.zarr_array_core.proofs.array_core.ArrayCore.read_chunks.Goals as goal
 
 pub read_chunk-requires-clause-below : goal.read_chunk-requires-clause-below
@@ -44,6 +44,18 @@ loop-n-preserved g c =
       refused = step.refused ∙ kept.refused;
       accepted = step.accepted ∙ kept.accepted;
     }
+
+pub returns-in-Err-clause-err : goal.returns-in-Err-clause-err
+returns-in-Err-clause-err g c = λ honest.
+    let document = document_of g.C.ArrayToBytesCodecTraits.meaning c.args.self.now in
+    let region : Region = region_of c.args.read.region.now in
+    let chunks : Region = region_of c.args.read.chunks.now in
+    let at_place = rw (c.start-first.ensures, c.shape-shape.ensures) at c.place_into.ensures in
+    let total : c.unwrap-count.result ≡ product chunks.shape = search rules in
+    let below : c.loop-n.n < product chunks.shape = omega (arith, c.loop-n-test.true) in
+    let kept = c.loop-n.invariant in
+    read_stops (path_of c.args.self.now) document (g.S.ReadableStorageTraits.held c.args.store.now) region chunks c.loop-n.n c.place_into.new.place (cells_shown document.elements c.loop-n.target) c.in-Err.error
+    (sym c.args.read.chunks.now.same) c.requires.intersecting below at_place (rw kept.held at (c.in-Err.ensures.err (rw kept.honest honest))) (kept.read honest)
 
 pub returns-clause-ok : goal.returns-clause-ok
 returns-clause-ok g c = λ honest.

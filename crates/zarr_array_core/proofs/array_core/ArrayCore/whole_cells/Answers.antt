@@ -6,7 +6,8 @@ use Rattle.zarr_codecs_arrays.specs.Outcomes.{IsCounted}
 use Rattle.zarr_codecs_arrays.specs.Views.{payload_of}
 use Rattle.zarr_array_elements.specs.Boxes.{AreTakenOut}
 use Rattle.zarr_array_core.specs.Views.{document_of, array_cells}
-use Rattle.zarr_array_core.proofs.ChunkCells.{held_place, whole_become}
+use Rattle.zarr_array_meaning.proofs.HeldBoxes.{held_place}
+use Rattle.zarr_array_core.proofs.ChunkCells.{whole_become}
 use Rattle.zarr_array_core.proofs.array_core.ArrayCore.whole_cells.Goals as goal
 
 pub take_out-requires-clause-given : goal.take_out-requires-clause-given

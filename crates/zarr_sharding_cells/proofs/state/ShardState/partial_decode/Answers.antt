@@ -1,12 +1,10 @@
-use Rattle.std.proofs.Common.{◌≡◌, ◌∙◌, ap, sym, subst, length, List, ℕ, [], unwrap_or}
-use Rattle.std.specs.Prelude.{nat_lt}
-use Rattle.std.specs.List.{list_all}
-use Rattle.zarr_grids_boxes.specs.Boxes.{product}
+use Rattle.std.proofs.Common.{◌≡◌, ◌∙◌, ap, sym, refl, subst, length, List, ℕ, [], unwrap_or}
 use Rattle.zarr_codecs_arrays.specs.Views.{elements_of}
 use Rattle.zarr_codecs_meaning.specs.Chains.{Location}
 use Rattle.zarr_codecs_meaning.specs.Encoding.{Pair, index_size}
 use Rattle.zarr_codecs_meaning.specs.Places.{parts_of}
-use Rattle.zarr_codecs_traits.specs.Indexers.{asked_of}
+use Rattle.zarr_codecs_regions.proofs.AskedPlaces as regions
+use Rattle.zarr_codecs_traits.specs.Indexers.{asked_of, numbers_asked}
 use Rattle.zarr_sharding_codec.specs.Reading.{IsTotalOf, ListsRead, shard_cells}
 use Rattle.zarr_sharding_decoder.specs.Pairs.{index_length}
 use Rattle.zarr_sharding_decoder.specs.Shards.{ShardOf}
@@ -18,8 +16,8 @@ use Rattle.zarr_sharding_cells.proofs.Known.{pairs_count}
 use Rattle.zarr_sharding_cells.proofs.ReadBack.{part_read_back, told_total}
 use Rattle.zarr_sharding_cells.proofs.state.ShardState.partial_decode.Goals as goal
 
-pub read_numbers-requires-clause-many : goal.read_numbers-requires-clause-many
-read_numbers-requires-clause-many g c =
+pub read_asked-requires-clause-many : goal.read_asked-requires-clause-many
+read_asked-requires-clause-many g c =
     let self = c.args.self.now in
     let codec = self.codec.now in
     let s : ShardOf = record {
@@ -47,11 +45,12 @@ returns-clause-part g c = λ honest told.
     let contents = g.E.BytesPartialDecoderTraits.contents self.source in
     let held : Held = held_as contents (pairs_in self.known) (end_of self.known) in
     let lent = pairs_of c.index.result.now in
-    let numbers = c.as_slice-2.result.now in
-    let result = c.read_numbers.result in
+    let asked = asked_of c.args.indexer in
+    let numbers = numbers_asked s.shape asked in
+    let result = c.read_asked.result in
     let size_is = self.sized ∙ ap (index_size s.index) self.cut in
     let long = c.total.ensures ∙ (ap (λ (l : Location). shard_length l self.size held.end) c.index_location.ensures ∙ ap (λ n. shard_length s.location n held.end) size_is) in
     let total = subst (λ (ps : List Pair). IsTotalOf contents ps c.total.result) (sym c.index.ensures) (told_total s held c.total.result told long) in
-    let read = subst (λ (ps : List Pair). ListsRead s.elements s.shape (shard_cells s.inner s.elements s.shape s.subchunk (unwrap_or contents []) ps numbers) result) c.index.ensures (c.read_numbers.ensures.part honest total) in
-    part_read_back s numbers (asked_of c.args.indexer) self.fit c.in_default.ensures (c.as_slice-2.ensures.value ∙ c.in_ok-numbers.ensures.numbers) (ap (list_all (λ n. nat_lt n (product s.shape))) c.as_slice-2.ensures.value ∙ c.in_ok-numbers.ensures.within) held result
+    let read = subst (λ (ps : List Pair). ListsRead s.elements s.shape (shard_cells s.inner s.elements s.shape s.subchunk (unwrap_or contents []) ps numbers) result) c.index.ensures (c.read_asked.ensures.part honest total) in
+    part_read_back s numbers asked self.fit c.in_default.ensures refl (regions.asked_places s.shape asked c.in_default.ensures) held result
     (pairs_count s self.pairs_shape.items held.pairs self.cut self.many) told read

@@ -14,7 +14,7 @@ use Rattle.zarr_sharding_state.specs.Written.{ChangesRefused, IsChanged}
 use Rattle.zarr_sharding_cells.specs.Tables.{Held, held_as}
 use Rattle.zarr_sharding_cells.proofs.Changed.{IsAfter, after_count, after_refused, after_told, after_written, changed_as, refused_as}
 use Rattle.zarr_sharding_cells.proofs.Known.{again_told, pairs_count, told_again, told_of}
-use Rattle.zarr_sharding_cells.proofs.Refused.{unchanged}
+use Rattle.zarr_sharding_cells.proofs.Refused.{unchanged, written_after}
 use Rattle.zarr_sharding_cells.proofs.state.ShardState.put_asked.Goals as goal
 
 pub update_asked-requires-clause-many : goal.update_asked-requires-clause-many
@@ -187,3 +187,14 @@ returns-in-Err-clause-cause g c = λ honest told cells valid.
     subst (λ (l : Location). IsOf l self.size old.contents old.pairs old.end) (sym c.index_location.ensures) (subst (λ n. IsOf s.location n old.contents old.pairs old.end) (sym size_is) (told_of s old told)) in
     let exact = g.I.ArrayToBytesCodecTraits.is_function codec.inner_codecs in
     unchanged s exact (put_at s.shape s.subchunk (numbers_asked s.shape (asked_of c.args.indexer)) cells) old c.in-Err.error refl (c.in-Err.ensures.changes honest of cells valid)
+
+pub returns-in-Ok-clause-given : goal.returns-in-Ok-clause-given
+returns-in-Ok-clause-given g c = λ honest.
+    let still = subst IsTrue (g.met.E.BytesPartialDecoderTraits.honest _ _ c.in-Ok.ensures.follows) honest in
+    let self = c.args.self.now in
+    let lent = changes_of c.deref.result.now in
+    let end = end_of self.known in
+    written_after _ _ (g.X.ArrayToBytesCodecTraits.meaning c.index_codecs.result.now) (location_of c.index_location.result) c.as_slice.result.now lent end (pairs_after end lent (pairs_in self.known)) c.write_slices.result (c.write_slices.ensures.cause still)
+
+pub returns-in-Err-clause-given : goal.returns-in-Err-clause-given
+returns-in-Err-clause-given g c = λ honest first. c.in-Err.ensures.given honest

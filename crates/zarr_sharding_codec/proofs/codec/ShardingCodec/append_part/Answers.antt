@@ -1,12 +1,15 @@
-use Rattle.std.proofs.Common.{◌≡◌, ◌∙◌, ◌%◌, ap, sym, subst, arith, length, Bool, true, IsTrue, Option, List, ℕ, OnErr}
+use Rattle.std.proofs.Common.{◌≡◌, ◌∙◌, ◌%◌, ap, sym, refl, subst, arith, length, Bool, true, IsTrue, Option, List, ℕ, OnErr}
 use Rattle.std.proofs.lemmas.Bool.{and_parts}
 use Rattle.zarr_grids_boxes.specs.Boxes.{product}
 use Rattle.zarr_codecs_arrays.specs.Views.{elements_of, payload_of}
 use Rattle.zarr_codecs_meaning.specs.Encoding.{index_size}
+use Rattle.zarr_codecs_meaning.specs.Places.{index_shape}
 use Rattle.zarr_codecs_meaning.proofs.Parts.{index_product}
-use Rattle.zarr_codecs_traits.specs.Indexers.{asked_of}
-use Rattle.std.specs.Prelude.{nat_lt, ◌&&◌}
+use Rattle.zarr_codecs_arrays.specs.Outcomes.{IsValid}
+use Rattle.zarr_codecs_traits.specs.Indexers.{asked_of, numbers_asked}
+use Rattle.std.specs.Prelude.{◌&&◌}
 use Rattle.std.specs.List.{list_all}
+use Rattle.zarr_sharding_index.proofs.StoredIndex.{index_below}
 use Rattle.zarr_sharding_index.specs.Stored.{index_fits}
 use Rattle.zarr_sharding_index.specs.Views.{location_of}
 use Rattle.zarr_sharding_state.specs.States.{end_of, pairs_in}
@@ -64,8 +67,8 @@ open-requires-clause-size g c =
     let shape_is = c.as_slice.ensures.value ∙ c.in_ok-pairs_shape.ensures in
     tested.size_is ∙ ap (index_size index) (sym shape_is)
 
-pub update_slices-requires-clause-many : goal.update_slices-requires-clause-many
-update_slices-requires-clause-many g c =
+pub update_asked-requires-clause-many : goal.update_asked-requires-clause-many
+update_asked-requires-clause-many g c =
     let self = c.args.self.now in
     let subchunk = self.subchunk_shape in
     let inner = g.I.ArrayToBytesCodecTraits.meaning self.inner_codecs in
@@ -80,8 +83,35 @@ update_slices-requires-clause-many g c =
     let is = ap product shape_is in
     omega (arith, two, many, is)
 
-pub update_slices-requires-clause-below : goal.update_slices-requires-clause-below
-update_slices-requires-clause-below g c = ap (list_all (λ n. nat_lt n (product c.args.part.shape.now))) c.as_slice-in-Ok.ensures.value ∙ c.requires.tested.below
+pub open-requires-clause-low : goal.open-requires-clause-low
+open-requires-clause-low g c =
+    let self = c.args.self.now in
+    let subchunk = self.subchunk_shape in
+    let inner = g.I.ArrayToBytesCodecTraits.meaning self.inner_codecs in
+    let index = g.X.ArrayToBytesCodecTraits.meaning self.index_codecs in
+    let tested = c.requires.tested in
+    let shape = c.args.part.shape.now in
+    let small = (index_below index (index_shape shape subchunk) (index_part subchunk inner index (location_of self.index_location) (elements_of c.args.part.elements.now) shape tested.fit)).1 in
+    let size_is = tested.size_is in
+    omega (arith, small, size_is)
+
+pub update_asked-requires-clause-low : goal.update_asked-requires-clause-low
+update_asked-requires-clause-low g c =
+    let self = c.args.self.now in
+    let subchunk = self.subchunk_shape in
+    let inner = g.I.ArrayToBytesCodecTraits.meaning self.inner_codecs in
+    let index = g.X.ArrayToBytesCodecTraits.meaning self.index_codecs in
+    let tested = c.requires.tested in
+    let shape = c.args.part.shape.now in
+    let small = (index_below index (index_shape shape subchunk) (index_part subchunk inner index (location_of self.index_location) (elements_of c.args.part.elements.now) shape tested.fit)).1 in
+    let size_is = tested.size_is in
+    omega (arith, small, size_is)
+
+pub update_asked-requires-clause-inside : goal.update_asked-requires-clause-inside
+update_asked-requires-clause-inside g c = c.requires.tested.inside
+
+pub update_asked-requires-clause-small : goal.update_asked-requires-clause-small
+update_asked-requires-clause-small g c = c.requires.tested.small
 
 pub append_changes-requires-clause-fit : goal.append_changes-requires-clause-fit
 append_changes-requires-clause-fit g c =
@@ -113,7 +143,7 @@ pub append_changes-requires-clause-many : goal.append_changes-requires-clause-ma
 append_changes-requires-clause-many g c = c.in-Ok.ensures.many
 
 pub append_changes-requires-clause-below : goal.append_changes-requires-clause-below
-append_changes-requires-clause-below g c = ap (list_all (is_below (length (pairs_in c.in-Ok.known)))) c.deref.ensures.value ∙ c.in-Ok-update_slices.ensures.below
+append_changes-requires-clause-below g c = ap (list_all (is_below (length (pairs_in c.in-Ok.known)))) c.as_slice-changes.ensures.value ∙ c.in-Ok-update_asked.ensures.below
 
 pub returns-clause-cause : goal.returns-clause-cause
 returns-clause-cause g c = λ honest.
@@ -127,9 +157,9 @@ returns-clause-cause g c = λ honest.
     let tested = c.requires.tested in
     let shape_is = c.as_slice.ensures.value ∙ c.in_ok-pairs_shape.ensures in
     let asked = asked_of c.args.part.indexer in
-    let payload = payload_of c.args.bytes.now in
-    let size = c.args.tested.now.size in
-    let numbers = c.args.tested.now.numbers.items in
+    let payload = payload_of c.args.tested.bytes.now in
+    let size = c.args.tested.size in
+    let numbers = numbers_asked shape asked in
     let exact = g.I.ArrayToBytesCodecTraits.is_function self.inner_codecs in
     let laws = g.met.E.BytesPartialDecoderTraits in
     let old = g.E.BytesPartialDecoderTraits.contents c.args.source.now in
@@ -147,14 +177,14 @@ returns-in-Ok-clause-cause g c = λ honest.
     let tested = c.requires.tested in
     let shape_is = c.as_slice.ensures.value ∙ c.in_ok-pairs_shape.ensures in
     let asked = asked_of c.args.part.indexer in
-    let payload = payload_of c.args.bytes.now in
-    let size = c.args.tested.now.size in
-    let numbers = c.args.tested.now.numbers.items in
+    let payload = payload_of c.args.tested.bytes.now in
+    let size = c.args.tested.size in
+    let numbers = numbers_asked shape asked in
     let exact = g.I.ArrayToBytesCodecTraits.is_function self.inner_codecs in
     let laws = g.met.E.BytesPartialDecoderTraits in
     let old = g.E.BytesPartialDecoderTraits.contents c.args.source.now in
     let pairs_shape = c.as_slice.result.now in
-    let given = c.as_slice-in-Ok.result.now in
+    let given = numbers in
     let pairs = pairs_in c.in-Ok.known in
     let end = end_of c.in-Ok.known in
     let later = g.E.BytesPartialDecoderTraits.contents c.open.new.source in
@@ -165,16 +195,16 @@ returns-in-Ok-clause-cause g c = λ honest.
       fill = c.args.part.elements.now.fills;
       tested = tested;
       shape_is = shape_is;
-      given_is = c.as_slice-in-Ok.ensures.value;
+      given_is = refl;
       opened = c.in-Ok.ensures.opened honest;
       many = c.in-Ok.ensures.many;
     } in
     let of = read_of subchunk inner index location exact elements shape asked payload size numbers pairs_shape given old later pairs end h same in
     let valid = read_valid subchunk inner index location exact elements shape asked payload size numbers pairs_shape given old later pairs end h same in
-    not_updated subchunk inner index location exact elements shape asked payload size numbers pairs_shape given old later pairs end h same Bool c.in-Err-update_slices.error (c.in-Err-update_slices.ensures.changes still of tested.cells valid)
+    not_updated subchunk inner index location exact elements shape asked payload size numbers pairs_shape given old later pairs end h same Bool c.in-Err-update_asked.error (c.in-Err-update_asked.ensures.changes still of tested.cells (subst (λ p. IsValid elements.type p (length numbers) tested.cells) (sym c.in_ok-bytes.ensures) valid))
 
-pub returns-in-Ok-update_slices-clause-ok : goal.returns-in-Ok-update_slices-clause-ok
-returns-in-Ok-update_slices-clause-ok g c = λ honest.
+pub returns-in-Ok-update_asked-clause-ok : goal.returns-in-Ok-update_asked-clause-ok
+returns-in-Ok-update_asked-clause-ok g c = λ honest.
     let self = c.args.self.now in
     let subchunk = self.subchunk_shape in
     let inner = g.I.ArrayToBytesCodecTraits.meaning self.inner_codecs in
@@ -185,14 +215,14 @@ returns-in-Ok-update_slices-clause-ok g c = λ honest.
     let tested = c.requires.tested in
     let shape_is = c.as_slice.ensures.value ∙ c.in_ok-pairs_shape.ensures in
     let asked = asked_of c.args.part.indexer in
-    let payload = payload_of c.args.bytes.now in
-    let size = c.args.tested.now.size in
-    let numbers = c.args.tested.now.numbers.items in
+    let payload = payload_of c.args.tested.bytes.now in
+    let size = c.args.tested.size in
+    let numbers = numbers_asked shape asked in
     let exact = g.I.ArrayToBytesCodecTraits.is_function self.inner_codecs in
     let laws = g.met.E.BytesPartialDecoderTraits in
     let old = g.E.BytesPartialDecoderTraits.contents c.args.source.now in
     let pairs_shape = c.as_slice.result.now in
-    let given = c.as_slice-in-Ok.result.now in
+    let given = numbers in
     let pairs = pairs_in c.in-Ok.known in
     let end = end_of c.in-Ok.known in
     let later = g.E.BytesPartialDecoderTraits.contents c.open.new.source in
@@ -203,7 +233,7 @@ returns-in-Ok-update_slices-clause-ok g c = λ honest.
       fill = c.args.part.elements.now.fills;
       tested = tested;
       shape_is = shape_is;
-      given_is = c.as_slice-in-Ok.ensures.value;
+      given_is = refl;
       opened = c.in-Ok.ensures.opened honest;
       many = c.in-Ok.ensures.many;
     } in
@@ -212,19 +242,19 @@ returns-in-Ok-update_slices-clause-ok g c = λ honest.
     let whole = makes_a_function g.I.ArrayToBytesCodecTraits.is_function g.X.ArrayToBytesCodecTraits.is_function self in
     let one = g.X.ArrayToBytesCodecTraits.is_function self.index_codecs in
     let to_exact : IsTrue whole → IsTrue exact = λ e. (and_parts exact one (and_parts (is_row_major self.subchunk_write_order) (exact && one) e).1).0 in
-    let both = laws.goes_on _ _ _ c.in-Ok.ensures.follows c.in-Ok-update_slices.ensures.follows in
-    let last = g.E.BytesPartialDecoderTraits.contents c.update_slices.new.source in
-    appended_read subchunk inner index location exact elements shape asked payload size numbers pairs_shape given old later pairs end h same one whole (g.E.BytesPartialDecoderTraits.contents c.append_changes.new.source) c.in-Ok-update_slices.changes.items c.deref.result.now c.append_changes.result c.deref.ensures.value to_exact
-    (c.in-Ok-update_slices.ensures.changes still of tested.cells valid) last (laws.same _ _ both) (c.append_changes.ensures.ok (subst IsTrue (laws.honest _ _ both) honest))
+    let both = laws.goes_on _ _ _ c.in-Ok.ensures.follows c.in-Ok-update_asked.ensures.follows in
+    let last = g.E.BytesPartialDecoderTraits.contents c.update_asked.new.source in
+    appended_read subchunk inner index location exact elements shape asked payload size numbers pairs_shape given old later pairs end h same one whole (g.E.BytesPartialDecoderTraits.contents c.append_changes.new.source) c.in-Ok-update_asked.changes.items c.as_slice-changes.result.now c.append_changes.result c.as_slice-changes.ensures.value to_exact
+    (c.in-Ok-update_asked.ensures.changes still of tested.cells (subst (λ p. IsValid elements.type p (length numbers) tested.cells) (sym c.in_ok-bytes.ensures) valid)) last (laws.same _ _ both) (c.append_changes.ensures.ok (subst IsTrue (laws.honest _ _ both) honest))
 
-pub returns-in-Ok-update_slices-clause-err : goal.returns-in-Ok-update_slices-clause-err
-returns-in-Ok-update_slices-clause-err g c = λ honest.
+pub returns-in-Ok-update_asked-clause-err : goal.returns-in-Ok-update_asked-clause-err
+returns-in-Ok-update_asked-clause-err g c = λ honest.
     let laws = g.met.E.BytesPartialDecoderTraits in
-    let both = laws.goes_on _ _ _ c.in-Ok.ensures.follows c.in-Ok-update_slices.ensures.follows in
+    let both = laws.goes_on _ _ _ c.in-Ok.ensures.follows c.in-Ok-update_asked.ensures.follows in
     subst (λ (o : Option (List ℕ)). OnErr c.append_changes.result (g.E.BytesPartialDecoderTraits.contents c.append_changes.new.source ≡ o)) (sym (laws.same _ _ both)) (c.append_changes.ensures.err (subst IsTrue (laws.honest _ _ both) honest))
 
-pub returns-in-Ok-update_slices-clause-cause : goal.returns-in-Ok-update_slices-clause-cause
-returns-in-Ok-update_slices-clause-cause g c = λ honest.
+pub returns-in-Ok-update_asked-clause-cause : goal.returns-in-Ok-update_asked-clause-cause
+returns-in-Ok-update_asked-clause-cause g c = λ honest.
     let self = c.args.self.now in
     let subchunk = self.subchunk_shape in
     let inner = g.I.ArrayToBytesCodecTraits.meaning self.inner_codecs in
@@ -235,14 +265,14 @@ returns-in-Ok-update_slices-clause-cause g c = λ honest.
     let tested = c.requires.tested in
     let shape_is = c.as_slice.ensures.value ∙ c.in_ok-pairs_shape.ensures in
     let asked = asked_of c.args.part.indexer in
-    let payload = payload_of c.args.bytes.now in
-    let size = c.args.tested.now.size in
-    let numbers = c.args.tested.now.numbers.items in
+    let payload = payload_of c.args.tested.bytes.now in
+    let size = c.args.tested.size in
+    let numbers = numbers_asked shape asked in
     let exact = g.I.ArrayToBytesCodecTraits.is_function self.inner_codecs in
     let laws = g.met.E.BytesPartialDecoderTraits in
     let old = g.E.BytesPartialDecoderTraits.contents c.args.source.now in
     let pairs_shape = c.as_slice.result.now in
-    let given = c.as_slice-in-Ok.result.now in
+    let given = numbers in
     let pairs = pairs_in c.in-Ok.known in
     let end = end_of c.in-Ok.known in
     let later = g.E.BytesPartialDecoderTraits.contents c.open.new.source in
@@ -253,26 +283,26 @@ returns-in-Ok-update_slices-clause-cause g c = λ honest.
       fill = c.args.part.elements.now.fills;
       tested = tested;
       shape_is = shape_is;
-      given_is = c.as_slice-in-Ok.ensures.value;
+      given_is = refl;
       opened = c.in-Ok.ensures.opened honest;
       many = c.in-Ok.ensures.many;
     } in
     let of = read_of subchunk inner index location exact elements shape asked payload size numbers pairs_shape given old later pairs end h same in
     let valid = read_valid subchunk inner index location exact elements shape asked payload size numbers pairs_shape given old later pairs end h same in
-    let both = laws.goes_on _ _ _ c.in-Ok.ensures.follows c.in-Ok-update_slices.ensures.follows in
-    not_written subchunk inner index location exact elements shape asked payload size numbers pairs_shape given old later pairs end h same (changes_of c.deref.result.now) c.append_changes.result (c.append_changes.ensures.cause (subst IsTrue (laws.honest _ _ both) honest))
+    let both = laws.goes_on _ _ _ c.in-Ok.ensures.follows c.in-Ok-update_asked.ensures.follows in
+    not_written subchunk inner index location exact elements shape asked payload size numbers pairs_shape given old later pairs end h same (changes_of c.as_slice-changes.result.now) c.append_changes.result (c.append_changes.ensures.cause (subst IsTrue (laws.honest _ _ both) honest))
 
-pub returns-in-Ok-update_slices-clause-refused : goal.returns-in-Ok-update_slices-clause-refused
-returns-in-Ok-update_slices-clause-refused g c = c.append_changes.ensures.refused ∙ ap (λ n. refused_after n c.append_changes.result) (c.in-Ok-update_slices.ensures.refused ∙ c.in-Ok.ensures.refused)
+pub returns-in-Ok-update_asked-clause-refused : goal.returns-in-Ok-update_asked-clause-refused
+returns-in-Ok-update_asked-clause-refused g c = c.append_changes.ensures.refused ∙ ap (λ n. refused_after n c.append_changes.result) (c.in-Ok-update_asked.ensures.refused ∙ c.in-Ok.ensures.refused)
 
-pub returns-in-Ok-update_slices-clause-accepted : goal.returns-in-Ok-update_slices-clause-accepted
-returns-in-Ok-update_slices-clause-accepted g c =
+pub returns-in-Ok-update_asked-clause-accepted : goal.returns-in-Ok-update_asked-clause-accepted
+returns-in-Ok-update_asked-clause-accepted g c =
     let laws = g.met.E.BytesPartialDecoderTraits in
-    let both = laws.goes_on _ _ _ c.in-Ok.ensures.follows c.in-Ok-update_slices.ensures.follows in
+    let both = laws.goes_on _ _ _ c.in-Ok.ensures.follows c.in-Ok-update_asked.ensures.follows in
     c.append_changes.ensures.accepted ∙ ap (λ n. accepted_by n c.append_changes.result) (sym (g.met.E.BytesPartialEncoderTraits.unwritten _ _ both))
 
-pub returns-in-Ok-update_slices-clause-rewrites : goal.returns-in-Ok-update_slices-clause-rewrites
-returns-in-Ok-update_slices-clause-rewrites g c =
+pub returns-in-Ok-update_asked-clause-rewrites : goal.returns-in-Ok-update_asked-clause-rewrites
+returns-in-Ok-update_asked-clause-rewrites g c =
     let laws = g.met.E.BytesPartialDecoderTraits in
-    let both = laws.goes_on _ _ _ c.in-Ok.ensures.follows c.in-Ok-update_slices.ensures.follows in
+    let both = laws.goes_on _ _ _ c.in-Ok.ensures.follows c.in-Ok-update_asked.ensures.follows in
     g.met.E.BytesPartialEncoderTraits.writes_on _ _ _ (g.met.E.BytesPartialEncoderTraits.reads _ _ both) c.append_changes.ensures.rewrites

@@ -1,4 +1,4 @@
-use Rattle.std.proofs.Common.{◌≡◌, ℕ, [], length, unwrap_or, IsTrue}
+use Rattle.std.proofs.Common.{◌≡◌, [], length, unwrap_or, IsTrue}
 use Rattle.std.specs.List.Sorted.{IsNonDecreasingBy}
 use Rattle.zarr_codecs_arrays.specs.Views.{elements_of}
 use Rattle.zarr_sharding_index.specs.Views.{pairs_of}

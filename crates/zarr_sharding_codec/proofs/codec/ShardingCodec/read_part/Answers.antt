@@ -1,9 +1,9 @@
-use Rattle.std.proofs.Common.{◌≡◌, ◌∙◌, ap, sym, subst, arith, rules, length, IsTrue, Option, Some, List, ℕ, replicate}
+use Rattle.std.proofs.Common.{◌≡◌, ◌∙◌, ap, sym, refl, subst, arith, rules, length, IsTrue, Option, Some, List, ℕ, replicate}
 use Rattle.zarr_codecs_arrays.specs.Views.{elements_of}
 use Rattle.zarr_codecs_meaning.specs.Chains.{sharded}
 use Rattle.zarr_codecs_meaning.specs.Places.{grid_of, index_shape}
 use Rattle.zarr_codecs_meaning.proofs.Parts.{length-parts}
-use Rattle.zarr_codecs_traits.specs.Indexers.{asked_of}
+use Rattle.zarr_codecs_traits.specs.Indexers.{asked_of, numbers_asked}
 use Rattle.zarr_codecs_traits.specs.Outcomes.{DecodesPart}
 use Rattle.zarr_grids_boxes.specs.Boxes.{product}
 use Rattle.zarr_sharding_index.specs.Views.{location_of, pairs_of}
@@ -23,8 +23,8 @@ open_index-requires-clause-fit g c =
     let self = c.args.self.now in
     index_part self.subchunk_shape (g.I.ArrayToBytesCodecTraits.meaning self.inner_codecs) (g.X.ArrayToBytesCodecTraits.meaning self.index_codecs) (location_of self.index_location) (elements_of c.args.part.elements.now) c.args.part.shape.now c.requires.fit
 
-pub read_numbers-requires-clause-many : goal.read_numbers-requires-clause-many
-read_numbers-requires-clause-many g c =
+pub read_asked-requires-clause-many : goal.read_asked-requires-clause-many
+read_asked-requires-clause-many g c =
     let self = c.args.self.now in
     let shape = c.args.part.shape.now in
     subst (HasPairs (product (grid_of shape self.subchunk_shape))) c.in-Ok-Some.field-0-is c.in-Ok-Some.ensures.many ∙ sym (length-parts shape self.subchunk_shape)
@@ -39,6 +39,7 @@ returns-in-Ok-Some-clause-part g c = λ honest.
     let elements = elements_of c.args.part.elements.now in
     let shape = c.args.part.shape.now in
     let asked = asked_of c.args.part.indexer in
+    let numbers = numbers_asked shape asked in
     let first = c.in-Ok-Some.ensures in
     let contents = g.D.BytesPartialDecoderTraits.contents c.args.source.now in
     let opened = fetched_value index location (index_shape shape self.subchunk_shape) contents c.in-Ok-Some.field-0 c.in-Ok-Some.fetched c.in-Ok-Some.field-0-is (first.index honest) in
@@ -46,23 +47,22 @@ returns-in-Ok-Some-clause-part g c = λ honest.
     let still = subst IsTrue (laws.honest _ _ first.follows) honest in
     let is = sym same ∙ opened.is in
     let pairs = pairs_of c.in-Ok-Some.fetched.index in
-    let found = value_read inner elements shape self.subchunk_shape (g.D.BytesPartialDecoderTraits.contents c.open_index.new.source) opened.value pairs c.as_slice.result.now c.read_numbers.result is
-    (c.read_numbers.ensures.part still (value_total (g.D.BytesPartialDecoderTraits.contents c.open_index.new.source) pairs c.in-Ok-Some.fetched.total opened.value is opened.total)) in
-    let numbers = c.as_slice.ensures.value ∙ c.in_ok-numbers.ensures.numbers in
-    subst (λ (stored : Option (List ℕ)). DecodesPart (sharded self.subchunk_shape inner index location) elements shape stored asked c.read_numbers.result) (sym opened.is)
-    (part_found self.subchunk_shape inner index location elements shape opened.value pairs c.as_slice.result.now asked c.read_numbers.result c.requires.fit c.requires.inside numbers opened.held found)
+    let found = value_read inner elements shape self.subchunk_shape (g.D.BytesPartialDecoderTraits.contents c.open_index.new.source) opened.value pairs numbers c.read_asked.result is
+    (c.read_asked.ensures.part still (value_total (g.D.BytesPartialDecoderTraits.contents c.open_index.new.source) pairs c.in-Ok-Some.fetched.total opened.value is opened.total)) in
+    subst (λ (stored : Option (List ℕ)). DecodesPart (sharded self.subchunk_shape inner index location) elements shape stored asked c.read_asked.result) (sym opened.is)
+    (part_found self.subchunk_shape inner index location elements shape opened.value pairs numbers asked c.read_asked.result c.requires.fit c.requires.inside refl opened.held found)
 
-pub returns-in-Ok-None-clause-part : goal.returns-in-Ok-None-clause-part
-returns-in-Ok-None-clause-part g c = λ honest.
+pub returns-in_ok-fill_elements-in-Ok-None-clause-part : goal.returns-in_ok-fill_elements-in-Ok-None-clause-part
+returns-in_ok-fill_elements-in-Ok-None-clause-part g c = λ honest.
     let self = c.args.self.now in
     let inner = g.I.ArrayToBytesCodecTraits.meaning self.inner_codecs in
     let index = g.X.ArrayToBytesCodecTraits.meaning self.index_codecs in
     let location = location_of self.index_location in
     let shape = c.args.part.shape.now in
     let contents = g.D.BytesPartialDecoderTraits.contents c.args.source.now in
-    let ok = c.in_ok-numbers.numbers.ok in
-    let many : c.in_ok-numbers.numbers.len ≡ length c.in_ok-numbers.numbers.items = first_of (omega (arith, ok), search rules, cc) in
+    let ok = c.in_ok-numbers-in-Ok-None.numbers.ok in
+    let many : c.in_ok-numbers-in-Ok-None.numbers.len ≡ length c.in_ok-numbers-in-Ok-None.numbers.items = first_of (omega (arith, ok), search rules, cc) in
     let none = fetched_nothing index location (index_shape shape self.subchunk_shape) contents c.in-Ok-None.field-0 c.in-Ok-None.field-0-is (c.in-Ok-None.ensures.index honest) in
-    part_filled (sharded self.subchunk_shape inner index location) (elements_of c.args.part.elements.now) shape contents c.in_ok-numbers.numbers.items (asked_of c.args.part.indexer) c.in_ok-fill_elements-in-Ok-None.field-0
-    c.requires.fit c.requires.inside c.in_ok-numbers.ensures.numbers none
+    part_filled (sharded self.subchunk_shape inner index location) (elements_of c.args.part.elements.now) shape contents c.in_ok-numbers-in-Ok-None.numbers.items (asked_of c.args.part.indexer) c.in_ok-fill_elements-in-Ok-None.field-0
+    c.requires.fit c.requires.inside c.in_ok-numbers-in-Ok-None.ensures.numbers none
     (c.in_ok-fill_elements-in-Ok-None.ensures ∙ ap (λ k. Some (replicate k (elements_of c.args.part.elements.now).fill)) (c.len.ensures ∙ many))

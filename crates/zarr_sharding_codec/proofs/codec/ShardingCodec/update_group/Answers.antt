@@ -16,37 +16,37 @@ pub returns-in-Ok-store_piece-clause-change : goal.returns-in-Ok-store_piece-cla
 returns-in-Ok-store_piece-clause-change g c = λ honest of cells count valid at inside.
     let self = c.args.self.now in
     let elements = elements_of c.args.shard.elements.now in
-    let k = (get_or c.args.group.now 0 no_place).subchunk in
+    let k = (get_or c.args.given.group.now 0 no_place).subchunk in
     let stored : Stored = stored_in (g.I.ArrayToBytesCodecTraits.meaning self.inner_codecs) (g.I.ArrayToBytesCodecTraits.is_function self.inner_codecs) elements (g.D.BytesPartialDecoderTraits.contents c.args.source.now) (pairs_in c.args.shard.known.now) in
     let read = c.in-Ok.ensures.elements honest of in
     let same = c.as_slice-edges.ensures.edges in
     let edges = c.as_slice-edges.result.now in
     let whole = (held_cells stored.inner elements stored.value self.subchunk_shape (get_or stored.pairs k absent_pair) read.cells c.requires.fit c.args.shard.elements.now.fills read.is).whole in
-    let lists = c.in_ok-updated-in-Ok.ensures read.cells cells (record { lists = read.lists; many = whole ∙ ap product (sym same) }) valid.is.lists (subst (λ n. list_all (λ m. nat_lt m n) (positions c.args.group.now) ≡ true) (sym valid.is.many) at)
-    (subst (λ (s : List ℕ). list_all (λ m. nat_lt m (product s)) (insides c.args.group.now) ≡ true) (sym same) inside) in
-    let h : IsGroupPut stored self.subchunk_shape edges k count c.args.group.now cells (payload_of c.args.given.now) (payload_of c.in_ok-updated-in-Ok.updated) =
+    let lists = c.in_ok-updated-in-Ok.ensures read.cells cells (record { lists = read.lists; many = whole ∙ ap product (sym same) }) valid.is.lists (subst (λ n. list_all (λ m. nat_lt m n) (positions c.args.given.group.now) ≡ true) (sym valid.is.many) at)
+    (subst (λ (s : List ℕ). list_all (λ m. nat_lt m (product s)) (insides c.args.given.group.now) ≡ true) (sym same) inside) in
+    let h : IsGroupPut stored self.subchunk_shape edges k count c.args.given.group.now cells (payload_of c.args.given.bytes.now) (payload_of c.in_ok-updated-in-Ok.updated) =
     record { fit = c.requires.fit; fill = c.args.shard.elements.now.fills; same = same; valid = valid; before = read.cells; held = read.is; lists = lists } in
-    group_stored stored self.subchunk_shape edges k count c.args.group.now cells (payload_of c.args.given.now) (payload_of c.in_ok-updated-in-Ok.updated) c.in-Ok-store_piece.slice _ h refl refl
-    (c.in-Ok-store_piece.ensures.stored _ (group_valid stored self.subchunk_shape edges k count c.args.group.now cells (payload_of c.args.given.now) (payload_of c.in_ok-updated-in-Ok.updated) h))
+    group_stored stored self.subchunk_shape edges k count c.args.given.group.now cells (payload_of c.args.given.bytes.now) (payload_of c.in_ok-updated-in-Ok.updated) c.in-Ok-store_piece.slice _ h refl refl
+    (c.in-Ok-store_piece.ensures.stored _ (group_valid stored self.subchunk_shape edges k count c.args.given.group.now cells (payload_of c.args.given.bytes.now) (payload_of c.in_ok-updated-in-Ok.updated) h))
 
 pub returns-in-Err-store_piece-clause-change : goal.returns-in-Err-store_piece-clause-change
 returns-in-Err-store_piece-clause-change g c = λ honest of cells count valid at inside.
     let self = c.args.self.now in
     let elements = elements_of c.args.shard.elements.now in
-    let k = (get_or c.args.group.now 0 no_place).subchunk in
+    let k = (get_or c.args.given.group.now 0 no_place).subchunk in
     let stored : Stored = stored_in (g.I.ArrayToBytesCodecTraits.meaning self.inner_codecs) (g.I.ArrayToBytesCodecTraits.is_function self.inner_codecs) elements (g.D.BytesPartialDecoderTraits.contents c.args.source.now) (pairs_in c.args.shard.known.now) in
     let read = c.in-Ok.ensures.elements honest of in
     let same = c.as_slice-edges.ensures.edges in
     let edges = c.as_slice-edges.result.now in
     let e = c.in-Err-store_piece.error in
     let whole = (held_cells stored.inner elements stored.value self.subchunk_shape (get_or stored.pairs k absent_pair) read.cells c.requires.fit c.args.shard.elements.now.fills read.is).whole in
-    let lists = c.in_ok-updated-in-Ok.ensures read.cells cells (record { lists = read.lists; many = whole ∙ ap product (sym same) }) valid.is.lists (subst (λ n. list_all (λ m. nat_lt m n) (positions c.args.group.now) ≡ true) (sym valid.is.many) at)
-    (subst (λ (s : List ℕ). list_all (λ m. nat_lt m (product s)) (insides c.args.group.now) ≡ true) (sym same) inside) in
-    let h : IsGroupPut stored self.subchunk_shape edges k count c.args.group.now cells (payload_of c.args.given.now) (payload_of c.in_ok-updated-in-Ok.updated) =
+    let lists = c.in_ok-updated-in-Ok.ensures read.cells cells (record { lists = read.lists; many = whole ∙ ap product (sym same) }) valid.is.lists (subst (λ n. list_all (λ m. nat_lt m n) (positions c.args.given.group.now) ≡ true) (sym valid.is.many) at)
+    (subst (λ (s : List ℕ). list_all (λ m. nat_lt m (product s)) (insides c.args.given.group.now) ≡ true) (sym same) inside) in
+    let h : IsGroupPut stored self.subchunk_shape edges k count c.args.given.group.now cells (payload_of c.args.given.bytes.now) (payload_of c.in_ok-updated-in-Ok.updated) =
     record { fit = c.requires.fit; fill = c.args.shard.elements.now.fills; same = same; valid = valid; before = read.cells; held = read.is; lists = lists } in
-    let why = c.in-Err-store_piece.ensures.stored _ (group_valid stored self.subchunk_shape edges k count c.args.group.now cells (payload_of c.args.given.now) (payload_of c.in_ok-updated-in-Ok.updated) h) in
-    group_refused stored self.subchunk_shape edges k count c.args.group.now cells (payload_of c.args.given.now) (payload_of c.in_ok-updated-in-Ok.updated) e h
-    (subst (λ (s : List ℕ). StoresPiece stored.inner stored.exact elements (s, group_put elements.fill c.args.group.now cells read.cells) (Err e)) same why)
+    let why = c.in-Err-store_piece.ensures.stored _ (group_valid stored self.subchunk_shape edges k count c.args.given.group.now cells (payload_of c.args.given.bytes.now) (payload_of c.in_ok-updated-in-Ok.updated) h) in
+    group_refused stored self.subchunk_shape edges k count c.args.given.group.now cells (payload_of c.args.given.bytes.now) (payload_of c.in_ok-updated-in-Ok.updated) e h
+    (subst (λ (s : List ℕ). StoresPiece stored.inner stored.exact elements (s, group_put elements.fill c.args.given.group.now cells read.cells) (Err e)) same why)
 
 pub returns-in-Err-store_piece-clause-refused : goal.returns-in-Err-store_piece-clause-refused
 returns-in-Err-store_piece-clause-refused g c = c.in-Ok.ensures.refused ∙ sym (c.in-Err-store_piece.ensures.no_source (g.D.BytesPartialDecoderTraits.refused_calls c.args.source.now))

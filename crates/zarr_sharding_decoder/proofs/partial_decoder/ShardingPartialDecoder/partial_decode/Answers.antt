@@ -1,9 +1,9 @@
-use Rattle.std.proofs.Common.{◌≡◌, ◌∙◌, ◌*◌, ap, sym, subst, arith, rules, length, Option, Some, List, ℕ, replicate}
+use Rattle.std.proofs.Common.{◌≡◌, ◌∙◌, ◌*◌, ap, sym, refl, subst, arith, rules, length, Option, Some, List, ℕ, replicate}
 use Rattle.zarr_codecs_arrays.specs.Views.{elements_of}
 use Rattle.zarr_codecs_meaning.specs.Chains.{sharded}
 use Rattle.zarr_codecs_meaning.specs.Places.{grid_of, index_shape, parts_of}
 use Rattle.zarr_codecs_meaning.proofs.Parts.{index_product, length-parts}
-use Rattle.zarr_codecs_traits.specs.Indexers.{asked_of}
+use Rattle.zarr_codecs_traits.specs.Indexers.{asked_of, numbers_asked}
 use Rattle.zarr_codecs_traits.specs.Outcomes.{DecodesPart}
 use Rattle.zarr_grids_boxes.specs.Boxes.{product}
 use Rattle.zarr_sharding_index.specs.Held.{IsIndexHeld}
@@ -28,8 +28,8 @@ returns-in_default-held-clause-part g c = λ honest.
     self.fit c.in_default.ensures c.in_ok-numbers.ensures.numbers none
     (c.in_ok-fill_elements.ensures ∙ ap (λ k. Some (replicate k elements.fill)) (c.len.ensures ∙ many))
 
-pub read_numbers-requires-clause-many : goal.read_numbers-requires-clause-many
-read_numbers-requires-clause-many g c =
+pub read_asked-requires-clause-many : goal.read_asked-requires-clause-many
+read_asked-requires-clause-many g c =
     let self = c.args.self.now in
     let subchunk = self.codec.now.subchunk_shape in
     held_count (product (grid_of self.shape.now subchunk)) self.held c.in-Some.fetched c.in-Some.is self.many ∙ sym (length-parts self.shape.now subchunk)
@@ -50,7 +50,7 @@ returns-clause-part g c = λ honest.
     let count : length pairs ≡ length (parts_of shape subchunk) = held_count (product (grid_of shape subchunk)) self.held c.in-Some.fetched c.in-Some.is self.many ∙ sym (length-parts shape subchunk) in
     let found = held_value index location (index_shape shape subchunk) contents self.held c.in-Some.fetched c.in-Some.is (self.told honest) (self.opened honest) in
     let held : IsIndexHeld index location (index_shape shape subchunk) found.value pairs = record { is = found.pairs; many = index_product shape subchunk ∙ ap (λ n. 2 * n) (sym count) } in
-    let numbers = c.as_slice.result.now in
-    let read = value_read inner elements shape subchunk contents found.value pairs numbers c.read_numbers.result found.is (c.read_numbers.ensures.part honest (value_total contents pairs c.in-Some.fetched.total found.value found.is found.total)) in
-    subst (λ (stored : Option (List ℕ)). DecodesPart (sharded subchunk inner index location) elements shape stored asked c.read_numbers.result) (sym found.is)
-    (part_found subchunk inner index location elements shape found.value pairs numbers asked c.read_numbers.result self.fit c.in_default.ensures (c.as_slice.ensures.value ∙ c.in_ok-numbers.ensures.numbers) held read)
+    let numbers = numbers_asked shape asked in
+    let read = value_read inner elements shape subchunk contents found.value pairs numbers c.read_asked.result found.is (c.read_asked.ensures.part honest (value_total contents pairs c.in-Some.fetched.total found.value found.is found.total)) in
+    subst (λ (stored : Option (List ℕ)). DecodesPart (sharded subchunk inner index location) elements shape stored asked c.read_asked.result) (sym found.is)
+    (part_found subchunk inner index location elements shape found.value pairs numbers asked c.read_asked.result self.fit c.in_default.ensures refl held read)

@@ -1,0 +1,91 @@
+-- No two answers to one read, or to one write.
+use Rattle.std.proofs.Common.{◌≡◌, ◌∙◌, ℕ, ◌<◌, Bool, true, false, ◌||◌, List, length, get_or, slice_get, refl, sym, ap, arith, is_some, ⊎_elim}
+use Rattle.std.specs.Prelude.{not}
+use Rattle.std.proofs.lemmas.Bool.{cases_order, false≢true}
+use Rattle.std.proofs.lemmas.List.{ext_get_or}
+use Rattle.std.proofs.lemmas.Option.{none-some}
+use Rattle.zarr_grids_boxes.specs.Boxes.{Region, product, place_at, is_in_box}
+use Rattle.zarr_grids_boxes.proofs.InBox.{in_box-place_at, ravel-place_at}
+use Rattle.zarr_grids_chunks.specs.Grids.{Grid, chunk_box, intersecting}
+use Rattle.zarr_grids_cover.proofs.ChunkBoxes.{chunk_box-rank}
+use Rattle.zarr_codecs_meaning.specs.Types.{Cell, is_fill}
+use Rattle.zarr_codecs_meaning.proofs.Lists.{some_same}
+use Rattle.zarr_array_meaning.specs.Boxes.{cell_of_box, IsDamagedIn, IsUnfitIn, ReadsOneWay}
+use Rattle.zarr_array_meaning.specs.Chunks.{fits_box, holds_box, IsMet}
+use Rattle.zarr_array_meaning.specs.Documents.{Document}
+use Rattle.zarr_array_meaning.specs.StoreMaps.{StoreMap}
+use Rattle.zarr_array_meaning.specs.Writing.{ChunkBecomes, stores_fill, WrittenUndamaged, WrittenKeysAlike}
+use Rattle.zarr_array_meaning.proofs.HeldBoxes.{not_held}
+
+-- ---- reads
+
+-- one chunk is met at each number
+met_once : (grid : Grid) (region : Region) (n m : ℕ) (chunk other : List ℕ) (box over : Region) → IsMet grid region n chunk box → IsMet grid region m other over → n ≡ m → box ≡ over
+met_once grid region n m chunk other box over a b e =
+    let same : chunk ≡ other = some_same (sym a.listed ∙ (ap (slice_get (intersecting grid region)) e ∙ b.listed)) in
+    some_same (sym a.has_box ∙ (ap (chunk_box grid) same ∙ b.has_box))
+
+damaged_or_unfit : (path : List ℕ) (document : Document) (store : StoreMap) (region : Region) → IsDamagedIn path document store region → IsUnfitIn path document store region → ⊥
+damaged_or_unfit path document store region d u = ⊎_elim
+    (λ e.
+    let same = met_once document.grid region d.first.number u.first.number d.chunk u.chunk d.box u.box d.first.met u.first.met e in
+    false≢true (sym u.fit ∙ (ap (fits_box document) (sym same) ∙ d.fit)))
+    (λ apart. ⊎_elim
+    (λ less.
+    let read = u.first.each d.first.number d.chunk d.box less d.first.met in
+    false≢true (sym (ap is_some d.lost) ∙ read.whole d.place d.is.of_region d.is.of_chunk))
+    (λ more.
+    let read = d.first.each u.first.number u.chunk u.box more u.first.met in
+    false≢true (sym u.fit ∙ read.fit u.stored))
+    apart)
+    (cases_order d.first.number u.first.number)
+
+-- a box is read, or a chunk is damaged first, or one doesn't fit first
+pub reads_one_way : ReadsOneWay
+reads_one_way path document store region cells = (
+  damaged_or_unfit path document store region,
+  (λ read d. none-some _ (sym d.lost ∙ read.each d.chunk d.box d.place d.is)),
+  (λ read u. false≢true (sym u.fit ∙ read.fit u.chunk u.box u.below u.shares u.stored)),
+)
+
+-- ---- writes
+
+-- what was written was not damaged
+pub written_undamaged : WrittenUndamaged
+written_undamaged path document region values options chunks old new chunk box wrote below listed damaged =
+    false≢true (sym (ap is_some damaged.lost) ∙ wrote.undamaged chunk box below listed damaged.part)
+
+-- a write gives a chunk's place one cell
+one_cell : (path : List ℕ) (document : Document) (store : StoreMap) (region : Region) (values : List Cell) (chunk : List ℕ) (box : Region) (a b : List Cell) (place : List ℕ) (t : Bool)
+    → length region.start ≡ length region.shape → length box.start ≡ length box.shape → length region.start ≡ length box.start
+    → ChunkBecomes path document store region values chunk box a → ChunkBecomes path document store region values chunk box b → is_in_box box.start box.shape place ≡ true → is_in_box region.start region.shape place ≡ t
+    → cell_of_box box a document.elements.fill place ≡ cell_of_box box b document.elements.fill place
+one_cell path document store region values chunk box a b place true r l s one other inside e = one.written place e inside ∙ sym (other.written place e inside)
+one_cell path document store region values chunk box a b place false r l s one other inside e =
+    let part = not_held region box place (holds_box region box) refl r l s inside e in
+    let first = one.kept part in
+    let second = other.kept part in
+    let same : first.0 ≡ second.0 = some_same (sym first.1 ∙ second.1) in
+    first.2 place e inside ∙ (ap (λ (cells : List Cell). cell_of_box box cells document.elements.fill place) same ∙ sym (second.2 place e inside))
+
+-- so it gives a chunk one list of cells
+one_list : (path : List ℕ) (document : Document) (store : StoreMap) (region : Region) (values : List Cell) (chunk : List ℕ) (box : Region) (a b : List Cell)
+    → length region.start ≡ length region.shape → length box.start ≡ length box.shape → length region.start ≡ length box.start
+    → ChunkBecomes path document store region values chunk box a → ChunkBecomes path document store region values chunk box b → a ≡ b
+one_list path document store region values chunk box a b r l s one other =
+    let fill = document.elements.fill in
+    ext_get_or fill a b (one.many ∙ sym other.many) (λ i below.
+    let low : i < product box.shape = omega (arith, below, one.many) in
+    let place = place_at box.start box.shape i in
+    let number = ravel-place_at box.start box.shape i l low in
+    let inside = in_box-place_at box.start box.shape i l low in
+    ap (λ n. get_or a n fill) (sym number) ∙ (one_cell path document store region values chunk box a b place (is_in_box region.start region.shape place) r l s one other inside refl ∙ ap (λ n. get_or b n fill) number))
+
+-- two writes of the same cells leave keys to the same chunks
+pub written_keys_alike : WrittenKeysAlike
+written_keys_alike path document region values options chunks old new other chunk box first second below listed region_rank grid_rank =
+    let rank = chunk_box-rank document.grid chunk box below.has_box in
+    let one = first.keyed chunk box below listed in
+    let two = second.keyed chunk box below listed in
+    let same = one_list path document old region values chunk box one.cells two.cells region_rank (rank.0 ∙ sym rank.1) (grid_rank ∙ sym rank.0) one.becomes two.becomes in
+    one.key ∙ (ap (λ (cells : List Cell). stores_fill document options region box || not (is_fill document.elements.fill cells)) same ∙ sym two.key)

@@ -1,0 +1,10 @@
+use Rattle.std.proofs.Common.{◌≡◌, ◌-◌, ◌≤◌, length, take, true}
+use Rattle.std.specs.List.{list_all}
+use Rattle.zarr_codecs_json.proofs.PrintedTexts.{is_plain}
+use Rattle.zarr_codecs_json.proofs.strings.plain_len.Given as goal
+
+abbrev pub invariant-loop-count : goal.invariant-loop-count
+invariant-loop-count l = (l.count ≤ length l.bytes) × (list_all is_plain (take l.count l.bytes) ≡ true)
+
+abbrev pub decreases-loop-count : goal.decreases-loop-count
+decreases-loop-count l = length l.bytes - l.count

@@ -1,0 +1,213 @@
+-- A box of an array that lies in one of its subchunks.
+use Rattle.std.proofs.Common.{◌≡◌, ◌∙◌, ℕ, zero, ◌+◌, ◌-◌, ◌*◌, ◌/◌, ◌%◌, ◌<◌, ◌≤◌, suc, List, [], ◌∷◌, length, map, get_or, replicate, ap, sym, refl, arith, subst, Bool, true, ◌&&◌, ◌==◌, if◌then◌else◌, Result, Ok, Err}
+use Rattle.std.specs.Prelude.{nat_le, nat_lt}
+use Rattle.std.proofs.lemmas.Bool.{and_parts, eq-eqb, leb-true, ltb-true}
+use Rattle.std.proofs.lemmas.List.{get_or-map, length-map}
+use Rattle.std.proofs.lemmas.List.Folds.{list_any_at}
+use Rattle.zarr_grids_boxes.specs.Boxes.{Region, product, place_at, places, ravel, each2, is_in_box, IsIndex}
+use Rattle.zarr_grids_boxes.specs.Cuts.{relative}
+use Rattle.zarr_grids_boxes.proofs.InBox.{length-places}
+use Rattle.zarr_grids_boxes.proofs.Walking.{get_or-places, place_index}
+use Rattle.zarr_codecs_meaning.specs.Decoding.{all_there}
+use Rattle.zarr_codecs_meaning.specs.Encoding.{absent_pair}
+use Rattle.zarr_codecs_meaning.specs.Fits.{can_cut, divides}
+use Rattle.zarr_codecs_meaning.specs.Places.{Part, box_of, grid_of, parts_of}
+use Rattle.zarr_codecs_meaning.proofs.Covers.{box_places_at, place_is_index, zeros}
+use Rattle.zarr_codecs_meaning.proofs.Lists.{each_passes}
+use Rattle.zarr_codecs_meaning.proofs.Parts.{box_lengths, length-parts, no_part, same_length}
+use Rattle.zarr_codecs_meaning.proofs.PartsOnce.{number_in}
+use Rattle.zarr_codecs_meaning.proofs.Positions.{each_at}
+use Rattle.zarr_codecs_regions.proofs.InsideArray.{each_place, ends_at_most, inside_places, inside_rank}
+use Rattle.zarr_codecs_traits.specs.Indexers.{lies_in, numbers_of}
+use Rattle.zarr_codecs_arrays.specs.declared.array_bytes.ArrayBytes.{ArrayBytes}
+use Rattle.zarr_codecs_arrays.specs.declared.error.CodecError.{CodecError}
+use Rattle.zarr_codecs_arrays.specs.declared.error.CodecError.TheVariants as error
+use Rattle.zarr_sharding_places.specs.Locating.{inside_of, subchunk_of}
+use Rattle.zarr_sharding_places.proofs.PartPlaces.{IsPlace, place_below, places_apart}
+use Rattle.zarr_sharding_state.specs.States.{slice_length}
+use Rattle.zarr_sharding_codec.specs.BoxReading.{LieInside}
+use Rattle.zarr_sharding_codec.specs.BytesMet.{bytes_met, is_met, met_length}
+use Rattle.zarr_sharding_codec.specs.Reading.{ListsRead, place_decoded, places_decoded, shard_cells}
+use Rattle.zarr_sharding_codec.proofs.EvenParts.{part_at, part_fewer, part_number, whole_box, zeros_are}
+use Rattle.zarr_sharding_codec.proofs.GivenSoFar.{sum_least, sum_next}
+use Rattle.zarr_sharding_codec.proofs.GroupsRead.{AskedShard, IsAskable, cell_of}
+use Rattle.zarr_sharding_codec.proofs.LocatedParts.{located_place}
+use Rattle.zarr_sharding_codec.proofs.PlaceCells.{shard_place}
+use Rattle.zarr_sharding_codec.proofs.StoredLoop.{too_large}
+
+-- ---- places of a box, as they stand from a start on
+
+-- a place of a box that begins in another one is as far from the other's start as the box seen from there tells
+pub moved_place : (os es ss rs : List ℕ) (t : ℕ) → is_in_box os es ss ≡ true → length rs ≡ length ss → place_at ss rs t ≡ each2 (λ s i. s + i) os (place_at (each2 (λ s o. s - o) ss os) rs t)
+moved_place [] [] [] [] t h l = refl
+moved_place [] [] [] (r ∷ rs) t h l = absurd (omega (arith, l))
+moved_place [] [] (s ∷ ss) rs t h l = absurd (cc)
+moved_place [] (e ∷ es) ss rs t h l = absurd (cc)
+moved_place (o ∷ os) [] ss rs t h l = absurd (cc)
+moved_place (o ∷ os) (e ∷ es) [] rs t h l = absurd (cc)
+moved_place (o ∷ os) (e ∷ es) (s ∷ ss) [] t h l = absurd (omega (arith, l))
+moved_place (o ∷ os) (e ∷ es) (s ∷ ss) (r ∷ rs) t h l =
+    let both = and_parts (nat_le o s && nat_lt s (o + e)) (is_in_box os es ss) h in
+    let from = leb-true o s (and_parts (nat_le o s) (nat_lt s (o + e)) both.0).0 in
+    let first : s + t / product rs ≡ o + ((s - o) + t / product rs) = omega (arith, from) in
+    ap (λ k. k ∷ place_at ss rs (t % product rs)) first
+    ∙ ap (λ ks. (o + ((s - o) + t / product rs)) ∷ ks) (moved_place os es ss rs (t % product rs) both.1 (omega (arith, l)))
+
+pub numbers_many : (shape : List ℕ) (region : Region) → length region.shape ≡ length region.start → length (numbers_of shape region) ≡ product region.shape
+numbers_many shape region l = length-map (places region.start region.shape) (λ place. ravel place shape) ∙ length-places region.start region.shape (sym l)
+
+pub number_at : (shape : List ℕ) (region : Region) (t : ℕ) → length region.shape ≡ length region.start → t < product region.shape → get_or (numbers_of shape region) t 0 ≡ ravel (place_at region.start region.shape t) shape
+number_at shape region t l low =
+    let long = length-places region.start region.shape (sym l) in
+    get_or-map (λ place. ravel place shape) (places region.start region.shape) t [] 0 (omega (arith, low, long)) ∙ ap (λ place. ravel place shape) (get_or-places region.start region.shape t [] (sym l) low)
+
+-- a place of a box that lies in a shape is an index of it
+pub inside_index : (shape : List ℕ) (region : Region) (t : ℕ) → length region.shape ≡ length region.start → lies_in shape region ≡ true → t < product region.shape → IsIndex (place_at region.start region.shape t) shape
+inside_index shape region t l inside low =
+    place_index region.start region.shape shape t l
+    (ends_at_most region.start region.shape shape l (sym (inside_rank shape region inside)) (omega (arith, low))
+    (λ p h. each_place (is_in_box (zeros shape) shape) region.start region.shape p (sym l) (inside_places shape region inside) h)) low
+
+-- ---- a subchunk
+
+-- a box of an array begins in the subchunk with a number, and as it is seen from there it lies in it
+pub record IsAround (shape subchunk : List ℕ) (region moved : Region) (n : ℕ) : Type 0 where
+  pub cuts : can_cut shape subchunk ≡ true
+  pub even : divides shape subchunk ≡ true
+  pub below : n < product (grid_of shape subchunk)
+  pub begins : is_in_box (each2 (λ i edge. i * edge) (place_at (zeros (grid_of shape subchunk)) (grid_of shape subchunk) n) subchunk) subchunk region.start ≡ true
+  pub same : length region.shape ≡ length region.start
+  pub start : moved.start ≡ each2 (λ s o. s - o) region.start (each2 (λ i edge. i * edge) (place_at (zeros (grid_of shape subchunk)) (grid_of shape subchunk) n) subchunk)
+  pub shape_is : moved.shape ≡ region.shape
+  pub long : length moved.shape ≡ length moved.start
+  pub inside : lies_in subchunk moved ≡ true
+
+-- a place of the box is that place of the subchunk
+record IsThere (shape subchunk : List ℕ) (n i number : ℕ) : Type 0 where
+  pub place : IsPlace (parts_of shape subchunk) n i
+  pub here : number_in (parts_of shape subchunk) n i ≡ number
+
+place_there : (shape subchunk : List ℕ) (region moved : Region) (n t : ℕ) → IsAround shape subchunk region moved n → t < product region.shape
+    → IsThere shape subchunk n (ravel (place_at moved.start moved.shape t) subchunk) (ravel (place_at region.start region.shape t) shape)
+place_there shape subchunk region moved n t is low =
+    let grid = grid_of shape subchunk in
+    let g = place_at (zeros grid) grid n in
+    let box = box_of shape subchunk g in
+    let y = place_at moved.start moved.shape t in
+    let size = ap product is.shape_is in
+    let index = inside_index subchunk moved t is.long is.inside (omega (arith, low, size)) in
+    let whole = whole_box shape subchunk g is.cuts is.even (place_is_index grid n is.below) in
+    let within = subst (λ (s : List ℕ). IsIndex y s) (sym whole) index in
+    let found = box_places_at (λ place. ravel place shape) box.start box.shape y 0 (box_lengths shape subchunk g (same_length shape subchunk is.cuts)) within in
+    let part = part_number shape subchunk n no_part is.below in
+    let at_ : ravel y box.shape ≡ ravel y subchunk = ap (ravel y) whole in
+    let same : y ≡ place_at (each2 (λ s o. s - o) region.start box.start) region.shape t = ap (λ s. place_at s moved.shape t) is.start ∙ ap (λ s. place_at (each2 (λ s o. s - o) region.start box.start) s t) is.shape_is in
+    let back : each2 (λ s i. s + i) box.start y ≡ place_at region.start region.shape t = ap (each2 (λ s i. s + i) box.start) same ∙ sym (moved_place box.start subchunk region.start region.shape t is.begins is.same) in
+    let below = is.below in
+    let many = length-parts shape subchunk in
+    record {
+      place = record { part = omega (arith, below, many); place = subst (λ (p : Part). ravel y subchunk < length p.places) (sym part) (subst (λ k. k < length (part_at shape subchunk n).places) at_ found.0) };
+      here = ap (λ (p : Part). get_or p.places (ravel y subchunk) 0) part ∙ (ap (λ k. get_or (part_at shape subchunk n).places k 0) (sym at_) ∙ (found.1 ∙ ap (λ place. ravel place shape) back));
+    }
+
+pub box_lies : (shape subchunk : List ℕ) (region moved : Region) (n : ℕ) → IsAround shape subchunk region moved n → LieInside shape subchunk (numbers_of shape region) (numbers_of subchunk moved) n
+box_lies shape subchunk region moved n is =
+    let below = is.below in
+    let many = length-parts shape subchunk in
+    let one = numbers_many shape region is.same in
+    let two = numbers_many subchunk moved is.long in
+    let size = ap product is.shape_is in
+    let apart : (t : ℕ) → t < length (numbers_of shape region) → (subchunk_of shape subchunk (get_or (numbers_of shape region) t 0) ≡ n) × (inside_of shape subchunk (get_or (numbers_of shape region) t 0) ≡ get_or (numbers_of subchunk moved) t 0) =
+    λ t low.
+    let number = ravel (place_at region.start region.shape t) shape in
+    let i = ravel (place_at moved.start moved.shape t) subchunk in
+    let there = place_there shape subchunk region moved n t is (omega (arith, low, one)) in
+    let under = subst (λ k. k < product shape) there.here (place_below shape subchunk n i is.cuts there.place) in
+    let found = located_place shape subchunk number is.cuts is.even under in
+    let same = places_apart shape subchunk (subchunk_of shape subchunk number) (inside_of shape subchunk number) n i is.cuts (record { part = found.part; place = found.place }) there.place (found.here ∙ sym there.here) in
+    let at_ = number_at shape region t is.same (omega (arith, low, one)) in
+    (ap (subchunk_of shape subchunk) at_ ∙ same.0, ap (inside_of shape subchunk) at_ ∙ (same.1 ∙ sym (number_at subchunk moved t is.long (omega (arith, low, one, size))))) in
+    record {
+      below = omega (arith, below, many);
+      many = omega (arith, one, two, size);
+      part = λ t low. (apart t low).0;
+      place = λ t low. (apart t low).1;
+    }
+
+-- where the subchunk with a number begins, as calls tell it
+pub starts_at : (shape subchunk grid edges start : List ℕ) (n : ℕ) → grid ≡ grid_of shape subchunk → edges ≡ subchunk → start ≡ each2 (λ i edge. i * edge) (place_at (replicate (length grid) 0) grid n) edges
+    → start ≡ each2 (λ i edge. i * edge) (place_at (zeros (grid_of shape subchunk)) (grid_of shape subchunk) n) subchunk
+starts_at shape subchunk grid edges start n is_grid is_edges is_start =
+    let whole = grid_of shape subchunk in
+    is_start
+    ∙ (ap (λ (g : List ℕ). each2 (λ i edge. i * edge) (place_at (replicate (length g) 0) g n) edges) is_grid
+    ∙ (ap (λ (z : List ℕ). each2 (λ i edge. i * edge) (place_at z whole n) edges) (zeros_are whole) ∙ ap (each2 (λ i edge. i * edge) (place_at (zeros whole) whole n)) is_edges))
+
+-- what calls tell of a box and of the subchunk around it
+pub is_around : (shape subchunk grid edges start lengths : List ℕ) (region moved : Region) (n : ℕ) → can_cut shape subchunk ≡ true → divides shape subchunk ≡ true → n < product (grid_of shape subchunk) → grid ≡ grid_of shape subchunk → edges ≡ subchunk
+    → start ≡ each2 (λ i edge. i * edge) (place_at (replicate (length grid) 0) grid n) edges → lengths ≡ edges → is_in_box start lengths region.start ≡ true → length region.shape ≡ length region.start → moved ≡ relative region start
+    → length moved.shape ≡ length moved.start → lies_in edges moved ≡ true → IsAround shape subchunk region moved n
+is_around shape subchunk grid edges start lengths region moved n cuts even below is_grid is_edges is_start is_lengths begins same is_moved long inside =
+    let begin = starts_at shape subchunk grid edges start n is_grid is_edges is_start in
+    record {
+      cuts = cuts;
+      even = even;
+      below = below;
+      begins = ap (λ s. is_in_box s subchunk region.start) (sym begin) ∙ (ap (λ l. is_in_box start l region.start) (sym (is_lengths ∙ is_edges)) ∙ begins);
+      same = same;
+      start = ap (λ (r : Region). r.start) is_moved ∙ ap (each2 (λ s o. s - o) region.start) begin;
+      shape_is = ap (λ (r : Region). r.shape) is_moved;
+      long = long;
+      inside = ap (λ e. lies_in e moved) (sym is_edges) ∙ inside;
+    }
+
+pub some_place : (n : ℕ) → (n ≡ 0 → ⊥) → 0 < n
+some_place zero none = absurd (none refl)
+some_place (suc n) none = omega arith
+
+-- ---- what is read
+
+maps_alike : {X : Type 0} (f g : ℕ → X) (ns ms : List ℕ) → length ms ≡ length ns → ((t : ℕ) → t < length ns → f (get_or ns t 0) ≡ g (get_or ms t 0)) → map f ns ≡ map g ms
+maps_alike f g [] [] l law = refl
+maps_alike f g [] (m ∷ ms) l law = absurd (omega (arith, l))
+maps_alike f g (n ∷ ns) [] l law = absurd (omega (arith, l))
+maps_alike f g (n ∷ ns) (m ∷ ms) l law =
+    ap (λ x. x ∷ map f ns) (law 0 (omega arith)) ∙ ap (λ xs. g m ∷ xs) (maps_alike f g ns ms (omega (arith, l)) (λ t low. law (suc t) (omega (arith, low))))
+
+module _ (s : AskedShard) (insides : List ℕ) (k : ℕ) (can : IsAskable s) (lie : LieInside s.shape s.subchunk s.numbers insides k) where
+  number_low : (t : ℕ) → t < length s.numbers → get_or s.numbers t 0 < product s.shape
+  number_low t low = ltb-true (get_or s.numbers t 0) (product s.shape) (each_at (λ n. nat_lt n (product s.shape) ≡ true) s.numbers t 0 (each_passes (λ n. nat_lt n (product s.shape)) s.numbers can.below) low)
+
+  -- the cells are those of the subchunk
+  inside_cells : shard_cells s.inner s.elements s.shape s.subchunk s.value s.pairs s.numbers ≡ places_decoded s.inner s.elements s.value s.subchunk (get_or s.pairs k absent_pair) insides
+  inside_cells =
+      ap all_there (maps_alike (cell_of s) (place_decoded s.inner s.elements s.value s.subchunk (get_or s.pairs k absent_pair)) s.numbers insides lie.many (λ t low.
+      let n = get_or s.numbers t 0 in
+      shard_place s.inner s.elements s.shape s.subchunk s.value s.pairs n can.cuts can.even can.many (number_low t low)
+      ∙ (ap (λ j. place_decoded s.inner s.elements s.value s.subchunk (get_or s.pairs j absent_pair) (inside_of s.shape s.subchunk n)) (lie.part t low)
+      ∙ ap (place_decoded s.inner s.elements s.value s.subchunk (get_or s.pairs k absent_pair)) (lie.place t low))))
+
+  pub inside_read : (result : Result ArrayBytes CodecError) → ListsRead s.elements s.subchunk (places_decoded s.inner s.elements s.value s.subchunk (get_or s.pairs k absent_pair) insides) result
+      → ListsRead s.elements s.shape (shard_cells s.inner s.elements s.shape s.subchunk s.value s.pairs s.numbers) result
+  inside_read (Ok bytes) h = record { cells = h.cells; is = inside_cells ∙ h.is; lists = h.lists }
+  inside_read (Err error.Damage) h = inside_cells ∙ h
+  inside_read (Err error.Size) h =
+      let low = lie.below in
+      let many = length-parts s.shape s.subchunk in
+      too_large s.elements.type (product s.subchunk) (product s.shape) (part_fewer s.shape s.subchunk k can.cuts can.even (omega (arith, low, many))) h
+  inside_read (Err error.Source) h = tt
+  inside_read (Err error.Memory) h = tt
+  inside_read (Err e) h = absurd h
+
+  -- no other slice is read
+  pub inside_given : (before after : ℕ) → 0 < length s.numbers → after ≤ before + slice_length (get_or s.pairs k absent_pair) → after ≤ before + bytes_met s.shape s.subchunk s.numbers s.pairs
+  inside_given before after some given =
+      let f = met_length s.shape s.subchunk s.numbers s.pairs in
+      let test = λ (number : ℕ). subchunk_of s.shape s.subchunk number == k in
+      let met : is_met s.shape s.subchunk s.numbers k ≡ true = list_any_at test s.numbers 0 0 some (eq-eqb (subchunk_of s.shape s.subchunk (get_or s.numbers 0 0)) k (lie.part 0 some)) in
+      let here : f k ≡ slice_length (get_or s.pairs k absent_pair) = ap (λ (b : Bool). if b then slice_length (get_or s.pairs k absent_pair) else 0) met in
+      let low = lie.below in
+      let many = can.many in
+      let next = sum_next f k in
+      let least = sum_least f (suc k) (length s.pairs) (omega (arith, low, many)) in
+      omega (arith, given, here, next, least)
