@@ -5,10 +5,11 @@ before:
 
 > {"op":"create","path":"/a","document":$zeros{"shape":[4,6],"chunk_grid":{"name":"regular","configuration":{"chunk_shape":[2,3]}},"fill_value":200}}
 > {"op":"write_box","path":"/a","box":[[0,4],[0,6]],"cells":[1,2,3,4,5,6,7,8,9,10,11,12,13,14,15,16,17,18,19,20,21,22,23,24]}
-# No chunk, also where the empty box lies past the grid.
+# No chunk, also where the empty box lies past the grid, or ends before it begins.
 > {"op":"erase_chunks","path":"/a","box":[[0,0],[0,2]]}
 > {"op":"erase_chunks","path":"/a","box":[[1,2],[1,1]]}
 > {"op":"erase_chunks","path":"/a","box":[[7,7],[7,7]]}
+> {"op":"erase_chunks","path":"/a","box":[[2,1],[0,2]]}
 < {"done":true}
 > {"op":"read_box","path":"/a","box":[[0,4],[0,6]]}
 < {"cells":[1,2,3,4,5,6,7,8,9,10,11,12,13,14,15,16,17,18,19,20,21,22,23,24]}

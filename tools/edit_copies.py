@@ -27,13 +27,17 @@ from rattle_sources import Function, Sources, start_with_attributes
 
 UNOFFERED = f"\n{ON_PURPOSE} : Type 0\n{ON_PURPOSE} = Type 0\n"
 
-# What the answer that an edit gives may name: the sets of lemmas that the check's own search goes by.
-SETS = """use Rattle.std.proofs.Common.{rules, arith, tests}
-use Rattle.std.proofs.lemmas.Grind.{common_steps, elements, not_there, pieces}
-"""
+# What the answer that an edit gives may name: the sets of lemmas that the check's own search goes by, each in its module.
+SETS = {
+    "Rattle.std.proofs.Common": ("rules", "arith", "tests"),
+    "Rattle.std.proofs.lemmas.Grind": ("common_steps", "elements", "not_there", "pieces"),
+}
+GOALS = "use Rattle.{crate}.proofs.{path}.Goals as goal"
 ANSWER = "\npub {goal} : goal.{goal}\n{goal} c = {by}\n"
 
 GOAL = re.compile(r"(?:(?:abbrev|pub) )*([^\s:]+) : goal\.")
+# An answer that the check's own search would find.
+FOUND = re.compile(rf"\n\S+ c = (?:grind|search) \(?(?:(?:{'|'.join(it for names in SETS.values() for it in names)})(?:, )?)+\)?\s*$")
 GOAL_LINE = re.compile(rf"(?m)^{GOAL.pattern}")
 PART = re.compile(r"(?m)^(?=(?:(?:abbrev|pub) )*[^\s:]+ : )")
 
@@ -54,7 +58,9 @@ class Copy:
 
     @property
     def has_answers(self) -> bool:
-        return bool(goals_answered(self.answers))
+        """Whether it has answers that the check's own search would not find."""
+        parts = [it for it in PART.split(self.answers) if GOAL.match(it)]
+        return not all(FOUND.search(it) for it in parts)
 
     @property
     def answers(self) -> str:
@@ -99,8 +105,32 @@ def answer_alone(text: str, goal: str) -> str:
 
 def answers_given(crate: str, path: str, given: Dict[str, str]) -> str:
     """A file of answers to some goals of the function with this path, each with what proves it."""
+    sets = [f"use {module}.{{{', '.join(names)}}}" for module, names in SETS.items()]
+    uses = [*sets, GOALS.format(crate=crate, path=path.replace("::", "."))]
     answers = [ANSWER.format(goal=goal, by=by) for goal, by in given.items()]
-    return f"{SETS}use Rattle.{crate}.proofs.{path.replace('::', '.')}.Goals as goal\n{''.join(answers)}"
+    return "\n".join(uses) + "\n" + "".join(answers)
+
+
+def with_answer(text: str, crate: str, path: str, goal: str, by: str) -> str:
+    """A function's own file of answers, or the text of none, with one answer more, and with what that one names brought in."""
+    for module, names in SETS.items():
+        taken = re.search(rf"(?m)^use {re.escape(module)}\.\{{([^}}]*)\}}$", text)
+        there = re.findall(r"[^\s,]+", taken[1]) if taken else []
+        lacking = [it for it in names if it in re.findall(r"\w+", by) and it not in there]
+        if lacking and taken:
+            text = f"{text[: taken.end(1)]}, {', '.join(lacking)}{text[taken.end(1) :]}"
+        elif lacking:
+            text = with_use(text, f"use {module}.{{{', '.join(lacking)}}}")
+    goals = GOALS.format(crate=crate, path=path.replace("::", "."))
+    text = text if goals in text.split("\n") else with_use(text, goals)
+    return text + ANSWER.format(goal=goal, by=by)
+
+
+def with_use(text: str, line: str) -> str:
+    """The text of a proof file with one `use` line more, behind those that it has."""
+    lines = text.split("\n")[:-1]
+    place = max((n + 1 for n, it in enumerate(lines) if it.startswith("use ")), default=0)
+    return "".join(f"{it}\n" for it in [*lines[:place], line, *lines[place:]])
 
 
 def unoffered(function: Function, texts: Dict[str, str], sources: Sources) -> Dict[str, str]:
@@ -139,9 +169,11 @@ def can_be_copied(function: Function, cycle: Optional[str], sources: Sources) ->
     path, own = proved_as(function, cycle)
     if f"{own}Proof.antt" in sources.texts:
         return False
-    names = "|".join(re.escape(it.replace("::", ".")) for it in {path, function.path})
-    named = re.compile(rf"\b(?:proofs|contracts)\.(?:{names})\.(?!Met\b)")
-    return not any(named.search(it) for file, it in sources.texts.items() if file.endswith(".antt") and not file.startswith(own))
+    names = {it.replace("::", ".") for it in (path, function.path)}
+    named = re.compile(rf"\b(?:proofs|contracts)\.(?:{'|'.join(map(re.escape, names))})\.(?!Met\b)")
+    others = [it for file, it in sources.texts.items() if file.endswith(".antt") and not file.startswith(own)]
+    # (most texts hold no such name at all, which is found sooner)
+    return not any(named.search(it) for it in others if any(f".{name}." in it for name in names))
 
 
 def proved_as(function: Function, cycle: Optional[str]) -> Tuple[str, str]:

@@ -22,8 +22,8 @@ from rattle_sources import Function, Sources
 
 # Fewer edits than these save less by their answers than the check takes that those need which are not refused by them.
 FEW = 10
-# The processor seconds from which on an edit is costly: less is not worth a copy with no edit.
-COSTLY = 5.0
+# The processor seconds from which on an edit is costly: less is not worth an answer that the proof would do without.
+COSTLY = 3.0
 
 
 class Way(enum.IntEnum):
@@ -193,14 +193,23 @@ def trial_of(edit: Edit, number: int, sources: Sources, names: Names) -> Trial:
     return trial
 
 
+def numbers_of(edits: List[Edit]) -> Dict[str, int]:
+    """The number of each edit's copy, by the edit's name."""
+    return {it.name: number for number, it in enumerate(edits)}
+
+
 class Rounds:
     """The trials of a crate's edits."""
 
-    def __init__(self, edits: List[Edit], sources: Sources, check: Check):
+    # (the files of answers that have more answers than before: see edit_names.py)
+    answers: Dict[str, str] = {}
+
+    def __init__(self, edits: List[Edit], sources: Sources, check: Check, numbers: Optional[Dict[str, int]] = None):
+        """The trials of these edits. Their copies are numbered, in order or by the edits' names: what is kept of a copy goes by its number."""
         self.sources, self.check = sources, check
         self.functions = {it.path: it for it in sources.functions}
-        names = Names(sources)
-        self.trials = [trial_of(it, number, sources, names) for number, it in enumerate(edits)]
+        names, numbers = Names(sources), numbers or numbers_of(edits)
+        self.trials = [trial_of(it, numbers[it.name], sources, names) for it in edits]
         by_answers = [it for it in self.trials if it.way in (Way.NAMED, Way.ANSWERS)]
         for trial in by_answers if len(by_answers) < FEW else []:
             trial.way = trial.way if trial.way is Way.NAMED else Way.GOALS

@@ -1,6 +1,7 @@
 """Finds the functions in the sources of a crate, with their paths as a check prints them."""
 from __future__ import annotations
 
+import functools
 import os
 import re
 from dataclasses import dataclass
@@ -81,13 +82,45 @@ def end_of_declaration(text: str) -> int:
     return len(text)
 
 
+@functools.lru_cache(maxsize=4096)
+def types_in(text: str) -> Tuple[str, ...]:
+    """The names of the types that a file defines."""
+    return tuple(it[1] for it in TYPE.finditer(text))
+
+
+@functools.lru_cache(maxsize=4096)
+def functions_in(file: str, text: str, types: Tuple[Tuple[str, Tuple[str, ...]], ...]) -> Tuple[Function, ...]:
+    """The functions of a file of this text, where the types of the crate stand in these modules. Most texts of an edited crate are those that it
+    has without the edit, so what was found in them is kept."""
+    modules, found = dict(types), []
+    blocks = [(it.start(), block_name(it[1], it[2]), it[1], it[2]) for it in BLOCK.finditer(text)]
+    for it in FUNCTION.finditer(text):
+        close = re.compile(rf"(?m)^{it[1]}(?:}}|{{}})[ ]*$|^{it[1]}\{{.*}}$").search(text, it.end())
+        above = [block for block in blocks if block[0] < it.start()]
+        path, is_of_trait = module_of(file), False
+        end = close.end() if close else len(text)
+        if it[1] and above:
+            _, name, kind, head = above[-1]
+            is_of_trait = kind == "trait" or " for " in head
+            if kind == "impl" and " for " not in head:
+                # (the functions of a type stand in the module of the type, those of a trait where its impl does)
+                of_type = [known for known in modules if name.startswith(known)]
+                path = modules.get(max(of_type, key=len, default=""), path)
+            path = [*path, name]
+            end = it.start() + end_of_declaration(text[it.start() : end]) if kind == "trait" else end
+        found.append(Function("::".join([*path, it[2]]), file, it.start(), end, is_of_trait))
+    return tuple(found)
+
+
 class Sources:
     """The texts of a crate and its functions."""
 
     def __init__(self, texts: Dict[str, str]):
         self.texts = texts
         self.modules = self._modules_of_types()
-        self.functions = [it for file in sorted(texts) if file.startswith("src/") and file.endswith(".rt") for it in self._functions_in(file)]
+        types = tuple((name, tuple(path)) for name, path in self.modules.items())
+        files = [it for it in sorted(texts) if it.startswith("src/") and it.endswith(".rt")]
+        self.functions = [it for file in files for it in functions_in(file, texts[file], types)]
 
     @classmethod
     def of_folder(cls, folder: str) -> "Sources":
@@ -103,28 +136,8 @@ class Sources:
         found: Dict[str, List[str]] = {}
         for file, text in sorted(self.texts.items()):
             if file.startswith("src/"):
-                for it in TYPE.finditer(text):
-                    found.setdefault(it[1], module_of(file))
-        return found
-
-    def _functions_in(self, file: str) -> List[Function]:
-        text, found = self.texts[file], []
-        blocks = [(it.start(), block_name(it[1], it[2]), it[1], it[2]) for it in BLOCK.finditer(text)]
-        for it in FUNCTION.finditer(text):
-            close = re.compile(rf"(?m)^{it[1]}(?:}}|{{}})[ ]*$|^{it[1]}\{{.*}}$").search(text, it.end())
-            above = [block for block in blocks if block[0] < it.start()]
-            path, is_of_trait = module_of(file), False
-            end = close.end() if close else len(text)
-            if it[1] and above:
-                _, name, kind, head = above[-1]
-                is_of_trait = kind == "trait" or " for " in head
-                if kind == "impl" and " for " not in head:
-                    # (the functions of a type stand in the module of the type, those of a trait where its impl does)
-                    of_type = [known for known in self.modules if name.startswith(known)]
-                    path = self.modules.get(max(of_type, key=len, default=""), path)
-                path = [*path, name]
-                end = it.start() + end_of_declaration(text[it.start() : end]) if kind == "trait" else end
-            found.append(Function("::".join([*path, it[2]]), file, it.start(), end, is_of_trait))
+                for it in types_in(text):
+                    found.setdefault(it, module_of(file))
         return found
 
     def with_bodies(self) -> List[str]:

@@ -4,10 +4,10 @@ import unittest.mock
 from dataclasses import replace
 
 from check_output import read_output
-from edit_copies import answer_alone
+from edit_copies import answer_alone, with_answer
 from edit_files import parse_edit, with_names
 from edit_names import COSTLIEST, Naming, costliest_in
-from edit_rounds import Rounds, Way
+from edit_rounds import Judgement, Rounds, Verdict, Way
 from rattle_sources import Sources
 from samples import edit_of
 
@@ -90,8 +90,28 @@ class NamingGoals(unittest.TestCase):
             rounds._try_batch(batch, texts)
             self.assertEqual((rounds.trials[0].way, bool(rounds.trials[0].judgement)), (way, way is Way.NAMED))
 
+    def test_a_function_with_no_answer_but_what_its_search_would_find_is_searched_at_once(self):
+        answer = "use A.{b}\n\npub returns : goal.returns\nreturns c = %s\n"
+        for by, way in ("search rules", Way.GOALS), ("grind (arith, common_steps)", Way.GOALS), ("grind (arith, my_lemma)", Way.ANSWERS), ("b c", Way.ANSWERS):
+            sources = Sources({"src/a.rt": self.CODE, "proofs/a/small/Answers.antt": answer % by})
+            with unittest.mock.patch("edit_rounds.FEW", 1):
+                self.assertEqual(Rounds([edit_of("a", "    3", "    4", "src/a.rt")], sources, None).trials[0].way, way, by)
+
+    def test_an_answer_is_added_with_what_it_names(self):
+        alone = "use Rattle.std.proofs.Common.{rules}\nuse Rattle.tiny.proofs.a.T.small.Goals as goal\n\npub returns : goal.returns\nreturns c = search rules\n"
+        self.assertEqual(with_answer("", "tiny", "a::T::small", "returns", "search rules"), alone)
+        more = with_answer(alone, "tiny", "a::T::small", "overflow", "grind (arith, common_steps)")
+        self.assertEqual(
+            more,
+            alone.replace("{rules}", "{rules, arith}")
+            .replace(" as goal\n", " as goal\nuse Rattle.std.proofs.lemmas.Grind.{common_steps}\n")
+            + "\npub overflow : goal.overflow\noverflow c = grind (arith, common_steps)\n",
+        )
+        self.assertEqual(with_answer(more, "tiny", "a::T::small", "else", "grind (arith, common_steps)").count("use "), 3)
+
     def named(self, seconds_by_name):
-        """What a costly edit names, where its search takes 9 seconds, and its goal by name so many; and the forms that were tried."""
+        """What a costly edit names, and what the function then answers, where the edit's search takes 9 seconds, and its goal by name so many;
+        and the forms that were tried."""
         forms = []
 
         def check(texts, functions):
@@ -100,19 +120,52 @@ class NamingGoals(unittest.TestCase):
             forms.append(form)
             said = "" if form else "note: src/a.rt:6:1: it is not proved (`returns`)\n"
             output = read_output(1, said + self.said(bool(form), "taken" if form == "search rules" else "refused"))
-            output.seconds_of = {"a::small_edit_0": seconds_by_name / 2 if form else 9.0, "a::small_with_no_edit": seconds_by_name / 2}
+            output.seconds_of = {"a::small_edit_0": seconds_by_name if form else 9.0}
             return output
 
-        named = Naming([edit_of("a", "    3", "    4", "src/a.rt")], Sources({"src/a.rt": self.CODE}), check).run()
-        return [(it.goal, it.by) for it, _ in named], forms
+        naming = Naming([edit_of("a", "    3", "    4", "src/a.rt")], Sources({"src/a.rt": self.CODE}), check)
+        named = naming.run()
+        return [(it.goal, it.by) for it, _ in named], naming.answers, forms
 
-    def test_a_costly_edit_names_the_goal_that_failed_and_the_first_form_that_proves_it_without_the_edit(self):
-        named, forms = self.named(6.0)
-        self.assertEqual(named, [("returns", "search rules")])
+    def test_a_costly_edit_names_the_goal_that_failed_and_its_function_answers_it_by_the_first_form_that_proves_it(self):
+        named, answers, forms = self.named(6.0)
+        self.assertEqual(named, [("returns", "")])
+        self.assertEqual([*answers], ["proofs/a/small/Answers.antt"])
+        self.assertIn("\nreturns c = search rules\n", answers["proofs/a/small/Answers.antt"])
         self.assertEqual((forms[0], forms[-1]), ("", "search rules"))
 
-    def test_a_costly_edit_names_no_goal_where_that_and_the_function_as_it_stands_take_as_long(self):
-        self.assertEqual(self.named(10.0)[0], [("", "")])
+    def test_a_costly_edit_names_no_goal_where_that_takes_as_long(self):
+        self.assertEqual(self.named(9.0)[:2], ([("", "")], {}))
+
+    def test_what_the_function_as_it_stands_takes_in_the_run_becomes_its_answer(self):
+        for with_no_edit, answers in ("taken", ["proofs/a/small/Answers.antt"]), ("refused", []):
+            edit = parse_edit("tiny", "a", "file: src/a.rt\ngoal: returns\nold:     3\nnew:     4\n")
+            checks = iter([self.said(True, with_no_edit), *["note: src/a.rt:6:1: it is not proved (`returns`)\nfn tiny::a::small_edit_0: not proved\nonly=1 proved=0"] * 2])
+            naming = Naming([edit], Sources({"src/a.rt": self.CODE}), lambda texts, functions: read_output(1, next(checks)))
+            self.assertEqual([it.verdict.value for _, it in naming.run()], ["refused"])
+            self.assertEqual([*naming.answers], answers)
+
+    def test_a_copy_keeps_its_number_from_check_to_check(self):
+        edits = [edit_of(name, "    3", "    4", "src/a.rt") for name in ("a", "b")]
+        paths = []
+
+        def check(texts, functions):
+            paths.append(functions)
+            form = any("returns c = " in it for it in texts.values())
+            number = 0 if "a::small_edit_0" in functions else 1
+            said = self.said(form, "taken").replace("edit_0", f"edit_{number}")
+            output = read_output(1, ("" if form else "note: src/a.rt:6:1: it is not proved (`returns`)\n") + said)
+            output.seconds_of = {"a::small_edit_1": 1.0 if form else 9.0}
+            return output
+
+        Naming(edits, Sources({"src/a.rt": self.CODE}), check, {"tiny/b": Judgement(Verdict.REFUSED, goal_name="returns", seconds=9.0)}).run()
+        self.assertEqual(paths, [["a::small_edit_1", "a::small_with_no_edit"]])
+
+    def test_a_goal_that_is_answered_in_the_same_run_has_one_answer(self):
+        naming = Naming([], Sources({"src/a.rt": self.CODE}), None)
+        for by in ("search rules", "search (tests, rules)"):
+            naming._answer("a::small", parse_edit("tiny", "a", f"file: src/a.rt\ngoal: returns\nby: {by}\nold: 3\nnew: 4\n"))
+        self.assertEqual([it.count("search") for it in naming.answers.values()], [1])
 
     def test_what_a_run_said_of_costly_edits_is_read_again(self):
         found = costliest_in("tiny/a: refused\n" + COSTLIEST.format(seconds=12.3, checks=2, label="tiny/a", goal="returns") + "\n")
@@ -130,16 +183,22 @@ class NamingGoals(unittest.TestCase):
             self.assertEqual(Rounds([edit], sources, None).trials[0].way, Way.ANSWERS)
             self.assertEqual(Rounds([named[0][0]], sources, None).trials[0].way, Way.GOALS)
 
-    def test_an_edit_in_its_place_names_a_goal_only_where_the_function_has_an_answer_to_it(self):
+    def test_an_edit_in_its_place_names_a_goal_that_the_function_answers_or_is_given_an_answer_to(self):
         given = "pub returns : goal.returns\nreturns c = refl\n"
-        for answers, goal in ({"proofs/a/AT/small/Answers.antt": given}, "returns"), ({}, ""):
+        place = "proofs/a/AT/small/Answers.antt"
+        # (searched for; then by name: the function as it stands, and the edited one)
+        for answers, checks, found in ({place: given}, 1, []), ({}, 3, [place]):
             checked = []
 
             def check(texts, functions):
                 checked.append(functions)
-                output = read_output(1, "note: src/a.rt:3:1: it is not proved (`returns`)\nfn tiny::a::AT::small: not proved\nonly=1 proved=0")
-                output.seconds_of = {"a::AT::small": 9.0}
+                is_by_name, is_edited = "#[tactic(none)]" in texts.get("src/a.rt", ""), "    4" in texts.get("src/a.rt", "")
+                said = f"./{place}:4:1: error: `returns`: `search`: no proof\n" if is_edited else ""
+                said = said if is_by_name else "note: src/a.rt:3:1: it is not proved (`returns`)\n"
+                output = read_output(1, said + "fn tiny::a::AT::small: not proved\nonly=1 proved=0")
+                output.seconds_of = {"a::AT::small": 2.0 if is_by_name else 9.0}
                 return output
 
-            named = Naming([edit_of("a", "    3", "    4", "src/a.rt")], Sources({"src/a.rt": self.IN_PLACE, **answers}), check).run()
-            self.assertEqual(([it.goal for it, _ in named], len(checked)), ([goal], 1))
+            naming = Naming([edit_of("a", "    3", "    4", "src/a.rt")], Sources({"src/a.rt": self.IN_PLACE, **answers}), check)
+            self.assertEqual([(it.goal, it.by) for it, _ in naming.run()], [("returns", "")])
+            self.assertEqual((len(checked), [*naming.answers]), (checks, found))

@@ -10,11 +10,11 @@ use Rattle.zarr_codecs_meaning.specs.Fits.{fits, is_lossless}
 use Rattle.zarr_codecs_meaning.specs.Payloads.{Payload, cells_in}
 use Rattle.zarr_codecs_meaning.specs.Refusals.{CodecRefuses, PassesIndex}
 use Rattle.zarr_codecs_meaning.specs.Standing.{Stands}
-use Rattle.zarr_codecs_meaning.specs.Types.{is_value, Cell, Elements}
+use Rattle.zarr_codecs_meaning.specs.Types.{is_value, Cell, Elements, IsTooLarge}
 use Rattle.zarr_codecs_meaning.proofs.DecodedElements.{all_filled}
 use Rattle.zarr_codecs_meaning.proofs.DecodedValues.{decoded_values}
 use Rattle.zarr_codecs_meaning.proofs.Lists.{some_same}
-use Rattle.zarr_codecs_arrays.specs.Outcomes.{IsTooLarge, IsValid}
+use Rattle.zarr_codecs_arrays.specs.Outcomes.{IsValid}
 use Rattle.zarr_codecs_arrays.specs.declared.error.CodecError.{CodecError}
 use Rattle.zarr_codecs_arrays.specs.declared.error.CodecError.TheVariants as error
 use Rattle.zarr_codecs_traits.specs.Outcomes.{Encodes, IsRefused}

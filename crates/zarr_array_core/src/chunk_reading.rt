@@ -47,7 +47,7 @@ impl<C: ArrayToBytesCodecTraits> ArrayCore<C> {
     ghost use Rattle.zarr_grids_boxes.specs.Cuts.{overlapped, relative};
     ghost use Rattle.zarr_grids_boxes.specs.Subsets.{region_of};
     ghost use Rattle.zarr_grids_chunks.specs.Grids.{IsInGrid, intersects};
-    ghost use Rattle.zarr_codecs_arrays.specs.Outcomes.{IsTooLarge};
+    ghost use Rattle.zarr_codecs_meaning.specs.Types.{IsTooLarge};
     ghost use Rattle.zarr_codecs_arrays.specs.Views.{payload_of};
     ghost use Rattle.zarr_codecs_traits.specs.Indexers.{in_box, lies_in};
     ghost use Rattle.zarr_codecs_traits.specs.Outcomes.{IsPart};

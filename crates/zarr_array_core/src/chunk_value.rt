@@ -50,12 +50,11 @@ impl<C: ArrayToBytesCodecTraits> ArrayCore<C> {
     ghost use Rattle.zarr_array_meaning.specs.Writing.{stores_fill};
     ghost use Rattle.zarr_array_meaning.specs.Chunks.{holds_box};
     ghost use Rattle.zarr_array_storage.specs.Stores.{value_bytes};
-    ghost use Rattle.zarr_codecs_arrays.specs.Outcomes.{IsTooLarge};
     ghost use Rattle.zarr_codecs_meaning.specs.Chunks.{chunk_decoded};
     ghost use Rattle.zarr_codecs_meaning.specs.Decoding.{decoded};
     ghost use Rattle.zarr_codecs_meaning.specs.Fits.{fits, is_lossless};
     ghost use Rattle.zarr_codecs_meaning.specs.Standing.{Stands};
-    ghost use Rattle.zarr_codecs_meaning.specs.Types.{is_value, is_fill};
+    ghost use Rattle.zarr_codecs_meaning.specs.Types.{is_value, is_fill, IsTooLarge};
     ghost use Rattle.zarr_grids_boxes.specs.Boxes.{product, share_place};
     ghost use Rattle.zarr_grids_boxes.specs.Subsets.{region_of};
     ghost use Rattle.zarr_grids_overlay.specs.Overlays.{extent_of};

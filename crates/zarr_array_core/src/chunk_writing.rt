@@ -46,9 +46,8 @@ impl<C: ArrayToBytesCodecTraits> ArrayCore<C> {
     ghost use Rattle.zarr_array_core.specs.Outcomes.{CountsUpTo, refused_after};
     ghost use Rattle.zarr_array_core.specs.Views.{array_cells, AreSoMany, document_of};
     ghost use Rattle.zarr_array_meaning.specs.Writing.{stores_fill};
-    ghost use Rattle.zarr_codecs_arrays.specs.Outcomes.{IsTooLarge};
     ghost use Rattle.zarr_codecs_meaning.specs.Fits.{fits};
-    ghost use Rattle.zarr_codecs_meaning.specs.Types.{is_value};
+    ghost use Rattle.zarr_codecs_meaning.specs.Types.{is_value, IsTooLarge};
     ghost use Rattle.zarr_grids_boxes.specs.Boxes.{product, share_place};
     ghost use Rattle.zarr_grids_boxes.specs.Subsets.{region_of};
     ghost use Rattle.zarr_grids_overlay.specs.Overlays.{extent_of};

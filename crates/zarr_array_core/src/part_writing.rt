@@ -40,10 +40,9 @@ impl<C: ArrayToBytesCodecTraits> ArrayCore<C> {
     ghost use Rattle.zarr_array_core.specs.declared.error.ChunkError.TheVariants.{Memory};
     ghost use Rattle.zarr_array_meaning.specs.Writing.{stores_fill};
     ghost use Rattle.zarr_array_meaning.specs.Chunks.{holds_box};
-    ghost use Rattle.zarr_codecs_arrays.specs.Outcomes.{IsTooLarge};
     ghost use Rattle.zarr_codecs_arrays.specs.Views.{payload_of};
     ghost use Rattle.zarr_codecs_meaning.specs.Fits.{fits};
-    ghost use Rattle.zarr_codecs_meaning.specs.Types.{byte_width, is_value};
+    ghost use Rattle.zarr_codecs_meaning.specs.Types.{byte_width, is_value, IsTooLarge};
     ghost use Rattle.zarr_codecs_traits.specs.PartEncoding.{EncodesPart, takes_patches};
     ghost use Rattle.zarr_grids_boxes.specs.Boxes.{product, share_place};
     ghost use Rattle.zarr_grids_boxes.specs.Subsets.{region_of};

@@ -29,7 +29,7 @@ impl<C: ArrayToBytesCodecTraits> ArrayCore<C> {
     ghost use Rattle.zarr_grids_chunks.specs.Grids.{IsCovered};
     ghost use Rattle.zarr_grids_cover.specs.Intersecting.{AreIntersecting};
     ghost use Rattle.zarr_codecs_meaning.specs.Payloads.{fixed_cells};
-    ghost use Rattle.zarr_codecs_arrays.specs.Outcomes.{IsTooLarge};
+    ghost use Rattle.zarr_codecs_meaning.specs.Types.{IsTooLarge};
     ghost use Rattle.zarr_codecs_arrays.specs.Views.{payload_of};
     ghost use Rattle.zarr_array_meaning.specs.Boxes.{IsRead};
     ghost use Rattle.zarr_array_elements.specs.Views.{AreShown, cells_shown};

@@ -5,8 +5,7 @@ use Rattle.std.proofs.lemmas.Bool.{le-leb, ltb-true}
 use Rattle.zarr_grids_boxes.specs.Boxes.{Region, product, each2, share_place}
 use Rattle.zarr_grids_boxes.specs.Cuts.{overlapped}
 use Rattle.zarr_grids_boxes.proofs.Places.{both}
-use Rattle.zarr_codecs_arrays.specs.Outcomes.{IsTooLarge}
-use Rattle.zarr_codecs_meaning.specs.Types.{DataType, byte_width}
+use Rattle.zarr_codecs_meaning.specs.Types.{DataType, byte_width, IsTooLarge}
 use Rattle.zarr_array_meaning.specs.Chunks.{contains_box, holds_box}
 
 -- ---- the shared box lies in both

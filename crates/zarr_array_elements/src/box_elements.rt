@@ -2,8 +2,7 @@
 ghost use Rattle.std.specs.Prelude.{◌≡◌, ◌<◌, ◌^◌, ℕ, length, Some, IfOk, replicate};
 ghost use Rattle.zarr_grids_boxes.specs.Boxes.{Region, product};
 ghost use Rattle.zarr_grids_boxes.specs.Subsets.{region_of};
-ghost use Rattle.zarr_codecs_meaning.specs.Types.{byte_width};
-ghost use Rattle.zarr_codecs_arrays.specs.Outcomes.{IsTooLarge};
+ghost use Rattle.zarr_codecs_meaning.specs.Types.{byte_width, IsTooLarge};
 ghost use Rattle.zarr_codecs_arrays.specs.Views.{payload_of, elements_of};
 ghost use Rattle.zarr_array_elements.specs.Boxes.{cells_of, AreOfBox, IsWithin, ArePutOver};
 ghost use Rattle.zarr_array_elements.specs.Views.{cells_shown, AreShown};

@@ -3,8 +3,7 @@ ghost use Rattle.std.specs.Prelude.{◌≡◌, ◌<◌, ◌*◌, ◌^◌, ℕ, l
 ghost use Rattle.zarr_grids_boxes.specs.Boxes.{product};
 ghost use Rattle.zarr_grids_boxes.specs.Subsets.{region_of};
 ghost use Rattle.zarr_grids_overlay.specs.Overlays.{extent_of, IsOverlaid};
-ghost use Rattle.zarr_codecs_meaning.specs.Types.{byte_width};
-ghost use Rattle.zarr_codecs_arrays.specs.Outcomes.{IsTooLarge};
+ghost use Rattle.zarr_codecs_meaning.specs.Types.{byte_width, IsTooLarge};
 ghost use Rattle.zarr_codecs_arrays.specs.Views.{payload_of, elements_of};
 ghost use Rattle.zarr_array_elements.specs.Boxes.{cells_of, AreOfBox, IsWithin, AreTakenOut};
 

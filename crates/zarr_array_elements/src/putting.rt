@@ -3,7 +3,7 @@ ghost use Rattle.std.specs.Prelude.{◌≡◌, ◌<◌, ◌*◌, ◌^◌, ℕ, l
 ghost use Rattle.zarr_grids_boxes.specs.Boxes.{product, share_place};
 ghost use Rattle.zarr_grids_boxes.specs.Subsets.{region_of};
 ghost use Rattle.zarr_grids_overlay.specs.Overlays.{IsOverlaid};
-ghost use Rattle.zarr_codecs_arrays.specs.Outcomes.{IsTooLarge};
+ghost use Rattle.zarr_codecs_meaning.specs.Types.{IsTooLarge};
 ghost use Rattle.zarr_codecs_arrays.specs.Views.{payload_of, elements_of};
 ghost use Rattle.zarr_array_elements.specs.Boxes.{cells_of, AreOfBox, ArePutOver};
 

@@ -1,31 +1,31 @@
-//! Calls of a store, and what they answer.
+//! Calls of a store that may refuse one, and what they answer.
 
 use std::alloc::Global;
 use zarr_array_storage::{
-    ByteRange, ReadableStorageTraits, ReadableWritableStorageTraits, StorageError, ValuePatch,
+    ByteRange, MemoryStore, ReadableStorageTraits, RefusingStore, StorageError, ValuePatch,
     WritableStorageTraits,
 };
 use zarr_grids_keys::StoreKey;
 
+pub(crate) type Store = RefusingStore<MemoryStore>;
+
 /// A call of a store at a key, and then what is read.
 #[derive(Clone, Copy)]
 pub(crate) enum Call<'x> {
-    Get(&'x str, Option<&'x [u8]>),
-    Size(&'x str, Option<u64>),
+    Get(Option<&'x [u8]>),
+    Size(Option<u64>),
     /// Reads ranges, for each its offset and its length.
-    Ranges(&'x str, &'x [(u64, u64)], Option<&'x [&'x [u8]]>),
-    /// Lists all keys.
+    Ranges(&'x [(u64, u64)], Option<&'x [&'x [u8]]>),
+    /// Lists all keys, whatever the key.
     List(&'x [&'x str]),
-    Set(&'x str, &'x [u8]),
+    Set(&'x [u8]),
     /// Writes bytes in part, for each where they start.
-    Write(&'x str, &'x [(u64, &'x [u8])]),
-    Erase(&'x str),
-    /// Whether values may be written in part.
-    TakesRanges(bool),
+    Write(&'x [(u64, &'x [u8])]),
+    Erase,
 }
 
 /// How a call ends.
-#[derive(Clone, Copy, PartialEq, Eq)]
+#[derive(Clone, Copy)]
 pub(crate) enum End {
     /// It is done, and what was read is as said.
     Done,
@@ -33,8 +33,10 @@ pub(crate) enum End {
     Io,
     /// A range is refused.
     Range,
-    Other,
 }
+
+/// A key, a call at it, and how it ends.
+pub(crate) type Step<'x> = (&'x str, Call<'x>, End);
 
 pub(crate) fn key(alloc: Global, text: &str) -> Result<StoreKey, StorageError> {
     match StoreKey::new(String::from_str(alloc, text)?) {
@@ -44,7 +46,7 @@ pub(crate) fn key(alloc: Global, text: &str) -> Result<StoreKey, StorageError> {
 }
 
 /// Whether a store has this value at a key, or none.
-fn gets<S: ReadableStorageTraits>(
+pub(crate) fn gets<S: ReadableStorageTraits>(
     store: &mut S,
     key: &StoreKey,
     want: Option<&[u8]>,
@@ -66,9 +68,9 @@ fn are(found: &[Vec<u8>], want: &[&[u8]]) -> bool {
 }
 
 /// Whether ranges of the value at a key are these, or there is no value.
-fn reads<S: ReadableStorageTraits>(
+fn reads(
     alloc: Global,
-    store: &mut S,
+    store: &mut Store,
     key: &StoreKey,
     pairs: &[(u64, u64)],
     want: Option<&[&[u8]]>,
@@ -86,20 +88,21 @@ fn reads<S: ReadableStorageTraits>(
     }
 }
 
-/// Whether keys are these, in this order.
-fn are_keys(found: &[StoreKey], want: &[&str]) -> bool {
+/// Whether a store lists these keys, in this order.
+fn lists(store: &mut Store, want: &[&str]) -> Result<bool, StorageError> {
+    let found = store.list()?;
     for (key, text) in found.iter().zip(want) {
         if key.as_str() != *text {
-            return false;
+            return Ok(false);
         }
     }
-    found.len() == want.len()
+    Ok(found.len() == want.len())
 }
 
 /// Writes bytes where they start.
-fn write<S: WritableStorageTraits>(
+fn write(
     alloc: Global,
-    store: &mut S,
+    store: &mut Store,
     key: &StoreKey,
     pairs: &[(u64, &[u8])],
 ) -> Result<(), StorageError> {
@@ -114,67 +117,46 @@ fn write<S: WritableStorageTraits>(
     store.set_partial(key, patches.as_slice())
 }
 
-/// Makes a call that reads. Whether what is read is as said.
-fn read<S: ReadableStorageTraits>(
+/// Makes a call at a key. Whether what is read is as said.
+fn made(
     alloc: Global,
-    store: &mut S,
+    store: &mut Store,
+    key: &StoreKey,
     call: Call<'_>,
 ) -> Result<bool, StorageError> {
     match call {
-        Call::Get(name, want) => gets(store, &key(alloc, name)?, want),
-        Call::Size(name, want) => Ok(store.size_key(&key(alloc, name)?)? == want),
-        Call::Ranges(name, pairs, want) => reads(alloc, store, &key(alloc, name)?, pairs, want),
-        Call::List(want) => Ok(are_keys(store.list()?.as_slice(), want)),
-        _ => Ok(false),
-    }
-}
-
-/// Makes a call that writes. Whether it is one.
-fn change<S: WritableStorageTraits>(
-    alloc: Global,
-    store: &mut S,
-    call: Call<'_>,
-) -> Result<bool, StorageError> {
-    match call {
-        Call::Set(name, value) => store.set(&key(alloc, name)?, value)?,
-        Call::Write(name, pairs) => write(alloc, store, &key(alloc, name)?, pairs)?,
-        Call::Erase(name) => store.erase(&key(alloc, name)?)?,
-        Call::TakesRanges(want) => return Ok(store.supports_set_partial() == want),
-        _ => return Ok(false),
+        Call::Get(want) => return gets(store, key, want),
+        Call::Size(want) => return Ok(store.size_key(key)? == want),
+        Call::Ranges(pairs, want) => return reads(alloc, store, key, pairs, want),
+        Call::List(want) => return lists(store, want),
+        Call::Set(value) => store.set(key, value)?,
+        Call::Write(pairs) => write(alloc, store, key, pairs)?,
+        Call::Erase => store.erase(key)?,
     }
     Ok(true)
 }
 
-/// How a call ended that did what it was to do, or did not.
-fn how_it_ended(done: Result<bool, StorageError>) -> End {
-    match done {
-        Ok(true) => End::Done,
-        Err(StorageError::Io) => End::Io,
-        Err(StorageError::InvalidByteRange) => End::Range,
-        _ => End::Other,
+/// Whether a call that did what it was to do, or did not, ended so.
+fn ends(done: Result<bool, StorageError>, want: End) -> bool {
+    match (done, want) {
+        (Ok(is_as_said), End::Done) => is_as_said,
+        (Err(StorageError::Io), End::Io) => true,
+        (Err(StorageError::InvalidByteRange), End::Range) => true,
+        _ => false,
     }
 }
 
-/// Makes a call, and tells how it ended.
-fn ended<S: ReadableWritableStorageTraits>(alloc: Global, store: &mut S, call: Call<'_>) -> End {
-    match call {
-        Call::Get(..) | Call::Size(..) | Call::Ranges(..) | Call::List(..) => {
-            how_it_ended(read(alloc, store, call))
-        }
-        _ => how_it_ended(change(alloc, store, call)),
-    }
-}
-
-/// Makes calls one after another. Whether each ends so.
-pub(crate) fn answers<S: ReadableWritableStorageTraits>(
+/// Makes calls one after another. Whether each ends so. `Err` where a text is no key.
+pub(crate) fn answers(
     alloc: Global,
-    store: &mut S,
-    calls: &[(Call<'_>, End)],
-) -> bool {
-    for (call, want) in calls {
-        if ended(alloc, store, *call) != *want {
-            return false;
+    store: &mut Store,
+    steps: &[Step<'_>],
+) -> Result<bool, StorageError> {
+    for (name, call, want) in steps {
+        let key = key(alloc, name)?;
+        if !ends(made(alloc, store, &key, *call), *want) {
+            return Ok(false);
         }
     }
-    true
+    Ok(true)
 }

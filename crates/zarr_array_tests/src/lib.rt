@@ -1,4 +1,4 @@
-//! Tests of stores, and of what array documents say and why they are refused, which no story shows.
+//! Tests of stores, and of how deep array documents may be, which no call and no story shows.
 #![tactic(auto)]
 
 #[cfg(test)]
@@ -9,7 +9,5 @@ mod counting_store;
 mod metadata;
 #[cfg(test)]
 mod partial_encoder;
-#[cfg(test)]
-mod samples;
 #[cfg(test)]
 mod storage;

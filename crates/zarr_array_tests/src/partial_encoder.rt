@@ -1,20 +1,14 @@
 //! The value at a key of a store, written in part, with values typed in by hand.
+use crate::calls::{Store, gets, key};
 use crate::counting_store::CountingStore;
+use crate::storage::four_bytes;
 use std::alloc::Global;
 use zarr_array_storage::{
-    CallKind, MemoryStore, ReadableStorageTraits, RefusingStore, StorageError,
-    StoragePartialEncoder, ValuePatch, WritableStorageTraits,
+    CallKind, RefusingStore, StorageError, StoragePartialEncoder, ValuePatch,
 };
 use zarr_codecs_arrays::CodecError;
 use zarr_codecs_traits::{BytesPartialDecoderTraits, BytesPartialEncoderTraits};
 use zarr_grids_keys::StoreKey;
-
-fn key(alloc: Global, text: &str) -> Result<StoreKey, CodecError> {
-    match StoreKey::new(String::from_str(alloc, text)?) {
-        Ok(key) => Ok(key),
-        Err(_) => Err(CodecError::Unsupported),
-    }
-}
 
 /// What a store answers, as a codec's.
 fn answered<T>(answer: Result<T, StorageError>) -> Result<T, CodecError> {
@@ -24,38 +18,20 @@ fn answered<T>(answer: Result<T, StorageError>) -> Result<T, CodecError> {
     }
 }
 
-/// A store with 1, 2, 3, 4 at a key.
-fn four_bytes(alloc: Global, key: &StoreKey) -> Result<MemoryStore, CodecError> {
-    let mut store = MemoryStore::new(alloc);
-    answered(store.set(key, &[1, 2, 3, 4]))?;
-    Ok(store)
+/// The key `a`.
+fn a(alloc: Global) -> Result<StoreKey, CodecError> {
+    answered(key(alloc, "a"))
 }
 
-/// The same store, which counts calls.
-fn counting(
-    alloc: Global,
-    key: &StoreKey,
-    takes_ranges: bool,
-) -> Result<CountingStore, CodecError> {
+/// A store with 1, 2, 3, 4 at `a`, which counts calls.
+fn counting(alloc: Global, takes_ranges: bool) -> Result<CountingStore, CodecError> {
     Ok(CountingStore {
-        inner: four_bytes(alloc, key)?,
+        inner: answered(four_bytes(alloc))?,
         takes_ranges,
         reads: 0,
         sets: 0,
         patches: 0,
     })
-}
-
-/// Whether a store has this value at a key.
-fn has<S: ReadableStorageTraits>(
-    store: &mut S,
-    key: &StoreKey,
-    want: &[u8],
-) -> Result<bool, CodecError> {
-    match answered(store.get(key))? {
-        Some(value) => Ok(value.as_slice() == want),
-        None => Ok(false),
-    }
 }
 
 /// 7, 7 from the second byte on, and 8, 8, 8 from the third.
@@ -71,58 +47,87 @@ fn two_patches(alloc: Global) -> Result<Vec<ValuePatch>, CodecError> {
     Ok(vec![in alloc; first, second]?)
 }
 
-#[test]
-fn ranges_are_one_call_of_a_store_that_takes_them(rt: HostRuntime) -> Result<(), CodecError> {
-    let alloc = rt.alloc();
-    let a = key(alloc, "a")?;
-    let mut store = counting(alloc, &a, true)?;
-    StoragePartialEncoder::new(&mut store, &a).partial_encode(alloc, two_patches(alloc)?)?;
-    assert!(rt; store.reads == 0 && store.sets == 0 && store.patches == 1);
-    assert!(rt; has(&mut store, &a, &[1, 7, 8, 8, 8])?);
-    Ok(())
+/// Writes the two patches into the value at a key.
+fn patch(alloc: Global, store: &mut CountingStore, key: &StoreKey) -> Result<(), CodecError> {
+    let patches = two_patches(alloc)?;
+    StoragePartialEncoder::new(store, key).partial_encode(alloc, patches)
+}
+
+/// How many calls read, set and write parts for the two patches, where the value is right then.
+fn count(alloc: Global, takes_ranges: bool) -> Result<Option<(u64, u64, u64)>, CodecError> {
+    let (key, mut store) = (a(alloc)?, counting(alloc, takes_ranges)?);
+    patch(alloc, &mut store, &key)?;
+    let counts = (store.reads, store.sets, store.patches);
+    let is_written = gets(&mut store, &key, Some(&[1, 7, 8, 8, 8]));
+    Ok(answered(is_written)?.then_some(counts))
 }
 
 #[test]
-fn a_store_that_takes_no_ranges_is_read_and_set(rt: HostRuntime) -> Result<(), CodecError> {
-    let alloc = rt.alloc();
-    let a = key(alloc, "a")?;
-    let mut store = counting(alloc, &a, false)?;
-    StoragePartialEncoder::new(&mut store, &a).partial_encode(alloc, two_patches(alloc)?)?;
-    assert!(rt; store.reads == 1 && store.sets == 1 && store.patches == 0);
-    assert!(rt; has(&mut store, &a, &[1, 7, 8, 8, 8])?);
-    Ok(())
+fn ranges_are_one_call_of_a_store_that_takes_them(rt: HostRuntime) {
+    assert!(rt; matches!(count(rt.alloc(), true), Ok(Some((0, 0, 1)))));
 }
 
 #[test]
-fn a_value_is_replaced_and_taken_away(rt: HostRuntime) -> Result<(), CodecError> {
-    let alloc = rt.alloc();
-    let a = key(alloc, "a")?;
-    let mut store = counting(alloc, &a, true)?;
-    let mut value = StoragePartialEncoder::new(&mut store, &a);
-    value.set(vec![in alloc; 5]?)?;
-    let one = value.size()?;
+fn a_store_that_takes_no_ranges_is_read_and_set(rt: HostRuntime) {
+    assert!(rt; matches!(count(rt.alloc(), false), Ok(Some((1, 1, 0)))));
+}
+
+/// The size of a value that is replaced by one byte.
+fn size_of_one<E: BytesPartialEncoderTraits>(
+    alloc: Global,
+    value: &mut E,
+) -> Result<Option<u64>, CodecError> {
+    value.set([5].to_vec(alloc)?)?;
+    value.size()
+}
+
+/// The size of a value that is taken away, and whether it is there.
+fn size_of_none<E: BytesPartialEncoderTraits>(
+    value: &mut E,
+) -> Result<(Option<u64>, bool), CodecError> {
     value.erase()?;
-    let none = value.size()?;
-    let there = value.exists()?;
-    assert!(rt; one == Some(1) && none == None && !there);
-    Ok(())
+    Ok((value.size()?, value.exists()?))
+}
+
+/// Both of the value at `a`.
+fn sizes(alloc: Global) -> Result<(Option<u64>, Option<u64>, bool), CodecError> {
+    let (key, mut store) = (a(alloc)?, answered(four_bytes(alloc))?);
+    let mut value = StoragePartialEncoder::new(&mut store, &key);
+    let one = size_of_one(alloc, &mut value)?;
+    let (none, there) = size_of_none(&mut value)?;
+    Ok((one, none, there))
+}
+
+#[test]
+fn a_value_is_replaced_and_taken_away(rt: HostRuntime) {
+    assert!(rt; matches!(sizes(rt.alloc()), Ok((Some(1), None, false))));
+}
+
+/// Whether a value is not taken away.
+fn stays<E: BytesPartialEncoderTraits>(value: &mut E) -> bool {
+    value.erase().is_err()
+}
+
+/// Whether a store had a reason to refuse, which is taken now.
+fn tells_why(value: &mut StoragePartialEncoder<'_, Store>) -> bool {
+    value.take_refusal().is_some()
 }
 
 /// Whether an erasure is refused by the store, and its reason is kept until it is taken.
-fn keeps_the_reason(store: &mut RefusingStore<MemoryStore>, key: &StoreKey) -> bool {
+fn keeps_the_reason(store: &mut Store, key: &StoreKey) -> bool {
     let mut value = StoragePartialEncoder::new(store, key);
-    let is_refused = value.erase().is_err();
-    let why = value.take_refusal().is_some();
-    let later = value.take_refusal().is_some();
-    is_refused && why && !later
+    stays(&mut value) && tells_why(&mut value) && !tells_why(&mut value)
+}
+
+/// The same where the value is left as it was.
+fn is_refused(alloc: Global) -> Result<bool, CodecError> {
+    let (key, store) = (a(alloc)?, answered(four_bytes(alloc))?);
+    let mut store = RefusingStore::new(store, CallKind::Write, 1);
+    let is_kept = keeps_the_reason(&mut store, &key);
+    Ok(is_kept && answered(gets(&mut store, &key, Some(&[1, 2, 3, 4])))?)
 }
 
 #[test]
-fn it_keeps_why_the_store_refused(rt: HostRuntime) -> Result<(), CodecError> {
-    let alloc = rt.alloc();
-    let a = key(alloc, "a")?;
-    let mut store = RefusingStore::new(four_bytes(alloc, &a)?, CallKind::Write, 1);
-    assert!(rt; keeps_the_reason(&mut store, &a));
-    assert!(rt; has(&mut store, &a, &[1, 2, 3, 4])?);
-    Ok(())
+fn it_keeps_why_the_store_refused(rt: HostRuntime) {
+    assert!(rt; matches!(is_refused(rt.alloc()), Ok(true)));
 }

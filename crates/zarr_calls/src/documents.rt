@@ -1,11 +1,10 @@
 //! Array documents.
-use crate::byte_codecs::TestCodec;
-use crate::chains::texts;
-use crate::words::{cut, numbers, numbers_in, refused, word};
 use anyhow::{Context, Result};
 use serde_json::Value;
 use std::alloc::Global;
 use zarr_array_metadata::{ArrayDocument, read_document, written_document};
+use zarr_calls_kinds::TestCodec;
+use zarr_calls_kinds::words::{cut, numbers, numbers_in, refused, texts_of, word};
 use zarr_codecs_arrays::Elements;
 use zarr_grids_chunk_grids::ChunkGridTraits;
 
@@ -30,7 +29,7 @@ fn document_in(alloc: Global, text: &str) -> Result<ArrayDocument<TestCodec>> {
 /// The metadata of each codec of a document.
 fn codecs(alloc: Global, text: &str) -> Result<String> {
     let metadatas = document_in(alloc, text)?.codecs.create_metadatas(alloc)?;
-    texts(alloc, metadatas.as_slice())
+    texts_of(alloc, metadatas.as_slice())
 }
 
 /// Whether a document is read, or why not.

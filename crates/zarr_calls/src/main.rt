@@ -4,20 +4,9 @@
 //! line for each of them. calls/README.md lists the calls.
 #![tactic(auto)]
 
-mod arrays;
-mod byte_codecs;
 mod chains;
-mod counting_source;
 mod documents;
-mod elements;
-mod grids;
-mod keys;
 mod lines;
-mod metadata;
-mod parts;
-mod raw;
-mod types;
-mod words;
 
 fn main(rt: HostRuntime) -> anyhow::Result<()> {
     lines::answer_lines(rt.alloc(), rt.stdin(), &mut rt.stdout())

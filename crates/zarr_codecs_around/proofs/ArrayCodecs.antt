@@ -14,11 +14,11 @@ use Rattle.zarr_codecs_meaning.specs.Payloads.{Payload}
 use Rattle.zarr_codecs_meaning.specs.Places.{encoded_shape, gather, position_of, source_places, undone_places}
 use Rattle.zarr_codecs_meaning.specs.Refusals.{CodecRefuses, PassesIndex}
 use Rattle.zarr_codecs_meaning.specs.Standing.{Stands}
-use Rattle.zarr_codecs_meaning.specs.Types.{DataType, Cell, is_value, Elements}
+use Rattle.zarr_codecs_meaning.specs.Types.{DataType, Cell, is_value, Elements, IsTooLarge}
 use Rattle.zarr_codecs_meaning.proofs.ArrayCodecs.{length-gather, values_gathered, array_codec_count}
 use Rattle.zarr_codecs_meaning.proofs.DecodedValues.{decoded_cells}
 use Rattle.zarr_codecs_meaning.proofs.Lists.{some_same}
-use Rattle.zarr_codecs_arrays.specs.Outcomes.{IsTooLarge, IsCounted, IsInvalid}
+use Rattle.zarr_codecs_arrays.specs.Outcomes.{IsCounted, IsInvalid}
 use Rattle.zarr_codecs_arrays.specs.Views.{payload_of}
 use Rattle.zarr_codecs_arrays.specs.declared.array_bytes.ArrayBytes.{ArrayBytes}
 use Rattle.zarr_codecs_arrays.specs.declared.error.CodecError.{CodecError}

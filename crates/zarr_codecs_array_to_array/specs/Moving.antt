@@ -5,8 +5,8 @@ use Rattle.zarr_grids_boxes.specs.Boxes.{product, place_at, ravel}
 use Rattle.zarr_codecs_meaning.specs.Chains.{ArrayCodec}
 use Rattle.zarr_codecs_meaning.specs.Payloads.{Payload, cells_in}
 use Rattle.zarr_codecs_meaning.specs.Places.{gather, position_of, source_places}
-use Rattle.zarr_codecs_meaning.specs.Types.{Cell, Elements, DataType}
-use Rattle.zarr_codecs_arrays.specs.Outcomes.{IsTooLarge, IsInvalid, IsValid}
+use Rattle.zarr_codecs_meaning.specs.Types.{Cell, Elements, DataType, IsTooLarge}
+use Rattle.zarr_codecs_arrays.specs.Outcomes.{IsInvalid, IsValid}
 use Rattle.zarr_codecs_arrays.specs.Views.{payload_of}
 use Rattle.zarr_codecs_arrays.specs.declared.array_bytes.ArrayBytes.{ArrayBytes}
 use Rattle.zarr_codecs_arrays.specs.declared.error.CodecError.{CodecError}

@@ -1,14 +1,10 @@
 -- What calls that take elements answer.
-use Rattle.std.specs.Prelude.{◌≡◌, ◌⊎◌, ℕ, ◌*◌, ◌^◌, ◌≤◌, List, length, Some, None, Result, Ok, Err, true, false, MatchOption}
+use Rattle.std.specs.Prelude.{◌≡◌, ℕ, List, length, Some, None, Result, Ok, Err, true, false}
 use Rattle.std.specs.List.{list_all}
 use Rattle.zarr_codecs_meaning.specs.Payloads.{Payload, cells_in}
-use Rattle.zarr_codecs_meaning.specs.Types.{DataType, byte_width, Cell, is_value}
+use Rattle.zarr_codecs_meaning.specs.Types.{DataType, Cell, is_value}
 use Rattle.zarr_codecs_arrays.specs.declared.error.CodecError.{CodecError}
 use Rattle.zarr_codecs_arrays.specs.declared.error.CodecError.TheVariants as error
-
--- so many elements of a type have 2^63 bytes or more, or are as many
-abbrev pub IsTooLarge : DataType → ℕ → Type 0
-IsTooLarge type count = (2 ^ 63 ≤ count) ⊎ MatchOption (byte_width type) ⊥ (λ width. 2 ^ 63 ≤ count * width)
 
 -- a payload is so many elements of a type
 pub record IsCounted (type : DataType) (payload : Payload) (count : ℕ) (cells : List Cell) : Type 0 where

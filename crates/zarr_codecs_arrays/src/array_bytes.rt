@@ -29,7 +29,8 @@ impl ArrayBytes {
     ghost use Rattle.zarr_codecs_meaning.specs.Types as types;
     ghost use Rattle.zarr_codecs_types.specs.Views.{type_of};
     ghost use Rattle.zarr_codecs_arrays.specs.Views.{payload_of, elements_of};
-    ghost use Rattle.zarr_codecs_arrays.specs.Outcomes.{TestsCount, Validates, IsTooLarge};
+    ghost use Rattle.zarr_codecs_arrays.specs.Outcomes.{TestsCount, Validates};
+    ghost use Rattle.zarr_codecs_meaning.specs.Types.{IsTooLarge};
 
     /// As many elements as asked for, each the fill value. `Size` where they would have 2^63 bytes
     /// or more. Of a type whose elements have no bytes it makes none, and answers `Memory`.

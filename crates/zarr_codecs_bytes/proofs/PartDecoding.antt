@@ -9,7 +9,7 @@ use Rattle.std.proofs.Math.Seq.{take-nil}
 use Rattle.std.proofs.Math.Nat.{mul-div_left, mul-le-mul_right}
 use Rattle.zarr_grids_boxes.specs.Boxes.{Region, product, places, ravel}
 use Rattle.zarr_grids_boxes.proofs.InBox.{length-places}
-use Rattle.zarr_codecs_meaning.specs.Types.{DataType, components, bytes_in, is_fixed, byte_width, Cell, of_bytes, cell_bytes, is_value, Elements}
+use Rattle.zarr_codecs_meaning.specs.Types.{DataType, components, bytes_in, is_fixed, byte_width, Cell, of_bytes, cell_bytes, is_value, Elements, IsTooLarge}
 use Rattle.zarr_codecs_meaning.specs.Chains.{Endianness, Chain}
 use Rattle.zarr_codecs_meaning.specs.Chains.Chain.{bytes}
 use Rattle.zarr_codecs_meaning.specs.Places.{gather}
@@ -18,7 +18,7 @@ use Rattle.zarr_codecs_meaning.specs.Decoding.{all_there, tested, element_at, is
 use Rattle.zarr_codecs_meaning.specs.Fits.{fits}
 use Rattle.zarr_codecs_meaning.specs.Payloads.{Payload, fixed, fixed_cells, cells_in}
 use Rattle.zarr_codecs_meaning.proofs.Lists.{some_same}
-use Rattle.zarr_codecs_arrays.specs.Outcomes.{IsTooLarge, IsValid, Validates}
+use Rattle.zarr_codecs_arrays.specs.Outcomes.{IsValid, Validates}
 use Rattle.zarr_codecs_arrays.specs.declared.array_bytes.ArrayBytes.{ArrayBytes}
 use Rattle.zarr_codecs_arrays.specs.declared.error.CodecError.{CodecError}
 use Rattle.zarr_codecs_arrays.specs.declared.error.CodecError.TheVariants as error

@@ -3,8 +3,7 @@ ghost use Rattle.std.specs.Prelude.{◌≡◌, ◌≢◌, ◌*◌, ◌^◌, ◌+
 ghost use Rattle.std.specs.List.{list_any};
 ghost use Rattle.zarr_grids_boxes.specs.Boxes.{each2, product};
 ghost use Rattle.zarr_grids_boxes.specs.Cuts.{IsAtMost};
-ghost use Rattle.zarr_codecs_meaning.specs.Types.{is_fixed};
-ghost use Rattle.zarr_codecs_arrays.specs.Outcomes.{IsTooLarge};
+ghost use Rattle.zarr_codecs_meaning.specs.Types.{is_fixed, IsTooLarge};
 ghost use Rattle.zarr_codecs_arrays.specs.Views.{elements_of};
 ghost use Rattle.zarr_codecs_traits.specs.Sources.{bytes_at, bytes_in_ranges};
 

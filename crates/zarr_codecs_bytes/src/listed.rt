@@ -2,8 +2,7 @@
 ghost use Rattle.std.specs.Prelude.{◌≡◌, ◌≢◌, ◌*◌, ◌+◌, ◌≤◌, ◌<◌, ◌^◌, ℕ, List, None, Some, length, true, option_map, IsTrue, IfOk, IfErr};
 ghost use Rattle.zarr_grids_boxes.specs.Boxes.{product};
 ghost use Rattle.zarr_codecs_meaning.specs.Chains.{Chain};
-ghost use Rattle.zarr_codecs_meaning.specs.Types.{is_fixed};
-ghost use Rattle.zarr_codecs_arrays.specs.Outcomes.{IsTooLarge};
+ghost use Rattle.zarr_codecs_meaning.specs.Types.{is_fixed, IsTooLarge};
 ghost use Rattle.zarr_codecs_arrays.specs.Views.{elements_of};
 ghost use Rattle.zarr_codecs_traits.specs.Sources.{ReadRefused, refused_after};
 ghost use Rattle.zarr_codecs_bytes.specs.Parts.{GivesListed, HasFound, HasListed, IsListed, fits_listed, listed_width, most_of_listed};

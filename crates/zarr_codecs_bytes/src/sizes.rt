@@ -1,9 +1,8 @@
 //! How many bytes elements of one size have.
 ghost use Rattle.std.specs.Prelude.{◌≡◌, ◌≢◌, ◌*◌, ◌^◌, ◌<◌, length, true, IfOk, IfErr};
 ghost use Rattle.zarr_grids_boxes.specs.Boxes.{product};
-ghost use Rattle.zarr_codecs_meaning.specs.Types.{components, bytes_in, is_fixed};
+ghost use Rattle.zarr_codecs_meaning.specs.Types.{components, bytes_in, is_fixed, IsTooLarge};
 ghost use Rattle.zarr_codecs_types.specs.Views.{type_of, components_of};
-ghost use Rattle.zarr_codecs_arrays.specs.Outcomes.{IsTooLarge};
 ghost use Rattle.zarr_codecs_bytes.specs.Orders.{have_one_byte};
 
 use zarr_codecs_arrays::CodecError;

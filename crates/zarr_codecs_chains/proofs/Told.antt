@@ -3,14 +3,13 @@ use Rattle.std.proofs.Common.{rules, ◌≡◌, ◌∙◌, ◌⊎◌, ℕ, ◌*�
 use Rattle.std.specs.Prelude.{IfErr, IsTrue, MatchOption, unwrap_or}
 use Rattle.std.proofs.lemmas.Bool.{and_left, and_parts, true≢false}
 use Rattle.zarr_grids_boxes.specs.Boxes.{product}
-use Rattle.zarr_codecs_meaning.specs.Types.{DataType, bool, bytes_in, components, inner_type, is_fixed}
+use Rattle.zarr_codecs_meaning.specs.Types.{DataType, bool, bytes_in, components, inner_type, is_fixed, IsTooLarge}
 use Rattle.zarr_codecs_meaning.specs.Chains.{ArrayCodec, ByteCodec, Chain, Endianness}
 use Rattle.zarr_codecs_meaning.specs.Chains.Chain.{bytes, optional}
 use Rattle.zarr_codecs_meaning.specs.Fits.{array_codec_fits, fits, takes_each_shape}
 use Rattle.zarr_codecs_meaning.proofs.KeptOptions.{options_fit}
 use Rattle.zarr_codecs_packbits.specs.Told.{RefusesToldSizes}
 use Rattle.zarr_codecs_meaning.specs.Places.{encoded_shape}
-use Rattle.zarr_codecs_arrays.specs.Outcomes.{IsTooLarge}
 use Rattle.zarr_codecs_arrays.specs.declared.error.CodecError.{CodecError}
 use Rattle.zarr_codecs_arrays.specs.declared.error.CodecError.TheVariants as error
 use Rattle.zarr_codecs_traits.specs.Representations.{IsRepresented, RepresentsArray, known_size, tells_too_long}

@@ -3,9 +3,9 @@ ghost use Rattle.std.specs.Prelude.{◌≡◌, ◌+◌, ◌<◌, ◌^◌, ℕ, L
 ghost use Rattle.zarr_grids_boxes.specs.Boxes.{product};
 ghost use Rattle.zarr_codecs_meaning.specs.Fits.{fits};
 ghost use Rattle.zarr_codecs_meaning.specs.Types as types;
-ghost use Rattle.zarr_codecs_meaning.specs.Types.{is_value};
+ghost use Rattle.zarr_codecs_meaning.specs.Types.{is_value, IsTooLarge};
 ghost use Rattle.zarr_codecs_types.specs.Views.{type_of};
-ghost use Rattle.zarr_codecs_arrays.specs.Outcomes.{IsTooLarge, IsValid};
+ghost use Rattle.zarr_codecs_arrays.specs.Outcomes.{IsValid};
 ghost use Rattle.zarr_codecs_arrays.specs.Views.{payload_of, elements_of};
 ghost use Rattle.zarr_codecs_traits.specs.Outcomes.{Encodes};
 ghost use Rattle.zarr_codecs_sections.specs.Outcomes.{IsContent};

@@ -1,5 +1,5 @@
 -- Data types and their cells.
-use Rattle.std.specs.Prelude.{ℕ, ◌+◌, ◌-◌, ◌/◌, ◌%◌, ◌^◌, List, [], ◌∷◌, length, take, drop, replicate, Option, Some, None, Bool, true, false, ◌&&◌, if◌then◌else◌, ◌==◌, nat_lt, bytes_eq}
+use Rattle.std.specs.Prelude.{◌⊎◌, ℕ, ◌+◌, ◌-◌, ◌*◌, ◌/◌, ◌%◌, ◌^◌, ◌≤◌, MatchOption, List, [], ◌∷◌, length, take, drop, replicate, Option, Some, None, Bool, true, false, ◌&&◌, if◌then◌else◌, ◌==◌, nat_lt, bytes_eq}
 use Rattle.std.specs.List.{list_all}
 use Rattle.zarr_codecs_meaning.specs.Numbers.{number}
 
@@ -77,6 +77,10 @@ bytes_in (c ∷ cs) = c.byte_count + bytes_in cs
 -- how many bytes each element takes, of a fixed type
 abbrev pub byte_width : DataType → Option ℕ
 byte_width type = if is_fixed type then Some (bytes_in (components type)) else None
+
+-- so many elements of a type have 2^63 bytes or more, or are as many
+abbrev pub IsTooLarge : DataType → ℕ → Type 0
+IsTooLarge type count = (2 ^ 63 ≤ count) ⊎ MatchOption (byte_width type) ⊥ (λ width. 2 ^ 63 ≤ count * width)
 
 -- an element: its bytes in memory, or for an optional type absent, or present with an element of the inner type
 pub data Cell : Type 0 where

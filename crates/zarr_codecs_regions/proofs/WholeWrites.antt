@@ -11,12 +11,12 @@ use Rattle.zarr_codecs_meaning.specs.Laws.{AreCells, IsLawfulChain}
 use Rattle.zarr_codecs_meaning.specs.Payloads.{Payload, cells_in}
 use Rattle.zarr_codecs_meaning.specs.Refusals.{CodecRefuses, PassesIndex}
 use Rattle.zarr_codecs_meaning.specs.Standing.{ChunkStands, Stands, Tight}
-use Rattle.zarr_codecs_meaning.specs.Types.{Cell, DataType, Elements, is_fill, is_value}
+use Rattle.zarr_codecs_meaning.specs.Types.{Cell, DataType, Elements, is_fill, is_value, IsTooLarge}
 use Rattle.zarr_codecs_meaning.proofs.Lists.{some_same}
 use Rattle.zarr_codecs_meaning.proofs.Meaning.{stands_decoded}
 use Rattle.zarr_codecs_meaning.proofs.Shards.{fill_is_replicate}
 use Rattle.zarr_codecs_meaning.proofs.Tight.{encoded_tight}
-use Rattle.zarr_codecs_arrays.specs.Outcomes.{IsCounted, IsInvalid, IsMiscounted, IsTooLarge, IsValid}
+use Rattle.zarr_codecs_arrays.specs.Outcomes.{IsCounted, IsInvalid, IsMiscounted, IsValid}
 use Rattle.zarr_codecs_arrays.specs.Views.{payload_of}
 use Rattle.zarr_codecs_arrays.specs.declared.error.CodecError.{CodecError}
 use Rattle.zarr_codecs_arrays.specs.declared.error.CodecError.TheVariants as error

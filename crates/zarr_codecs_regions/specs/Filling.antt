@@ -1,8 +1,7 @@
 -- Fill values that are put into a target.
 use Rattle.std.specs.Prelude.{◌≡◌, ◌≢◌, ◌⊎◌, ℕ, replicate, Some}
 use Rattle.zarr_codecs_meaning.specs.Payloads.{Payload, cells_in}
-use Rattle.zarr_codecs_meaning.specs.Types.{Elements}
-use Rattle.zarr_codecs_arrays.specs.Outcomes.{IsTooLarge}
+use Rattle.zarr_codecs_meaning.specs.Types.{Elements, IsTooLarge}
 use Rattle.zarr_codecs_arrays.specs.declared.error.CodecError.{CodecError}
 use Rattle.zarr_codecs_arrays.specs.declared.error.CodecError.TheVariants as error
 

@@ -6,8 +6,8 @@ use Rattle.zarr_codecs_meaning.specs.Chains.{Chain}
 use Rattle.zarr_codecs_meaning.specs.Chunks.{chunk_decoded}
 use Rattle.zarr_codecs_meaning.specs.Fits.{fits, is_plain}
 use Rattle.zarr_codecs_meaning.specs.Payloads.{Payload, cells_in}
-use Rattle.zarr_codecs_meaning.specs.Types.{Cell, Elements, is_fill}
-use Rattle.zarr_codecs_arrays.specs.Outcomes.{IsTooLarge, IsValid}
+use Rattle.zarr_codecs_meaning.specs.Types.{Cell, Elements, is_fill, IsTooLarge}
+use Rattle.zarr_codecs_arrays.specs.Outcomes.{IsValid}
 use Rattle.zarr_codecs_arrays.specs.Views.{payload_of}
 use Rattle.zarr_codecs_arrays.specs.declared.array_bytes.ArrayBytes.{ArrayBytes}
 use Rattle.zarr_codecs_arrays.specs.declared.error.CodecError.{CodecError}

@@ -19,5 +19,5 @@ pub use gather::gather_elements;
 pub use inside::is_inside;
 pub use list::{are_below, extract_list};
 pub use update::{extract_array_subset, update_array_bytes};
-pub use whole::{encode_whole, test_given};
+pub use whole::{count_asked, encode_whole, test_given};
 pub use whole_values::WholeValues;

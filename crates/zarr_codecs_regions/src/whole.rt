@@ -86,8 +86,8 @@ pub fn test_given<C: WholeValues>(
     bytes.validate(data_type, count)
 }
 
-/// How many places are asked for, if that is below 2^63.
-fn count_asked(shape: &[u64], indexer: Indexer<'_>) -> Option<u64>
+/// How many places are asked for; `None` only where the array has 2^63 places or more.
+pub fn count_asked(shape: &[u64], indexer: Indexer<'_>) -> Option<u64>
     requires inside { are_inside shape.now (asked_of indexer) ≡ true }
     ensures some { IfSome result (λ count.
         count ≡ length (numbers_asked shape.now (asked_of indexer.entry))) }

@@ -1,65 +1,56 @@
 //! Intervals of a source as sources, with values typed in by hand.
-use crate::samples::{elements_of, fixed_bytes};
+use crate::samples::{are, zeros};
 use std::alloc::Global;
-use zarr_codecs_arrays::CodecError;
-use zarr_codecs_chains::BytesCodec;
-use zarr_codecs_options::CodecOptions;
-use zarr_codecs_traits::{
-    ArrayPart, ArrayToBytesCodecTraits, ByteRange, BytesPartialDecoderTraits, Indexer,
-    IntervalSource, MemorySource,
+use zarr_codecs::{
+    ArrayBytes, ArrayPart, ArrayToBytesCodecTraits, ByteRange, BytesCodec,
+    BytesPartialDecoderTraits, CodecError, CodecOptions, Indexer, IntervalSource, MemorySource,
 };
 
 const EIGHT: [u8; 8] = [0, 1, 2, 3, 4, 5, 6, 7];
 
+/// The four bytes in the middle of eight.
+const MIDDLE: ByteRange = ByteRange {
+    offset: 2,
+    length: 4,
+};
+
 /// The cell with a number that `bytes` reads of four.
-fn read<D: BytesPartialDecoderTraits>(
+fn read(
     alloc: Global,
-    source: &mut D,
+    source: &mut IntervalSource<'_, MemorySource>,
     number: u64,
-) -> Result<Vec<u8>, CodecError> {
-    let elements = elements_of(alloc, r#""uint8""#, "0")?;
+) -> Result<ArrayBytes, CodecError> {
+    let elements = zeros(alloc)?;
     let part = ArrayPart {
         elements: &elements,
         shape: &[4],
         indexer: Indexer::List(&[number]),
     };
-    let (codec, options) = (BytesCodec::new(None), CodecOptions::default());
-    fixed_bytes(codec.partial_decode(alloc, source, part, &options)?)
+    BytesCodec::new(None).partial_decode(alloc, source, part, &CodecOptions::default())
 }
 
-/// The second cell of four that stand in the middle of eight bytes, and how many bytes are taken.
-fn of_interval(alloc: Global) -> Result<(Vec<u8>, u128), CodecError> {
+/// Whether the second cell of four that stand in the middle of eight bytes is this one, and how many bytes are taken for it.
+fn is_read(alloc: Global, want: u8) -> Result<(bool, u128), CodecError> {
     let mut source = MemorySource::new(Some(EIGHT.to_vec(alloc)?));
-    let range = ByteRange {
-        offset: 2,
-        length: 4,
-    };
     let mut interval = IntervalSource {
         source: &mut source,
-        range,
+        range: MIDDLE,
     };
     let found = read(alloc, &mut interval, 1)?;
-    Ok((found, source.given_bytes()))
+    Ok((are(&found, &[want]), source.given_bytes()))
 }
 
 #[test]
 fn an_interval_is_read_as_a_value(rt: HostRuntime) {
-    match of_interval(rt.alloc()) {
-        Ok((found, given)) => assert!(rt; found.as_slice() == [3].as_slice() && given == 1),
-        Err(_error) => assert!(rt; false),
-    }
+    assert!(rt; matches!(is_read(rt.alloc(), 3), Ok((true, 1))));
 }
 
 /// What a range past the end of an interval of four bytes in the middle of eight gives.
 fn past_the_interval(alloc: Global) -> Result<Option<Vec<Vec<u8>>>, CodecError> {
     let mut source = MemorySource::new(Some(EIGHT.to_vec(alloc)?));
-    let range = ByteRange {
-        offset: 2,
-        length: 4,
-    };
     let mut interval = IntervalSource {
         source: &mut source,
-        range,
+        range: MIDDLE,
     };
     let past = ByteRange {
         offset: 3,

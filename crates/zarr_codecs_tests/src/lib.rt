@@ -1,13 +1,11 @@
-//! Tests of data types, fill values, elements and codecs by their constructors, using only public names. What calls make of values is
-//! in the files of calls/.
+//! Tests of data types, fill values, elements and codecs that need code: constructors, intervals, targets and coders. What calls make
+//! of values is in the files of calls/, and in the scripts of `zarr_scarcity`.
 #![tactic(auto)]
 
 #[cfg(test)]
 mod bytes;
 #[cfg(test)]
 mod coders;
-#[cfg(test)]
-mod counting_source;
 #[cfg(test)]
 mod fill_values;
 #[cfg(test)]
@@ -25,10 +23,6 @@ mod regions;
 #[cfg(test)]
 mod samples;
 #[cfg(test)]
-mod sources;
-#[cfg(test)]
 mod targets;
 #[cfg(test)]
 mod two_numbers;
-#[cfg(test)]
-mod worked;

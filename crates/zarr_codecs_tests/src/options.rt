@@ -1,5 +1,5 @@
 //! Options of calls that encode and decode.
-use zarr_codecs_options::CodecOptions;
+use zarr_codecs::CodecOptions;
 
 #[test]
 fn options_are_false_by_default(rt: HostRuntime) {

@@ -1,14 +1,11 @@
 //! Values that are decoded into boxes of other elements, with bytes typed in by hand.
-use crate::samples::{elements_of, fixed};
+use crate::samples::{elements, fixed};
 use std::alloc::Global;
 use std::ops::Range;
-use zarr_codecs_arrays::{ArrayBytes, CodecError};
-use zarr_codecs_chains::BytesCodec;
-use zarr_codecs_options::CodecOptions;
-use zarr_codecs_traits::{
-    ArrayBytesDecodeIntoTarget, ArrayToBytesCodecTraits, OptionalTarget, TargetBytes, WholeArray,
+use zarr_codecs::{
+    ArrayBytes, ArrayBytesDecodeIntoTarget, ArraySubset, ArrayToBytesCodecTraits, BytesCodec,
+    CodecError, CodecOptions, FillValue, OptionalTarget, TargetBytes, WholeArray, data_type,
 };
-use zarr_grids_boxes::ArraySubset;
 
 /// Decodes two elements of 16 bits, the highest byte first, into a box of six in two rows.
 fn decode_two(
@@ -17,7 +14,7 @@ fn decode_two(
     bytes: &mut [u8],
     ranges: &[Range<u64>],
 ) -> Result<(), CodecError> {
-    let elements = elements_of(alloc, r#""uint16""#, "0")?;
+    let elements = elements(data_type::uint16(), FillValue::from_u16(alloc, 0)?)?;
     let region = ArraySubset::new_with_ranges(alloc, ranges)?;
     let array = WholeArray {
         elements: &elements,
@@ -58,19 +55,13 @@ fn a_damaged_value_leaves_the_target(rt: HostRuntime) {
     assert!(rt; bytes == NINES);
 }
 
-/// Three optional elements of one byte: 5, none, 7.
-fn five_none_seven(alloc: Global) -> Result<ArrayBytes, CodecError> {
-    let values = Box::new(alloc, fixed(alloc, &[5, 0, 7])?)?;
-    Ok(ArrayBytes::Optional(values, vec![in alloc; 1, 0, 1]?))
-}
-
-/// Puts these into a box of four elements, and tells whether that was done.
+/// Puts three elements into a box of four optional ones.
 fn put_three(
     alloc: Global,
     elements: &ArrayBytes,
     bytes: &mut [u8],
     mask: &mut [u8],
-) -> Result<bool, CodecError> {
+) -> Result<(), CodecError> {
     let region = ArraySubset::new_with_ranges(alloc, &[1..4])?;
     let inner = TargetBytes {
         bytes,
@@ -85,37 +76,32 @@ fn put_three(
         width: 1,
     };
     let mut target = OptionalTarget { inner, mask };
-    let count = target.num_elements();
-    match target.put(alloc, elements) {
-        Ok(()) => Ok(count == Some(3)),
-        Err(CodecError::ExpectedOptionalBytes) => Ok(false),
-        Err(error) => Err(error),
-    }
+    target.put(alloc, elements)
 }
 
-/// Whether a box of four bytes is this, and its mask that, once five, none and seven are put into it.
-fn are_put(alloc: Global, want: &[u8], present: &[u8]) -> Result<bool, CodecError> {
-    let (mut bytes, mut mask) = ([9, 9, 9, 9], [1, 1, 1, 1]);
-    let elements = five_none_seven(alloc)?;
-    let is_done = put_three(alloc, &elements, &mut bytes, &mut mask)?;
-    Ok(is_done && bytes.as_slice() == want && mask.as_slice() == present)
+/// Puts five, none and seven there.
+fn put_optional(alloc: Global, bytes: &mut [u8], mask: &mut [u8]) -> Result<(), CodecError> {
+    let values = Box::new(alloc, fixed(alloc, &[5, 0, 7])?)?;
+    let elements = ArrayBytes::Optional(values, vec![in alloc; 1, 0, 1]?);
+    put_three(alloc, &elements, bytes, mask)
 }
 
 #[test]
 fn optional_elements_have_a_mask(rt: HostRuntime) {
-    let made = are_put(rt.alloc(), &[9, 5, 0, 7], &[1, 1, 0, 1]);
-    assert!(rt; matches!(made, Ok(true)));
+    let (mut bytes, mut mask) = ([9, 9, 9, 9], [1, 1, 1, 1]);
+    assert!(rt; put_optional(rt.alloc(), &mut bytes, &mut mask).is_ok());
+    assert!(rt; bytes == [9, 5, 0, 7] && mask == [1, 1, 0, 1]);
 }
 
-/// Whether three elements without a mask are refused by a box of optional ones, and its bytes are still these.
-fn are_refused(alloc: Global, want: &[u8]) -> Result<bool, CodecError> {
-    let (mut bytes, mut mask) = ([9, 9, 9, 9], [1, 1, 1, 1]);
-    let elements = fixed(alloc, &[5, 6, 7])?;
-    let is_done = put_three(alloc, &elements, &mut bytes, &mut mask)?;
-    Ok(!is_done && bytes.as_slice() == want)
+/// Puts three bytes there that have no mask.
+fn put_plain(alloc: Global, bytes: &mut [u8], mask: &mut [u8]) -> Result<(), CodecError> {
+    put_three(alloc, &fixed(alloc, &[5, 6, 7])?, bytes, mask)
 }
 
 #[test]
 fn elements_without_a_mask_are_refused(rt: HostRuntime) {
-    assert!(rt; matches!(are_refused(rt.alloc(), &[9, 9, 9, 9]), Ok(true)));
+    let (mut bytes, mut mask) = ([9, 9, 9, 9], [1, 1, 1, 1]);
+    let refused = put_plain(rt.alloc(), &mut bytes, &mut mask);
+    assert!(rt; matches!(refused, Err(CodecError::ExpectedOptionalBytes)));
+    assert!(rt; bytes == [9, 9, 9, 9]);
 }

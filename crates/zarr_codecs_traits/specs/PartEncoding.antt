@@ -11,8 +11,8 @@ use Rattle.zarr_codecs_meaning.specs.Fits.{fits, is_lossless}
 use Rattle.zarr_codecs_meaning.specs.Payloads.{Payload}
 use Rattle.zarr_codecs_meaning.specs.Places.{places_of}
 use Rattle.zarr_codecs_meaning.specs.Standing.{Stands}
-use Rattle.zarr_codecs_meaning.specs.Types.{DataType, Cell, Elements, components, bytes_in, are_bytes}
-use Rattle.zarr_codecs_arrays.specs.Outcomes.{IsTooLarge, IsInvalid, IsValid}
+use Rattle.zarr_codecs_meaning.specs.Types.{DataType, Cell, Elements, components, bytes_in, are_bytes, IsTooLarge}
+use Rattle.zarr_codecs_arrays.specs.Outcomes.{IsInvalid, IsValid}
 use Rattle.zarr_codecs_arrays.specs.Values.{takes_all_bytes}
 use Rattle.zarr_codecs_arrays.specs.declared.error.CodecError.{CodecError}
 use Rattle.zarr_codecs_arrays.specs.declared.error.CodecError.TheVariants as error

@@ -13,9 +13,9 @@ use Rattle.zarr_codecs_meaning.specs.Payloads.{Payload}
 use Rattle.zarr_codecs_meaning.specs.Places.{encoded_shape, gather, index_shape, parts_of, place_numbers, source_places}
 use Rattle.zarr_codecs_meaning.specs.Refusals.{CodecRefuses, IsMade, PassesIndex}
 use Rattle.zarr_codecs_meaning.specs.Standing.{ChunkStands, Tight}
-use Rattle.zarr_codecs_meaning.specs.Types.{Cell, Elements, is_fill}
+use Rattle.zarr_codecs_meaning.specs.Types.{Cell, Elements, is_fill, IsTooLarge}
 use Rattle.zarr_sharding_changes.specs.Compactions.{compaction, damaged}
-use Rattle.zarr_codecs_arrays.specs.Outcomes.{IsTooLarge, IsInvalid, IsValid}
+use Rattle.zarr_codecs_arrays.specs.Outcomes.{IsInvalid, IsValid}
 use Rattle.zarr_codecs_arrays.specs.declared.error.CodecError.{CodecError}
 use Rattle.zarr_codecs_arrays.specs.declared.error.CodecError.TheVariants as error
 use Rattle.zarr_codecs_traits.specs.Indexers.{Asked, are_inside, numbers_asked, put}

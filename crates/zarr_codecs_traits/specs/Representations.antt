@@ -8,8 +8,7 @@ use Rattle.zarr_codecs_meaning.specs.Chains.BytesRepresentation.{fixed_size, bou
 use Rattle.zarr_codecs_meaning.specs.Chains.Chain.{bytes, packbits, vlen, optional, after_array_codec, then_bytes, sharded}
 use Rattle.zarr_codecs_meaning.specs.Fits.{bound_of, fits, representation_of}
 use Rattle.zarr_codecs_meaning.specs.Places.{Part, encoded_shape, index_shape, parts_of}
-use Rattle.zarr_codecs_meaning.specs.Types.{DataType, bool, uint64, inner_type}
-use Rattle.zarr_codecs_arrays.specs.Outcomes.{IsTooLarge}
+use Rattle.zarr_codecs_meaning.specs.Types.{DataType, bool, uint64, inner_type, IsTooLarge}
 use Rattle.zarr_codecs_arrays.specs.declared.error.CodecError.{CodecError}
 use Rattle.zarr_codecs_arrays.specs.declared.error.CodecError.TheVariants as error
 use Rattle.zarr_codecs_traits.specs.declared.bytes_representation.BytesRepresentation.{BytesRepresentation}

@@ -4,9 +4,9 @@
 /// specification, "Codecs": `compute_encoded_size`).
 #[derive(Clone, Copy, Debug, PartialEq, Eq)]
 pub enum BytesRepresentation {
-    /// So many.
+    /// Exactly this many bytes.
     FixedSize(u64),
-    /// At most so many.
+    /// At most this many bytes.
     BoundedSize(u64),
     /// Nothing is known.
     UnboundedSize,

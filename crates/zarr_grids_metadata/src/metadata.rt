@@ -109,6 +109,8 @@ impl MetadataV3 {
         self.as_point().to_value(alloc)
     }
 
+    /// The name of the grid, key encoding, codec or data type, as the document gives it (Zarr core
+    /// specification, "Extension definition").
     pub fn name(&self) -> &str
         ensures { result.now ≡ (point_of self.now).name }
     {

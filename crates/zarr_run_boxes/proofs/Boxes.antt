@@ -17,9 +17,8 @@ use Rattle.zarr_grids_dimensions.proofs.Intersecting.{lies_in_interval_some}
 use Rattle.zarr_grids_cover.specs.Intersecting.{AreIntersecting}
 use Rattle.zarr_grids_cover.specs.Sizes.{HasChunkOf}
 use Rattle.zarr_grids_cover.proofs.ChunkLaws.{IsInGrid-covered}
-use Rattle.zarr_codecs_meaning.specs.Types.{DataType, byte_width}
+use Rattle.zarr_codecs_meaning.specs.Types.{DataType, byte_width, IsTooLarge}
 use Rattle.zarr_codecs_meaning.specs.Payloads.{Payload, cells_in}
-use Rattle.zarr_codecs_arrays.specs.Outcomes.{IsTooLarge}
 use Rattle.zarr_codecs_arrays.specs.Views.{payload_of}
 use Rattle.zarr_codecs_arrays.specs.declared.array_bytes.ArrayBytes.{ArrayBytes}
 use Rattle.zarr_array_core.proofs.Listed.{intersecting_listed, listed_number}

@@ -7,7 +7,7 @@ ghost use Rattle.zarr_grids_cover.specs.Intersecting.{AreIntersecting};
 ghost use Rattle.zarr_array_core.specs.Outcomes.{IsSmall};
 ghost use Rattle.zarr_array_core.specs.Views.{document_of};
 ghost use Rattle.zarr_codecs_types.specs.Views.{type_of};
-ghost use Rattle.zarr_codecs_arrays.specs.Outcomes.{IsTooLarge};
+ghost use Rattle.zarr_codecs_meaning.specs.Types.{IsTooLarge};
 ghost use Rattle.zarr_run_meaning.specs.Causes.{HasTooLargeChunk};
 ghost use Rattle.zarr_run_boxes.specs.Outcomes.{ChunkRefused, ChunksRefused};
 

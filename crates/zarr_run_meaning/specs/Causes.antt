@@ -9,8 +9,7 @@ use Rattle.zarr_grids_keys.specs.Documents.{document_key}
 use Rattle.zarr_grids_keys.specs.Keys.{chunk_key}
 use Rattle.zarr_grids_keys.specs.declared.document_name.DocumentName.TheVariants.{ZarrJson, ZArray}
 use Rattle.zarr_grids_metadata.specs.Trees.{SameTree}
-use Rattle.zarr_codecs_arrays.specs.Outcomes.{IsTooLarge}
-use Rattle.zarr_codecs_meaning.specs.Types.{Cell}
+use Rattle.zarr_codecs_meaning.specs.Types.{Cell, IsTooLarge}
 use Rattle.zarr_codecs_metadata.specs.Chains.{ReadsCodecs}
 use Rattle.zarr_codecs_options.specs.declared.codec_options.CodecOptions.{CodecOptions}
 use Rattle.zarr_codecs_types.specs.Given.{GivenCells, given_in}

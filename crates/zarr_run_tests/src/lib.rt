@@ -5,10 +5,6 @@
 #[cfg(test)]
 mod answers;
 #[cfg(test)]
-mod changing_store;
-#[cfg(test)]
-mod counting_store;
-#[cfg(test)]
 mod lines;
 #[cfg(test)]
 mod refusing_codec;
@@ -18,3 +14,5 @@ mod samples;
 mod sessions;
 #[cfg(test)]
 mod streams;
+#[cfg(test)]
+mod test_store;

@@ -2,15 +2,19 @@
 
 use std::alloc::{AllocError, Global};
 use zarr_run::{
-    BytesToBytesCodecTraits, Command, MemoryStore, ReadableStorageTraits, Reply, ReverseCodec,
-    Session, StoreKey, WritableStorageTraits, push_answer, read_command,
+    BytesToBytesCodecTraits, Command, DataType, MemoryStore, ReadableStorageTraits, Reply,
+    ReverseCodec, Session, StoreKey, WritableStorageTraits, push_answer, read_command,
 };
 
 /// Creates an array of 4 by 4 zeros in chunks of 2 by 2.
 pub(crate) const CREATE: &str =
     r#"{"op":"create","path":"/a","document":{"zarr_format":3,"node_type":"array","shape":[4,4],"data_type":"uint8","chunk_grid":{"name":"regular","configuration":{"chunk_shape":[2,2]}},"chunk_key_encoding":{"name":"default"},"fill_value":0,"codecs":["bytes"]}}"#;
 
-/// Reads the middle columns of the array, once its middle was written with 1, 2, 3, 4.
+/// Writes its middle.
+pub(crate) const WRITE: &str =
+    r#"{"op":"write_box","path":"/a","box":[[1,3],[1,3]],"cells":[1,2,3,4]}"#;
+
+/// Reads its middle columns.
 pub(crate) const READ: &str = r#"{"op":"read_box","path":"/a","box":[[0,4],[1,3]]}"#;
 
 pub(crate) const READ_ANSWER: &str = r#"{"cells":[0,0,1,2,3,4,0,0]}"#;
@@ -35,43 +39,16 @@ pub(crate) fn command(alloc: Global, line: &str) -> Result<Command, AllocError> 
     }
 }
 
-/// Creates at `/a` an array of four cells in chunks of two, of a data type with a fill value and
-/// codecs.
-fn create_row(
+/// Whether a reply about cells of a type, or of no array, is answered by this text.
+pub(crate) fn is_answered(
     alloc: Global,
-    (data_type, fill, codecs): (&str, &str, &str),
-) -> Result<Command, AllocError> {
-    let line = format!(in alloc;
-        r#"{{"op":"create","path":"/a","document":{{"zarr_format":3,"node_type":"array","shape":[4],"data_type":"{data_type}","chunk_grid":{{"name":"regular","configuration":{{"chunk_shape":[2]}}}},"chunk_key_encoding":"default","fill_value":{fill},"codecs":{codecs}}}}}"#
-    )?;
-    command(alloc, line.as_str())
-}
-
-/// Whether a reply of a session about `/a` is answered by this text.
-pub(crate) fn is_answered<S: WritableStorageTraits, B: BytesToBytesCodecTraits>(
-    alloc: Global,
-    session: &Session<S, B>,
+    data_type: Option<&DataType>,
     reply: &Reply,
     want: &str,
 ) -> Result<bool, AllocError> {
     let mut text = Vec::new(alloc);
-    push_answer(&mut text, session.data_type_at("/a"), reply)?;
+    push_answer(&mut text, data_type, reply)?;
     Ok(text.as_slice() == want.as_bytes())
-}
-
-/// Whether replies of a session about `/a` are answered by these texts.
-pub(crate) fn are_answered<S: WritableStorageTraits, B: BytesToBytesCodecTraits>(
-    alloc: Global,
-    session: &Session<S, B>,
-    replies: &[Reply],
-    wants: &[&str],
-) -> Result<bool, AllocError> {
-    for (reply, want) in replies.iter().zip(wants) {
-        if !is_answered(alloc, session, reply, want)? {
-            return Ok(false);
-        }
-    }
-    Ok(replies.len() == wants.len())
 }
 
 /// Whether a session answers a command by this text.
@@ -82,26 +59,33 @@ pub(crate) fn does<S: WritableStorageTraits, B: BytesToBytesCodecTraits>(
     want: &str,
 ) -> Result<bool, AllocError> {
     let reply = session.step(command);
-    is_answered(alloc, session, &reply, want)
+    is_answered(alloc, session.data_type_at("/a"), &reply, want)
 }
 
-/// Whether a session answers a line by this text.
-pub(crate) fn answers<S: WritableStorageTraits, B: BytesToBytesCodecTraits>(
+/// Whether a session answers each of these lines so.
+pub(crate) fn talks<S: WritableStorageTraits, B: BytesToBytesCodecTraits>(
     alloc: Global,
     session: &mut Session<S, B>,
-    line: &str,
-    want: &str,
+    talk: &[(&str, &str)],
 ) -> Result<bool, AllocError> {
-    does(alloc, session, &command(alloc, line)?, want)
+    for (line, want) in talk {
+        if !does(alloc, session, &command(alloc, line)?, want)? {
+            return Ok(false);
+        }
+    }
+    Ok(true)
 }
 
-/// Whether a session creates the array of four cells of a data type with a fill value and codecs.
+/// Whether a session creates at `/a` an array of four cells in chunks of two, of a data type with a fill value and codecs.
 pub(crate) fn creates<S: WritableStorageTraits, B: BytesToBytesCodecTraits>(
     alloc: Global,
     session: &mut Session<S, B>,
-    row: (&str, &str, &str),
+    (data_type, fill, codecs): (&str, &str, &str),
 ) -> Result<bool, AllocError> {
-    does(alloc, session, &create_row(alloc, row)?, DONE)
+    let line = format!(in alloc;
+        r#"{{"op":"create","path":"/a","document":{{"zarr_format":3,"node_type":"array","shape":[4],"data_type":"{data_type}","chunk_grid":{{"name":"regular","configuration":{{"chunk_shape":[2]}}}},"chunk_key_encoding":"default","fill_value":{fill},"codecs":{codecs}}}}}"#
+    )?;
+    talks(alloc, session, &[(line.as_str(), DONE)])
 }
 
 /// Whether a store has this value at a key.

@@ -1,33 +1,19 @@
-//! Sessions by typed commands.
+//! Sessions by typed commands, over stores that count or change, and with a codec that refuses.
 
-use crate::changing_store::ChangingStore;
-use crate::counting_store::CountingStore;
 use crate::refusing_codec::RefusingCodec;
 use crate::samples::{
-    CREATE, DONE, MemorySession, READ, READ_ANSWER, REOPEN, answers, are_answered, command,
-    creates, does, has, has_keys, new_session,
+    CREATE, DONE, MemorySession, READ, READ_ANSWER, REOPEN, WRITE, command, creates, does, has,
+    has_keys, is_answered, new_session, talks,
 };
+use crate::test_store::TestStore;
 use std::alloc::{AllocError, Global};
 use zarr_run::{
-    ArrayBytes, ArraySubset, BytesToBytesCodecTraits, CodecOptions, Command, CommandCells,
-    MemoryStore, Reply, ReverseCodec, Session, StorageError, StoreKey, WritableStorageTraits, run,
-    run_on,
+    ArrayBytes, ArraySubset, CodecOptions, Command, CommandCells, DataType, MemoryStore,
+    ReverseCodec, Session, run_on,
 };
 
 /// The codec `bytes` with the highest byte first.
 const BIG: &str = r#"[{"name":"bytes","configuration":{"endian":"big"}}]"#;
-
-/// The codec `bytes`, and one that refuses the bytes 7, 8.
-const REFUSING: &str = r#"["bytes","x-refuse"]"#;
-
-/// Two places along each dimension, from the second one on.
-fn middle(alloc: Global) -> Result<ArraySubset, AllocError> {
-    let start = [1, 1].to_vec(alloc)?;
-    match ArraySubset::new_with_start_shape(start, [2, 2].to_vec(alloc)?) {
-        Ok(region) => Ok(region),
-        Err(_) => Err(AllocError),
-    }
-}
 
 /// These bytes as the cells of a command.
 fn cells_of(alloc: Global, cells: &[u8]) -> Result<CommandCells, AllocError> {
@@ -38,7 +24,7 @@ fn cells_of(alloc: Global, cells: &[u8]) -> Result<CommandCells, AllocError> {
 fn write(alloc: Global, cells: &[u8]) -> Result<Command, AllocError> {
     Ok(Command::WriteBox {
         path: String::from_str(alloc, "/a")?,
-        region: middle(alloc)?,
+        region: ArraySubset::new_with_ranges(alloc, &[1..3, 1..3])?,
         cells: cells_of(alloc, cells)?,
         options: CodecOptions::default(),
     })
@@ -54,69 +40,7 @@ fn write_first(alloc: Global, cells: &[u8]) -> Result<Command, AllocError> {
     })
 }
 
-/// Creates the array, writes its middle and reads the middle columns.
-fn commands(alloc: Global) -> Result<[Command; 3], AllocError> {
-    Ok([
-        command(alloc, CREATE)?,
-        write(alloc, &[1, 2, 3, 4])?,
-        command(alloc, READ)?,
-    ])
-}
-
-/// Runs commands over a store in memory.
-fn run_over(
-    alloc: Global,
-    store: MemoryStore,
-    commands: &[Command],
-) -> Result<(Vec<Reply>, MemoryStore), AllocError> {
-    match run::<MemoryStore, ReverseCodec>(alloc, store, commands) {
-        Ok(ran) => Ok(ran),
-        Err(_) => Err(AllocError),
-    }
-}
-
-/// A store with 1, 2, 3 at a key of a chunk.
-fn three_bytes(alloc: Global) -> Result<MemoryStore, StorageError> {
-    let mut store = MemoryStore::new(alloc);
-    let Ok(key) = StoreKey::new(String::from_str(alloc, "a/c/0/0")?) else {
-        return Err(StorageError::InvalidKey);
-    };
-    store.set(&key, &[1, 2, 3])?;
-    Ok(store)
-}
-
-/// Whether no command leaves a store with a value as it is.
-fn is_left(alloc: Global) -> Result<bool, StorageError> {
-    let (replies, mut store) = run_over(alloc, three_bytes(alloc)?, &[])?;
-    let has_value = has(alloc, &mut store, "a/c/0/0", &[1, 2, 3]);
-    Ok(replies.is_empty() && has_keys(&mut store, 1) && has_value)
-}
-
-#[test]
-fn no_command_leaves_the_store(rt: HostRuntime) {
-    assert!(rt; matches!(is_left(rt.alloc()), Ok(true)));
-}
-
-/// Whether replies about an array of the created type are answered by these texts.
-fn have_texts(alloc: Global, replies: &[Reply], wants: &[&str]) -> Result<bool, AllocError> {
-    let mut session = new_session(alloc);
-    let created = answers(alloc, &mut session, CREATE, DONE)?;
-    Ok(created && are_answered(alloc, &session, replies, wants)?)
-}
-
-/// Whether the commands are answered, and leave five keys and this value at one of them.
-fn are_run(alloc: Global, want: &[u8]) -> Result<bool, AllocError> {
-    let (replies, mut store) = run_over(alloc, MemoryStore::new(alloc), &commands(alloc)?)?;
-    let are_said = have_texts(alloc, replies.as_slice(), &[DONE, DONE, READ_ANSWER])?;
-    Ok(are_said && has_keys(&mut store, 5) && has(alloc, &mut store, "a/c/0/1", want))
-}
-
-#[test]
-fn commands_are_run_in_order(rt: HostRuntime) {
-    assert!(rt; matches!(are_run(rt.alloc(), &[0, 0, 2, 0]), Ok(true)));
-}
-
-/// Whether commands that are run on a session are answered by these texts.
+/// Whether commands that are run on a session are answered by these texts, where cells are bytes.
 fn does_all(
     alloc: Global,
     session: &mut MemorySession,
@@ -124,118 +48,69 @@ fn does_all(
     wants: &[&str],
 ) -> Result<bool, AllocError> {
     let replies = run_on(alloc, session, commands)?;
-    are_answered(alloc, session, replies.as_slice(), wants)
+    for (reply, want) in replies.iter().zip(wants) {
+        if !is_answered(alloc, Some(&DataType::UInt8), reply, want)? {
+            return Ok(false);
+        }
+    }
+    Ok(replies.len() == wants.len())
 }
 
-/// Whether a session runs a command, then two others, and then none.
-fn runs_more(alloc: Global) -> Result<bool, AllocError> {
-    let mut session = new_session(alloc);
-    let first = [command(alloc, CREATE)?];
-    let second = [write(alloc, &[1, 2, 3, 4])?, command(alloc, READ)?];
+/// Whether a session runs two commands, then another one, and then none.
+fn runs_more(alloc: Global, session: &mut MemorySession) -> Result<bool, AllocError> {
+    let first = [command(alloc, CREATE)?, write(alloc, &[1, 2, 3, 4])?];
+    let second = [command(alloc, READ)?];
     Ok(
-        does_all(alloc, &mut session, &first, &[DONE])?
-            && does_all(alloc, &mut session, &second, &[DONE, READ_ANSWER])?
-            && does_all(alloc, &mut session, &[], &[])?,
+        does_all(alloc, session, &first, &[DONE, DONE])?
+            && does_all(alloc, session, &second, &[READ_ANSWER])?
+            && does_all(alloc, session, &[], &[])?,
     )
 }
 
 #[test]
 fn more_commands_are_run_on_a_session(rt: HostRuntime) {
-    assert!(rt; matches!(runs_more(rt.alloc()), Ok(true)));
+    let mut session = new_session(rt.alloc());
+    assert!(rt; matches!(runs_more(rt.alloc(), &mut session), Ok(true)));
 }
 
-/// Whether a session answers each of these lines so.
-fn talks<S: WritableStorageTraits, B: BytesToBytesCodecTraits>(
-    alloc: Global,
-    session: &mut Session<S, B>,
-    talk: &[(&str, &str)],
-) -> Result<bool, AllocError> {
-    for (line, want) in talk {
-        if !answers(alloc, session, line, want)? {
-            return Ok(false);
-        }
-    }
-    Ok(true)
-}
-
-/// Writes the middle of the array.
-const WRITE: &str = r#"{"op":"write_box","path":"/a","box":[[1,3],[1,3]],"cells":[1,2,3,4]}"#;
-
-const FIRST: [(&str, &str); 3] = [(CREATE, DONE), (WRITE, DONE), (READ, READ_ANSWER)];
-
-const SECOND: [(&str, &str); 2] = [(REOPEN, DONE), (READ, READ_ANSWER)];
-
-/// Whether a session reads what another one wrote over the store that it left.
-fn is_left_to_the_next(alloc: Global) -> Result<bool, AllocError> {
-    let mut first = new_session(alloc);
-    let is_written = talks(alloc, &mut first, &FIRST)?;
-    let mut second: MemorySession = Session::new(alloc, first.close());
-    Ok(is_written && talks(alloc, &mut second, &SECOND)?)
-}
-
-#[test]
-fn a_closed_session_leaves_its_store_to_the_next(rt: HostRuntime) {
-    assert!(rt; matches!(is_left_to_the_next(rt.alloc()), Ok(true)));
-}
-
-/// Data types of cells with one byte or two, and bytes that are no two cells of them.
-const NO_CELLS: [(&str, &[u8]); 7] = [
-    ("uint8", &[]),
-    ("uint8", &[1]),
-    ("uint8", &[1, 2, 3]),
-    ("bool", &[1, 2]),
-    ("int4", &[0, 8]),
-    ("int16", &[1, 0, 2]),
-    ("int16", &[1, 0, 2, 0, 3, 0]),
+/// Data types of cells with one byte or two, fill values, and bytes that are no two cells of them.
+const NO_CELLS: [(&str, &str, &[u8]); 7] = [
+    ("uint8", "0", &[]),
+    ("uint8", "0", &[1]),
+    ("uint8", "0", &[1, 2, 3]),
+    ("bool", "false", &[1, 2]),
+    ("int4", "0", &[0, 8]),
+    ("int16", "0", &[1, 0, 2]),
+    ("int16", "0", &[1, 0, 2, 0, 3, 0]),
 ];
 
 /// Whether a session refuses bytes as the first chunk of cells of a type with a fill value.
 fn refuses(alloc: Global, data_type: &str, fill: &str, bytes: &[u8]) -> Result<bool, AllocError> {
-    let mut session = new_session(alloc);
-    if !creates(alloc, &mut session, (data_type, fill, BIG))? {
-        return Ok(false);
-    }
-    let wrote = write_first(alloc, bytes)?;
-    does(
+    let (wrote, mut session) = (write_first(alloc, bytes)?, new_session(alloc));
+    let is_made = creates(alloc, &mut session, (data_type, fill, BIG))?;
+    let is_refused = does(
         alloc,
         &mut session,
         &wrote,
         r#"{"applied":0,"refused":"Data"}"#,
-    )
-}
-
-/// The first of these bytes that aren't refused.
-fn first_accepted<'x>(
-    alloc: Global,
-    rows: &[(&str, &'x [u8])],
-) -> Result<Option<&'x [u8]>, AllocError> {
-    for (data_type, bytes) in rows {
-        let fill = if *data_type == "bool" { "false" } else { "0" };
-        if !refuses(alloc, data_type, fill, bytes)? {
-            return Ok(Some(bytes));
-        }
-    }
-    Ok(None)
+    )?;
+    Ok(is_made && is_refused)
 }
 
 #[test]
 fn bytes_that_are_no_cells_are_refused(rt: HostRuntime) {
-    assert!(rt; matches!(first_accepted(rt.alloc(), &NO_CELLS), Ok(None)));
+    for (data_type, fill, bytes) in NO_CELLS {
+        let refused = refuses(rt.alloc(), data_type, fill, bytes);
+        assert!(rt; matches!(refused, Ok(true)), "{data_type}");
+    }
 }
 
-const READ_THREE: [(&str, &str); 1] = [(
-    r#"{"op":"read_box","path":"/a","box":[[0,3]]}"#,
-    r#"{"cells":[1,-5,0]}"#,
-)];
-
-/// Whether typed cells of 16 bits are read as they are, and stored with the highest byte first.
+/// Whether typed cells of 16 bits are stored with the highest byte first.
 fn are_little_endian(alloc: Global) -> Result<bool, AllocError> {
-    let mut session = new_session(alloc);
+    let (wrote, mut session) = (write_first(alloc, &[1, 0, 251, 255])?, new_session(alloc));
     let is_made = creates(alloc, &mut session, ("int16", "0", BIG))?;
-    let cells = write_first(alloc, &[1, 0, 251, 255])?;
-    let is_read = does(alloc, &mut session, &cells, DONE)?
-        && talks(alloc, &mut session, &READ_THREE)?;
-    Ok(is_made && is_read && has(alloc, &mut session.close(), "a/c/0", &[0, 1, 255, 251]))
+    let is_written = does(alloc, &mut session, &wrote, DONE)?;
+    Ok(is_made && is_written && has(alloc, &mut session.close(), "a/c/0", &[0, 1, 255, 251]))
 }
 
 #[test]
@@ -243,15 +118,11 @@ fn typed_cells_are_little_endian(rt: HostRuntime) {
     assert!(rt; matches!(are_little_endian(rt.alloc()), Ok(true)));
 }
 
-/// A session with a codec that refuses the bytes 7, 8.
-type RefusingSession = Session<MemoryStore, RefusingCodec>;
+/// The codec `bytes`, and one that refuses the bytes 7, 8.
+const REFUSING: &str = r#"["bytes","x-refuse"]"#;
 
-/// Such a session over a store in memory that has no key.
-fn refusing_session(alloc: Global) -> RefusingSession {
-    Session::new(alloc, MemoryStore::new(alloc))
-}
-
-const SECOND_CHUNK_REFUSED: [(&str, &str); 2] = [
+/// The second of two chunks is refused. One of fill is not encoded.
+const CHUNKS_REFUSED: [(&str, &str); 4] = [
     (
         r#"{"op":"write_box","path":"/a","box":[[0,4]],"cells":[5,6,7,8]}"#,
         r#"{"applied":1,"refused":"Codec"}"#,
@@ -260,26 +131,8 @@ const SECOND_CHUNK_REFUSED: [(&str, &str); 2] = [
         r#"{"op":"read_box","path":"/a","box":[[0,4]]}"#,
         r#"{"cells":[5,6,0,0]}"#,
     ),
-];
-
-/// Whether the first of two chunks is kept where the codec refuses the second.
-fn keeps_the_first(alloc: Global) -> Result<bool, AllocError> {
-    let mut session = refusing_session(alloc);
-    let is_made = creates(alloc, &mut session, ("uint8", "0", REFUSING))?;
-    let is_refused = talks(alloc, &mut session, &SECOND_CHUNK_REFUSED)?;
-    let mut store = session.close();
-    let has_first = has_keys(&mut store, 2) && has(alloc, &mut store, "a/c/0", &[5, 6]);
-    Ok(is_made && is_refused && has_first)
-}
-
-#[test]
-fn a_codec_that_refuses_a_chunk_keeps_those_before_it(rt: HostRuntime) {
-    assert!(rt; matches!(keeps_the_first(rt.alloc()), Ok(true)));
-}
-
-const FILL_KEPT: [(&str, &str); 2] = [
     (
-        r#"{"op":"write_chunk","path":"/a","chunk":[0],"cells":[7,7]}"#,
+        r#"{"op":"write_chunk","path":"/a","chunk":[1],"cells":[0,0]}"#,
         DONE,
     ),
     (
@@ -288,16 +141,19 @@ const FILL_KEPT: [(&str, &str); 2] = [
     ),
 ];
 
-/// Whether the codec is asked for a chunk that is stored alone.
-fn encodes_what_is_stored(alloc: Global) -> Result<bool, AllocError> {
-    let mut session = refusing_session(alloc);
-    let is_made = creates(alloc, &mut session, ("uint8", "7", REFUSING))?;
-    Ok(is_made && talks(alloc, &mut session, &FILL_KEPT)?)
+/// Whether the first of two chunks is kept, and no other, where the codec refuses the second.
+fn keeps_the_first(alloc: Global) -> Result<bool, AllocError> {
+    let store = MemoryStore::new(alloc);
+    let mut session: Session<MemoryStore, RefusingCodec> = Session::new(alloc, store);
+    let is_made = creates(alloc, &mut session, ("uint8", "0", REFUSING))?;
+    let is_refused = talks(alloc, &mut session, &CHUNKS_REFUSED)?;
+    let mut store = session.close();
+    Ok(is_made && is_refused && has_keys(&mut store, 2) && has(alloc, &mut store, "a/c/0", &[5, 6]))
 }
 
 #[test]
-fn fill_is_encoded_only_where_it_is_stored(rt: HostRuntime) {
-    assert!(rt; matches!(encodes_what_is_stored(rt.alloc()), Ok(true)));
+fn a_codec_that_refuses_a_chunk_keeps_those_before_it(rt: HostRuntime) {
+    assert!(rt; matches!(keeps_the_first(rt.alloc()), Ok(true)));
 }
 
 const CHANGED: &str = r#"{"applied":0,"refused":"DocumentChanged"}"#;
@@ -310,43 +166,35 @@ const CHANGES: [(&str, &str); 4] = [
     (REOPEN, DONE),
 ];
 
-/// Whether a session over a store whose document changes notices it.
-fn notices(alloc: Global) -> Result<bool, AllocError> {
-    let store = ChangingStore {
+/// A session over a store in memory that counts calls, and gives so many values as they are.
+fn test_session(alloc: Global, calls_before: u64) -> Session<TestStore, ReverseCodec> {
+    let store = TestStore {
         inner: MemoryStore::new(alloc),
-        calls_before: 3,
+        calls_before,
+        fetches: 0,
+        patches: 0,
     };
-    let mut session: Session<ChangingStore, ReverseCodec> = Session::new(alloc, store);
-    talks(alloc, &mut session, &CHANGES)
+    Session::new(alloc, store)
 }
 
 #[test]
 fn a_document_that_changes_is_noticed(rt: HostRuntime) {
-    assert!(rt; matches!(notices(rt.alloc()), Ok(true)));
+    let mut session = test_session(rt.alloc(), 3);
+    assert!(rt; matches!(talks(rt.alloc(), &mut session, &CHANGES), Ok(true)));
 }
 
 /// Whether there is a type at `/a` once an array is created there, and none before and elsewhere.
-fn tells_types(alloc: Global) -> Result<bool, AllocError> {
-    let mut session = new_session(alloc);
+fn tells_types(alloc: Global, session: &mut MemorySession) -> Result<bool, AllocError> {
     let none = session.data_type_at("/a").is_none();
-    let is_made = answers(alloc, &mut session, CREATE, DONE)?;
+    let is_made = talks(alloc, session, &[(CREATE, DONE)])?;
     let one = session.data_type_at("/a").is_some() && session.data_type_at("/").is_none();
     Ok(none && is_made && one)
 }
 
 #[test]
 fn a_session_tells_the_types_of_its_arrays(rt: HostRuntime) {
-    assert!(rt; matches!(tells_types(rt.alloc()), Ok(true)));
-}
-
-/// A session over a store in memory that counts calls.
-fn counting_session(alloc: Global) -> Session<CountingStore, ReverseCodec> {
-    let store = CountingStore {
-        inner: MemoryStore::new(alloc),
-        fetches: 0,
-        patches: 0,
-    };
-    Session::new(alloc, store)
+    let mut session = new_session(rt.alloc());
+    assert!(rt; matches!(tells_types(rt.alloc(), &mut session), Ok(true)));
 }
 
 /// The first write finds no values. The second puts parts into three of them unread, and fetches
@@ -370,7 +218,7 @@ fn has_chunks(alloc: Global, store: &mut MemoryStore) -> bool {
 
 /// How many values are fetched, and how many are written in part, where all is answered and stored.
 fn count_calls(alloc: Global) -> Result<Option<(u64, u64)>, AllocError> {
-    let mut session = counting_session(alloc);
+    let mut session = test_session(alloc, u64::MAX);
     let is_done = talks(alloc, &mut session, &TWO_WRITES)?;
     let mut store = session.close();
     let is_stored = is_done && has_chunks(alloc, &mut store.inner);

@@ -1,15 +1,18 @@
-//! Chains of codecs: read from their metadata and written as it, copied, and values decoded and encoded by them, whole, and in
-//! part by their coders.
+//! Chains of codecs: read from their metadata and written as it, copied, and their values.
 
+use crate::elements::holding;
 use crate::stop::{Stop, expect};
-use serde_json::Value;
+use crate::texts::read_point;
+use crate::types::{read_fill, read_type};
+use crate::values::{Values, run as run_values};
 use std::alloc::Global;
 use zarr_codecs::{
-    ArraySubset, ArrayToBytesCodecTraits, BytesRepresentation, CodecChain, CodecError,
-    CodecOptions, CodecPartialEncoder, DataType, Elements, FillValue, Indexer, MemorySource,
-    MetadataV3, TargetBytes, WholeArray,
+    ArraySubset, ArrayToBytesCodecTraits, BytesPartialDecoderTraits, CodecChain, CodecOptions,
+    CodecPartialDecoder, Elements, Indexer, MetadataV3, TargetBytes, WholeArray,
 };
 use zarr_codecs_reverse::ReverseCodec;
+
+type Chain = CodecChain<ReverseCodec>;
 
 /// A chain, what the elements of an array are and its shape, a value that the chain makes of such elements, and the value where
 /// the first two elements have changed places.
@@ -87,121 +90,105 @@ const CASES: [Case; 5] = [
     },
 ];
 
+/// The data type and the fill value of a case.
 fn elements_of(alloc: Global, case: &Case) -> Result<Elements, Stop> {
-    let data_type = DataType::from_metadata(alloc, &Value::from_str(alloc, case.data_type)?)?;
-    let fill = FillValue::from_metadata(alloc, &data_type, &Value::from_str(alloc, case.fill)?)?;
+    let data_type = read_type(alloc, case.data_type)?;
+    let fill = read_fill(alloc, &data_type, case.fill)?;
     match Elements::new(data_type, fill) {
         Some(elements) => Ok(elements),
         None => Err(Stop::Other),
     }
 }
 
-/// The chain that codecs make, read once more from the metadata that it is written as, and copied.
-fn chain_of(alloc: Global, codecs: &[&str]) -> Result<CodecChain<ReverseCodec>, Stop> {
+/// The metadata of codecs.
+fn metadatas_of(alloc: Global, codecs: &[&str]) -> Result<Vec<MetadataV3>, Stop> {
     let mut metadatas = Vec::new(alloc);
     for codec in codecs {
-        metadatas.push(MetadataV3::from_text(alloc, codec)?)?;
+        metadatas.push(read_point(alloc, codec)?)?;
     }
-    let read: CodecChain<ReverseCodec> = CodecChain::from_metadata(alloc, metadatas.as_slice())?;
-    let metadatas = read.create_metadatas(alloc)?;
-    let again: CodecChain<ReverseCodec> = CodecChain::from_metadata(alloc, metadatas.as_slice())?;
+    Ok(metadatas)
+}
+
+/// The chain that metadata says.
+fn read_chain(alloc: Global, metadatas: &[MetadataV3]) -> Result<Chain, Stop> {
+    Ok(CodecChain::from_metadata(alloc, metadatas)?)
+}
+
+/// The metadata that a chain is written as.
+fn write_chain(alloc: Global, chain: &Chain) -> Result<Vec<MetadataV3>, Stop> {
+    Ok(chain.create_metadatas(alloc)?)
+}
+
+/// The chain that codecs make, read once more from the metadata that it is written as, and copied.
+fn chain_of(alloc: Global, codecs: &[&str]) -> Result<Chain, Stop> {
+    let read = read_chain(alloc, metadatas_of(alloc, codecs)?.as_slice())?;
+    let again = read_chain(alloc, write_chain(alloc, &read)?.as_slice())?;
     Ok(again.try_clone(alloc)?)
 }
 
-/// What a chain tells of itself and of an array: it fits, has no smaller parts, and compacts no value.
-fn tell(
-    alloc: Global,
-    chain: &CodecChain<ReverseCodec>,
-    elements: &Elements,
-    case: &Case,
-) -> Result<(), Stop> {
-    let data_type = elements.data_type();
-    expect(chain.fits(alloc, data_type, case.shape)?)?;
-    let part = chain.partial_decode_granularity(alloc, case.shape)?;
-    expect(part.as_slice() == case.shape)?;
-    let told = chain.encoded_representation(alloc, data_type, case.shape)?;
-    expect(match told {
-        BytesRepresentation::FixedSize(size) => size == case.value.len() as u64,
-        _ => true,
-    })?;
-    let options = CodecOptions::default();
-    let compacted = chain.compact(alloc, case.value, elements, case.shape, &options)?;
-    expect(compacted.is_none())
-}
-
-/// The second and the first element are read, and put in the place of the first and the second.
-fn swap_by(
-    alloc: Global,
-    encoder: &mut CodecPartialEncoder<'_, CodecChain<ReverseCodec>, MemorySource>,
-) -> Result<(), CodecError> {
-    let options = CodecOptions::default();
-    let found = encoder.partial_decode(alloc, Indexer::List(&[1, 0]), &options)?;
-    encoder.partial_encode(alloc, Indexer::List(&[0, 1]), found, &options)
-}
-
-/// The first two elements change places in the value that a source holds. A refusal leaves the value.
-fn swap(
-    alloc: Global,
-    chain: &CodecChain<ReverseCodec>,
-    elements: &Elements,
-    case: &Case,
-) -> Result<(), Stop> {
-    let whole = WholeArray {
-        elements,
-        shape: case.shape,
-    };
-    let mut source = MemorySource::new(Some(case.value.to_vec(alloc)?));
-    let mut encoder = chain.partial_encoder(&mut source, whole);
-    let swapped = swap_by(alloc, &mut encoder);
-    let want = if swapped.is_ok() {
-        case.swapped
-    } else {
-        case.value
-    };
-    match source.into_value() {
-        Some(value) => expect(value.as_slice() == want)?,
-        None => return Err(Stop::Other),
-    }
-    Ok(swapped?)
-}
-
-/// A value is decoded and encoded again, whole and in part.
+/// A chain and its values.
 fn run_case(alloc: Global, case: &Case) -> Result<(), Stop> {
-    let options = CodecOptions::default();
     let elements = elements_of(alloc, case)?;
-    let chain = chain_of(alloc, case.codecs)?;
-    tell(alloc, &chain, &elements, case)?;
-    let value = case.value.to_vec(alloc)?;
-    let decoded = chain.decode(alloc, value, &elements, case.shape, &options)?;
-    let encoded = chain.encode(alloc, decoded, &elements, case.shape, &options)?;
-    expect(encoded.as_slice() == case.value)?;
-    swap(alloc, &chain, &elements, case)
-}
-
-/// The second and the third number of a row of three are put over two bytes of four, which a refusal leaves.
-fn run_target(alloc: Global, case: &Case) -> Result<(), Stop> {
-    let elements = elements_of(alloc, case)?;
-    let chain = chain_of(alloc, case.codecs)?;
-    let whole = WholeArray {
+    let array = WholeArray {
         elements: &elements,
         shape: case.shape,
     };
+    let values = Values {
+        array,
+        part: case.shape,
+        value: case.value,
+        swapped: case.swapped,
+        compacted: &[],
+    };
+    run_values(alloc, &chain_of(alloc, case.codecs)?, &values)
+}
+
+/// The second and the third number of a row of three are put over two bytes of four.
+fn put_part<C: ArrayToBytesCodecTraits, D: BytesPartialDecoderTraits>(
+    alloc: Global,
+    decoder: &mut CodecPartialDecoder<'_, C, D>,
+    bytes: &mut [u8],
+) -> Result<(), Stop> {
     let asked = ArraySubset::new_with_ranges(alloc, &[0..1, 1..3])?;
     let place = ArraySubset::new_with_ranges(alloc, &[1..3])?;
-    let mut bytes = [9, 9, 9, 9];
     let mut target = TargetBytes {
-        bytes: &mut bytes,
+        bytes,
         shape: &[4],
         region: &place,
         width: 1,
     };
-    let mut source = MemorySource::new(Some(case.value.to_vec(alloc)?));
-    let mut decoder = chain.partial_decoder(&mut source, whole);
     let options = CodecOptions::default();
-    let put = decoder.partial_decode_into(alloc, Indexer::Subset(&asked), &mut target, &options);
-    let want = if put.is_ok() { [9, 2, 3, 9] } else { [9; 4] };
-    expect(bytes == want)?;
-    Ok(put?)
+    Ok(decoder.partial_decode_into(alloc, Indexer::Subset(&asked), &mut target, &options)?)
+}
+
+/// They are put once more where memory ran out, which leaves the bytes.
+fn put_at_last<C: ArrayToBytesCodecTraits>(
+    alloc: Global,
+    codec: &C,
+    array: WholeArray<'_>,
+    value: &[u8],
+) -> Result<(), Stop> {
+    let mut source = holding(alloc, value)?;
+    let mut decoder = CodecPartialDecoder::new(codec, &mut source, array);
+    let mut bytes = [9, 9, 9, 9];
+    match put_part(alloc, &mut decoder, &mut bytes) {
+        Err(Stop::Short) => {
+            expect(bytes == [9; 4])?;
+            put_part(alloc, &mut decoder, &mut bytes)?;
+        }
+        said => said?,
+    }
+    expect(bytes == [9, 2, 3, 9])
+}
+
+/// A chain of a row of three numbers.
+fn run_target(alloc: Global, case: &Case) -> Result<(), Stop> {
+    let elements = elements_of(alloc, case)?;
+    let array = WholeArray {
+        elements: &elements,
+        shape: case.shape,
+    };
+    put_at_last(alloc, &chain_of(alloc, case.codecs)?, array, case.value)
 }
 
 /// Each chain.

@@ -22,6 +22,8 @@ const ANSWERS: &str = r#"{"done":true}
 {"done":true}
 {"done":true}
 {"done":true}
+{"done":true}
+{"done":true}
 {"cells":[11,12,13,14]}
 {"cells":[23,24]}
 {"cells":[0,0,6,7,0,0,9,10,0,0,11,12,0,0,13,14]}
@@ -54,12 +56,17 @@ fn are_as_stated(answers: &[u8]) -> bool {
     answers.len() <= ANSWERS.len()
 }
 
+/// Runs lines in a new session.
+fn answer_lines(alloc: Global, text: &[u8], answers: &mut Vec<u8>) -> Result<(), LinesFault> {
+    let mut session = Session::<MemoryStore, ReverseCodec>::new(alloc, MemoryStore::new(alloc));
+    run_lines(alloc, &mut session, text, answers)
+}
+
 /// The lines. The writer takes memory too, so it can fail.
 fn run_text(alloc: Global) -> Result<(), Stop> {
     let text = text(alloc)?;
-    let mut session = Session::<MemoryStore, ReverseCodec>::new(alloc, MemoryStore::new(alloc));
     let mut answers = Vec::new(alloc);
-    let end = run_lines(alloc, &mut session, text.as_slice(), &mut answers);
+    let end = answer_lines(alloc, text.as_slice(), &mut answers);
     expect(!matches!(end, Err(LinesFault::Read)) && are_as_stated(answers.as_slice()))
 }
 
@@ -87,19 +94,36 @@ fn answer(tables: &mut Tables, replies: &[Reply]) -> bool {
     replies.len() == LISTED
 }
 
-/// The list. Where memory for the replies runs out, the store comes back empty.
+/// The replies to commands, and the store; or the store alone where memory for the replies ran out.
+fn reply_all(
+    alloc: Global,
+    store: MemoryStore,
+    commands: &[Command],
+) -> Result<(Vec<Reply>, MemoryStore), MemoryStore> {
+    match zarr_run::run::<MemoryStore, ReverseCodec>(alloc, store, commands) {
+        Ok(answered) => Ok(answered),
+        Err(refusal) => Err(refusal.storage),
+    }
+}
+
+/// Whether the first lines are answered as the tables say, and have left the documents that these tell.
+fn expect_replies(alloc: Global, replies: &[Reply], store: &mut MemoryStore) -> Result<(), Stop> {
+    let mut tables = Tables::new();
+    expect(answer(&mut tables, replies))?;
+    expect(tables.agree_with(alloc, store)?)
+}
+
+/// The list. Where memory for the replies runs out, the store comes back empty, and the list is run once more.
 fn run_list(alloc: Global) -> Result<(), Stop> {
     let commands = commands(alloc)?;
-    let mut tables = Tables::new();
-    let store = MemoryStore::new(alloc);
-    match zarr_run::run::<MemoryStore, ReverseCodec>(alloc, store, commands.as_slice()) {
-        Ok((replies, mut store)) => {
-            expect(answer(&mut tables, replies.as_slice()))?;
-            expect(tables.agree_with(alloc, &mut store)?)
-        }
-        Err(refusal) => {
-            let mut store = refusal.storage;
-            expect(store.list()?.is_empty())
+    match reply_all(alloc, MemoryStore::new(alloc), commands.as_slice()) {
+        Ok((replies, mut store)) => expect_replies(alloc, replies.as_slice(), &mut store),
+        Err(mut store) => {
+            expect(store.list()?.is_empty())?;
+            match reply_all(alloc, store, commands.as_slice()) {
+                Ok((replies, mut store)) => expect_replies(alloc, replies.as_slice(), &mut store),
+                Err(_) => Err(Stop::Other),
+            }
         }
     }
 }

@@ -1,26 +1,30 @@
 //! Scripts of calls in which any allocation may be refused.
 //!
 //! The first byte of standard input names the script: `g` for grids, `k` for keys and metadata, `d` for data types and fill
-//! values, `c` for chains of codecs, `m` for codecs that are made by their constructors, and elements, `s` for a session's
-//! commands, `r` for these over stores that refuse each of their calls in turn, `l` for a session's lines. It prints `as stated` if
-//! each answer is the one with ample memory and an honest store, which is typed in here, or says that memory ran out or the store
-//! refused, and has made just the change that it says.
+//! values, `c` for chains of codecs, `m` for codecs that are made by their constructors, and elements, `h` for shards, `s` for a
+//! session's commands, `r` for these over stores that refuse each of their calls in turn, `l` for a session's lines. It prints
+//! `as stated` if each answer is the one with ample memory and an honest store, which is typed in here, or says that memory ran out
+//! or the store refused, and has made just the change that it says.
 //!
 //! The program itself refuses nothing: `tools/refused_allocations` runs it over a C library's allocator that does.
 #![tactic(auto)]
 
 mod cases;
 mod codecs;
+mod elements;
 mod grids;
 mod keys;
 mod lines;
 mod lookups;
 mod made_codecs;
 mod script;
+mod shards;
 mod steps;
 mod stop;
 mod tables;
+mod texts;
 mod types;
+mod values;
 
 use crate::stop::Stop;
 use std::alloc::Global;
@@ -44,6 +48,7 @@ fn run(alloc: Global, script: u8) -> Result<(), Stop> {
         b'd' => types::run(alloc),
         b'c' => codecs::run(alloc),
         b'm' => made_codecs::run(alloc),
+        b'h' => shards::run(alloc),
         b's' => steps::run(alloc),
         b'r' => steps::run_over_refusals(alloc),
         b'l' => lines::run(alloc),

@@ -38,10 +38,25 @@ pub(crate) const READ_ROW: Line = Line {
     asks: Asks::Read(&[0, 1, 2, 3]),
 };
 
+/// Reopens `/a`.
+pub(crate) const REOPEN_SQUARE: Line = Line {
+    text: r#"{"op":"reopen","path":"/a","order":"C"}"#,
+    array: Array::Square,
+    asks: Asks::Reopen,
+};
+
+/// Reopens `/b/c`.
+pub(crate) const REOPEN_ROW: Line = Line {
+    text: r#"{"op":"reopen","path":"/b/c","order":"Random"}"#,
+    array: Array::Row,
+    asks: Asks::Reopen,
+};
+
 /// On `/a`: the middle, which intersects all chunks; the right of the two rows on top; zeros below, which take two keys out; one
-/// chunk as a whole; and the erasure of the two chunks on the left. On `/b/c`: a box that intersects both chunks; one chunk as a
-/// whole; the erasure of the other one. Both are reopened, and read by box and by chunk.
-pub(crate) const LINES: [Line; 16] = [
+/// chunk as a whole; the erasure of the two chunks on the left; and zeros that keep their key, in a whole chunk and in a part of
+/// one. On `/b/c`: a box that intersects both chunks; one chunk as a whole; the erasure of the other one. Both are reopened, and
+/// read by box and by chunk.
+pub(crate) const LINES: [Line; 18] = [
     Line {
         text: r#"{"op":"create","path":"/a","document":{"zarr_format":3,"node_type":"array","shape":[4,4],"data_type":"uint8","chunk_grid":{"name":"regular","configuration":{"chunk_shape":[2,2]}},"chunk_key_encoding":{"name":"default"},"fill_value":0,"codecs":["bytes"]}}"#,
         array: Array::Square,
@@ -74,11 +89,7 @@ pub(crate) const LINES: [Line; 16] = [
             (1, 7, 10),
         ]),
     },
-    Line {
-        text: r#"{"op":"reopen","path":"/a","order":"C"}"#,
-        array: Array::Square,
-        asks: Asks::Reopen,
-    },
+    REOPEN_SQUARE,
     Line {
         text: r#"{"op":"write_box","path":"/a","box":[[2,4],[0,4]],"cells":[0,0,0,0,0,0,0,0]}"#,
         array: Array::Square,
@@ -103,11 +114,7 @@ pub(crate) const LINES: [Line; 16] = [
         array: Array::Square,
         asks: Asks::Put(&[(0, 10, 11), (0, 11, 12), (0, 14, 13), (0, 15, 14)]),
     },
-    Line {
-        text: r#"{"op":"reopen","path":"/b/c","order":"Random"}"#,
-        array: Array::Row,
-        asks: Asks::Reopen,
-    },
+    REOPEN_ROW,
     Line {
         text: r#"{"op":"erase_chunks","path":"/a","box":[[0,2],[0,1]]}"#,
         array: Array::Square,
@@ -128,6 +135,16 @@ pub(crate) const LINES: [Line; 16] = [
         asks: Asks::Put(&[(0, 0, 0), (0, 1, 0)]),
     },
     Line {
+        text: r#"{"op":"write_box","path":"/a","box":[[0,2],[0,2]],"cells":[0,0,0,0],"options":{"empty":true}}"#,
+        array: Array::Square,
+        asks: Asks::Put(&[(0, 0, 0), (0, 1, 0), (0, 4, 0), (0, 5, 0)]),
+    },
+    Line {
+        text: r#"{"op":"write_box","path":"/a","box":[[2,3],[0,1]],"cells":[0],"options":{"partial":true}}"#,
+        array: Array::Square,
+        asks: Asks::Put(&[(0, 8, 0)]),
+    },
+    Line {
         text: r#"{"op":"read_chunk","path":"/a","chunk":[1,1]}"#,
         array: Array::Square,
         asks: Asks::Read(&[10, 11, 14, 15]),
@@ -140,6 +157,20 @@ pub(crate) const LINES: [Line; 16] = [
     READ_SQUARE,
     READ_ROW,
 ];
+
+/// The keys that the store has after these lines.
+pub(crate) const KEYS: [&str; 7] = [
+    "a/c/0/0",
+    "a/c/0/1",
+    "a/c/1/0",
+    "a/c/1/1",
+    "a/zarr.json",
+    "b/c/c.1",
+    "b/c/zarr.json",
+];
+
+/// Opens both arrays again in another session, and reads them.
+pub(crate) const LINES_AFTER: [Line; 4] = [REOPEN_ROW, REOPEN_SQUARE, READ_SQUARE, READ_ROW];
 
 /// The command of a line.
 pub(crate) fn command(alloc: Global, text: &str) -> Result<Command, Stop> {

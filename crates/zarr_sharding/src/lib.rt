@@ -9,8 +9,8 @@
 //!   of a subchunk.
 //! - Writers: a `ShardState` owns its source, and is a table of cells: each part is written by one call that appends the subchunks
 //!   that it intersects. A `ShardingPartialEncoder` is such a state behind a lock.
-//! - Steps: `read_numbers`, `update_asked` and `update_slices` of a `ShardingCodec` are the steps that readers and writers are made of.
-//!   They take an `OpenedShard` or a `ShardInSource`, whose `KnownShard` writes each `SliceChange`.
+//! - Steps: `read_asked`, `read_numbers`, `update_asked` and `update_slices` of a `ShardingCodec` are the steps that readers and writers
+//!   are made of. They take an `OpenedShard` or a `ShardInSource`, whose `KnownShard` writes each `SliceChange`.
 #![tactic(auto)]
 
 pub use zarr_codecs_around::InnerCodec;
@@ -19,8 +19,9 @@ pub use zarr_sharding_arrays::{ArrayChain, ShardedChain};
 pub use zarr_sharding_cells::{ShardState, ShardingPartialEncoder};
 pub use zarr_sharding_chains::ShardingCodecBuilder;
 pub use zarr_sharding_codec::{
-    AskedElements, ChainOfMetadata, IndexCodec, NumberedElements, NumberedPlaces, OpenedShard,
-    ShardInSource, ShardingCodec, ShardingCodecOptions, TakesShardingOptions, TestedPart,
+    AskedElements, ChainOfMetadata, IndexCodec, IndexedPlaces, NumberedElements, NumberedPlaces,
+    OpenedShard, ShardInSource, ShardingCodec, ShardingCodecOptions, TakesShardingOptions,
+    TestedPart,
 };
 pub use zarr_sharding_configurations::ShardingCodecConfiguration;
 pub use zarr_sharding_decoder::ShardingPartialDecoder;

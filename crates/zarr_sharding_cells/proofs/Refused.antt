@@ -1,7 +1,7 @@
 -- Why new cells are not put.
 use Rattle.std.proofs.Common.{◌≡◌, inl, inr, ℕ, List, subst, Bool, IfErr, Result, Ok, Err}
 use Rattle.zarr_grids_boxes.specs.Boxes.{product}
-use Rattle.zarr_codecs_arrays.specs.Outcomes.{IsTooLarge}
+use Rattle.zarr_codecs_meaning.specs.Types.{IsTooLarge}
 use Rattle.zarr_codecs_arrays.specs.declared.error.CodecError.{CodecError}
 use Rattle.zarr_codecs_arrays.specs.declared.error.CodecError.TheVariants as error
 use Rattle.zarr_codecs_meaning.specs.Chains.{Chain, Location}

@@ -1,14 +1,13 @@
 //! Elements that are given for places of an array.
-ghost use Rattle.std.specs.Prelude.{◌≡◌, ◌<◌, ◌≤◌, ◌^◌, IfErr, IfNone, IfSome, OnOk, length, true};
+ghost use Rattle.std.specs.Prelude.{◌<◌, ◌^◌, IfErr, OnOk};
 ghost use Rattle.zarr_codecs_arrays.specs.Views.{elements_of, payload_of};
-ghost use Rattle.zarr_codecs_traits.specs.Indexers.{are_inside, asked_of, numbers_asked};
+ghost use Rattle.zarr_codecs_traits.specs.Indexers.{asked_of, numbers_asked};
 ghost use Rattle.zarr_grids_boxes.specs.Boxes.{product};
 ghost use Rattle.zarr_sharding_cells.specs.Puts.{AreAsked, NotGiven};
 
 use zarr_codecs_arrays::{ArrayBytes, CodecError};
-use zarr_codecs_regions::test_asked;
+use zarr_codecs_regions::{count_asked, test_asked};
 use zarr_codecs_traits::{Indexer, WholeArray};
-use zarr_grids_boxes::walk::count_places;
 
 /// Nothing, where these are elements for the places that are asked for, one for each.
 /// `IncompatibleIndexer` where a place is none of the array's; `InvalidNumberOfElements`,
@@ -34,17 +33,5 @@ pub(crate) fn test_given(
     match bytes.validate(array.elements.data_type(), count) {
         Ok(()) => Ok(()),
         Err(error) => Err(error),
-    }
-}
-
-/// How many places are asked for, if that is below 2^63.
-fn count_asked(shape: &[u64], indexer: Indexer<'_>) -> Option<u64>
-    requires inside { are_inside shape.now (asked_of indexer) ≡ true }
-    ensures { IfSome result (λ count.
-        count ≡ length (numbers_asked shape.now (asked_of indexer.entry))) }
-{
-    match indexer {
-        Indexer::Subset(region) => count_places(region.shape()),
-        Indexer::List(numbers) => Some(numbers.len() as u64),
     }
 }

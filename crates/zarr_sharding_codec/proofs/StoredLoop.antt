@@ -10,13 +10,13 @@ use Rattle.zarr_codecs_meaning.specs.Fits.{can_cut, divides, fits}
 use Rattle.zarr_codecs_meaning.specs.Payloads.{Payload, cells_in}
 use Rattle.zarr_codecs_meaning.specs.Places.{Part, gather, grid_of, index_shape, parts_of}
 use Rattle.zarr_codecs_meaning.specs.Refusals.{CodecRefuses, PassesIndex, PieceRefused}
-use Rattle.zarr_codecs_meaning.specs.Types.{Cell, DataType, Elements, byte_width, inner_type, is_fill, is_value}
+use Rattle.zarr_codecs_meaning.specs.Types.{Cell, DataType, Elements, byte_width, inner_type, is_fill, is_value, IsTooLarge}
 use Rattle.zarr_codecs_meaning.proofs.ArrayCodecs.{length-gather, values_gathered}
 use Rattle.zarr_codecs_meaning.proofs.Parts.{length-parts, no_part, part_counts, same_length}
 use Rattle.zarr_codecs_meaning.proofs.Fitting.{fitted}
 use Rattle.zarr_sharding_index.specs.Stored.{index_fits}
 use Rattle.zarr_codecs_meaning.proofs.Positions.{each_at}
-use Rattle.zarr_codecs_arrays.specs.Outcomes.{IsTooLarge, IsValid}
+use Rattle.zarr_codecs_arrays.specs.Outcomes.{IsValid}
 use Rattle.zarr_codecs_arrays.specs.declared.error.CodecError.{CodecError}
 use Rattle.zarr_codecs_arrays.specs.declared.error.CodecError.TheVariants as error
 use Rattle.zarr_sharding_codec.specs.Slices.{AreLaidOut, ArePiecesStored, IsPieceStored, StoresPiece, StoresPieces}

@@ -6,8 +6,7 @@ use Rattle.zarr_codecs_meaning.specs.Chains.{Chain, Location}
 use Rattle.zarr_codecs_meaning.specs.Encoding.{Pair, absent_pair}
 use Rattle.zarr_codecs_meaning.specs.Places.{Part, gather, parts_of}
 use Rattle.zarr_codecs_meaning.specs.Refusals.{CodecRefuses, PassesIndex}
-use Rattle.zarr_codecs_meaning.specs.Types.{Cell, Elements, is_fill}
-use Rattle.zarr_codecs_arrays.specs.Outcomes.{IsTooLarge}
+use Rattle.zarr_codecs_meaning.specs.Types.{Cell, Elements, is_fill, IsTooLarge}
 use Rattle.zarr_codecs_arrays.specs.declared.error.CodecError.{CodecError}
 use Rattle.zarr_codecs_arrays.specs.declared.error.CodecError.TheVariants as error
 use Rattle.zarr_codecs_traits.specs.Indexers.{put}

@@ -6,8 +6,7 @@ use Rattle.zarr_codecs_meaning.specs.Decoding.{all_there, cell_at, cell_of_part,
 use Rattle.zarr_codecs_meaning.specs.Encoding.{Pair}
 use Rattle.zarr_codecs_meaning.specs.Payloads.{cells_in}
 use Rattle.zarr_codecs_meaning.specs.Places.{parts_of}
-use Rattle.zarr_codecs_meaning.specs.Types.{Cell, Elements}
-use Rattle.zarr_codecs_arrays.specs.Outcomes.{IsTooLarge}
+use Rattle.zarr_codecs_meaning.specs.Types.{Cell, Elements, IsTooLarge}
 use Rattle.zarr_codecs_arrays.specs.Views.{payload_of}
 use Rattle.zarr_codecs_arrays.specs.declared.array_bytes.ArrayBytes.{ArrayBytes}
 use Rattle.zarr_codecs_arrays.specs.declared.error.CodecError.{CodecError}

@@ -7,8 +7,7 @@ use Rattle.zarr_codecs_meaning.specs.Encoding.{Pair, Piece, encoded, joined_slic
 use Rattle.zarr_codecs_meaning.specs.Fits.{is_lossless, is_size_as, representation_of}
 use Rattle.zarr_codecs_meaning.specs.Refusals.{CodecRefuses, PassesIndex, PieceRefused}
 use Rattle.zarr_codecs_meaning.specs.Standing.{Stands}
-use Rattle.zarr_codecs_meaning.specs.Types.{Elements, is_fill}
-use Rattle.zarr_codecs_arrays.specs.Outcomes.{IsTooLarge}
+use Rattle.zarr_codecs_meaning.specs.Types.{Elements, is_fill, IsTooLarge}
 use Rattle.zarr_codecs_arrays.specs.declared.error.CodecError.{CodecError}
 use Rattle.zarr_codecs_arrays.specs.declared.error.CodecError.TheVariants as error
 use Rattle.zarr_sharding_index.specs.Views.{pairs_of}

@@ -1,14 +1,12 @@
 //! Parts of an array, written into its shard.
-ghost use Rattle.std.specs.Prelude.{◌≡◌, length, true, IfSome};
-ghost use Rattle.zarr_codecs_traits.specs.Indexers.{are_inside, asked_of, numbers_asked};
 
 use crate::codec::ShardingCodec;
 use crate::updating::{AskedElements, ShardInSource};
 use std::alloc::Global;
 use zarr_codecs_arrays::{ArrayBytes, CodecError};
 use zarr_codecs_options::CodecOptions;
-use zarr_codecs_regions::test_asked;
-use zarr_codecs_traits::{ArrayPart, ArrayToBytesCodecTraits, BytesPartialEncoderTraits, Indexer};
+use zarr_codecs_regions::{count_asked, test_asked};
+use zarr_codecs_traits::{ArrayPart, ArrayToBytesCodecTraits, BytesPartialEncoderTraits};
 use zarr_grids_boxes::walk::count_places;
 use zarr_sharding_index::IndexLayout;
 use zarr_sharding_index::shapes::index_shape;
@@ -195,17 +193,5 @@ impl<I: ArrayToBytesCodecTraits, X: ArrayToBytesCodecTraits> ShardingCodec<I, X>
             Ok(()) => Ok(true),
             Err(error) => Err(error),
         }
-    }
-}
-
-/// How many places are asked for, if that is below 2^63.
-pub fn count_asked(shape: &[u64], indexer: Indexer<'_>) -> Option<u64>
-    requires inside { are_inside shape.now (asked_of indexer) ≡ true }
-    ensures { IfSome result (λ count.
-        count ≡ length (numbers_asked shape.now (asked_of indexer.entry))) }
-{
-    match indexer {
-        Indexer::Subset(region) => count_places(region.shape()),
-        Indexer::List(numbers) => Some(numbers.len() as u64),
     }
 }

@@ -1,13 +1,12 @@
 //! Calls of a shard over a source of its own, and what they leave.
-use crate::refusing_source::RefusingSource;
-use crate::shards::{Value, bytes_of};
+use crate::samples::{Value, are, elements, is, nested, numbers, shards};
+use crate::source::{TestSource, source_of};
 use std::alloc::Global;
-use zarr_codecs_arrays::{ArrayBytes, CodecError, Elements};
-use zarr_codecs_chains::BytesCodec;
-use zarr_codecs_options::CodecOptions;
-use zarr_codecs_traits::{ArrayToBytesCodecTraits, Indexer, WholeArray};
-use zarr_sharding_cells::ShardState;
-use zarr_sharding_codec::ShardingCodec;
+use zarr_codecs::{
+    ArrayBytes, ArrayToBytesCodecTraits, BytesCodec, CodecError, CodecOptions, Elements, Indexer,
+    WholeArray,
+};
+use zarr_sharding::{ShardState, ShardingCodec, ShardingIndexLocation};
 
 /// A call of a shard.
 #[derive(Clone, Copy)]
@@ -20,21 +19,19 @@ pub(crate) enum Call<'x> {
 }
 
 /// How a call ends.
-#[derive(Clone, Copy, PartialEq, Eq)]
+#[derive(Clone, Copy)]
 pub(crate) enum End {
     /// It is done, and what was read is as said.
     Done,
     Damage,
     /// The source refuses it.
     Source,
-    Other,
 }
 
-/// Calls of a shard of an array of a shape over a source that holds a value and refuses a writing call; and what the source holds
-/// after them, and how many writing calls it was given.
+/// Calls of a shard over a source that holds a value and refuses one of its own calls; and what the source holds after them, and how
+/// many calls wrote.
 #[derive(Clone, Copy)]
 pub(crate) struct Case<'x> {
-    pub shape: &'x [u64],
     pub held: Option<Value<'x>>,
     pub refuses: u64,
     pub calls: &'x [(Call<'x>, End)],
@@ -42,44 +39,39 @@ pub(crate) struct Case<'x> {
     pub writes: u64,
 }
 
-type State<'a, I> = ShardState<'a, I, BytesCodec, RefusingSource>;
+pub(crate) type State<'a, I> = ShardState<'a, I, BytesCodec, TestSource>;
 
 /// Puts bytes at the places with these numbers.
-fn put<I: ArrayToBytesCodecTraits>(
+pub(crate) fn put<I: ArrayToBytesCodecTraits>(
     alloc: Global,
     state: &mut State<'_, I>,
     numbers: &[u64],
     bytes: &[u8],
 ) -> Result<(), CodecError> {
-    let given = ArrayBytes::Fixed(bytes.to_vec(alloc)?);
-    state.partial_encode(
-        alloc,
+    let (asked, given) = (
         Indexer::List(numbers),
-        given,
-        &CodecOptions::default(),
-    )
-}
-
-/// Whether elements of one size are these bytes.
-fn are(elements: &ArrayBytes, bytes: &[u8]) -> bool {
-    match elements {
-        ArrayBytes::Fixed(read) => read.as_slice() == bytes,
-        _ => false,
-    }
+        ArrayBytes::Fixed(bytes.to_vec(alloc)?),
+    );
+    state.partial_encode(alloc, asked, given, &CodecOptions::default())
 }
 
 /// Whether the places with these numbers are read as these bytes.
-fn shows<I: ArrayToBytesCodecTraits>(
+pub(crate) fn shows<I: ArrayToBytesCodecTraits>(
     alloc: Global,
     state: &mut State<'_, I>,
     numbers: &[u64],
     bytes: &[u8],
 ) -> Result<bool, CodecError> {
-    let options = CodecOptions::default();
-    Ok(are(
-        &state.partial_decode(alloc, Indexer::List(numbers), &options)?,
-        bytes,
-    ))
+    let read = state.partial_decode(alloc, Indexer::List(numbers), &CodecOptions::default())?;
+    Ok(are(&read, bytes))
+}
+
+/// Takes the shard away.
+pub(crate) fn erase<I: ArrayToBytesCodecTraits>(
+    alloc: Global,
+    state: &mut State<'_, I>,
+) -> Result<(), CodecError> {
+    state.erase(alloc)
 }
 
 /// Makes a call. Whether what is read is as said.
@@ -91,22 +83,18 @@ fn made<I: ArrayToBytesCodecTraits>(
     match call {
         Call::Put(numbers, bytes) => put(alloc, state, numbers, bytes)?,
         Call::Shows(numbers, bytes) => return shows(alloc, state, numbers, bytes),
-        Call::Erase => state.erase(alloc)?,
+        Call::Erase => erase(alloc, state)?,
     }
     Ok(true)
 }
 
-/// Makes a call, and tells how it ended.
-fn ended<I: ArrayToBytesCodecTraits>(
-    alloc: Global,
-    state: &mut State<'_, I>,
-    call: Call<'_>,
-) -> End {
-    match made(alloc, state, call) {
-        Ok(true) => End::Done,
-        Err(CodecError::Damage) => End::Damage,
-        Err(CodecError::Source) => End::Source,
-        _ => End::Other,
+/// Whether a call that did what it was to do, or did not, ended so.
+fn ends(done: Result<bool, CodecError>, want: End) -> bool {
+    match (done, want) {
+        (Ok(is_as_said), End::Done) => is_as_said,
+        (Err(CodecError::Damage), End::Damage) => true,
+        (Err(CodecError::Source), End::Source) => true,
+        _ => false,
     }
 }
 
@@ -117,7 +105,7 @@ fn end_so<I: ArrayToBytesCodecTraits>(
     calls: &[(Call<'_>, End)],
 ) -> bool {
     for (call, want) in calls {
-        if ended(alloc, state, *call) != *want {
+        if !ends(made(alloc, state, *call), *want) {
             return false;
         }
     }
@@ -125,55 +113,30 @@ fn end_so<I: ArrayToBytesCodecTraits>(
 }
 
 /// The shard of an array that a source holds.
-fn open<'a, I: ArrayToBytesCodecTraits>(
+pub(crate) fn open<'a, I: ArrayToBytesCodecTraits>(
     alloc: Global,
     codec: &'a ShardingCodec<I, BytesCodec>,
-    array: WholeArray<'a>,
-    source: RefusingSource,
+    elements: &'a Elements,
+    shape: &'a [u64],
+    source: TestSource,
 ) -> Result<State<'a, I>, CodecError> {
+    let array = WholeArray { elements, shape };
     match ShardState::open(alloc, codec, source, array, &CodecOptions::default()) {
         Ok(state) => Ok(state),
         Err((_, error)) => Err(error),
     }
 }
 
-/// How the shard of four elements that a value holds is opened.
-pub(crate) fn opens<I: ArrayToBytesCodecTraits>(
+/// The source of a case after its calls of the shard of an array. `Fit` where one of them ends otherwise.
+fn ran<I: ArrayToBytesCodecTraits>(
     alloc: Global,
     codec: &ShardingCodec<I, BytesCodec>,
     elements: &Elements,
-    value: Value<'_>,
-) -> Result<(), CodecError> {
-    let source = RefusingSource::new(Some(bytes_of(alloc, value)?), 0);
-    let array = WholeArray {
-        elements,
-        shape: &[4],
-    };
-    match open(alloc, codec, array, source) {
-        Ok(_) => Ok(()),
-        Err(error) => Err(error),
-    }
-}
-
-/// The source that a case begins with.
-fn source_of(alloc: Global, case: Case<'_>) -> Result<RefusingSource, CodecError> {
-    let value = match case.held {
-        Some(value) => Some(bytes_of(alloc, value)?),
-        None => None,
-    };
-    Ok(RefusingSource::new(value, case.refuses))
-}
-
-/// The source of a case after its calls. `Fit` where one of them ends otherwise.
-pub(crate) fn ran<I: ArrayToBytesCodecTraits>(
-    alloc: Global,
-    codec: &ShardingCodec<I, BytesCodec>,
-    elements: &Elements,
+    shape: &[u64],
     case: Case<'_>,
-) -> Result<RefusingSource, CodecError> {
-    let shape = case.shape;
-    let array = WholeArray { elements, shape };
-    let mut state = open(alloc, codec, array, source_of(alloc, case)?)?;
+) -> Result<TestSource, CodecError> {
+    let source = source_of(alloc, case.held, case.refuses)?;
+    let mut state = open(alloc, codec, elements, shape, source)?;
     if end_so(alloc, &mut state, case.calls) {
         Ok(state.into_source())
     } else {
@@ -181,22 +144,39 @@ pub(crate) fn ran<I: ArrayToBytesCodecTraits>(
     }
 }
 
-/// Whether a value is this one, or there is none.
-fn is(alloc: Global, found: Option<Vec<u8>>, want: Option<Value<'_>>) -> Result<bool, CodecError> {
-    match (found, want) {
-        (Some(found), Some(want)) => Ok(found.as_slice() == bytes_of(alloc, want)?.as_slice()),
-        (found, _) => Ok(found.is_none() && want.is_none()),
-    }
-}
-
-/// Whether the calls of a case end so and leave what they should.
-pub(crate) fn leaves<I: ArrayToBytesCodecTraits>(
+/// How many bytes the source of a case gave, where its calls of a shard end so and leave what they should.
+fn given<I: ArrayToBytesCodecTraits>(
     alloc: Global,
     codec: &ShardingCodec<I, BytesCodec>,
     elements: &Elements,
+    shape: &[u64],
     case: Case<'_>,
-) -> Result<bool, CodecError> {
-    let source = ran(alloc, codec, elements, case)?;
-    let count = source.writes;
-    Ok(count == case.writes && is(alloc, source.inner.into_value(), case.left)?)
+) -> Result<Option<u128>, CodecError> {
+    let source = ran(alloc, codec, elements, shape, case)?;
+    let (writes, given) = (source.writes, source.inner.given_bytes());
+    let is_left = is(alloc, source.inner.into_value(), case.left)?;
+    Ok((writes == case.writes && is_left).then_some(given))
+}
+
+/// The same of a shard of [4,4] in subchunks of [2,2].
+pub(crate) fn given_of_four(alloc: Global, case: Case<'_>) -> Result<Option<u128>, CodecError> {
+    let codec = shards(alloc, &[2, 2], ShardingIndexLocation::End)?;
+    given(alloc, &codec, &elements(alloc, 0)?, &[4, 4], case)
+}
+
+/// The same of such a shard of the type uint16, with its index at the start.
+pub(crate) fn given_of_numbers(alloc: Global, case: Case<'_>) -> Result<Option<u128>, CodecError> {
+    let codec = shards(alloc, &[2, 2], ShardingIndexLocation::Start)?;
+    given(alloc, &codec, &numbers(alloc)?, &[4, 4], case)
+}
+
+/// The same of a shard of four elements in subchunks of two.
+pub(crate) fn given_of_two(alloc: Global, case: Case<'_>) -> Result<Option<u128>, CodecError> {
+    let codec = shards(alloc, &[2], ShardingIndexLocation::End)?;
+    given(alloc, &codec, &elements(alloc, 0)?, &[4], case)
+}
+
+/// The same of a shard of [4,4] in subchunks of [2,2] that are shards of [1,2].
+pub(crate) fn given_of_nested(alloc: Global, case: Case<'_>) -> Result<Option<u128>, CodecError> {
+    given(alloc, &nested(alloc)?, &elements(alloc, 0)?, &[4, 4], case)
 }

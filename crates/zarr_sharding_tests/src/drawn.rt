@@ -1,16 +1,10 @@
 //! Drawn lists of calls of one shard, compared with a plain table.
-use crate::nested::nested;
-use crate::shards::{bytes, shards};
+use crate::calls::{State, erase, open, put, shows};
+use crate::samples::{elements, nested, shards};
+use crate::source::source_of;
 use std::alloc::Global;
-use zarr_codecs_arrays::{ArrayBytes, CodecError, Elements};
-use zarr_codecs_chains::BytesCodec;
-use zarr_codecs_options::CodecOptions;
-use zarr_codecs_traits::{ArrayToBytesCodecTraits, Indexer, MemorySource, WholeArray};
-use zarr_sharding_cells::ShardState;
-use zarr_sharding_codec::ShardingCodec;
-use zarr_sharding_index::ShardingIndexLocation;
-
-type State<'a, I> = ShardState<'a, I, BytesCodec, MemorySource>;
+use zarr_codecs::{ArrayToBytesCodecTraits, BytesCodec, CodecError};
+use zarr_sharding::{ShardingCodec, ShardingIndexLocation};
 
 /// The cells of [4,4].
 type Table = [u8; 16];
@@ -22,8 +16,15 @@ fn number_after(number: u64) -> u64 {
     number ^ (number << 17)
 }
 
+/// Puts a cell at a place of a table.
+fn put_in(table: &mut Table, place: u64, cell: u8) {
+    if let Some(old) = table.get_mut(place as usize) {
+        *old = cell;
+    }
+}
+
 /// Puts a cell of 0, 1 or 2 at three places, which may be the same one, in a table and in a shard.
-fn put<I: ArrayToBytesCodecTraits>(
+fn put_drawn<I: ArrayToBytesCodecTraits>(
     alloc: Global,
     state: &mut State<'_, I>,
     table: &mut Table,
@@ -31,15 +32,14 @@ fn put<I: ArrayToBytesCodecTraits>(
 ) -> Result<(), CodecError> {
     let places = [number % 16, number / 16 % 16, number / 256 % 16];
     let cells = [(number / 4096 % 3) as u8, (number / 12_288 % 3) as u8, 0];
-    for (place, cell) in places.iter().zip(cells.iter()) {
-        if let Some(old) = table.get_mut(*place as usize) {
-            *old = *cell;
-        }
-    }
-    let given = ArrayBytes::Fixed(cells.to_vec(alloc)?);
-    let options = CodecOptions::default();
-    state.partial_encode(alloc, Indexer::List(&places), given, &options)
+    put_in(table, places[0], cells[0]);
+    put_in(table, places[1], cells[1]);
+    put_in(table, places[2], cells[2]);
+    put(alloc, state, &places, &cells)
 }
+
+/// The numbers of all places, from the last to the first.
+const BACKWARDS: [u64; 16] = [15, 14, 13, 12, 11, 10, 9, 8, 7, 6, 5, 4, 3, 2, 1, 0];
 
 /// Whether all cells of a shard, from the last to the first, and its two first ones, are those of a table.
 fn is_as<I: ArrayToBytesCodecTraits>(
@@ -47,60 +47,63 @@ fn is_as<I: ArrayToBytesCodecTraits>(
     state: &mut State<'_, I>,
     table: &Table,
 ) -> Result<bool, CodecError> {
-    let options = CodecOptions::default();
-    let places = [15, 14, 13, 12, 11, 10, 9, 8, 7, 6, 5, 4, 3, 2, 1, 0];
-    let all = state.partial_decode(alloc, Indexer::List(&places), &options)?;
-    let some = state.partial_decode(alloc, Indexer::List(&[0, 1]), &options)?;
     let mut backwards = *table;
     backwards.reverse();
-    match (all, some) {
-        (ArrayBytes::Fixed(all), ArrayBytes::Fixed(some)) => {
-            Ok(all.as_slice() == backwards.as_slice() && some.as_slice() == &table[0..2])
-        }
-        _ => Ok(false),
-    }
+    let all = shows(alloc, state, &BACKWARDS, &backwards)?;
+    Ok(all && shows(alloc, state, &[0, 1], &table[0..2])?)
 }
 
-/// Makes drawn calls of a shard, of which one in eight takes it away. Whether it is as the table after each.
+/// Makes a drawn call of a shard, of which one in eight takes it away. Whether it is as the table then.
+fn is_as_after<I: ArrayToBytesCodecTraits>(
+    alloc: Global,
+    state: &mut State<'_, I>,
+    table: &mut Table,
+    number: u64,
+) -> Result<bool, CodecError> {
+    if number >> 61 == 0 {
+        erase(alloc, state)?;
+        *table = [0; 16];
+    } else {
+        put_drawn(alloc, state, table, number)?;
+    }
+    is_as(alloc, state, table)
+}
+
+/// Makes drawn calls of a shard. Whether it is as the table after each.
 fn goes_along<I: ArrayToBytesCodecTraits>(
     alloc: Global,
     state: &mut State<'_, I>,
     seed: u64,
 ) -> Result<bool, CodecError> {
-    let mut table = [0; 16];
-    let mut number = seed;
+    let (mut table, mut number) = ([0; 16], seed);
     for _ in 0..60 {
         number = number_after(number);
-        if number >> 61 == 0 {
-            state.erase(alloc)?;
-            table = [0; 16];
-        } else {
-            put(alloc, state, &mut table, number)?;
-        }
-        if !is_as(alloc, state, &table)? {
+        if !is_as_after(alloc, state, &mut table, number)? {
             return Ok(false);
         }
     }
     Ok(true)
 }
 
-/// The same of a shard that is opened over no value, for ten lists.
+/// The same of a shard that is opened over no value.
+fn list_goes_along<I: ArrayToBytesCodecTraits>(
+    alloc: Global,
+    codec: &ShardingCodec<I, BytesCodec>,
+    seed: u64,
+) -> Result<bool, CodecError> {
+    let (elements, source) = (elements(alloc, 0)?, source_of(alloc, None, 0)?);
+    let mut state = open(alloc, codec, &elements, &[4, 4], source)?;
+    goes_along(alloc, &mut state, seed)
+}
+
+/// The same for ten lists.
 fn all_go_along<I: ArrayToBytesCodecTraits>(
     alloc: Global,
     codec: &ShardingCodec<I, BytesCodec>,
-    elements: &Elements,
 ) -> Result<bool, CodecError> {
     for seed in 1..11 {
-        let array = WholeArray {
-            elements,
-            shape: &[4, 4],
-        };
-        let source = MemorySource::new(None);
-        match ShardState::open(alloc, codec, source, array, &CodecOptions::default()) {
-            Ok(mut state) => if !goes_along(alloc, &mut state, seed)? {
-                return Ok(false);
-            },
-            Err((_, error)) => return Err(error),
+        if !list_goes_along(alloc, codec, seed)? {
+            return Ok(false);
         }
     }
     Ok(true)
@@ -108,7 +111,7 @@ fn all_go_along<I: ArrayToBytesCodecTraits>(
 
 /// Whether drawn calls of shards with the index there go along with a table.
 fn shards_go_along(alloc: Global, location: ShardingIndexLocation) -> Result<bool, CodecError> {
-    all_go_along(alloc, &shards(alloc, &[2, 2], location)?, &bytes(alloc, 0)?)
+    all_go_along(alloc, &shards(alloc, &[2, 2], location)?)
 }
 
 #[test]
@@ -120,7 +123,7 @@ fn a_shard_is_a_table_under_drawn_calls(rt: HostRuntime) {
 
 /// Whether drawn calls of shards of shards go along with a table.
 fn nested_go_along(alloc: Global) -> Result<bool, CodecError> {
-    all_go_along(alloc, &nested(alloc)?, &bytes(alloc, 0)?)
+    all_go_along(alloc, &nested(alloc)?)
 }
 
 #[test]

@@ -1,9 +1,7 @@
-//! Tests of shards that need code, using only public names. What shards are encoded and decoded to, read and compacted, is in
-//! calls/sharding.calls.
+//! Tests of shards that need code: sources that refuse calls, shards that keep their index, builders and options. What shards are
+//! encoded and decoded to, read and compacted, is in calls/sharding.calls.
 #![tactic(auto)]
 
-#[cfg(test)]
-mod array_chains;
 #[cfg(test)]
 mod builders;
 #[cfg(test)]
@@ -11,22 +9,16 @@ mod calls;
 #[cfg(test)]
 mod decoders;
 #[cfg(test)]
-mod decoding;
-#[cfg(test)]
 mod drawn;
 #[cfg(test)]
 mod encoders;
 #[cfg(test)]
-mod nested;
+mod options;
 #[cfg(test)]
-mod nth_calls;
+mod refusals;
 #[cfg(test)]
-mod nth_source;
+mod samples;
 #[cfg(test)]
-mod orders;
-#[cfg(test)]
-mod refusing_source;
-#[cfg(test)]
-mod shards;
+mod source;
 #[cfg(test)]
 mod states;

@@ -1,30 +1,15 @@
 //! Shards over sources of their own, with bytes typed in by hand.
 use crate::calls::Call::{Erase, Put, Shows};
 use crate::calls::End::{Damage, Done, Source};
-use crate::calls::{Case, leaves, opens, ran};
-use crate::nested::nested;
-use crate::shards::{NONE, Value, bytes, elements, shards};
+use crate::calls::{Case, given_of_four, given_of_nested, given_of_numbers, given_of_two, open};
+use crate::samples::{NINE_PUT, NONE, ONE_OF_FOUR, THREE_PUT, Value, elements, is, shards};
+use crate::source::source_of;
 use std::alloc::Global;
-use zarr_codecs_arrays::{CodecError, Elements};
-use zarr_codecs_types::FillValue;
-use zarr_codecs_types::data_type::uint16;
-use zarr_sharding_index::ShardingIndexLocation;
-
-/// The shard of [4,4] in subchunks of [2,2] of which the upper right one is 5, 6, 7 and 8.
-const ONE_OF_FOUR: Value<'static> = Value {
-    front: &[5, 6, 7, 8],
-    pairs: &[NONE, NONE, 0, 4, NONE, NONE, NONE, NONE],
-    back: &[],
-};
-
-/// Whether calls of a shard of [4,4] in subchunks of [2,2] of the type uint8 leave what they should.
-fn leaves_of_four(alloc: Global, case: Case<'_>) -> Result<bool, CodecError> {
-    let codec = shards(alloc, &[2, 2], ShardingIndexLocation::End)?;
-    leaves(alloc, &codec, &bytes(alloc, 0)?, case)
-}
+use zarr_codecs::{CodecError, CodecOptions, WholeArray};
+use zarr_sharding::ShardState;
+use zarr_sharding::ShardingIndexLocation::End;
 
 const APPENDED: Case<'static> = Case {
-    shape: &[4, 4],
     held: Some(ONE_OF_FOUR),
     refuses: 0,
     calls: &[
@@ -34,21 +19,16 @@ const APPENDED: Case<'static> = Case {
             Done,
         ),
     ],
-    left: Some(Value {
-        front: &[5, 6, 7, 8, 9, 0, 0, 0],
-        pairs: &[4, 4, 0, 4, NONE, NONE, NONE, NONE],
-        back: &[],
-    }),
+    left: Some(NINE_PUT),
     writes: 1,
 };
 
 #[test]
 fn a_new_slice_is_appended(rt: HostRuntime) {
-    assert!(rt; matches!(leaves_of_four(rt.alloc(), APPENDED), Ok(true)));
+    assert!(rt; matches!(given_of_four(rt.alloc(), APPENDED), Ok(Some(_))));
 }
 
 const TAKEN_AWAY: Case<'static> = Case {
-    shape: &[4, 4],
     held: Some(ONE_OF_FOUR),
     refuses: 0,
     calls: &[
@@ -61,11 +41,10 @@ const TAKEN_AWAY: Case<'static> = Case {
 
 #[test]
 fn a_shard_that_is_all_fill_is_taken_away(rt: HostRuntime) {
-    assert!(rt; matches!(leaves_of_four(rt.alloc(), TAKEN_AWAY), Ok(true)));
+    assert!(rt; matches!(given_of_four(rt.alloc(), TAKEN_AWAY), Ok(Some(_))));
 }
 
 const WRITTEN_AGAIN: Case<'static> = Case {
-    shape: &[4, 4],
     held: Some(ONE_OF_FOUR),
     refuses: 0,
     calls: &[(Erase, Done), (Put(&[2, 3, 6, 7], &[5, 6, 7, 8]), Done)],
@@ -75,26 +54,11 @@ const WRITTEN_AGAIN: Case<'static> = Case {
 
 #[test]
 fn after_an_erasure_the_first_slice_is_written_again(rt: HostRuntime) {
-    assert!(rt; matches!(leaves_of_four(rt.alloc(), WRITTEN_AGAIN), Ok(true)));
-}
-
-const REFUSED: Case<'static> = Case {
-    shape: &[4, 4],
-    held: Some(ONE_OF_FOUR),
-    refuses: 1,
-    calls: &[(Put(&[0], &[9]), Source), (Shows(&[0, 2], &[0, 5]), Done)],
-    left: Some(ONE_OF_FOUR),
-    writes: 1,
-};
-
-#[test]
-fn a_refused_writing_call_leaves_all_as_it_was(rt: HostRuntime) {
-    assert!(rt; matches!(leaves_of_four(rt.alloc(), REFUSED), Ok(true)));
+    assert!(rt; matches!(given_of_four(rt.alloc(), WRITTEN_AGAIN), Ok(Some(_))));
 }
 
 /// Sixteen cells of the type uint16 behind an index of 64 bytes, of which four are written anew.
 const GAP: Case<'static> = Case {
-    shape: &[4, 4],
     held: Some(Value {
         front: &[],
         pairs: &[64, 8, 72, 8, 80, 8, 88, 8],
@@ -116,25 +80,13 @@ const GAP: Case<'static> = Case {
     writes: 1,
 };
 
-/// Elements of the type uint16 that fill with 0.
-fn numbers(alloc: Global) -> Result<Elements, CodecError> {
-    elements(uint16(), FillValue::from_u16(alloc, 0)?)
-}
-
-/// Whether calls of a shard of that type, with its index at the start, leave what they should.
-fn leaves_of_numbers(alloc: Global, case: Case<'_>) -> Result<bool, CodecError> {
-    let codec = shards(alloc, &[2, 2], ShardingIndexLocation::Start)?;
-    leaves(alloc, &codec, &numbers(alloc)?, case)
-}
-
 #[test]
 fn an_index_at_the_start_is_replaced_and_a_gap_is_left(rt: HostRuntime) {
-    assert!(rt; matches!(leaves_of_numbers(rt.alloc(), GAP), Ok(true)));
+    assert!(rt; matches!(given_of_numbers(rt.alloc(), GAP), Ok(Some(_))));
 }
 
 /// Each inner shard is two bytes, and an index of a pair and an absent one.
 const INNER: Case<'static> = Case {
-    shape: &[4, 4],
     held: None,
     refuses: 0,
     calls: &[(Put(&[0, 1], &[1, 2]), Done), (Put(&[0], &[3]), Done)],
@@ -151,44 +103,12 @@ const INNER: Case<'static> = Case {
     writes: 2,
 };
 
-/// Whether calls of a shard of shards leave what they should.
-fn leaves_of_nested(alloc: Global, case: Case<'_>) -> Result<bool, CodecError> {
-    let codec = nested(alloc)?;
-    leaves(alloc, &codec, &bytes(alloc, 0)?, case)
-}
-
 #[test]
 fn an_inner_shard_is_encoded_anew_and_whole(rt: HostRuntime) {
-    assert!(rt; matches!(leaves_of_nested(rt.alloc(), INNER), Ok(true)));
-}
-
-/// Whether calls of a shard of four elements in subchunks of two leave what they should.
-fn leaves_of_two(alloc: Global, case: Case<'_>) -> Result<bool, CodecError> {
-    let codec = shards(alloc, &[2], ShardingIndexLocation::End)?;
-    leaves(alloc, &codec, &bytes(alloc, 0)?, case)
-}
-
-/// How a shard of four elements in subchunks of two is opened, the bytes 1 and 2 with these pairs.
-fn opened(alloc: Global, pairs: &[u64]) -> Result<(), CodecError> {
-    let codec = shards(alloc, &[2], ShardingIndexLocation::End)?;
-    let value = Value {
-        front: &[1, 2],
-        pairs,
-        back: &[],
-    };
-    opens(alloc, &codec, &bytes(alloc, 0)?, value)
-}
-
-#[test]
-fn a_pair_outside_the_data_part_is_damage_at_once(rt: HostRuntime) {
-    for pair in [[100, 2], [0, NONE], [NONE, 0], [2, 2]] {
-        let found = opened(rt.alloc(), &[0, 2, pair[0], pair[1]]);
-        assert!(rt; matches!(found, Err(CodecError::Damage)));
-    }
+    assert!(rt; matches!(given_of_nested(rt.alloc(), INNER), Ok(Some(_))));
 }
 
 const SAME_SLICE: Case<'static> = Case {
-    shape: &[4],
     held: Some(Value {
         front: &[1, 2],
         pairs: &[0, 2, 0, 2],
@@ -206,19 +126,16 @@ const SAME_SLICE: Case<'static> = Case {
 
 #[test]
 fn of_two_pairs_with_one_slice_one_is_written_anew(rt: HostRuntime) {
-    assert!(rt; matches!(leaves_of_two(rt.alloc(), SAME_SLICE), Ok(true)));
+    assert!(rt; matches!(given_of_two(rt.alloc(), SAME_SLICE), Ok(Some(_))));
 }
 
 /// The second slice has one byte.
-const SHORT: Value<'static> = Value {
-    front: &[1, 2],
-    pairs: &[0, 2, 0, 1],
-    back: &[],
-};
-
 const SHORT_SLICE: Case<'static> = Case {
-    shape: &[4],
-    held: Some(SHORT),
+    held: Some(Value {
+        front: &[1, 2],
+        pairs: &[0, 2, 0, 1],
+        back: &[],
+    }),
     refuses: 0,
     calls: &[
         (Shows(&[1, 0], &[2, 1]), Done),
@@ -236,33 +153,29 @@ const SHORT_SLICE: Case<'static> = Case {
 
 #[test]
 fn a_damaged_slice_is_no_concern_until_it_is_met(rt: HostRuntime) {
-    assert!(rt; matches!(leaves_of_two(rt.alloc(), SHORT_SLICE), Ok(true)));
+    assert!(rt; matches!(given_of_two(rt.alloc(), SHORT_SLICE), Ok(Some(_))));
 }
 
-const SHORT_FIRST: Case<'static> = Case {
-    shape: &[4],
-    held: Some(Value {
-        front: &[1, 2],
-        pairs: &[0, 1, 0, 2],
-        back: &[],
-    }),
+const SHORT_FIRST: Value<'static> = Value {
+    front: &[1, 2],
+    pairs: &[0, 1, 0, 2],
+    back: &[],
+};
+
+const FIRST_MET: Case<'static> = Case {
+    held: Some(SHORT_FIRST),
     refuses: 0,
     calls: &[(Put(&[0], &[9]), Damage)],
-    left: Some(Value {
-        front: &[1, 2],
-        pairs: &[0, 1, 0, 2],
-        back: &[],
-    }),
+    left: Some(SHORT_FIRST),
     writes: 0,
 };
 
 #[test]
 fn a_slice_of_another_length_is_damage_once_it_is_met(rt: HostRuntime) {
-    assert!(rt; matches!(leaves_of_two(rt.alloc(), SHORT_FIRST), Ok(true)));
+    assert!(rt; matches!(given_of_two(rt.alloc(), FIRST_MET), Ok(Some(_))));
 }
 
 const SEVERAL: Case<'static> = Case {
-    shape: &[4, 4],
     held: Some(ONE_OF_FOUR),
     refuses: 0,
     calls: &[
@@ -277,14 +190,136 @@ const SEVERAL: Case<'static> = Case {
     writes: 3,
 };
 
-/// How many calls wrote into the source of that shard, and how many bytes it gave.
-fn taken(alloc: Global) -> Result<(u64, u128), CodecError> {
-    let codec = shards(alloc, &[2, 2], ShardingIndexLocation::End)?;
-    let source = ran(alloc, &codec, &bytes(alloc, 0)?, SEVERAL)?;
-    Ok((source.writes, source.inner.given_bytes()))
+/// The index has 64 bytes, and each slice four: the second one is taken by two reads and a write, and the first by a read.
+#[test]
+fn a_state_takes_its_index_once_and_the_slices_that_are_met(rt: HostRuntime) {
+    assert!(rt; matches!(given_of_four(rt.alloc(), SEVERAL), Ok(Some(80))));
+}
+
+/// How a shard of four elements in subchunks of two is opened, the bytes 1 and 2 with these pairs.
+fn opened(alloc: Global, pairs: &[u64]) -> Result<(), CodecError> {
+    let (codec, elements) = (shards(alloc, &[2], End)?, elements(alloc, 0)?);
+    let value = Value {
+        front: &[1, 2],
+        pairs,
+        back: &[],
+    };
+    let source = source_of(alloc, Some(value), 0)?;
+    match open(alloc, &codec, &elements, &[4], source) {
+        Ok(_) => Ok(()),
+        Err(error) => Err(error),
+    }
 }
 
 #[test]
-fn a_state_takes_its_index_once_and_the_slices_that_are_met(rt: HostRuntime) {
-    assert!(rt; matches!(taken(rt.alloc()), Ok((3, 80))));
+fn a_pair_outside_the_data_part_is_damage_at_once(rt: HostRuntime) {
+    for pair in [[100, 2], [0, NONE], [NONE, 0], [2, 2]] {
+        let found = opened(rt.alloc(), &[0, 2, pair[0], pair[1]]);
+        assert!(rt; matches!(found, Err(CodecError::Damage)));
+    }
+}
+
+/// Whether a shard whose source refuses the call with this number is not opened, and the source comes back with its value.
+fn is_given_back(alloc: Global, refuses: u64) -> Result<bool, CodecError> {
+    let (codec, elements) = (shards(alloc, &[2, 2], End)?, elements(alloc, 0)?);
+    let source = source_of(alloc, Some(ONE_OF_FOUR), refuses)?;
+    let array = WholeArray {
+        elements: &elements,
+        shape: &[4, 4],
+    };
+    match ShardState::open(alloc, &codec, source, array, &CodecOptions::default()) {
+        Err((source, CodecError::Source)) => {
+            is(alloc, source.inner.into_value(), Some(ONE_OF_FOUR))
+        }
+        _ => Ok(false),
+    }
+}
+
+/// It is asked for its size and for the index.
+#[test]
+fn a_source_that_refuses_to_be_opened_is_given_back(rt: HostRuntime) {
+    assert!(rt; matches!(is_given_back(rt.alloc(), 1), Ok(true)));
+    assert!(rt; matches!(is_given_back(rt.alloc(), 2), Ok(true)));
+}
+
+/// All places of the two upper subchunks.
+const UPPER: [u64; 8] = [0, 1, 2, 3, 4, 5, 6, 7];
+
+/// The third call of the source reads the slice, and the fourth one writes.
+const PUT_REFUSED: Case<'static> = Case {
+    held: Some(ONE_OF_FOUR),
+    refuses: 3,
+    calls: &[
+        (Put(&[2], &[3]), Source),
+        (Shows(&UPPER, &[0, 0, 5, 6, 0, 0, 7, 8]), Done),
+    ],
+    left: Some(ONE_OF_FOUR),
+    writes: 0,
+};
+
+#[test]
+fn a_refused_put_leaves_all_as_it_was(rt: HostRuntime) {
+    assert!(rt; matches!(given_of_four(rt.alloc(), PUT_REFUSED), Ok(Some(_))));
+    let write_refused = Case {
+        refuses: 4,
+        writes: 1,
+        ..PUT_REFUSED
+    };
+    assert!(rt; matches!(given_of_four(rt.alloc(), write_refused), Ok(Some(_))));
+}
+
+/// The upper places once 3 is put at the third one.
+const UPPER_THEN: [u8; 8] = [0, 0, 3, 6, 0, 0, 7, 8];
+
+const READ_REFUSED: Case<'static> = Case {
+    held: Some(ONE_OF_FOUR),
+    refuses: 5,
+    calls: &[
+        (Put(&[2], &[3]), Done),
+        (Shows(&UPPER, &UPPER_THEN), Source),
+        (Shows(&UPPER, &UPPER_THEN), Done),
+    ],
+    left: Some(THREE_PUT),
+    writes: 1,
+};
+
+#[test]
+fn a_refused_read_leaves_all_as_it_was(rt: HostRuntime) {
+    assert!(rt; matches!(given_of_four(rt.alloc(), READ_REFUSED), Ok(Some(_))));
+}
+
+const ERASURE_REFUSED: Case<'static> = Case {
+    held: Some(ONE_OF_FOUR),
+    refuses: 6,
+    calls: &[
+        (Put(&[2], &[3]), Done),
+        (Shows(&UPPER, &UPPER_THEN), Done),
+        (Erase, Source),
+        (Shows(&UPPER, &UPPER_THEN), Done),
+    ],
+    left: Some(THREE_PUT),
+    writes: 2,
+};
+
+#[test]
+fn a_refused_erasure_leaves_all_as_it_was(rt: HostRuntime) {
+    assert!(rt; matches!(given_of_four(rt.alloc(), ERASURE_REFUSED), Ok(Some(_))));
+}
+
+/// A put, a read and an erasure, and the opening before them, are six calls of the source.
+const SIX_CALLS: Case<'static> = Case {
+    held: Some(ONE_OF_FOUR),
+    refuses: 7,
+    calls: &[
+        (Put(&[2], &[3]), Done),
+        (Shows(&UPPER, &UPPER_THEN), Done),
+        (Erase, Done),
+    ],
+    left: None,
+    writes: 2,
+};
+
+#[test]
+fn no_other_call_of_the_source_is_made(rt: HostRuntime) {
+    assert!(rt; matches!(given_of_four(rt.alloc(), SIX_CALLS), Ok(Some(_))));
 }

@@ -4,8 +4,8 @@ use Rattle.zarr_grids_boxes.specs.Boxes.{Region, product, is_in_box}
 use Rattle.zarr_grids_boxes.specs.Cuts.{overlapped, relative}
 use Rattle.zarr_grids_boxes.specs.Subsets.{region_of}
 use Rattle.zarr_grids_boxes.proofs.Places.{both}
-use Rattle.zarr_codecs_meaning.specs.Types.{Cell}
-use Rattle.zarr_codecs_arrays.specs.Outcomes.{IsTooLarge, IsCounted}
+use Rattle.zarr_codecs_meaning.specs.Types.{Cell, IsTooLarge}
+use Rattle.zarr_codecs_arrays.specs.Outcomes.{IsCounted}
 use Rattle.zarr_codecs_arrays.specs.Views.{payload_of, elements_of}
 use Rattle.zarr_array_elements.specs.Boxes.{cells_of, IsWithin, ArePutOver}
 use Rattle.zarr_array_elements.specs.Views.{AreNumbered, cells_numbered}

@@ -1,6 +1,5 @@
 use Rattle.std.proofs.Common.{ℕ, ◌≤◌, ◌∙◌, ap, subst}
-use Rattle.zarr_codecs_meaning.specs.Types.{Elements}
-use Rattle.zarr_codecs_arrays.specs.Outcomes.{IsTooLarge}
+use Rattle.zarr_codecs_meaning.specs.Types.{Elements, IsTooLarge}
 use Rattle.zarr_run_boxes.proofs.targets.cell_limit.Goals as goal
 
 pub returns : goal.returns

@@ -4,9 +4,9 @@ use Rattle.zarr_grids_boxes.specs.Boxes.{Region, product}
 use Rattle.zarr_grids_boxes.specs.Cuts.{IsAtMost, overlapped, relative}
 use Rattle.zarr_grids_boxes.specs.Subsets.{region_of}
 use Rattle.zarr_grids_overlay.specs.Overlays.{extent_of}
-use Rattle.zarr_codecs_arrays.specs.Outcomes.{IsTooLarge, IsCounted}
+use Rattle.zarr_codecs_arrays.specs.Outcomes.{IsCounted}
 use Rattle.zarr_codecs_arrays.specs.Views.{payload_of}
-use Rattle.zarr_codecs_meaning.specs.Types.{is_fill}
+use Rattle.zarr_codecs_meaning.specs.Types.{is_fill, IsTooLarge}
 use Rattle.zarr_codecs_traits.specs.PartEncoding.{EncodesPart}
 use Rattle.zarr_array_meaning.specs.Chunks.{holds_box}
 use Rattle.zarr_array_core.specs.ChunkValues.{CellsBecome}

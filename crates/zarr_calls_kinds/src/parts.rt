@@ -2,25 +2,27 @@
 use crate::arrays::{Array, array_in};
 use crate::counting_source::CountingSource;
 use crate::elements::{given_in, json};
-use crate::words::{box_in, bytes_in, cut, digits, numbers_in, push_word, refused, word};
+use crate::sources::{source_in, value_of};
+use crate::words::{box_in, cut, digits, numbers_in, push_word, refused, word};
 use anyhow::{Result, bail};
 use std::alloc::Global;
 use zarr_codecs_arrays::{ArrayBytes, CodecError};
 use zarr_codecs_options::CodecOptions;
-use zarr_codecs_traits::{
-    ArrayPart, ArrayToBytesCodecTraits, BytesPartialEncoderTraits, Indexer, MemorySource,
-    ValuePatch,
-};
+use zarr_codecs_traits::{ArrayPart, ArrayToBytesCodecTraits, Indexer, ValuePatch};
 use zarr_codecs_types::DataType;
 use zarr_grids_boxes::ArraySubset;
 
 /// What a call on parts gives.
-pub(crate) fn answer(alloc: Global, name: &str, rest: &str) -> Option<Result<String>> {
+pub(crate) fn answer<C: ArrayToBytesCodecTraits>(
+    alloc: Global,
+    chain: &C,
+    name: &str,
+    rest: &str,
+) -> Option<Result<String>> {
     match name {
-        "read" => Some(read(alloc, rest)),
-        "put" => Some(put(alloc, rest)),
-        "patches" => Some(patches(alloc, rest)),
-        "write" => Some(write(alloc, rest)),
+        "read" => Some(read(alloc, chain, rest)),
+        "put" => Some(put(alloc, chain, rest)),
+        "patches" => Some(patches(alloc, chain, rest)),
         _ => None,
     }
 }
@@ -48,7 +50,7 @@ struct Part {
     places: Places,
 }
 
-/// The part of an array that the first five arguments say, and the others.
+/// The part of an array that the first four arguments say, and the others.
 fn part_in(alloc: Global, text: &str) -> Result<(Part, &str)> {
     let (array, rest) = array_in(alloc, text)?;
     let (places, rest) = cut_places(alloc, rest)?;
@@ -73,37 +75,22 @@ fn asked(part: &Part) -> ArrayPart<'_> {
     }
 }
 
-/// The source of a value, or of `none`.
-fn source_in(alloc: Global, text: &str) -> Result<CountingSource> {
-    let value = match text {
-        "none" => None,
-        _ => Some(bytes_in(alloc, text)?),
-    };
-    Ok(CountingSource {
-        inner: MemorySource::new(value),
-        reads: 0,
-        given: 0,
-        writes: 0,
-    })
-}
-
 /// The cells of a part.
-fn cells_of(
+fn cells_of<C: ArrayToBytesCodecTraits>(
     alloc: Global,
+    chain: &C,
     part: &Part,
     source: &mut CountingSource,
 ) -> Result<ArrayBytes, CodecError> {
     let options = CodecOptions::default();
-    part.array
-        .chain
-        .partial_decode(alloc, source, asked(part), &options)
+    chain.partial_decode(alloc, source, asked(part), &options)
 }
 
 /// The cells at places that are read of a value, how many calls read it, and how many bytes these took.
-fn read(alloc: Global, rest: &str) -> Result<String> {
+fn read<C: ArrayToBytesCodecTraits>(alloc: Global, chain: &C, rest: &str) -> Result<String> {
     let (part, value) = part_in(alloc, rest)?;
     let mut source = source_in(alloc, value)?;
-    match cells_of(alloc, &part, &mut source) {
+    match cells_of(alloc, chain, &part, &mut source) {
         Ok(cells) => told(alloc, part.array.elements.data_type(), &cells, &source),
         Err(error) => refused(alloc, &error),
     }
@@ -121,34 +108,25 @@ fn told(
     Ok(format!(in alloc; "{cells} of {bytes} bytes by {calls} call")?)
 }
 
-/// The value of a source, or `none`.
-fn value_of(alloc: Global, source: MemorySource) -> Result<String> {
-    match source.into_value() {
-        Some(value) => digits(alloc, value.as_slice()),
-        None => word(alloc, "none"),
-    }
-}
-
 /// Puts cells at the places of a part.
-fn put_cells(
+fn put_cells<C: ArrayToBytesCodecTraits>(
     alloc: Global,
+    chain: &C,
     part: &Part,
     source: &mut CountingSource,
     cells: ArrayBytes,
 ) -> Result<(), CodecError> {
     let options = CodecOptions::default();
-    part.array
-        .chain
-        .partial_encode(alloc, source, cells, asked(part), &options)
+    chain.partial_encode(alloc, source, cells, asked(part), &options)
 }
 
 /// The value once cells are put at places, and how many calls read and wrote it.
-fn put(alloc: Global, rest: &str) -> Result<String> {
+fn put<C: ArrayToBytesCodecTraits>(alloc: Global, chain: &C, rest: &str) -> Result<String> {
     let (part, rest) = part_in(alloc, rest)?;
     let (value, cells) = cut(rest)?;
     let mut source = source_in(alloc, value)?;
     let cells = given_in(alloc, part.array.elements.data_type(), cells)?;
-    match put_cells(alloc, &part, &mut source, cells) {
+    match put_cells(alloc, chain, &part, &mut source, cells) {
         Ok(()) => left(alloc, source),
         Err(error) => left_by(alloc, &error, source),
     }
@@ -167,50 +145,22 @@ fn left_by(alloc: Global, error: &CodecError, source: CountingSource) -> Result<
     Ok(format!(in alloc; "refused {error:?}: {left}")?)
 }
 
-/// Writes bytes into a source from an offset on.
-fn patch(alloc: Global, source: &mut MemorySource, patch: ValuePatch) -> Result<(), CodecError> {
-    source.partial_encode(alloc, vec![in alloc; patch]?)
-}
-
-/// The bytes of an argument, and the offset of the one before it.
-fn patch_in(alloc: Global, text: &str) -> Result<ValuePatch> {
-    let (offset, bytes) = cut(text)?;
-    Ok(ValuePatch {
-        offset: offset.parse()?,
-        bytes: bytes_in(alloc, bytes)?,
-    })
-}
-
-/// The value once bytes are written into it from an offset on.
-fn write(alloc: Global, rest: &str) -> Result<String> {
-    let (value, rest) = cut(rest)?;
-    let bytes = patch_in(alloc, rest)?;
-    let mut source = source_in(alloc, value)?.inner;
-    let done = patch(alloc, &mut source, bytes);
-    let value = value_of(alloc, source)?;
-    match done {
-        Ok(()) => Ok(value),
-        Err(error) => Ok(format!(in alloc; "refused {error:?}: {value}")?),
-    }
-}
-
 /// What is written for cells at the places of a part.
-fn patches_for(
+fn patches_for<C: ArrayToBytesCodecTraits>(
     alloc: Global,
+    chain: &C,
     part: &Part,
     cells: ArrayBytes,
 ) -> Result<Option<Vec<ValuePatch>>, CodecError> {
     let options = CodecOptions::default();
-    part.array
-        .chain
-        .encode_patches(alloc, cells, asked(part), &options)
+    chain.encode_patches(alloc, cells, asked(part), &options)
 }
 
 /// The ranges that are written for cells at places.
-fn patches(alloc: Global, rest: &str) -> Result<String> {
+fn patches<C: ArrayToBytesCodecTraits>(alloc: Global, chain: &C, rest: &str) -> Result<String> {
     let (part, cells) = part_in(alloc, rest)?;
     let cells = given_in(alloc, part.array.elements.data_type(), cells)?;
-    match patches_for(alloc, &part, cells) {
+    match patches_for(alloc, chain, &part, cells) {
         Ok(Some(patches)) => texts(alloc, patches.as_slice()),
         Ok(None) => word(alloc, "none"),
         Err(error) => refused(alloc, &error),

@@ -1,44 +1,63 @@
-//! A source that refuses writing calls when it is told to.
+//! A source that counts its calls, and refuses one of them.
 ghost use Rattle.std.specs.Prelude.{◌≡◌};
 
+use crate::samples::{Value, bytes_of};
 use std::alloc::Global;
-use zarr_codecs_arrays::CodecError;
-use zarr_codecs_traits::{
-    ByteRange, BytesPartialDecoderTraits, BytesPartialEncoderTraits, MemorySource, ValuePatch,
+use zarr_codecs::{
+    ByteRange, BytesPartialDecoderTraits, BytesPartialEncoderTraits, CodecError, MemorySource,
+    ValuePatch,
 };
 
-/// A source in memory that counts the writing calls that it was given, and refuses those with these
-/// numbers, counted from 1.
+/// A source in memory that counts its calls, and those among them that write. It refuses the call with a number, counted from 1.
 #[derive(Drop)]
-pub(crate) struct RefusingSource {
+pub(crate) struct TestSource {
     pub inner: MemorySource,
+    pub calls: u64,
     pub writes: u64,
     pub refuses: u64,
     pub refused: u128,
 }
 
-impl RefusingSource {
-    /// A source of a value, or of none, that refuses the writing call with this number.
-    pub(crate) fn new(value: Option<Vec<u8>>, refuses: u64) -> RefusingSource {
-        RefusingSource {
-            inner: MemorySource::new(value),
-            writes: 0,
-            refuses,
-            refused: 0,
-        }
-    }
+/// A source of a value, or of none, that refuses the call with this number, or none where it is 0.
+pub(crate) fn source_of(
+    alloc: Global,
+    held: Option<Value<'_>>,
+    refuses: u64,
+) -> Result<TestSource, CodecError> {
+    let value = match held {
+        Some(value) => Some(bytes_of(alloc, value)?),
+        None => None,
+    };
+    Ok(TestSource {
+        inner: MemorySource::new(value),
+        calls: 0,
+        writes: 0,
+        refuses,
+        refused: 0,
+    })
+}
 
-    /// Counts a writing call, and tells whether it is refused.
+impl TestSource {
+    /// Counts a call, and tells whether it is refused.
     fn refuses_call(&mut self) -> bool
         ensures inner { self.new.inner ≡ self.old.inner }
         ensures refused { self.new.refused ≡ self.old.refused }
     {
+        self.calls = self.calls.wrapping_add(1);
+        self.calls == self.refuses
+    }
+
+    /// Counts a call that writes, and tells whether it is refused.
+    fn refuses_write(&mut self) -> bool
+        ensures inner { self.new.inner ≡ self.old.inner }
+        ensures refused { self.new.refused ≡ self.old.refused }
+    {
         self.writes = self.writes.wrapping_add(1);
-        self.writes == self.refuses
+        self.refuses_call()
     }
 }
 
-impl BytesPartialDecoderTraits for RefusingSource {
+impl BytesPartialDecoderTraits for TestSource {
     ghost use Rattle.std.specs.Prelude.{refl, true};
     ghost use Rattle.std.proofs.Common.{◌∙◌};
     ghost use Rattle.zarr_codecs_traits.specs.Sources.{source_accepted, source_contents, source_given, source_length};
@@ -57,6 +76,10 @@ impl BytesPartialDecoderTraits for RefusingSource {
     ghost held_bytes = { λ s. source_length s.inner };
 
     fn size(&mut self) -> Result<Option<u64>, CodecError> {
+        if self.refuses_call() {
+            self.refused = self.refused.saturating_add(1);
+            return Err(CodecError::Source);
+        }
         self.inner.size()
     }
 
@@ -65,6 +88,10 @@ impl BytesPartialDecoderTraits for RefusingSource {
         alloc: Global,
         ranges: &[ByteRange],
     ) -> Result<Option<Vec<Vec<u8>>>, CodecError> {
+        if self.refuses_call() {
+            self.refused = self.refused.saturating_add(1);
+            return Err(CodecError::Source);
+        }
         self.inner.partial_decode(alloc, ranges)
     }
 
@@ -81,7 +108,7 @@ impl BytesPartialDecoderTraits for RefusingSource {
     ghost goes_on = { λ _ _ _ f h. (f.0 ∙ h.0, f.1 ∙ h.1) };
 }
 
-impl BytesPartialEncoderTraits for RefusingSource {
+impl BytesPartialEncoderTraits for TestSource {
     ghost use Rattle.std.specs.Prelude.{refl};
     ghost use Rattle.zarr_codecs_traits.specs.Sources.{source_accepted};
 
@@ -94,7 +121,7 @@ impl BytesPartialEncoderTraits for RefusingSource {
         alloc: Global,
         patches: Vec<ValuePatch>,
     ) -> Result<(), CodecError> {
-        if self.refuses_call() {
+        if self.refuses_write() {
             self.refused = self.refused.saturating_add(1);
             return Err(CodecError::Source);
         }
@@ -102,7 +129,7 @@ impl BytesPartialEncoderTraits for RefusingSource {
     }
 
     fn set(&mut self, value: Vec<u8>) -> Result<(), CodecError> {
-        if self.refuses_call() {
+        if self.refuses_write() {
             self.refused = self.refused.saturating_add(1);
             return Err(CodecError::Source);
         }
@@ -110,7 +137,7 @@ impl BytesPartialEncoderTraits for RefusingSource {
     }
 
     fn erase(&mut self) -> Result<(), CodecError> {
-        if self.refuses_call() {
+        if self.refuses_write() {
             self.refused = self.refused.saturating_add(1);
             return Err(CodecError::Source);
         }

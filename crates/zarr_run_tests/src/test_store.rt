@@ -1,17 +1,34 @@
-//! A store that isn't honest.
-ghost use Rattle.std.specs.Prelude.{◌≡◌, true, false, length};
+//! A store that counts calls, and isn't honest.
+ghost use Rattle.std.specs.Prelude.{◌≡◌, false, length};
 
 use zarr_run::{
     ByteRange, MemoryStore, ReadableStorageTraits, StorageError, StoreKey, ValuePatch,
     WritableStorageTraits,
 };
 
-/// A store in memory that, after some calls of `get`, gives one other value: the last of its bytes but two is 9 there, which in
-/// a document is the number of its format.
+/// A store in memory that counts the values of chunks of the array at `/a` that were fetched, and the calls of `set_partial`. After
+/// some calls of `get` it gives one other value: the last of its bytes but two is 9 there, which in a document is the number of its
+/// format.
 #[derive(Drop)]
-pub(crate) struct ChangingStore {
+pub(crate) struct TestStore {
     pub inner: MemoryStore,
     pub calls_before: u64,
+    pub fetches: u64,
+    pub patches: u64,
+}
+
+impl TestStore {
+    /// Counts a call of `get`, and tells whether it gives another value.
+    fn count_fetch(&mut self, key: &StoreKey) -> bool
+        ensures { self.new.inner ≡ self.old.inner }
+    {
+        if key.as_str().starts_with("a/c/") {
+            self.fetches = self.fetches.wrapping_add(1);
+        }
+        let is_changed = self.calls_before == 0;
+        self.calls_before = self.calls_before.wrapping_sub(1);
+        is_changed
+    }
 }
 
 /// Changes a byte of a value.
@@ -23,7 +40,7 @@ fn change(value: &mut Vec<u8>)
     }
 }
 
-impl ReadableStorageTraits for ChangingStore {
+impl ReadableStorageTraits for TestStore {
     ghost held = { λ s. s.inner.held };
 
     ghost is_honest = { λ _. false };
@@ -35,8 +52,7 @@ impl ReadableStorageTraits for ChangingStore {
     ghost accepted_writes = { λ s. s.inner.accepted };
 
     fn get(&mut self, key: &StoreKey) -> Result<Option<Vec<u8>>, StorageError> {
-        let is_changed = self.calls_before == 0;
-        self.calls_before = self.calls_before.wrapping_sub(1);
+        let is_changed = self.count_fetch(key);
         let Some(mut value) = self.inner.get(key)? else {
             return Ok(None);
         };
@@ -63,7 +79,9 @@ impl ReadableStorageTraits for ChangingStore {
     }
 }
 
-impl WritableStorageTraits for ChangingStore {
+impl WritableStorageTraits for TestStore {
+    ghost use Rattle.std.specs.Prelude.{true};
+
     ghost supports_set_partial = { λ _. true };
 
     fn supports_set_partial(&self) -> bool {
@@ -75,6 +93,7 @@ impl WritableStorageTraits for ChangingStore {
     }
 
     fn set_partial(&mut self, key: &StoreKey, patches: &[ValuePatch]) -> Result<(), StorageError> {
+        self.patches = self.patches.wrapping_add(1);
         self.inner.set_partial(key, patches)
     }
 

@@ -10,14 +10,14 @@ use zarr_grids_metadata::{MetadataV3, PluginCreateError};
 /// bytes 1, 2, 3. `Lengthen` puts a byte 0 before them, and tells
 /// nothing of sizes.
 #[derive(Clone, Copy, Debug, PartialEq, Eq)]
-pub(crate) enum TestCodec {
+pub enum TestCodec {
     Reverse,
     Refuse,
     Lengthen,
 }
 
 impl BytesToBytesCodecTraits for TestCodec {
-    ghost use Rattle.zarr_calls.specs.ByteCodecs.{codec_of, point_of_codec, codec_in, codec_in_lawful, codec_lawful, codec_reads_back};
+    ghost use Rattle.zarr_calls_kinds.specs.ByteCodecs.{codec_of, point_of_codec, codec_in, codec_in_lawful, codec_lawful, codec_reads_back};
 
     ghost meaning = { codec_of };
 

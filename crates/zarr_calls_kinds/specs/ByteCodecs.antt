@@ -9,8 +9,8 @@ use Rattle.zarr_codecs_meaning.specs.Chains.BytesRepresentation.{unbounded_size}
 use Rattle.zarr_codecs_meaning.specs.Fits.{is_size_as}
 use Rattle.zarr_codecs_meaning.specs.Laws.{IsLawful}
 use Rattle.zarr_codecs_meaning.proofs.Lists.{some_same}
-use Rattle.zarr_calls.specs.declared.byte_codecs.TestCodec.{TestCodec}
-use Rattle.zarr_calls.specs.declared.byte_codecs.TestCodec.TheVariants.{Reverse, Refuse, Lengthen}
+use Rattle.zarr_calls_kinds.specs.declared.byte_codecs.TestCodec.{TestCodec}
+use Rattle.zarr_calls_kinds.specs.declared.byte_codecs.TestCodec.TheVariants.{Reverse, Refuse, Lengthen}
 
 -- bytes other than 1, 2, 3
 abbrev pub unless_stated : List ℕ → Option (List ℕ)

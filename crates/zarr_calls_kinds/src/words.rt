@@ -8,13 +8,13 @@ use zarr_grids_boxes::ArraySubset;
 use zarr_grids_metadata::MetadataV3;
 
 /// The first argument of some, and the others.
-pub(crate) fn cut(text: &str) -> Result<(&str, &str)> {
+pub fn cut(text: &str) -> Result<(&str, &str)> {
     text.split_once(" | ")
         .context("a call has too few arguments")
 }
 
 /// The values of a JSON list.
-pub(crate) fn list_in(alloc: Global, text: &str) -> Result<Vec<Value>> {
+pub fn list_in(alloc: Global, text: &str) -> Result<Vec<Value>> {
     match Value::from_str(alloc, text)? {
         Value::Array(values) => Ok(values),
         _ => bail!("an argument is no list"),
@@ -31,7 +31,7 @@ fn numbers_of(alloc: Global, values: &[Value]) -> Result<Vec<u64>> {
 }
 
 /// The numbers of a JSON list.
-pub(crate) fn numbers_in(alloc: Global, text: &str) -> Result<Vec<u64>> {
+pub fn numbers_in(alloc: Global, text: &str) -> Result<Vec<u64>> {
     let values = list_in(alloc, text)?;
     numbers_of(alloc, values.as_slice())
 }
@@ -45,7 +45,7 @@ fn range_of(pair: &Value) -> Option<Range<u64>> {
 }
 
 /// The box of a JSON list of pairs, each of a start and an end.
-pub(crate) fn box_in(alloc: Global, text: &str) -> Result<ArraySubset> {
+pub fn box_in(alloc: Global, text: &str) -> Result<ArraySubset> {
     let pairs = list_in(alloc, text)?;
     let mut ranges = Vec::new(alloc);
     for pair in &pairs {
@@ -55,12 +55,12 @@ pub(crate) fn box_in(alloc: Global, text: &str) -> Result<ArraySubset> {
 }
 
 /// The metadata of a text.
-pub(crate) fn metadata_in(alloc: Global, text: &str) -> Result<MetadataV3> {
+pub fn metadata_in(alloc: Global, text: &str) -> Result<MetadataV3> {
     Ok(MetadataV3::from_text(alloc, text)?)
 }
 
 /// The metadata of a JSON list.
-pub(crate) fn metadatas_in(alloc: Global, text: &str) -> Result<Vec<MetadataV3>> {
+pub fn metadatas_in(alloc: Global, text: &str) -> Result<Vec<MetadataV3>> {
     let values = list_in(alloc, text)?;
     let mut metadatas = Vec::new(alloc);
     for value in &values {
@@ -71,22 +71,31 @@ pub(crate) fn metadatas_in(alloc: Global, text: &str) -> Result<Vec<MetadataV3>>
 }
 
 /// The text of metadata.
-pub(crate) fn text_of(alloc: Global, metadata: &MetadataV3) -> Result<String> {
+pub fn text_of(alloc: Global, metadata: &MetadataV3) -> Result<String> {
     Ok(metadata.to_value(alloc)?.to_string(alloc)?)
 }
 
+/// The texts of metadata, with a space between them.
+pub fn texts_of(alloc: Global, metadatas: &[MetadataV3]) -> Result<String> {
+    let mut all = String::new(alloc);
+    for metadata in metadatas {
+        push_word(&mut all, text_of(alloc, metadata)?.as_str())?;
+    }
+    Ok(all)
+}
+
 /// The answer of a call that is refused.
-pub(crate) fn refused<E: Debug>(alloc: Global, error: &E) -> Result<String> {
+pub fn refused<E: Debug>(alloc: Global, error: &E) -> Result<String> {
     Ok(format!(in alloc; "refused {error:?}")?)
 }
 
 /// The answer that is a word.
-pub(crate) fn word(alloc: Global, text: &str) -> Result<String> {
+pub fn word(alloc: Global, text: &str) -> Result<String> {
     Ok(String::from_str(alloc, text)?)
 }
 
 /// Appends a word, after a space where it isn't the first.
-pub(crate) fn push_word(all: &mut String, text: &str) -> Result<(), AllocError> {
+pub fn push_word(all: &mut String, text: &str) -> Result<(), AllocError> {
     if !all.is_empty() {
         all.push_str(" ")?;
     }
@@ -94,17 +103,17 @@ pub(crate) fn push_word(all: &mut String, text: &str) -> Result<(), AllocError> 
 }
 
 /// The answer that is true or false.
-pub(crate) fn truth(alloc: Global, is_true: bool) -> Result<String> {
+pub fn truth(alloc: Global, is_true: bool) -> Result<String> {
     word(alloc, if is_true { "true" } else { "false" })
 }
 
 /// The answer that is a list of numbers.
-pub(crate) fn numbers(alloc: Global, numbers: &[u64]) -> Result<String> {
+pub fn numbers(alloc: Global, numbers: &[u64]) -> Result<String> {
     Ok(format!(in alloc; "{numbers:?}")?)
 }
 
 /// The bytes of hexadecimal digits, or none of `empty`.
-pub(crate) fn bytes_in(alloc: Global, text: &str) -> Result<Vec<u8>> {
+pub fn bytes_in(alloc: Global, text: &str) -> Result<Vec<u8>> {
     match text {
         "empty" => Ok(Vec::new(alloc)),
         _ => Ok(hex::decode(alloc, text)?),
@@ -112,7 +121,7 @@ pub(crate) fn bytes_in(alloc: Global, text: &str) -> Result<Vec<u8>> {
 }
 
 /// Bytes as hexadecimal digits, or as `empty`.
-pub(crate) fn digits(alloc: Global, bytes: &[u8]) -> Result<String> {
+pub fn digits(alloc: Global, bytes: &[u8]) -> Result<String> {
     if bytes.is_empty() {
         return word(alloc, "empty");
     }

@@ -1,0 +1,48 @@
+//! Calls by their names.
+use crate::{arrays, elements, grids, keys, metadata, parts, shapes, sources, telling, types};
+use anyhow::{Result, bail};
+use std::alloc::Global;
+use zarr_codecs_traits::ArrayToBytesCodecTraits;
+
+/// What a call gives that is of no chain, or `None` where the name is that of no such call.
+pub fn answer(alloc: Global, name: &str, rest: &str) -> Option<Result<String>> {
+    if let Some(answer) = metadata::answer(alloc, name, rest) {
+        return Some(answer);
+    }
+    if let Some(answer) = keys::answer(alloc, name, rest) {
+        return Some(answer);
+    }
+    if let Some(answer) = grids::answer(alloc, name, rest) {
+        return Some(answer);
+    }
+    if let Some(answer) = types::answer(alloc, name, rest) {
+        return Some(answer);
+    }
+    if let Some(answer) = elements::answer(alloc, name, rest) {
+        return Some(answer);
+    }
+    if let Some(answer) = shapes::answer(alloc, name, rest) {
+        return Some(answer);
+    }
+    sources::answer(alloc, name, rest)
+}
+
+/// What a call of a chain gives, whose other arguments are `rest`.
+pub fn answer_of_chain<C: ArrayToBytesCodecTraits>(
+    alloc: Global,
+    chain: &C,
+    name: &str,
+    rest: &str,
+) -> Result<String> {
+    if let Some(answer) = telling::answer(alloc, chain, name, rest) {
+        return answer;
+    }
+    let copy = chain.try_clone(alloc)?;
+    if let Some(answer) = arrays::answer(alloc, &copy, name, rest) {
+        return answer;
+    }
+    if let Some(answer) = parts::answer(alloc, &copy, name, rest) {
+        return answer;
+    }
+    bail!("there is no such call: {name}")
+}

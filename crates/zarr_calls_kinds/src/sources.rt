@@ -1,0 +1,64 @@
+//! Values in sources.
+use crate::counting_source::CountingSource;
+use crate::words::{bytes_in, cut, digits, word};
+use anyhow::Result;
+use std::alloc::Global;
+use zarr_codecs_arrays::CodecError;
+use zarr_codecs_traits::{BytesPartialEncoderTraits, MemorySource, ValuePatch};
+
+/// What a call of a value gives.
+pub(crate) fn answer(alloc: Global, name: &str, rest: &str) -> Option<Result<String>> {
+    match name {
+        "write" => Some(write(alloc, rest)),
+        _ => None,
+    }
+}
+
+/// The source of a value, or of `none`.
+pub(crate) fn source_in(alloc: Global, text: &str) -> Result<CountingSource> {
+    let value = match text {
+        "none" => None,
+        _ => Some(bytes_in(alloc, text)?),
+    };
+    Ok(CountingSource {
+        inner: MemorySource::new(value),
+        reads: 0,
+        given: 0,
+        writes: 0,
+    })
+}
+
+/// The value of a source, or `none`.
+pub(crate) fn value_of(alloc: Global, source: MemorySource) -> Result<String> {
+    match source.into_value() {
+        Some(value) => digits(alloc, value.as_slice()),
+        None => word(alloc, "none"),
+    }
+}
+
+/// Writes bytes into a source from an offset on.
+fn patch(alloc: Global, source: &mut MemorySource, patch: ValuePatch) -> Result<(), CodecError> {
+    source.partial_encode(alloc, vec![in alloc; patch]?)
+}
+
+/// The bytes of an argument, and the offset of the one before it.
+fn patch_in(alloc: Global, text: &str) -> Result<ValuePatch> {
+    let (offset, bytes) = cut(text)?;
+    Ok(ValuePatch {
+        offset: offset.parse()?,
+        bytes: bytes_in(alloc, bytes)?,
+    })
+}
+
+/// The value once bytes are written into it from an offset on.
+fn write(alloc: Global, rest: &str) -> Result<String> {
+    let (value, rest) = cut(rest)?;
+    let bytes = patch_in(alloc, rest)?;
+    let mut source = source_in(alloc, value)?.inner;
+    let done = patch(alloc, &mut source, bytes);
+    let value = value_of(alloc, source)?;
+    match done {
+        Ok(()) => Ok(value),
+        Err(error) => Ok(format!(in alloc; "refused {error:?}: {value}")?),
+    }
+}

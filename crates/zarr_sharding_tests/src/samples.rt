@@ -1,0 +1,131 @@
+//! What tests of shards share, with bytes typed in by hand.
+use std::alloc::Global;
+use zarr_codecs::{
+    ArrayBytes, ArrayToBytesCodecTraits, BytesCodec, CodecError, CodecOptions, Elements, FillValue,
+    data_type,
+};
+use zarr_grids::ChunkShape;
+use zarr_sharding::{ShardingCodec, ShardingIndexLocation, SubchunkWriteOrder};
+
+/// Both numbers of an absent subchunk's pair.
+pub(crate) const NONE: u64 = u64::MAX;
+
+/// Shards whose subchunks and index are encoded by `bytes`.
+pub(crate) type Shards = ShardingCodec<BytesCodec, BytesCodec>;
+
+/// Shards whose subchunks are shards.
+pub(crate) type Nested = ShardingCodec<Shards, BytesCodec>;
+
+/// Elements of the type uint8 that fill with a number.
+pub(crate) fn elements(alloc: Global, fill: u8) -> Result<Elements, CodecError> {
+    match Elements::new(data_type::uint8(), FillValue::from_u8(alloc, fill)?) {
+        Some(elements) => Ok(elements),
+        None => Err(CodecError::Fit),
+    }
+}
+
+/// Elements of the type uint16 that fill with 0.
+pub(crate) fn numbers(alloc: Global) -> Result<Elements, CodecError> {
+    match Elements::new(data_type::uint16(), FillValue::from_u16(alloc, 0)?) {
+        Some(elements) => Ok(elements),
+        None => Err(CodecError::Fit),
+    }
+}
+
+/// A shape that chunks may have.
+pub(crate) fn chunk_shape(alloc: Global, edges: &[u64]) -> Result<ChunkShape, CodecError> {
+    match ChunkShape::new(edges.to_vec(alloc)?) {
+        Ok(shape) => Ok(shape),
+        Err(_) => Err(CodecError::Fit),
+    }
+}
+
+/// Shards of subchunks of this shape, written row-major.
+pub(crate) fn shards(
+    alloc: Global,
+    edges: &[u64],
+    location: ShardingIndexLocation,
+) -> Result<Shards, CodecError> {
+    let (inner, index) = (BytesCodec::little(), BytesCodec::little());
+    let codec = ShardingCodec::new(chunk_shape(alloc, edges)?, inner, index, location);
+    Ok(codec.with_subchunk_write_order(SubchunkWriteOrder::C))
+}
+
+/// Shards of [2,2] whose subchunks are shards of [1,2], written row-major.
+pub(crate) fn nested(alloc: Global) -> Result<Nested, CodecError> {
+    let (shape, end) = (chunk_shape(alloc, &[2, 2])?, ShardingIndexLocation::End);
+    let inner = shards(alloc, &[1, 2], end)?;
+    let codec = ShardingCodec::new(shape, inner, BytesCodec::little(), end);
+    Ok(codec.with_subchunk_write_order(SubchunkWriteOrder::C))
+}
+
+/// A value: bytes, then numbers of eight bytes, and then bytes again.
+#[derive(Clone, Copy)]
+pub(crate) struct Value<'x> {
+    pub front: &'x [u8],
+    pub pairs: &'x [u64],
+    pub back: &'x [u8],
+}
+
+/// The shard of [4,4] in subchunks of [2,2] of which the upper right one is 5, 6, 7 and 8.
+pub(crate) const ONE_OF_FOUR: Value<'static> = Value {
+    front: &[5, 6, 7, 8],
+    pairs: &[NONE, NONE, 0, 4, NONE, NONE, NONE, NONE],
+    back: &[],
+};
+
+/// The same once 3 is put in the place of 5.
+pub(crate) const THREE_PUT: Value<'static> = Value {
+    front: &[5, 6, 7, 8, 3, 6, 7, 8],
+    pairs: &[NONE, NONE, 4, 4, NONE, NONE, NONE, NONE],
+    back: &[],
+};
+
+/// The first of these shards once 9 is put at the first place.
+pub(crate) const NINE_PUT: Value<'static> = Value {
+    front: &[5, 6, 7, 8, 9, 0, 0, 0],
+    pairs: &[4, 4, 0, 4, NONE, NONE, NONE, NONE],
+    back: &[],
+};
+
+/// The bytes of a value.
+pub(crate) fn bytes_of(alloc: Global, value: Value<'_>) -> Result<Vec<u8>, CodecError> {
+    let mut all = value.front.to_vec(alloc)?;
+    for number in value.pairs {
+        all.extend_from_slice(&number.to_le_bytes())?;
+    }
+    all.extend_from_slice(value.back)?;
+    Ok(all)
+}
+
+/// Whether what a source held is this value, or is none.
+pub(crate) fn is(
+    alloc: Global,
+    found: Option<Vec<u8>>,
+    want: Option<Value<'_>>,
+) -> Result<bool, CodecError> {
+    match (found, want) {
+        (Some(found), Some(want)) => Ok(found.as_slice() == bytes_of(alloc, want)?.as_slice()),
+        (found, _) => Ok(found.is_none() && want.is_none()),
+    }
+}
+
+/// Whether elements of one size are these bytes.
+pub(crate) fn are(elements: &ArrayBytes, bytes: &[u8]) -> bool {
+    match elements {
+        ArrayBytes::Fixed(read) => read.as_slice() == bytes,
+        _ => false,
+    }
+}
+
+/// Whether a codec makes this value of 16 cells in four rows.
+pub(crate) fn makes<C: ArrayToBytesCodecTraits>(
+    alloc: Global,
+    codec: &C,
+    cells: [u8; 16],
+    want: Value<'_>,
+) -> Result<bool, CodecError> {
+    let (given, elements) = (ArrayBytes::Fixed(cells.to_vec(alloc)?), elements(alloc, 0)?);
+    let made = codec.encode(alloc, given, &elements, &[4, 4], &CodecOptions::default())?;
+    Ok(made.as_slice() == bytes_of(alloc, want)?.as_slice())
+}
