@@ -1,20 +1,21 @@
 -- What codecs take and give of elements.
-use Rattle.std.proofs.Common.{Bool, ◌≡◌, ◌∙◌, ℕ, true, List, length, sym, ap, subst, Option, Some, None, Ok, Err, Vec, inl, inr}
+use Rattle.std.proofs.Common.{Bool, ◌≡◌, ◌∙◌, ℕ, true, List, length, sym, ap, subst, Option, Some, None, Ok, Err, Vec, IsTrue, inl, inr, ◌⊎◌}
 use Rattle.std.specs.List.{list_all}
 use Rattle.std.specs.declared.alloc.Global.{Global}
 use Rattle.std.proofs.lemmas.Bool.{false≢true}
 use Rattle.zarr_grids_boxes.specs.Boxes.{product}
 use Rattle.zarr_codecs_meaning.specs.Chains.{Chain}
 use Rattle.zarr_codecs_meaning.specs.Chunks.{chunk_decoded}
+use Rattle.zarr_codecs_meaning.specs.Encoding.{encoded}
 use Rattle.zarr_codecs_meaning.specs.Fits.{fits, is_lossless}
 use Rattle.zarr_codecs_meaning.specs.Payloads.{Payload, cells_in}
 use Rattle.zarr_codecs_meaning.specs.Refusals.{CodecRefuses, PassesIndex}
 use Rattle.zarr_codecs_meaning.specs.Standing.{Stands}
-use Rattle.zarr_codecs_meaning.specs.Types.{is_value, Cell, Elements, IsTooLarge}
+use Rattle.zarr_codecs_meaning.specs.Types.{is_value, Cell, DataType, Elements, IsTooLarge}
 use Rattle.zarr_codecs_meaning.proofs.DecodedElements.{all_filled}
 use Rattle.zarr_codecs_meaning.proofs.DecodedValues.{decoded_values}
 use Rattle.zarr_codecs_meaning.proofs.Lists.{some_same}
-use Rattle.zarr_codecs_arrays.specs.Outcomes.{IsValid}
+use Rattle.zarr_codecs_arrays.specs.Outcomes.{IsValid, IsCounted, IsMisformed, IsOtherCount}
 use Rattle.zarr_codecs_arrays.specs.declared.error.CodecError.{CodecError}
 use Rattle.zarr_codecs_arrays.specs.declared.error.CodecError.TheVariants as error
 use Rattle.zarr_codecs_traits.specs.Outcomes.{Encodes, IsRefused}
@@ -45,6 +46,12 @@ pub encoded_stands_for : (chain : Chain) (exact : Bool) (elements : Elements) (s
 encoded_stands_for chain exact elements shape payload given value are h lossless =
     subst (λ (cells : List Cell). Stands chain elements shape value.items cells) (same_cells elements shape payload given h.0 are h.1.valid) (h.1.stands lossless)
 
+-- and it is their encoding, where it depends on these alone
+pub encoded_as : (chain : Chain) (exact : Bool) (elements : Elements) (shape : List ℕ) (payload : Payload) (given : List Cell) (value : Vec ℕ Global) → AreArrayElements elements shape payload given → Encodes chain exact elements shape payload (Ok value)
+    → IsTrue exact → encoded chain elements shape given ≡ Some value.items
+encoded_as chain exact elements shape payload given value are h one =
+    subst (λ (cells : List Cell). encoded chain elements shape cells ≡ Some value.items) (same_cells elements shape payload given h.0 are h.1.valid) (h.1.encodes one)
+
 -- why it refuses them
 abbrev pub Refuses : Chain → Elements → List ℕ → List Cell → CodecError → Type 0
 Refuses chain elements shape cells error.Codec = CodecRefuses chain elements shape cells
@@ -56,8 +63,12 @@ refused_cells : (chain : Chain) (elements : Elements) (shape : List ℕ) (payloa
     → IsRefused chain elements shape payload cells refuses → refuses chain elements shape given
 refused_cells chain elements shape payload given cells refuses are h = subst (λ (cs : List Cell). refuses chain elements shape cs) (same_cells elements shape payload given cells are h.valid) h.is
 
-listed_none : (elements : Elements) (shape : List ℕ) (payload : Payload) (given : List Cell) → AreArrayElements elements shape payload given → cells_in elements.type payload ≡ None → ⊥
+pub listed_none : (elements : Elements) (shape : List ℕ) (payload : Payload) (given : List Cell) → AreArrayElements elements shape payload given → cells_in elements.type payload ≡ None → ⊥
 listed_none elements shape payload given are h = let k : Some given ≡ None = sym are.valid.is.lists ∙ h in cc
+
+pub not_counted : (type : DataType) (payload : Payload) (count : ℕ) (given : List Cell) → IsCounted type payload count given → IsMisformed type payload error.InvalidNumberOfElements ⊎ IsOtherCount type payload count → ⊥
+not_counted type payload count given is (inl h) = let k : Some given ≡ None = sym is.lists ∙ h.0 in cc
+not_counted type payload count given is (inr h) = h.2 (ap length (some_same (sym h.1 ∙ is.lists)) ∙ is.many)
 
 pub why_refused : (chain : Chain) (exact : Bool) (elements : Elements) (shape : List ℕ) (payload : Payload) (given : List Cell) (e : CodecError) → AreArrayElements elements shape payload given → fits chain elements.type shape ≡ true → Encodes chain exact elements shape payload (Err e)
     → Refuses chain elements shape given e
@@ -71,11 +82,10 @@ why_refused chain exact elements shape payload given error.CellOutOfRange are fi
     let same = some_same (sym h.1.1.lists ∙ are.valid.is.lists) in
     false≢true (sym h.1.2 ∙ (ap (list_all (is_value elements.type)) same ∙ are.valid.values))
 why_refused chain exact elements shape payload given error.IncompatibleIndexer are fit h = h.1
-why_refused chain exact elements shape payload given error.InvalidNumberOfElements are fit h =
-    h.1 given are.valid.is
-why_refused chain exact elements shape payload given error.ExpectedFixedLengthBytes are fit h = listed_none elements shape payload given are h.1
-why_refused chain exact elements shape payload given error.ExpectedVariableLengthBytes are fit h = listed_none elements shape payload given are h.1
-why_refused chain exact elements shape payload given error.ExpectedOptionalBytes are fit h = listed_none elements shape payload given are h.1
+why_refused chain exact elements shape payload given error.InvalidNumberOfElements are fit h = not_counted elements.type payload (product shape) given are.valid.is h.1
+why_refused chain exact elements shape payload given error.ExpectedFixedLengthBytes are fit h = listed_none elements shape payload given are h.1.0
+why_refused chain exact elements shape payload given error.ExpectedVariableLengthBytes are fit h = listed_none elements shape payload given are h.1.0
+why_refused chain exact elements shape payload given error.ExpectedOptionalBytes are fit h = listed_none elements shape payload given are h.1.0
 why_refused chain exact elements shape payload given error.Unsupported are fit h = h.1
 why_refused chain exact elements shape payload given error.Memory are fit h = tt
 why_refused chain exact elements shape payload given (error.Other text) are fit h = h.1

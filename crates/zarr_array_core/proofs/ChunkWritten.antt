@@ -1,5 +1,5 @@
 -- What the new value of one chunk makes of a store.
-use Rattle.std.proofs.Common.{◌≡◌, ◌≢◌, ◌∙◌, ℕ, zero, suc, ◌<◌, Bool, true, false, if◌then◌else◌, ◌&&◌, ◌||◌, cond, List, [], ◌∷◌, length, map, get_or, replicate, refl, sym, ap, subst, arith, Option, Some, None, is_some, ⊎_elim, bytes_eq}
+use Rattle.std.proofs.Common.{◌≡◌, ◌≢◌, ◌∙◌, ℕ, zero, suc, ◌<◌, Bool, true, false, if◌then◌else◌, ◌&&◌, ◌||◌, cond, List, [], ◌∷◌, length, map, get_or, replicate, refl, sym, ap, subst, arith, Option, Some, None, is_some, ⊎_elim, inl, inr, bytes_eq}
 use Rattle.std.specs.Prelude.{MatchBool, not}
 use Rattle.std.specs.List.{range_with_len, list_all}
 use Rattle.std.specs.FinMap.{get, get-insert, get-remove}
@@ -9,6 +9,7 @@ use Rattle.std.proofs.lemmas.Cmp.{nat_list_cmp_total}
 use Rattle.std.proofs.lemmas.List.{ext_get_or, get_or-replicate, length-replicate}
 use Rattle.std.proofs.lemmas.List.FromFn.{get_or-map-range_with_len, length-map-range_with_len}
 use Rattle.std.proofs.lemmas.Map.Text.{is_eq-slice_cmp}
+use Rattle.std.proofs.lemmas.Option.{none-some}
 use Rattle.std.proofs.lemmas.Simd.{map-map}
 use Rattle.std.proofs.lemmas.Slice.Eq.{bytes_eq-Decides}
 use Rattle.zarr_grids_boxes.specs.Boxes.{Region, product, places, place_at, is_in_box}
@@ -29,16 +30,17 @@ use Rattle.zarr_codecs_meaning.specs.Types.{Cell, of_bytes, absent, present, is_
 use Rattle.zarr_codecs_meaning.proofs.Chunks.{stored_decoded, stored_part, stored_once}
 use Rattle.zarr_codecs_meaning.proofs.DecodedElements.{all_filled}
 use Rattle.zarr_codecs_meaning.proofs.Lists.{some_same}
-use Rattle.zarr_codecs_meaning.proofs.PartReading.{part_read}
 use Rattle.zarr_codecs_options.specs.declared.codec_options.CodecOptions.{CodecOptions}
 use Rattle.zarr_array_meaning.specs.Boxes.{cell_of_box, with_chunks}
 use Rattle.zarr_array_meaning.specs.Chunks.{number_in, stored_at, fits_box, decoded_at, part_at, ReadsCell, holds_box, is_listed}
 use Rattle.zarr_array_meaning.specs.Documents.{Document}
 use Rattle.zarr_array_meaning.specs.Standing.{ChunkStandsAt, IsLossless, IsGood, AreValues}
 use Rattle.zarr_array_meaning.specs.StoreMaps.{StoreMap}
-use Rattle.zarr_array_meaning.specs.Writing.{ChunkBecomes, IsKeyed, HasKeys, WroteChunks, stores_fill}
-use Rattle.zarr_array_core.specs.ChunkValues.{CellsBecome, MakesValue, with_value}
+use Rattle.zarr_array_meaning.specs.Writing.{ChunkBecomes, IsKeyed, HasKeys, WroteChunks, cell_read, opens_in, stores_fill, takes_cells}
+use Rattle.zarr_array_core.specs.ChunkValues.{CellsBecome, ChangesValue, MakesValue, PutsPart, with_value}
 use Rattle.zarr_array_meaning.proofs.HeldBoxes.{held_place, not_held}
+use Rattle.zarr_array_meaning.proofs.TakenParts.{part_of_decoded, read_of_decoded, takes_decoded}
+use Rattle.zarr_array_core.proofs.InParts.{parts_of_write}
 use Rattle.zarr_array_core.proofs.ChunkCells.{all_in_range}
 use Rattle.zarr_array_elements.proofs.FixedCells.{cell_of_places, number_below}
 use Rattle.zarr_array_core.proofs.Listed.{listed_one, one_listed}
@@ -77,12 +79,6 @@ values_at_places test box cells rank h =
 box_rank : (grid : Grid) (chunk : List ℕ) (box : Region) → IsInGrid grid chunk box → length box.start ≡ length box.shape
 box_rank grid chunk box below = let r = chunk_box-rank grid chunk box below.has_box in r.0 ∙ sym r.1
 
--- of a value that is decoded whole, each place is read as its cell
-pub part_of_decoded : (chain : Chain) (elements : Elements) (shape : List ℕ) (stored : Option (List ℕ)) (cells : List Cell) (n : ℕ) → fits chain elements.type shape ≡ true → n < product shape → chunk_decoded chain elements shape stored ≡ Some cells
-    → chunk_part chain elements shape stored (n ∷ []) ≡ Some (get_or cells n elements.fill ∷ [])
-part_of_decoded chain elements shape None cells n fit below h = ap (λ c. Some (c ∷ [])) (sym (get_or-replicate (product shape) n elements.fill elements.fill below) ∙ ap (λ (cs : List Cell). get_or cs n elements.fill) (some_same h))
-part_of_decoded chain elements shape (Some value) cells n fit below h = part_read chain elements shape value cells (n ∷ []) fit h (ap (λ (b : Bool). b && true) (lt-ltb n (product shape) below))
-
 cells_are : (document : Document) (region : Region) (given : List Cell) (stored : Option (List ℕ)) (box : Region) (cells : List Cell) → IsGood document → CellsBecome document region given stored box cells → AreCells document.elements box.shape cells
 cells_are document region given stored box cells good becomes = record { fill = good.fill; values = becomes.values; whole = becomes.many }
 
@@ -111,13 +107,13 @@ pub record AreApart (path : List ℕ) (document : Document) : Type 0 where
   pub keys : (c d : List ℕ) (box other : Region) → IsInGrid document.grid c box → IsInGrid document.grid d other → d ≢ c → chunk_key path document.keys d ≢ chunk_key path document.keys c
 
 -- a chunk in the grid that a write gives a value, and what is known of the write
-pub record IsWrite (path : List ℕ) (document : Document) (region : Region) (given : List Cell) (options : CodecOptions) (chunk : List ℕ) (box : Region) (old : StoreMap) (made : Option (List ℕ)) : Type 0 where
+pub record IsWrite (path : List ℕ) (document : Document) (exact : Bool) (region : Region) (given : List Cell) (options : CodecOptions) (chunk : List ℕ) (box : Region) (old : StoreMap) (made : Option (List ℕ)) : Type 0 where
   pub good : IsGood document
   pub apart : AreApart path document
   pub region_rank : length region.start ≡ length region.shape
   pub rank : length region.start ≡ length box.start
   pub below : IsInGrid document.grid chunk box
-  pub makes : MakesValue document region given (stores_fill document options region box) box (stored_at path document old chunk) made
+  pub makes : MakesValue document exact region given (stores_fill document options region box) box (stored_at path document old chunk) made
 
 -- a fact of the one chunk that is listed
 at_one : (grid : Grid) (P : List ℕ → Region → Type 0) (chunk d : List ℕ) (box other : Region) → IsInGrid grid chunk box → IsInGrid grid d other → is_listed (chunk ∷ []) d ≡ true → P chunk box → P d other
@@ -129,37 +125,37 @@ at_one grid P chunk d box other below over l p =
 abbrev pub new_store : List ℕ → Document → StoreMap → List ℕ → Option (List ℕ) → StoreMap
 new_store path document old chunk made = with_value old (chunk_key path document.keys chunk) made
 
-chunk_stored_now : (path : List ℕ) (document : Document) (region : Region) (given : List Cell) (options : CodecOptions) (chunk : List ℕ) (box : Region) (old : StoreMap) (made : Option (List ℕ)) (w : IsWrite path document region given options chunk box old made) → IsLossless document
+chunk_stored_now : (path : List ℕ) (document : Document) (exact : Bool) (region : Region) (given : List Cell) (options : CodecOptions) (chunk : List ℕ) (box : Region) (old : StoreMap) (made : Option (List ℕ)) (w : IsWrite path document exact region given options chunk box old made) → IsLossless document
     → IsStored document.chain document.elements box.shape (stored_at path document (new_store path document old chunk made) chunk) w.makes.cells
-chunk_stored_now path document region given options chunk box old made w lossless =
+chunk_stored_now path document exact region given options chunk box old made w lossless =
     subst (λ (o : Option (List ℕ)). IsStored document.chain document.elements box.shape o w.makes.cells) (sym (value_same old (chunk_key path document.keys chunk) made)) (stored_where document box made w.makes.cells w.makes.fit (w.makes.is.stands lossless))
 
 -- each place shows its new cell
-chunk_part_now : (path : List ℕ) (document : Document) (region : Region) (given : List Cell) (options : CodecOptions) (chunk : List ℕ) (box : Region) (old : StoreMap) (made : Option (List ℕ)) (place : List ℕ) (w : IsWrite path document region given options chunk box old made) → IsLossless document
+chunk_part_now : (path : List ℕ) (document : Document) (exact : Bool) (region : Region) (given : List Cell) (options : CodecOptions) (chunk : List ℕ) (box : Region) (old : StoreMap) (made : Option (List ℕ)) (place : List ℕ) (w : IsWrite path document exact region given options chunk box old made) → IsLossless document
     → is_in_box box.start box.shape place ≡ true → ReadsCell path document (new_store path document old chunk made) chunk box place (cell_of_box box w.makes.cells document.elements.fill place)
-chunk_part_now path document region given options chunk box old made place w lossless t =
+chunk_part_now path document exact region given options chunk box old made place w lossless t =
     stored_part document.chain document.elements box.shape (stored_at path document (new_store path document old chunk made) chunk) w.makes.cells (number_in box place ∷ []) w.good.lawful lossless
     (cells_are document region given (stored_at path document old chunk) box w.makes.cells w.good w.makes.becomes)
-    (chunk_stored_now path document region given options chunk box old made w lossless) (ap (λ (b : Bool). b && true) (lt-ltb (number_in box place) (product box.shape) (number_below box place t)))
+    (chunk_stored_now path document exact region given options chunk box old made w lossless) (ap (λ (b : Bool). b && true) (lt-ltb (number_in box place) (product box.shape) (number_below box place t)))
 
-shows_at : (path : List ℕ) (document : Document) (region : Region) (given : List Cell) (options : CodecOptions) (chunk : List ℕ) (box : Region) (old : StoreMap) (made : Option (List ℕ)) (place : List ℕ) (t : Bool) (w : IsWrite path document region given options chunk box old made) → IsLossless document
+shows_at : (path : List ℕ) (document : Document) (exact : Bool) (region : Region) (given : List Cell) (options : CodecOptions) (chunk : List ℕ) (box : Region) (old : StoreMap) (made : Option (List ℕ)) (place : List ℕ) (t : Bool) (w : IsWrite path document exact region given options chunk box old made) → IsLossless document
     → is_in_box box.start box.shape place ≡ true → is_in_box region.start region.shape place ≡ t
     → MatchBool t (ReadsCell path document (new_store path document old chunk made) chunk box place (cell_of_box region given document.elements.fill place))
     (part_at path document (new_store path document old chunk made) chunk box place ≡ part_at path document old chunk box place)
-shows_at path document region given options chunk box old made place true w lossless inside e =
-    chunk_part_now path document region given options chunk box old made place w lossless inside ∙ ap (λ c. Some (c ∷ [])) (w.makes.becomes.written place e inside)
-shows_at path document region given options chunk box old made place false w lossless inside e =
+shows_at path document exact region given options chunk box old made place true w lossless inside e =
+    chunk_part_now path document exact region given options chunk box old made place w lossless inside ∙ ap (λ c. Some (c ∷ [])) (w.makes.becomes.written place e inside)
+shows_at path document exact region given options chunk box old made place false w lossless inside e =
     let rank = box_rank document.grid chunk box w.below in
     let kept = w.makes.becomes.kept (not_held region box place (holds_box region box) refl w.region_rank rank w.rank inside e) in
-    chunk_part_now path document region given options chunk box old made place w lossless inside
+    chunk_part_now path document exact region given options chunk box old made place w lossless inside
     ∙ (ap (λ c. Some (c ∷ [])) (kept.2 place e inside) ∙ sym (part_of_decoded document.chain document.elements box.shape (stored_at path document old chunk) kept.0 (number_in box place) w.makes.fit (number_below box place inside) kept.1))
 
 -- the new cells, where the chunk stood for others
-cell_after : (path : List ℕ) (document : Document) (region : Region) (given : List Cell) (options : CodecOptions) (chunk : List ℕ) (box : Region) (old : StoreMap) (made : Option (List ℕ)) (cells : List ℕ → Cell) (place : List ℕ) (t : Bool) (w : IsWrite path document region given options chunk box old made) → IsLossless document
+cell_after : (path : List ℕ) (document : Document) (exact : Bool) (region : Region) (given : List Cell) (options : CodecOptions) (chunk : List ℕ) (box : Region) (old : StoreMap) (made : Option (List ℕ)) (cells : List ℕ → Cell) (place : List ℕ) (t : Bool) (w : IsWrite path document exact region given options chunk box old made) → IsLossless document
     → AreValues document cells → ChunkStandsAt path document old chunk box cells → is_in_box box.start box.shape place ≡ true → is_in_box region.start region.shape place ≡ t
     → cell_of_box box w.makes.cells document.elements.fill place ≡ (if t then cell_of_box region given document.elements.fill place else cells place)
-cell_after path document region given options chunk box old made cells place true w lossless values st inside e = w.makes.becomes.written place e inside
-cell_after path document region given options chunk box old made cells place false w lossless values st inside e =
+cell_after path document exact region given options chunk box old made cells place true w lossless values st inside e = w.makes.becomes.written place e inside
+cell_after path document exact region given options chunk box old made cells place false w lossless values st inside e =
     let rank = box_rank document.grid chunk box w.below in
     let kept = w.makes.becomes.kept (not_held region box place (holds_box region box) refl w.region_rank rank w.rank inside e) in
     let listed = map cells (places box.start box.shape) in
@@ -167,29 +163,29 @@ cell_after path document region given options chunk box old made cells place fal
     let before : kept.0 ≡ listed = some_same (sym kept.1 ∙ stored_decoded document.chain document.elements box.shape (stored_at path document old chunk) listed w.good.lawful lossless are st) in
     kept.2 place e inside ∙ (ap (λ (cs : List Cell). cell_of_box box cs document.elements.fill place) before ∙ cell_of_places box cells document.elements.fill place rank inside)
 
-keeps_here : (path : List ℕ) (document : Document) (region : Region) (given : List Cell) (options : CodecOptions) (chunk : List ℕ) (box : Region) (old : StoreMap) (made : Option (List ℕ)) (cells : List ℕ → Cell) (w : IsWrite path document region given options chunk box old made) → IsLossless document
+keeps_here : (path : List ℕ) (document : Document) (exact : Bool) (region : Region) (given : List Cell) (options : CodecOptions) (chunk : List ℕ) (box : Region) (old : StoreMap) (made : Option (List ℕ)) (cells : List ℕ → Cell) (w : IsWrite path document exact region given options chunk box old made) → IsLossless document
     → AreValues document cells → ChunkStandsAt path document old chunk box cells
     → ChunkStandsAt path document (new_store path document old chunk made) chunk box (with_chunks document.grid region (chunk ∷ []) (cell_of_box region given document.elements.fill) cells)
-keeps_here path document region given options chunk box old made cells w lossless values st =
+keeps_here path document exact region given options chunk box old made cells w lossless values st =
     let rank = box_rank document.grid chunk box w.below in
     let fill = document.elements.fill in
     let after = with_chunks document.grid region (chunk ∷ []) (cell_of_box region given fill) cells in
     let same : w.makes.cells ≡ map after (places box.start box.shape) = cells_at_places box w.makes.cells after fill rank w.makes.becomes.many (λ place inside.
     let in_region = is_in_box region.start region.shape place in
     let lies : lies_in_chunk document.grid place chunk ≡ true = lies_here document.grid chunk place box w.below.has_box ∙ inside in
-    cell_after path document region given options chunk box old made cells place in_region w lossless values st inside refl
+    cell_after path document exact region given options chunk box old made cells place in_region w lossless values st inside refl
     ∙ sym (ap (λ (b : Bool). if in_region && (b || false) then cell_of_box region given fill place else cells place) lies ∙ ap (λ (b : Bool). if b then cell_of_box region given fill place else cells place) (and-true in_region))) in
-    subst (λ (cs : List Cell). IsStored document.chain document.elements box.shape (stored_at path document (new_store path document old chunk made) chunk) cs) same (chunk_stored_now path document region given options chunk box old made w lossless)
+    subst (λ (cs : List Cell). IsStored document.chain document.elements box.shape (stored_at path document (new_store path document old chunk made) chunk) cs) same (chunk_stored_now path document exact region given options chunk box old made w lossless)
 
-stored_apart : (path : List ℕ) (document : Document) (region : Region) (given : List Cell) (options : CodecOptions) (chunk d : List ℕ) (box other : Region) (old : StoreMap) (made : Option (List ℕ)) (w : IsWrite path document region given options chunk box old made) → IsInGrid document.grid d other → d ≢ chunk
+stored_apart : (path : List ℕ) (document : Document) (exact : Bool) (region : Region) (given : List Cell) (options : CodecOptions) (chunk d : List ℕ) (box other : Region) (old : StoreMap) (made : Option (List ℕ)) (w : IsWrite path document exact region given options chunk box old made) → IsInGrid document.grid d other → d ≢ chunk
     → stored_at path document (new_store path document old chunk made) d ≡ stored_at path document old d
-stored_apart path document region given options chunk d box other old made w over ne =
+stored_apart path document exact region given options chunk d box other old made w over ne =
     value_other old (chunk_key path document.keys chunk) (chunk_key path document.keys d) made (w.apart.keys chunk d box other w.below over ne)
 
-keeps_apart : (path : List ℕ) (document : Document) (region : Region) (given : List Cell) (options : CodecOptions) (chunk d : List ℕ) (box other : Region) (old : StoreMap) (made : Option (List ℕ)) (cells : List ℕ → Cell) (w : IsWrite path document region given options chunk box old made)
-    → IsInGrid document.grid d other → d ≢ chunk → ChunkStandsAt path document old d other cells
-    → ChunkStandsAt path document (new_store path document old chunk made) d other (with_chunks document.grid region (chunk ∷ []) (cell_of_box region given document.elements.fill) cells)
-keeps_apart path document region given options chunk d box other old made cells w over ne st =
+-- cells of a chunk whose value stays
+kept_apart : (path : List ℕ) (document : Document) (region : Region) (given : List Cell) (chunk d : List ℕ) (other : Region) (old new : StoreMap) (cells : List ℕ → Cell) → IsInGrid document.grid d other → d ≢ chunk → stored_at path document new d ≡ stored_at path document old d
+    → ChunkStandsAt path document old d other cells → ChunkStandsAt path document new d other (with_chunks document.grid region (chunk ∷ []) (cell_of_box region given document.elements.fill) cells)
+kept_apart path document region given chunk d other old new cells over ne stays st =
     let fill = document.elements.fill in
     let after = with_chunks document.grid region (chunk ∷ []) (cell_of_box region given fill) cells in
     let rank = box_rank document.grid d other over in
@@ -199,27 +195,28 @@ keeps_apart path document region given options chunk d box other old made cells 
     (λ lies. absurd (ne (chunks_apart document.grid d chunk place (lies_here document.grid d place other over.has_box ∙ inside) lies)))
     (λ lies. sym (ap (λ (b : Bool). if in_region && (b || false) then cell_of_box region given fill place else cells place) lies ∙ ap (λ (b : Bool). if b then cell_of_box region given fill place else cells place) (and-false in_region)))
     (told (lies_in_chunk document.grid place chunk))) in
-    let now = sym (stored_apart path document region given options chunk d box other old made w over ne) in
-    subst (λ (cs : List Cell). IsStored document.chain document.elements other.shape (stored_at path document (new_store path document old chunk made) d) cs) same
-    (subst (λ (o : Option (List ℕ)). IsStored document.chain document.elements other.shape o (map cells (places other.start other.shape))) now st)
+    subst (λ (cs : List Cell). IsStored document.chain document.elements other.shape (stored_at path document new d) cs) same
+    (subst (λ (o : Option (List ℕ)). IsStored document.chain document.elements other.shape o (map cells (places other.start other.shape))) (sym stays) st)
 
-keeps_one : (path : List ℕ) (document : Document) (region : Region) (given : List Cell) (options : CodecOptions) (chunk d : List ℕ) (box other : Region) (old : StoreMap) (made : Option (List ℕ)) (cells : List ℕ → Cell) (w : IsWrite path document region given options chunk box old made) → IsLossless document
+keeps_one : (path : List ℕ) (document : Document) (exact : Bool) (region : Region) (given : List Cell) (options : CodecOptions) (chunk d : List ℕ) (box other : Region) (old : StoreMap) (made : Option (List ℕ)) (cells : List ℕ → Cell) (w : IsWrite path document exact region given options chunk box old made) → IsLossless document
     → AreValues document cells → IsInGrid document.grid d other → ChunkStandsAt path document old d other cells
     → ChunkStandsAt path document (new_store path document old chunk made) d other (with_chunks document.grid region (chunk ∷ []) (cell_of_box region given document.elements.fill) cells)
-keeps_one path document region given options chunk d box other old made cells w lossless values over st = ⊎_elim
+keeps_one path document exact region given options chunk d box other old made cells w lossless values over st = ⊎_elim
     (λ t. at_one document.grid (λ k r. ChunkStandsAt path document old k r cells → ChunkStandsAt path document (new_store path document old chunk made) k r (with_chunks document.grid region (chunk ∷ []) (cell_of_box region given document.elements.fill) cells))
-    chunk d box other w.below over (one_listed chunk d ((bytes_eq-Decides d chunk).0 t)) (λ s. keeps_here path document region given options chunk box old made cells w lossless values s) st)
-    (λ t. keeps_apart path document region given options chunk d box other old made cells w over (λ e. false≢true (sym t ∙ (bytes_eq-Decides d chunk).1 e)) st)
+    chunk d box other w.below over (one_listed chunk d ((bytes_eq-Decides d chunk).0 t)) (λ s. keeps_here path document exact region given options chunk box old made cells w lossless values s) st)
+    (λ t.
+    let ne : d ≢ chunk = λ e. false≢true (sym t ∙ (bytes_eq-Decides d chunk).1 e) in
+    kept_apart path document region given chunk d other old (new_store path document old chunk made) cells over ne (stored_apart path document exact region given options chunk d box other old made w over ne) st)
     (told (bytes_eq d chunk))
 
-makes_here : (path : List ℕ) (document : Document) (region : Region) (given : List Cell) (options : CodecOptions) (chunk : List ℕ) (box : Region) (old : StoreMap) (made : Option (List ℕ)) (w : IsWrite path document region given options chunk box old made) → IsLossless document → holds_box region box ≡ true
+makes_here : (path : List ℕ) (document : Document) (exact : Bool) (region : Region) (given : List Cell) (options : CodecOptions) (chunk : List ℕ) (box : Region) (old : StoreMap) (made : Option (List ℕ)) (w : IsWrite path document exact region given options chunk box old made) → IsLossless document → holds_box region box ≡ true
     → ChunkStandsAt path document (new_store path document old chunk made) chunk box (cell_of_box region given document.elements.fill)
-makes_here path document region given options chunk box old made w lossless holds =
+makes_here path document exact region given options chunk box old made w lossless holds =
     let rank = box_rank document.grid chunk box w.below in
     let fill = document.elements.fill in
     let same : w.makes.cells ≡ map (cell_of_box region given fill) (places box.start box.shape) = cells_at_places box w.makes.cells (cell_of_box region given fill) fill rank w.makes.becomes.many
     (λ place inside. w.makes.becomes.written place (held_place region box place w.region_rank rank w.rank holds inside) inside) in
-    subst (λ (cs : List Cell). IsStored document.chain document.elements box.shape (stored_at path document (new_store path document old chunk made) chunk) cs) same (chunk_stored_now path document region given options chunk box old made w lossless)
+    subst (λ (cs : List Cell). IsStored document.chain document.elements box.shape (stored_at path document (new_store path document old chunk made) chunk) cs) same (chunk_stored_now path document exact region given options chunk box old made w lossless)
 
 -- ---- keys
 
@@ -236,9 +233,9 @@ fill_filled : (fill : Cell) (n : ℕ) → same_cell fill fill ≡ true → is_fi
 fill_filled fill zero h = refl
 fill_filled fill (suc n) h = ap (λ (b : Bool). b && is_fill fill (replicate n fill)) h ∙ fill_filled fill n h
 
-no_fill_value : (path : List ℕ) (document : Document) (region : Region) (given : List Cell) (options : CodecOptions) (chunk : List ℕ) (box : Region) (old : StoreMap) (made : Option (List ℕ)) (value : List ℕ) (w : IsWrite path document region given options chunk box old made) → IsLossless document
+no_fill_value : (path : List ℕ) (document : Document) (exact : Bool) (region : Region) (given : List Cell) (options : CodecOptions) (chunk : List ℕ) (box : Region) (old : StoreMap) (made : Option (List ℕ)) (value : List ℕ) (w : IsWrite path document exact region given options chunk box old made) → IsLossless document
     → stores_fill document options region box ≡ false → stored_at path document (new_store path document old chunk made) chunk ≡ Some value → Stands document.chain document.elements box.shape value (replicate (product box.shape) document.elements.fill) → ⊥
-no_fill_value path document region given options chunk box old made value w lossless empty found stands =
+no_fill_value path document exact region given options chunk box old made value w lossless empty found stands =
     let fill = document.elements.fill in
     let filled = replicate (product box.shape) fill in
     let is : made ≡ Some value = sym (value_same old (chunk_key path document.keys chunk) made) ∙ found in
@@ -249,15 +246,15 @@ no_fill_value path document region given options chunk box old made value w loss
     (stored_where document box made w.makes.cells w.makes.fit (w.makes.is.stands lossless)) stood in
     false≢true (sym not_fill ∙ (ap (is_fill fill) same ∙ fill_filled fill (product box.shape) (same_self fill)))
 
-keys_one : (path : List ℕ) (document : Document) (region : Region) (given : List Cell) (options : CodecOptions) (chunk : List ℕ) (box : Region) (old : StoreMap) (made : Option (List ℕ)) (w : IsWrite path document region given options chunk box old made)
+keys_one : (path : List ℕ) (document : Document) (exact : Bool) (region : Region) (given : List Cell) (options : CodecOptions) (chunk : List ℕ) (box : Region) (old : StoreMap) (made : Option (List ℕ)) (w : IsWrite path document exact region given options chunk box old made)
     → HasKeys path document region options (chunk ∷ []) (new_store path document old chunk made)
-keys_one path document region given options chunk box old made w = record {
+keys_one path document exact region given options chunk box old made w = record {
   stored = λ d other over empty l.
       at_one document.grid (λ k r. stores_fill document options region r ≡ true → is_some (stored_at path document (new_store path document old chunk made) k) ≡ true) chunk d box other w.below over l
       (λ e. ap is_some (value_same old (chunk_key path document.keys chunk) made) ∙ some_or made (λ none. false≢true (sym (w.makes.is.absent none).0 ∙ e))) empty;
   erased = λ lossless d other over empty l value found.
       at_one document.grid (λ k r. stores_fill document options region r ≡ false → stored_at path document (new_store path document old chunk made) k ≡ Some value → Stands document.chain document.elements r.shape value (replicate (product r.shape) document.elements.fill) → ⊥) chunk d box other w.below over l
-      (λ e f s. no_fill_value path document region given options chunk box old made value w lossless e f s) empty found;
+      (λ e f s. no_fill_value path document exact region given options chunk box old made value w lossless e f s) empty found;
 }
 
 -- a value is made exactly where one is called for
@@ -266,34 +263,161 @@ called_for None store_empty fill none some = let h = none refl in sym (ap (λ (b
 called_for (Some value) true fill none some = refl
 called_for (Some value) false fill none some = sym (ap not (some value refl refl))
 
-pub becomes_at : (path : List ℕ) (document : Document) (region : Region) (given : List Cell) (chunk : List ℕ) (box : Region) (store : StoreMap) (cells : List Cell) → CellsBecome document region given (stored_at path document store chunk) box cells → ChunkBecomes path document store region given chunk box cells
-becomes_at path document region given chunk box store cells becomes = record { many = becomes.many; written = becomes.written; kept = becomes.kept }
+pub becomes_at : (path : List ℕ) (document : Document) (region : Region) (given : List Cell) (options : CodecOptions) (chunk : List ℕ) (box : Region) (store : StoreMap) (cells : List Cell) → fits_box document box ≡ true
+    → CellsBecome document region given (stored_at path document store chunk) box cells → ChunkBecomes path document store region given options chunk box cells
+becomes_at path document region given options chunk box store cells fit becomes = record {
+  many = becomes.many;
+  written = becomes.written;
+  takes = λ part. let kept = becomes.kept part in takes_decoded document options region box (stored_at path document store chunk) kept.0 fit kept.1;
+  kept = λ part place out inside.
+      let kept = becomes.kept part in
+      kept.2 place out inside ∙ sym (read_of_decoded path document store chunk box place kept.0 fit (number_below box place inside) kept.1);
+}
 
-keyed_here : (path : List ℕ) (document : Document) (region : Region) (given : List Cell) (options : CodecOptions) (chunk : List ℕ) (box : Region) (old : StoreMap) (made : Option (List ℕ)) (w : IsWrite path document region given options chunk box old made)
-    → IsKeyed path document region given options old (new_store path document old chunk made) chunk box
-keyed_here path document region given options chunk box old made w = record {
+keyed_here : (path : List ℕ) (document : Document) (exact : Bool) (region : Region) (given : List Cell) (options : CodecOptions) (chunk : List ℕ) (box : Region) (old : StoreMap) (made : Option (List ℕ)) (w : IsWrite path document exact region given options chunk box old made)
+    → IsKeyed path document exact region given options old (new_store path document old chunk made) chunk box
+keyed_here path document exact region given options chunk box old made w = record {
   cells = w.makes.cells;
-  becomes = becomes_at path document region given chunk box old w.makes.cells w.makes.becomes;
+  becomes = becomes_at path document region given options chunk box old w.makes.cells w.makes.fit w.makes.becomes;
   key = ap is_some (value_same old (chunk_key path document.keys chunk) made) ∙ called_for made (stores_fill document options region box) (is_fill document.elements.fill w.makes.cells) w.makes.is.absent w.makes.is.present;
+  encodes = λ one whole value is. w.makes.is.encodes one value (sym (value_same old (chunk_key path document.keys chunk) made) ∙ is);
 }
 
 -- ---- one chunk written
 
-pub wrote_one : (path : List ℕ) (document : Document) (region : Region) (given : List Cell) (options : CodecOptions) (chunk : List ℕ) (box : Region) (old : StoreMap) (made : Option (List ℕ)) → IsWrite path document region given options chunk box old made
-    → WroteChunks path document region given options (chunk ∷ []) old (new_store path document old chunk made)
-wrote_one path document region given options chunk box old made w = record {
+pub wrote_one : (path : List ℕ) (document : Document) (exact : Bool) (region : Region) (given : List Cell) (options : CodecOptions) (chunk : List ℕ) (box : Region) (old : StoreMap) (made : Option (List ℕ)) → IsWrite path document exact region given options chunk box old made
+    → WroteChunks path document exact region given options (chunk ∷ []) old (new_store path document old chunk made)
+wrote_one path document exact region given options chunk box old made w = record {
   fit = λ d other over l. at_one document.grid (λ k r. fits_box document r ≡ true) chunk d box other w.below over l w.makes.fit;
   undamaged = λ d other over l part.
-      at_one document.grid (λ k r. holds_box region r ≡ false → is_some (decoded_at path document old k r) ≡ true) chunk d box other w.below over l (λ h. ap is_some (w.makes.becomes.kept h).1) part;
+      at_one document.grid (λ k r. holds_box region r ≡ false → takes_cells document options region r (stored_at path document old k) ≡ true) chunk d box other w.below over l
+      (λ h. let kept = w.makes.becomes.kept h in takes_decoded document options region box (stored_at path document old chunk) kept.0 w.makes.fit kept.1) part;
   shows = λ lossless d other place over l inside.
       at_one document.grid (λ k r. is_in_box r.start r.shape place ≡ true → MatchBool (is_in_box region.start region.shape place) (ReadsCell path document (new_store path document old chunk made) k r place (cell_of_box region given document.elements.fill place))
       (part_at path document (new_store path document old chunk made) k r place ≡ part_at path document old k r place)) chunk d box other w.below over l
-      (λ i. shows_at path document region given options chunk box old made place (is_in_box region.start region.shape place) w lossless i refl) inside;
-  keeps = λ lossless cells values d other over st. keeps_one path document region given options chunk d box other old made cells w lossless values over st;
+      (λ i. shows_at path document exact region given options chunk box old made place (is_in_box region.start region.shape place) w lossless i refl) inside;
+  keeps = λ lossless cells values d other over st. keeps_one path document exact region given options chunk d box other old made cells w lossless values over st;
   makes = λ lossless d other over l holds.
       at_one document.grid (λ k r. holds_box region r ≡ true → ChunkStandsAt path document (new_store path document old chunk made) k r (cell_of_box region given document.elements.fill)) chunk d box other w.below over l
-      (λ h. makes_here path document region given options chunk box old made w lossless h) holds;
+      (λ h. makes_here path document exact region given options chunk box old made w lossless h) holds;
   others = λ key ne. value_other old (chunk_key path document.keys chunk) key made (ne chunk (one_listed chunk chunk refl));
-  keys = keys_one path document region given options chunk box old made w;
-  keyed = λ d other over l. at_one document.grid (λ k r. IsKeyed path document region given options old (new_store path document old chunk made) k r) chunk d box other w.below over l (keyed_here path document region given options chunk box old made w);
+  keys = keys_one path document exact region given options chunk box old made w;
+  keyed = λ d other over l. at_one document.grid (λ k r. IsKeyed path document exact region given options old (new_store path document old chunk made) k r) chunk d box other w.below over l (keyed_here path document exact region given options chunk box old made w);
 }
+
+-- ---- one chunk written in part
+
+-- a chunk in the grid into whose value a write puts cells, and what is known of the write
+pub record IsPutting (path : List ℕ) (document : Document) (region : Region) (given : List Cell) (options : CodecOptions) (chunk : List ℕ) (box : Region) (old : StoreMap) (made : Option (List ℕ)) : Type 0 where
+  pub good : IsGood document
+  pub apart : AreApart path document
+  pub below : IsInGrid document.grid chunk box
+  pub puts : PutsPart document region given options box (stored_at path document old chunk) made
+
+module _ (path : List ℕ) (document : Document) (exact : Bool) (region : Region) (given : List Cell) (options : CodecOptions) (chunk : List ℕ) (box : Region) (old : StoreMap) (made : Option (List ℕ)) (w : IsPutting path document region given options chunk box old made) where
+  abbrev after : StoreMap
+  after = new_store path document old chunk made
+
+  stored_now : stored_at path document after chunk ≡ made
+  stored_now = value_same old (chunk_key path document.keys chunk) made
+
+  -- what is stored stands for no cells
+  stands_for_none : IsLossless document → (cells : List ℕ → Cell) → AreValues document cells → ChunkStandsAt path document old chunk box cells → ⊥
+  stands_for_none lossless cells values st =
+      let rank = box_rank document.grid chunk box w.below in
+      let listed = map cells (places box.start box.shape) in
+      let are : AreCells document.elements box.shape listed = record { fill = w.good.fill; values = values_at_places (is_value document.elements.type) box cells rank (λ p i. values chunk box p w.below i); whole = length-at_places box cells rank } in
+      none-some listed (sym w.puts.lost ∙ stored_decoded document.chain document.elements box.shape (stored_at path document old chunk) listed w.good.lawful lossless are st)
+
+  stays_stored : stores_fill document options region box ≡ true
+  stays_stored = ap (λ (b : Bool). options.store_empty_chunks || b) (parts_of_write document options region box w.puts.in_part).1 ∙ or-true options.store_empty_chunks where
+    or-true : (b : Bool) → (b || true) ≡ true
+    or-true true = refl
+    or-true false = refl
+
+  part : holds_box region box ≡ false
+  part = (parts_of_write document options region box w.puts.in_part).2
+
+  takes : takes_cells document options region box (stored_at path document old chunk) ≡ true
+  takes = ap (λ (b : Bool). if b then opens_in document box (stored_at path document old chunk) else is_some (chunk_decoded document.chain document.elements box.shape (stored_at path document old chunk))) w.puts.in_part ∙ w.puts.puts.opened
+
+  abbrev cell_then : List ℕ → Cell
+  cell_then place = if is_in_box region.start region.shape place then cell_of_box region given document.elements.fill place else cell_read path document old chunk box place
+
+  abbrev cells_then : List Cell
+  cells_then = map cell_then (places box.start box.shape)
+
+  cell_there : (place : List ℕ) (t : Bool) → is_in_box region.start region.shape place ≡ t → is_in_box box.start box.shape place ≡ true
+      → cell_of_box box cells_then document.elements.fill place ≡ (if t then cell_of_box region given document.elements.fill place else cell_read path document old chunk box place)
+  cell_there place t r inside =
+      cell_of_places box cell_then document.elements.fill place (box_rank document.grid chunk box w.below) inside
+      ∙ ap (λ (b : Bool). if b then cell_of_box region given document.elements.fill place else cell_read path document old chunk box place) r
+
+  keyed_there : IsKeyed path document exact region given options old after chunk box
+  keyed_there = record {
+    cells = cells_then;
+    becomes = record {
+      many = length-at_places box cell_then (box_rank document.grid chunk box w.below);
+      written = λ place r inside. cell_there place true r inside;
+      takes = λ p. takes;
+      kept = λ p place r inside. cell_there place false r inside;
+    };
+    key = ap is_some stored_now ∙ (w.puts.some ∙ sym (ap (λ (b : Bool). b || not (is_fill document.elements.fill cells_then)) stays_stored));
+    encodes = λ one whole value is. absurd (false≢true (sym (ap is_some w.puts.lost) ∙ whole part));
+  }
+
+  shows_there : IsLossless document → (place : List ℕ) → is_in_box box.start box.shape place ≡ true
+      → MatchBool (is_in_box region.start region.shape place) (ReadsCell path document after chunk box place (cell_of_box region given document.elements.fill place))
+      (part_at path document after chunk box place ≡ part_at path document old chunk box place)
+  shows_there lossless place inside =
+      let shows = λ (stored : Option (List ℕ)). chunk_part document.chain document.elements box.shape stored (number_in box place ∷ []) in
+      subst (λ (o : Option (List ℕ)). MatchBool (is_in_box region.start region.shape place) (shows o ≡ Some (cell_of_box region given document.elements.fill place ∷ [])) (shows o ≡ shows (stored_at path document old chunk)))
+      (sym stored_now) (w.puts.puts.shows lossless place inside)
+
+  keeps_there : IsLossless document → (cells : List ℕ → Cell) → AreValues document cells → (d : List ℕ) (other : Region) → IsInGrid document.grid d other → ChunkStandsAt path document old d other cells
+      → ChunkStandsAt path document after d other (with_chunks document.grid region (chunk ∷ []) (cell_of_box region given document.elements.fill) cells)
+  keeps_there lossless cells values d other over st = ⊎_elim
+      (λ t.
+      absurd (at_one document.grid (λ k r. ChunkStandsAt path document old k r cells → ⊥) chunk d box other w.below over (one_listed chunk d ((bytes_eq-Decides d chunk).0 t)) (λ s. stands_for_none lossless cells values s) st))
+      (λ t.
+      let ne : d ≢ chunk = λ e. false≢true (sym t ∙ (bytes_eq-Decides d chunk).1 e) in
+      kept_apart path document region given chunk d other old after cells over ne (value_other old (chunk_key path document.keys chunk) (chunk_key path document.keys d) made (w.apart.keys chunk d box other w.below over ne)) st)
+      (told (bytes_eq d chunk))
+
+  pub wrote_put : WroteChunks path document exact region given options (chunk ∷ []) old after
+  wrote_put = record {
+    fit = λ d other over l. at_one document.grid (λ k r. fits_box document r ≡ true) chunk d box other w.below over l w.puts.fit;
+    undamaged = λ d other over l whole.
+        at_one document.grid (λ k r. holds_box region r ≡ false → takes_cells document options region r (stored_at path document old k) ≡ true) chunk d box other w.below over l (λ h. takes) whole;
+    shows = λ lossless d other place over l inside.
+        at_one document.grid (λ k r. is_in_box r.start r.shape place ≡ true → MatchBool (is_in_box region.start region.shape place) (ReadsCell path document after k r place (cell_of_box region given document.elements.fill place))
+        (part_at path document after k r place ≡ part_at path document old k r place)) chunk d box other w.below over l
+        (λ i. shows_there lossless place i) inside;
+    keeps = λ lossless cells values d other over st. keeps_there lossless cells values d other over st;
+    makes = λ lossless d other over l holds.
+        absurd (at_one document.grid (λ k r. holds_box region r ≡ true → ⊥) chunk d box other w.below over l (λ h. false≢true (sym part ∙ h)) holds);
+    others = λ key ne. value_other old (chunk_key path document.keys chunk) key made (ne chunk (one_listed chunk chunk refl));
+    keys = record {
+      stored = λ d other over empty l. at_one document.grid (λ k r. is_some (stored_at path document after k) ≡ true) chunk d box other w.below over l (ap is_some stored_now ∙ w.puts.some);
+      erased = λ lossless d other over empty l value found.
+          absurd (at_one document.grid (λ k r. stores_fill document options region r ≡ false → ⊥) chunk d box other w.below over l (λ e. false≢true (sym e ∙ stays_stored)) empty);
+    };
+    keyed = λ d other over l. at_one document.grid (λ k r. IsKeyed path document exact region given options old after k r) chunk d box other w.below over l keyed_there;
+  }
+
+-- ---- one chunk written, either way
+
+-- a chunk in the grid that a write changes
+pub record IsChange (path : List ℕ) (document : Document) (region : Region) (chunk : List ℕ) (box : Region) : Type 0 where
+  pub good : IsGood document
+  pub apart : AreApart path document
+  pub region_rank : length region.start ≡ length region.shape
+  pub rank : length region.start ≡ length box.start
+  pub below : IsInGrid document.grid chunk box
+
+pub wrote_changed : (path : List ℕ) (document : Document) (exact : Bool) (region : Region) (given : List Cell) (options : CodecOptions) (chunk : List ℕ) (box : Region) (old : StoreMap) (made : Option (List ℕ)) → IsChange path document region chunk box
+    → ChangesValue document exact region given options box (stored_at path document old chunk) made → WroteChunks path document exact region given options (chunk ∷ []) old (new_store path document old chunk made)
+wrote_changed path document exact region given options chunk box old made is (inl makes) =
+    wrote_one path document exact region given options chunk box old made (record { good = is.good; apart = is.apart; region_rank = is.region_rank; rank = is.rank; below = is.below; makes = makes })
+wrote_changed path document exact region given options chunk box old made is (inr puts) =
+    wrote_put path document exact region given options chunk box old made (record { good = is.good; apart = is.apart; below = is.below; puts = puts })

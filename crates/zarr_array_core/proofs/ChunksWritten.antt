@@ -1,6 +1,6 @@
 -- What a write of a box, chunk by chunk, leaves.
-use Rattle.std.proofs.Common.{◌≡◌, ◌≢◌, ◌∙◌, ℕ, ◌+◌, ◌<◌, Bool, true, false, if◌then◌else◌, ◌&&◌, ◌||◌, List, [], ◌∷◌, ◌++◌, length, map, refl, sym, ap, subst, arith, Option, Some, is_some, inl, ⊎_elim}
-use Rattle.std.specs.Prelude.{MatchBool}
+use Rattle.std.proofs.Common.{◌≡◌, ◌≢◌, ◌∙◌, ℕ, ◌+◌, ◌<◌, Bool, true, false, if◌then◌else◌, ◌&&◌, ◌||◌, List, [], ◌∷◌, ◌++◌, length, map, get_or, refl, sym, ap, subst, arith, Option, Some, is_some, inl, ⊎_elim}
+use Rattle.std.specs.Prelude.{MatchBool, unwrap_or}
 use Rattle.std.specs.List.{list_all, list_any}
 use Rattle.std.proofs.Math.Bool.{and-false}
 use Rattle.std.proofs.lemmas.Bool.{false≢true}
@@ -21,13 +21,13 @@ use Rattle.zarr_array_meaning.specs.Chunks.{number_in, stored_at, is_listed}
 use Rattle.zarr_array_meaning.specs.Documents.{Document}
 use Rattle.zarr_array_meaning.specs.Standing.{ChunkStandsAt, IsGood, AreValues}
 use Rattle.zarr_array_meaning.specs.StoreMaps.{StoreMap}
-use Rattle.zarr_array_meaning.specs.Writing.{IsKeyed, HasKeys, WroteChunks, stores_fill}
-use Rattle.zarr_array_core.specs.ChunkValues.{MakesValue, NewValueStops, with_value}
+use Rattle.zarr_array_meaning.specs.Writing.{IsKeyed, HasKeys, WroteChunks, takes_cells}
+use Rattle.zarr_array_core.specs.ChunkValues.{ChangesValue, ChangeStops, with_value}
 use Rattle.zarr_array_core.specs.Outcomes.{ChunkStops, WriteStops}
 use Rattle.zarr_array_core.specs.declared.error.ChunkError.{ChunkError}
 use Rattle.zarr_array_core.specs.declared.error.ChunkError.TheVariants as error
 use Rattle.zarr_array_core.proofs.ChunkCells.{cell_value}
-use Rattle.zarr_array_core.proofs.ChunkWritten.{AreApart, becomes_at, wrote_one}
+use Rattle.zarr_array_core.proofs.ChunkWritten.{AreApart, becomes_at, wrote_changed}
 use Rattle.zarr_array_core.proofs.Listed.{list_any-append, listed_one, one_listed, listed_more, before_listed, last_listed, listed_number}
 use Rattle.zarr_array_core.proofs.MetChunks.{first_chunks, first_chunks-more, first_chunks-all, first_chunks-take, first_chunks-below, met_number, length-intersecting}
 
@@ -57,8 +57,8 @@ stands_same path document store chunk box f g h st = let P : (List ℕ → Cell)
 
 -- ---- no chunk
 
-pub wrote_none : (path : List ℕ) (document : Document) (region : Region) (given : List Cell) (options : CodecOptions) (store : StoreMap) → WroteChunks path document region given options [] store store
-wrote_none path document region given options store = record {
+pub wrote_none : (path : List ℕ) (document : Document) (exact : Bool) (region : Region) (given : List Cell) (options : CodecOptions) (store : StoreMap) → WroteChunks path document exact region given options [] store store
+wrote_none path document exact region given options store = record {
   fit = λ d other over l. absurd (false≢true l);
   undamaged = λ d other over l part. absurd (false≢true l);
   shows = λ lossless d other place over l inside. absurd (false≢true l);
@@ -82,29 +82,29 @@ pub record IsNext (path : List ℕ) (document : Document) (given : List Cell) (c
   pub in_grid : (d : List ℕ) → is_listed cs d ≡ true → (other : Region) × IsInGrid document.grid d other
 
 -- what is stored for the others stays
-stays : (path : List ℕ) (document : Document) (region : Region) (given : List Cell) (options : CodecOptions) (cs : List (List ℕ)) (c d : List ℕ) (box other : Region) (mid new : StoreMap) → IsNext path document given cs c box → WroteChunks path document region given options (c ∷ []) mid new
+stays : (path : List ℕ) (document : Document) (exact : Bool) (region : Region) (given : List Cell) (options : CodecOptions) (cs : List (List ℕ)) (c d : List ℕ) (box other : Region) (mid new : StoreMap) → IsNext path document given cs c box → WroteChunks path document exact region given options (c ∷ []) mid new
     → IsInGrid document.grid d other → d ≢ c → stored_at path document new d ≡ stored_at path document mid d
-stays path document region given options cs c d box other mid new is next over ne =
+stays path document exact region given options cs c d box other mid new is next over ne =
     next.others (chunk_key path document.keys d) (λ k l e. is.apart.keys c d box other is.below over ne (e ∙ ap (chunk_key path document.keys) (listed_one c k l)))
 
 -- what is stored for the chunk is what was stored before the others
-untouched : (path : List ℕ) (document : Document) (region : Region) (given : List Cell) (options : CodecOptions) (cs : List (List ℕ)) (c : List ℕ) (box : Region) (old mid : StoreMap) → IsNext path document given cs c box → WroteChunks path document region given options cs old mid
+untouched : (path : List ℕ) (document : Document) (exact : Bool) (region : Region) (given : List Cell) (options : CodecOptions) (cs : List (List ℕ)) (c : List ℕ) (box : Region) (old mid : StoreMap) → IsNext path document given cs c box → WroteChunks path document exact region given options cs old mid
     → stored_at path document mid c ≡ stored_at path document old c
-untouched path document region given options cs c box old mid is first =
+untouched path document exact region given options cs c box old mid is first =
     first.others (chunk_key path document.keys c) (λ d l e.
     let there = is.in_grid d l in
     is.apart.keys d c there.0 box there.1 is.below (λ q. false≢true (sym is.fresh ∙ (ap (is_listed cs) q ∙ l))) e)
 
-more_keys : (path : List ℕ) (document : Document) (region : Region) (given : List Cell) (options : CodecOptions) (cs : List (List ℕ)) (c : List ℕ) (box : Region) (old mid new : StoreMap) → IsNext path document given cs c box
-    → WroteChunks path document region given options cs old mid → WroteChunks path document region given options (c ∷ []) mid new → HasKeys path document region options (cs ++ c ∷ []) new
-more_keys path document region given options cs c box old mid new is first next = record {
+more_keys : (path : List ℕ) (document : Document) (exact : Bool) (region : Region) (given : List Cell) (options : CodecOptions) (cs : List (List ℕ)) (c : List ℕ) (box : Region) (old mid new : StoreMap) → IsNext path document given cs c box
+    → WroteChunks path document exact region given options cs old mid → WroteChunks path document exact region given options (c ∷ []) mid new → HasKeys path document region options (cs ++ c ∷ []) new
+more_keys path document exact region given options cs c box old mid new is first next = record {
   stored = λ d other over e l. ⊎_elim
       (λ here. next.keys.stored d other over e (one_listed c d here))
-      (λ (ne, k). ap is_some (stays path document region given options cs c d box other mid new is next over ne) ∙ first.keys.stored d other over e k)
+      (λ (ne, k). ap is_some (stays path document exact region given options cs c d box other mid new is next over ne) ∙ first.keys.stored d other over e k)
       (listed_more cs c d l);
   erased = λ lossless d other over e l value found. ⊎_elim
       (λ here. next.keys.erased lossless d other over e (one_listed c d here) value found)
-      (λ (ne, k). first.keys.erased lossless d other over e k value (sym (stays path document region given options cs c d box other mid new is next over ne) ∙ found))
+      (λ (ne, k). first.keys.erased lossless d other over e k value (sym (stays path document exact region given options cs c d box other mid new is next over ne) ∙ found))
       (listed_more cs c d l);
 }
 
@@ -114,17 +114,17 @@ Shows document region given box place before after =
     let part = λ (stored : Option (List ℕ)). chunk_part document.chain document.elements box.shape stored (number_in box place ∷ []) in
     MatchBool (is_in_box region.start region.shape place) (part after ≡ Some (cell_of_box region given document.elements.fill place ∷ [])) (part after ≡ part before)
 
-pub wrote_more : (path : List ℕ) (document : Document) (region : Region) (given : List Cell) (options : CodecOptions) (cs : List (List ℕ)) (c : List ℕ) (box : Region) (old mid new : StoreMap) → IsNext path document given cs c box
-    → WroteChunks path document region given options cs old mid → WroteChunks path document region given options (c ∷ []) mid new → WroteChunks path document region given options (cs ++ c ∷ []) old new
-wrote_more path document region given options cs c box old mid new is first next = record {
+pub wrote_more : (path : List ℕ) (document : Document) (exact : Bool) (region : Region) (given : List Cell) (options : CodecOptions) (cs : List (List ℕ)) (c : List ℕ) (box : Region) (old mid new : StoreMap) → IsNext path document given cs c box
+    → WroteChunks path document exact region given options cs old mid → WroteChunks path document exact region given options (c ∷ []) mid new → WroteChunks path document exact region given options (cs ++ c ∷ []) old new
+wrote_more path document exact region given options cs c box old mid new is first next = record {
   fit = λ d other over l. ⊎_elim (λ here. next.fit d other over (one_listed c d here)) (λ (ne, k). first.fit d other over k) (listed_more cs c d l);
   undamaged = λ d other over l part. ⊎_elim
-      (λ here. subst (λ (o : Option (List ℕ)). is_some (decoded_of d other o) ≡ true) (before d here) (next.undamaged d other over (one_listed c d here) part))
+      (λ here. subst (λ (o : Option (List ℕ)). takes_cells document options region other o ≡ true) (before d here) (next.undamaged d other over (one_listed c d here) part))
       (λ (ne, k). first.undamaged d other over k part)
       (listed_more cs c d l);
   shows = λ lossless d other place over l inside. ⊎_elim
       (λ here. subst (λ (o : Option (List ℕ)). Shows document region given other place o (stored_at path document new d)) (before d here) (next.shows lossless d other place over (one_listed c d here) inside))
-      (λ (ne, k). subst (λ (o : Option (List ℕ)). Shows document region given other place (stored_at path document old d) o) (sym (stays path document region given options cs c d box other mid new is next over ne)) (first.shows lossless d other place over k inside))
+      (λ (ne, k). subst (λ (o : Option (List ℕ)). Shows document region given other place (stored_at path document old d) o) (sym (stays path document exact region given options cs c d box other mid new is next over ne)) (first.shows lossless d other place over k inside))
       (listed_more cs c d l);
   keeps = λ lossless cells values d other over st.
       let middle = with_chunks document.grid region cs (cell_of_box region given fill) cells in
@@ -134,38 +134,44 @@ wrote_more path document region given options cs c box old mid new is first next
       (with_chunks-more document.grid region cs c (cell_of_box region given fill) cells) (next.keeps lossless middle middle_values d other over (first.keeps lossless cells values d other over st));
   makes = λ lossless d other over l holds. ⊎_elim
       (λ here. next.makes lossless d other over (one_listed c d here) holds)
-      (λ (ne, k). stands_moved d other (stays path document region given options cs c d box other mid new is next over ne) (first.makes lossless d other over k holds))
+      (λ (ne, k). stands_moved d other (stays path document exact region given options cs c d box other mid new is next over ne) (first.makes lossless d other over k holds))
       (listed_more cs c d l);
   others = λ key ne. next.others key (λ d l. ne d (last_listed cs c d (listed_one c d l))) ∙ first.others key (λ d l. ne d (before_listed cs c d l));
-  keys = more_keys path document region given options cs c box old mid new is first next;
+  keys = more_keys path document exact region given options cs c box old mid new is first next;
   keyed = λ d other over l. ⊎_elim
       (λ here. keyed_last d other (before d here) (next.keyed d other over (one_listed c d here)))
-      (λ (ne, k). keyed_before d other (stays path document region given options cs c d box other mid new is next over ne) (first.keyed d other over k))
+      (λ (ne, k). keyed_before d other (stays path document exact region given options cs c d box other mid new is next over ne) (first.keyed d other over k))
       (listed_more cs c d l);
 } where
   fill : Cell
   fill = document.elements.fill
 
   before : (d : List ℕ) → d ≡ c → stored_at path document mid d ≡ stored_at path document old d
-  before d e = subst (λ (k : List ℕ). stored_at path document mid k ≡ stored_at path document old k) (sym e) (untouched path document region given options cs c box old mid is first)
+  before d e = subst (λ (k : List ℕ). stored_at path document mid k ≡ stored_at path document old k) (sym e) (untouched path document exact region given options cs c box old mid is first)
 
   decoded_of : List ℕ → Region → Option (List ℕ) → Option (List Cell)
   decoded_of d other stored = chunk_decoded document.chain document.elements other.shape stored
 
+  -- the cell that is read at a place
+  cell_of : Region → List ℕ → Option (List ℕ) → Cell
+  cell_of other place stored = get_or (unwrap_or (chunk_part document.chain document.elements other.shape stored (number_in other place ∷ [])) []) 0 document.elements.fill
+
   -- what is so of a chunk's cells and key, from the store before the others, and to the one after the last
-  keyed_last : (d : List ℕ) (other : Region) → stored_at path document mid d ≡ stored_at path document old d → IsKeyed path document region given options mid new d other → IsKeyed path document region given options old new d other
+  keyed_last : (d : List ℕ) (other : Region) → stored_at path document mid d ≡ stored_at path document old d → IsKeyed path document exact region given options mid new d other → IsKeyed path document exact region given options old new d other
   keyed_last d other same k = record {
     cells = k.cells;
     becomes = record {
       many = k.becomes.many;
       written = k.becomes.written;
-      kept = λ part. let kept = k.becomes.kept part in (kept.0, ap (decoded_of d other) (sym same) ∙ kept.1, kept.2);
+      takes = λ part. ap (takes_cells document options region other) (sym same) ∙ k.becomes.takes part;
+      kept = λ part place out inside. k.becomes.kept part place out inside ∙ ap (cell_of other place) same;
     };
     key = k.key;
+    encodes = λ one whole value is. k.encodes one (λ part. ap (λ (o : Option (List ℕ)). is_some (decoded_of d other o)) same ∙ whole part) value is;
   }
 
-  keyed_before : (d : List ℕ) (other : Region) → stored_at path document new d ≡ stored_at path document mid d → IsKeyed path document region given options old mid d other → IsKeyed path document region given options old new d other
-  keyed_before d other same k = record { cells = k.cells; becomes = k.becomes; key = ap is_some same ∙ k.key }
+  keyed_before : (d : List ℕ) (other : Region) → stored_at path document new d ≡ stored_at path document mid d → IsKeyed path document exact region given options old mid d other → IsKeyed path document exact region given options old new d other
+  keyed_before d other same k = record { cells = k.cells; becomes = k.becomes; key = ap is_some same ∙ k.key; encodes = λ one whole value is. k.encodes one whole value (sym same ∙ is) }
 
   stands_moved : (d : List ℕ) (other : Region) → stored_at path document new d ≡ stored_at path document mid d → ChunkStandsAt path document mid d other (cell_of_box region given document.elements.fill) → ChunkStandsAt path document new d other (cell_of_box region given document.elements.fill)
   stands_moved d other e st = subst (λ (o : Option (List ℕ)). IsStored document.chain document.elements other.shape o (map (cell_of_box region given document.elements.fill) (places other.start other.shape))) (sym e) st
@@ -202,49 +208,49 @@ next_is path document region chunks given n chunk box walk below e here = record
   in_grid = λ d l. first_chunks-below document.grid chunks n d walk.chunks_rank walk.intersecting.below (omega arith) l;
 }
 
-pub wrote_next : (path : List ℕ) (document : Document) (region chunks : Region) (given : List Cell) (options : CodecOptions) (n : ℕ) (chunk : List ℕ) (box : Region) (made : Option (List ℕ)) (old mid new : StoreMap) → IsWalk path document region chunks given → n < product chunks.shape
-    → chunk ≡ place_at chunks.start chunks.shape n → IsInGrid document.grid chunk box → MakesValue document region given (stores_fill document options region box) box (stored_at path document mid chunk) made → new ≡ with_value mid (chunk_key path document.keys chunk) made
-    → WroteChunks path document region given options (first_chunks chunks n) old mid → WroteChunks path document region given options (first_chunks chunks (n + 1)) old new
-wrote_next path document region chunks given options n chunk box made old mid new walk below e here makes is wrote =
+pub wrote_next : (path : List ℕ) (document : Document) (exact : Bool) (region chunks : Region) (given : List Cell) (options : CodecOptions) (n : ℕ) (chunk : List ℕ) (box : Region) (made : Option (List ℕ)) (old mid new : StoreMap) → IsWalk path document region chunks given → n < product chunks.shape
+    → chunk ≡ place_at chunks.start chunks.shape n → IsInGrid document.grid chunk box → ChangesValue document exact region given options box (stored_at path document mid chunk) made → new ≡ with_value mid (chunk_key path document.keys chunk) made
+    → WroteChunks path document exact region given options (first_chunks chunks n) old mid → WroteChunks path document exact region given options (first_chunks chunks (n + 1)) old new
+wrote_next path document exact region chunks given options n chunk box made old mid new walk below e here makes is wrote =
     let rank = walk.grid_rank ∙ sym (chunk_box-rank document.grid chunk box here.has_box).0 in
-    let one = wrote_one path document region given options chunk box mid made (record { good = walk.good; apart = walk.apart; region_rank = walk.region_rank; rank = rank; below = here; makes = makes }) in
-    let all = wrote_more path document region given options (first_chunks chunks n) chunk box old mid (with_value mid (chunk_key path document.keys chunk) made) (next_is path document region chunks given n chunk box walk below e here) wrote one in
+    let one = wrote_changed path document exact region given options chunk box mid made (record { good = walk.good; apart = walk.apart; region_rank = walk.region_rank; rank = rank; below = here }) makes in
+    let all = wrote_more path document exact region given options (first_chunks chunks n) chunk box old mid (with_value mid (chunk_key path document.keys chunk) made) (next_is path document region chunks given n chunk box walk below e here) wrote one in
     let listed : first_chunks chunks n ++ chunk ∷ [] ≡ first_chunks chunks (n + 1) = ap (λ k. first_chunks chunks n ++ k ∷ []) e ∙ sym (first_chunks-more chunks n) in
-    subst (λ (cs : List (List ℕ)). WroteChunks path document region given options cs old new) listed (subst (λ (m : StoreMap). WroteChunks path document region given options (first_chunks chunks n ++ chunk ∷ []) old m) (sym is) all)
+    subst (λ (cs : List (List ℕ)). WroteChunks path document exact region given options cs old new) listed (subst (λ (m : StoreMap). WroteChunks path document exact region given options (first_chunks chunks n ++ chunk ∷ []) old m) (sym is) all)
 
 -- all chunks were written
-pub wrote_all : (path : List ℕ) (document : Document) (region chunks : Region) (given : List Cell) (options : CodecOptions) (n : ℕ) (old new : StoreMap) → IsWalk path document region chunks given → n ≡ product chunks.shape
-    → WroteChunks path document region given options (first_chunks chunks n) old new → WroteChunks path document region given options (intersecting document.grid region) old new
-wrote_all path document region chunks given options n old new walk end wrote =
-    subst (λ (cs : List (List ℕ)). WroteChunks path document region given options cs old new) (first_chunks-all document.grid region chunks n walk.chunks_rank walk.intersecting end) wrote
+pub wrote_all : (path : List ℕ) (document : Document) (exact : Bool) (region chunks : Region) (given : List Cell) (options : CodecOptions) (n : ℕ) (old new : StoreMap) → IsWalk path document region chunks given → n ≡ product chunks.shape
+    → WroteChunks path document exact region given options (first_chunks chunks n) old new → WroteChunks path document exact region given options (intersecting document.grid region) old new
+wrote_all path document exact region chunks given options n old new walk end wrote =
+    subst (λ (cs : List (List ℕ)). WroteChunks path document exact region given options cs old new) (first_chunks-all document.grid region chunks n walk.chunks_rank walk.intersecting end) wrote
 
 -- ---- a chunk that is not written
 
-chunk_stops : (path : List ℕ) (document : Document) (region : Region) (given : List Cell) (options : CodecOptions) (chunk : List ℕ) (box : Region) (store : StoreMap) (e : ChunkError) → NewValueStops document region given (stores_fill document options region box) box (stored_at path document store chunk) e
+chunk_stops : (path : List ℕ) (document : Document) (region : Region) (given : List Cell) (options : CodecOptions) (chunk : List ℕ) (box : Region) (store : StoreMap) (e : ChunkError) → ChangeStops document region given options box (stored_at path document store chunk) e
     → ChunkStops path document store region given options chunk box e
 chunk_stops path document region given options chunk box store error.Fit h = h
 chunk_stops path document region given options chunk box store (error.Storage e) h = h
-chunk_stops path document region given options chunk box store error.Damage h = record { fit = h.0; part = h.1.0; lost = h.1.1 }
-chunk_stops path document region given options chunk box store error.Codec h = record { fit = h.fit; cells = h.cells; becomes = becomes_at path document region given chunk box store h.cells h.becomes; called = h.refuses.0; refuses = h.refuses.1 }
-chunk_stops path document region given options chunk box store error.Size h = record { fit = h.fit; cells = h.cells; becomes = becomes_at path document region given chunk box store h.cells h.becomes; called = h.refuses.0; passes = inl h.refuses.1 }
+chunk_stops path document region given options chunk box store error.Damage h = record { fit = h.0; part = h.1; lost = h.2 }
+chunk_stops path document region given options chunk box store error.Codec h = record { fit = h.fit; cells = h.cells; becomes = becomes_at path document region given options chunk box store h.cells h.fit h.becomes; called = h.refuses.0; refuses = h.refuses.1 }
+chunk_stops path document region given options chunk box store error.Size h = record { fit = h.fit; cells = h.cells; becomes = becomes_at path document region given options chunk box store h.cells h.fit h.becomes; called = h.refuses.0; passes = inl h.refuses.1 }
 chunk_stops path document region given options chunk box store error.Memory h = tt
 
-pub write_stops : (path : List ℕ) (document : Document) (region chunks : Region) (given : List Cell) (payload : Payload) (options : CodecOptions) (n : ℕ) (chunk : List ℕ) (box : Region) (e : ChunkError) (old mid new : StoreMap) → IsWalk path document region chunks given
+pub write_stops : (path : List ℕ) (document : Document) (exact : Bool) (region chunks : Region) (given : List Cell) (payload : Payload) (options : CodecOptions) (n : ℕ) (chunk : List ℕ) (box : Region) (e : ChunkError) (old mid new : StoreMap) → IsWalk path document region chunks given
     → cells_in document.elements.type payload ≡ Some given → n < product chunks.shape → chunk ≡ place_at chunks.start chunks.shape n → IsInGrid document.grid chunk box
-    → NewValueStops document region given (stores_fill document options region box) box (stored_at path document mid chunk) e → new ≡ mid
-    → WroteChunks path document region given options (first_chunks chunks n) old mid → WriteStops path document region payload options old new (record { applied = n; error = e })
-write_stops path document region chunks given payload options n chunk box e old mid new walk lists below at here stops same wrote =
+    → ChangeStops document region given options box (stored_at path document mid chunk) e → new ≡ mid
+    → WroteChunks path document exact region given options (first_chunks chunks n) old mid → WriteStops path document exact region payload options old new (record { applied = n; error = e })
+write_stops path document exact region chunks given payload options n chunk box e old mid new walk lists below at here stops same wrote =
     let is = next_is path document region chunks given n chunk box walk below at here in
-    let before = untouched path document region given options (first_chunks chunks n) chunk box old mid is wrote in
+    let before = untouched path document exact region given options (first_chunks chunks n) chunk box old mid is wrote in
     record {
       cells = given;
       lists = lists;
       chunk = chunk;
       box = box;
       met = met_number document.grid region chunks n chunk box walk.chunks_rank walk.intersecting below at here;
-      stops = chunk_stops path document region given options chunk box old e (subst (λ (o : Option (List ℕ)). NewValueStops document region given (stores_fill document options region box) box o e) before stops);
-      wrote = subst (λ (cs : List (List ℕ)). WroteChunks path document region given options cs old new) (first_chunks-take document.grid region chunks n walk.chunks_rank walk.intersecting (omega arith))
-          (subst (λ (m : StoreMap). WroteChunks path document region given options (first_chunks chunks n) old m) (sym same) wrote);
+      stops = chunk_stops path document region given options chunk box old e (subst (λ (o : Option (List ℕ)). ChangeStops document region given options box o e) before stops);
+      wrote = subst (λ (cs : List (List ℕ)). WroteChunks path document exact region given options cs old new) (first_chunks-take document.grid region chunks n walk.chunks_rank walk.intersecting (omega arith))
+          (subst (λ (m : StoreMap). WroteChunks path document exact region given options (first_chunks chunks n) old m) (sym same) wrote);
     }
 
 -- some chunk is intersecting

@@ -9,8 +9,11 @@ pub mod ChunkPayloads
 pub mod ChunkCells
 pub mod PartBoxes
 pub mod PartPatches
+pub mod ZeroFills
 pub mod ChunkWritten
 pub mod ChunksWritten
 pub mod BoxWalks
 mod SeenFrom
 pub mod Overlapping
+pub mod InParts
+pub mod PutParts

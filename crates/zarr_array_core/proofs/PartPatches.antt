@@ -1,5 +1,5 @@
 -- The value of a chunk into which the elements of a box were written.
-use Rattle.std.proofs.Common.{◌≡◌, ◌∙◌, ℕ, ◌-◌, ◌*◌, ◌<◌, ◌&&◌, if◌then◌else◌, Bool, true, false, List, [], ◌∷◌, length, map, get_or, refl, sym, ap, subst, arith, Option, Some, None, Ok, Vec, option_map, zero, suc, unwrap_or, IfSome}
+use Rattle.std.proofs.Common.{◌≡◌, ◌∙◌, ℕ, ◌-◌, ◌*◌, ◌<◌, ◌&&◌, if◌then◌else◌, Bool, true, false, List, [], ◌∷◌, length, map, get_or, refl, sym, ap, subst, arith, Option, Some, None, Ok, Vec, option_map, zero, suc, unwrap_or, IfSome, IsTrue}
 use Rattle.std.specs.List.{list_all}
 use Rattle.std.specs.FinMap.{get, insert}
 use Rattle.std.specs.declared.alloc.Global.{Global}
@@ -11,6 +11,7 @@ use Rattle.zarr_grids_boxes.proofs.InBox.{in_box-place_at, ravel-place_at, lengt
 use Rattle.zarr_grids_boxes.proofs.Places.{both, length-each2}
 use Rattle.zarr_grids_boxes.proofs.Steps.{in_box_same}
 use Rattle.zarr_codecs_meaning.specs.Decoding.{decoded}
+use Rattle.zarr_codecs_meaning.specs.Encoding.{encoded}
 use Rattle.zarr_codecs_meaning.specs.Fits.{is_lossless}
 use Rattle.zarr_codecs_meaning.specs.Payloads.{Payload}
 use Rattle.zarr_codecs_meaning.specs.Places.{places_of}
@@ -173,6 +174,13 @@ part_stands document exact region box given payload sub store_empty cells patche
     subst (λ (cs : List Cell). Stands document.chain document.elements box.shape (patched value patches) (new_cells document.elements.fill region box cs before)) (put_cells document exact region box given payload sub store_empty cells patches are h)
     (h.stands lossless value before is)
 
+part_encoded : (document : Document) (exact : Bool) (region box : Region) (given : List Cell) (payload : Payload) (sub : List Cell) (store_empty : Bool) (cells : List Cell) (patches : List ValuePatch) → AreShared document region box given payload sub store_empty
+    → IsEncodedPart document.chain exact document.elements box.shape (part_of region box) payload cells patches → (value : List ℕ) (before : List Cell) → decoded document.chain document.elements box.shape value ≡ Some before
+    → IsTrue exact → encoded document.chain document.elements box.shape (new_cells document.elements.fill region box sub before) ≡ Some (patched value patches)
+part_encoded document exact region box given payload sub store_empty cells patches are h value before is one =
+    subst (λ (cs : List Cell). encoded document.chain document.elements box.shape (new_cells document.elements.fill region box cs before) ≡ Some (patched value patches)) (put_cells document exact region box given payload sub store_empty cells patches are h)
+    (h.encodes one value before is)
+
 part_become : (document : Document) (region box : Region) (given : List Cell) (payload : Payload) (sub : List Cell) (store_empty : Bool) (value : List ℕ) (before : List Cell) → AreShared document region box given payload sub store_empty → decoded document.chain document.elements box.shape value ≡ Some before
     → CellsBecome document region given (Some value) box (new_cells document.elements.fill region box sub before)
 part_become document region box given payload sub store_empty value before are is =
@@ -197,7 +205,7 @@ part_become document region box given payload sub store_empty value before are i
 
 -- the ranges of a codec, written into a chunk's value
 pub part_patches : (document : Document) (exact : Bool) (region box : Region) (given : List Cell) (payload : Payload) (sub : List Cell) (store_empty : Bool) (patches : Vec ValuePatch Global) → AreShared document region box given payload sub store_empty
-    → EncodesPart document.chain exact document.elements box.shape (part_of region box) payload (Ok (Some patches)) → PatchesChunk document region given store_empty box patches.items
+    → EncodesPart document.chain exact document.elements box.shape (part_of region box) payload (Ok (Some patches)) → PatchesChunk document exact region given store_empty box patches.items
 part_patches document exact region box given payload sub store_empty patches are h =
     let fill = document.elements.fill in
     let meet = meeting region box are.share in
@@ -213,13 +221,14 @@ part_patches document exact region box given payload sub store_empty patches are
               absent = λ none. let no : Some (patched value patches.items) ≡ None = none in cc;
               present = λ made same empty. unless_all (is_fill fill cells) (not_filled fill region box sub before are.rank meet are.becomes.many (are.some empty));
               stands = part_stands document exact region box given payload sub store_empty h.0 patches.items are h.1 value before is;
+              encodes = λ one made same. part_encoded document exact region box given payload sub store_empty h.0 patches.items are h.1 value before is one ∙ same;
             };
           };
     }
 
 -- whatever ranges it gave
 pub found_patches : (document : Document) (exact : Bool) (region box : Region) (given : List Cell) (payload : Payload) (sub : List Cell) (store_empty : Bool) (found : Option (Vec ValuePatch Global)) → AreShared document region box given payload sub store_empty
-    → EncodesPart document.chain exact document.elements box.shape (part_of region box) payload (Ok found) → IfSome found (λ patches. PatchesChunk document region given store_empty box patches.items)
+    → EncodesPart document.chain exact document.elements box.shape (part_of region box) payload (Ok found) → IfSome found (λ patches. PatchesChunk document exact region given store_empty box patches.items)
 found_patches document exact region box given payload sub store_empty None are h = tt
 found_patches document exact region box given payload sub store_empty (Some patches) are h = part_patches document exact region box given payload sub store_empty patches are h
 
@@ -249,17 +258,17 @@ absent_value held key h = no_value (get held key) h
 by_size : (document : Document) (width : ℕ) (held : StoreMap) (key shape value : List ℕ) (size : ℕ) → IsSized document width held key size → get held key ≡ Some value → DecodesBySize document.chain document.elements shape value
 by_size document width held key shape value size is found = patched_decode document.chain document.elements shape value is.takes (is.bytes value found)
 
-pub sized_part : (document : Document) (width : ℕ) (region box : Region) (given : List Cell) (store_empty : Bool) (patches : List ValuePatch) (held new : StoreMap) (key : List ℕ) (size : ℕ) → IsSized document width held key size → size ≡ product box.shape * width
-    → PatchesChunk document region given store_empty box patches → new ≡ insert held key (patched_at held key patches)
-    → (made : Option (List ℕ)) × MakesValue document region given store_empty box (get held key) made × (new ≡ with_value held key made)
-sized_part document width region box given store_empty patches held new key size is right h e =
+pub sized_part : (document : Document) (exact : Bool) (width : ℕ) (region box : Region) (given : List Cell) (store_empty : Bool) (patches : List ValuePatch) (held new : StoreMap) (key : List ℕ) (size : ℕ) → IsSized document width held key size → size ≡ product box.shape * width
+    → PatchesChunk document exact region given store_empty box patches → new ≡ insert held key (patched_at held key patches)
+    → (made : Option (List ℕ)) × MakesValue document exact region given store_empty box (get held key) made × (new ≡ with_value held key made)
+sized_part document exact width region box given store_empty patches held new key size is right h e =
     let found = found_value held key size is.told in
     let value = found.0 in
     let long : length value ≡ product box.shape * bytes_in (components document.elements.type) = found.2 ∙ (right ∙ ap (λ w. product box.shape * w) (sym (element_bytes document width held key size is))) in
     let cells = (by_size document width held key box.shape value size is found.1).sized long in
     let made = Some (patched value patches) in (
       made,
-      subst (λ (stored : Option (List ℕ)). MakesValue document region given store_empty box stored made) (sym found.1) (h.makes value cells.0 cells.1),
+      subst (λ (stored : Option (List ℕ)). MakesValue document exact region given store_empty box stored made) (sym found.1) (h.makes value cells.0 cells.1),
       e ∙ ap (λ (stored : Option (List ℕ)). insert held key (patched (unwrap_or stored []) patches)) found.1,
     )
 

@@ -1,21 +1,24 @@
 -- The value of one chunk after a write.
-use Rattle.std.specs.Prelude.{◌≡◌, ℕ, List, length, Option, Some, None, Bool, true, false}
+use Rattle.std.specs.Prelude.{◌≡◌, ◌⊎◌, ℕ, List, [], ◌∷◌, length, Option, Some, None, is_some, Bool, IsTrue, true, false, MatchBool, Result, Ok, Err}
 use Rattle.std.specs.FinMap.{insert, remove}
 use Rattle.std.specs.List.{list_all}
 use Rattle.zarr_grids_boxes.specs.Boxes.{Region, product, is_in_box}
-use Rattle.zarr_codecs_meaning.specs.Chunks.{chunk_decoded}
+use Rattle.zarr_codecs_meaning.specs.Chunks.{chunk_decoded, chunk_part}
+use Rattle.zarr_codecs_meaning.specs.Encoding.{encoded}
 use Rattle.zarr_codecs_meaning.specs.Fits.{is_lossless}
 use Rattle.zarr_codecs_meaning.specs.Refusals.{CodecRefuses, PassesIndex}
 use Rattle.zarr_codecs_meaning.specs.Standing.{ChunkStands}
 use Rattle.zarr_codecs_meaning.specs.Types.{Cell, is_value, is_fill}
+use Rattle.zarr_codecs_options.specs.declared.codec_options.CodecOptions.{CodecOptions}
 use Rattle.zarr_codecs_arrays.specs.declared.error.CodecError.{CodecError}
 use Rattle.zarr_codecs_arrays.specs.declared.error.CodecError.TheVariants as codec_error
 use Rattle.zarr_array_core.specs.declared.error.ChunkError.{ChunkError}
 use Rattle.zarr_array_core.specs.declared.error.ChunkError.TheVariants as error
 use Rattle.zarr_array_meaning.specs.Boxes.{cell_of_box}
-use Rattle.zarr_array_meaning.specs.Chunks.{fits_box, holds_box}
+use Rattle.zarr_array_meaning.specs.Chunks.{fits_box, holds_box, number_in}
 use Rattle.zarr_array_meaning.specs.Documents.{Document}
 use Rattle.zarr_array_meaning.specs.StoreMaps.{StoreMap}
+use Rattle.zarr_array_meaning.specs.Writing.{is_in_part, opens_in, stores_fill, takes_cells}
 
 -- the cells of a chunk after a write of a box: values, the given ones in the box, and those that its stored value was decoded to where cells are to stay
 pub record CellsBecome (document : Document) (region : Region) (given : List Cell) (stored : Option (List ℕ)) (box : Region) (cells : List Cell) : Type 0 where
@@ -37,11 +40,12 @@ DecodeStops document shape stored e = ⊥
 abbrev pub HasValue : Document → Bool → List Cell → Type 0
 HasValue document store_empty cells = store_empty ≡ false → is_fill document.elements.fill cells ≡ false
 
--- the value of a chunk with these cells, which stands for them; or none where they are all fill and empty chunks aren't stored
-pub record IsNewValue (document : Document) (store_empty : Bool) (shape : List ℕ) (cells : List Cell) (stored : Option (List ℕ)) : Type 0 where
+-- the value of a chunk with these cells, which stands for them, and is their encoding where that depends on them alone (`exact`); or none where they are all fill and empty chunks aren't stored
+pub record IsNewValue (document : Document) (exact store_empty : Bool) (shape : List ℕ) (cells : List Cell) (stored : Option (List ℕ)) : Type 0 where
   pub absent : stored ≡ None → (store_empty ≡ false) × (is_fill document.elements.fill cells ≡ true)
   pub present : (value : List ℕ) → stored ≡ Some value → HasValue document store_empty cells
   pub stands : is_lossless document.chain document.elements.type ≡ true → ChunkStands document.chain document.elements shape stored cells
+  pub encodes : IsTrue exact → (value : List ℕ) → stored ≡ Some value → encoded document.chain document.elements shape cells ≡ Some value
 
 -- an error with which a codec refuses to encode cells that are an array's
 abbrev pub IsRefusal : CodecError → Type 0
@@ -79,12 +83,12 @@ abbrev pub with_value : StoreMap → List ℕ → Option (List ℕ) → StoreMap
 with_value store key None = remove store key
 with_value store key (Some value) = insert store key value
 
--- a chunk that fits gets the cells of a box where it lies in it, and the value that stands for its new cells
-pub record MakesValue (document : Document) (region : Region) (given : List Cell) (store_empty : Bool) (box : Region) (stored made : Option (List ℕ)) : Type 0 where
+-- a chunk that fits gets the cells of a box where it lies in it, and the value of its new cells
+pub record MakesValue (document : Document) (exact : Bool) (region : Region) (given : List Cell) (store_empty : Bool) (box : Region) (stored made : Option (List ℕ)) : Type 0 where
   pub fit : fits_box document box ≡ true
   pub cells : List Cell
   pub becomes : CellsBecome document region given stored box cells
-  pub is : IsNewValue document store_empty box.shape cells made
+  pub is : IsNewValue document exact store_empty box.shape cells made
 
 -- the cells that a chunk is to get, and that they are not encoded
 pub record NotEncoded (document : Document) (region : Region) (given : List Cell) (store_empty : Bool) (box : Region) (stored : Option (List ℕ)) (error : ChunkError) : Type 0 where
@@ -100,3 +104,59 @@ NewValueStops document region given store_empty box stored (error.Storage e) = f
 NewValueStops document region given store_empty box stored error.Damage = (fits_box document box ≡ true) × MergeStops document region box stored error.Damage
 NewValueStops document region given store_empty box stored error.Memory = Unit {0}
 NewValueStops document region given store_empty box stored e = NotEncoded document region given store_empty box stored e
+
+-- ---- a part written over what isn't decoded
+
+-- each place of a chunk is read as the given cells in the box, and as before at its other places
+abbrev pub ShowsPart : Document → Region → List Cell → Region → Option (List ℕ) → Option (List ℕ) → Type 0
+ShowsPart document region given box old new = (place : List ℕ) → is_in_box box.start box.shape place ≡ true
+    → let part = λ (stored : Option (List ℕ)). chunk_part document.chain document.elements box.shape stored (number_in box place ∷ []) in
+    MatchBool (is_in_box region.start region.shape place) (part new ≡ Some (cell_of_box region given document.elements.fill place ∷ [])) (part new ≡ part old)
+
+-- new cells were put into what opens: if the chain keeps every bit, this is what is read
+pub record PutsCells (document : Document) (region : Region) (given : List Cell) (box : Region) (old new : Option (List ℕ)) : Type 0 where
+  pub opened : opens_in document box old ≡ true
+  pub shows : is_lossless document.chain document.elements.type ≡ true → ShowsPart document region given box old new
+
+-- why cells are not put into what is stored: it doesn't open, or memory ran out
+abbrev pub PutStops : Document → Region → Option (List ℕ) → ChunkError → Type 0
+PutStops document box stored error.Damage = opens_in document box stored ≡ false
+PutStops document box stored error.Memory = Unit {0}
+PutStops document box stored e = ⊥
+
+-- an error with which a codec refuses to put cells into a value
+abbrev pub IsPutRefusal : CodecError → Type 0
+IsPutRefusal codec_error.Damage = Unit {0}
+IsPutRefusal codec_error.Memory = Unit {0}
+IsPutRefusal e = ⊥
+
+-- why cells are not put into what is stored, where a codec refuses
+abbrev pub put_refusal_of : CodecError → ChunkError
+put_refusal_of codec_error.Damage = error.Damage
+put_refusal_of e = error.Memory
+
+-- a chunk that fits, whose value isn't decoded but opens, is written in part
+pub record PutsPart (document : Document) (region : Region) (given : List Cell) (options : CodecOptions) (box : Region) (stored made : Option (List ℕ)) : Type 0 where
+  pub fit : fits_box document box ≡ true
+  pub in_part : is_in_part document options region box ≡ true
+  pub lost : chunk_decoded document.chain document.elements box.shape stored ≡ None
+  pub some : is_some made ≡ true
+  pub puts : PutsCells document region given box stored made
+
+-- what a write makes of a chunk: the value of its new cells, or one into which these were put
+abbrev pub ChangesValue : Document → Bool → Region → List Cell → CodecOptions → Region → Option (List ℕ) → Option (List ℕ) → Type 0
+ChangesValue document exact region given options box stored made = MakesValue document exact region given (stores_fill document options region box) box stored made ⊎ PutsPart document region given options box stored made
+
+-- why a write changes nothing in a chunk
+abbrev pub ChangeStops : Document → Region → List Cell → CodecOptions → Region → Option (List ℕ) → ChunkError → Type 0
+ChangeStops document region given options box stored error.Fit = fits_box document box ≡ false
+ChangeStops document region given options box stored (error.Storage e) = fits_box document box ≡ true
+ChangeStops document region given options box stored error.Damage = (fits_box document box ≡ true) × (holds_box region box ≡ false) × (takes_cells document options region box stored ≡ false)
+ChangeStops document region given options box stored error.Memory = Unit {0}
+ChangeStops document region given options box stored e = NotEncoded document region given (stores_fill document options region box) box stored e
+
+-- a fact where a call stopped at damage
+abbrev pub OnDamage : {A : Type 0} → Result A ChunkError → Type 0 → Type 0
+OnDamage (Ok value) fact = Unit {0}
+OnDamage (Err error.Damage) fact = fact
+OnDamage (Err e) fact = Unit {0}

@@ -1,5 +1,5 @@
 -- What calls over the chunks of an array answer and leave.
-use Rattle.std.specs.Prelude.{◌≡◌, ℕ, ◌+◌, ◌<◌, ◌≤◌, List, take, length, Some, Result, Ok, Err, true, false}
+use Rattle.std.specs.Prelude.{◌≡◌, ℕ, ◌+◌, ◌<◌, ◌≤◌, List, take, length, Some, Result, Ok, Err, Bool, true, false}
 use Rattle.zarr_grids_boxes.specs.Boxes.{Region, product, places}
 use Rattle.zarr_grids_chunks.specs.Grids.{IsInGrid, intersecting, intersects}
 use Rattle.zarr_codecs_meaning.specs.Payloads.{Payload, cells_in}
@@ -9,7 +9,7 @@ use Rattle.zarr_array_meaning.specs.Boxes.{IsRead, IsDamagedIn, IsUnfitIn}
 use Rattle.zarr_array_meaning.specs.Chunks.{IsMet, fits_box}
 use Rattle.zarr_array_meaning.specs.Documents.{Document}
 use Rattle.zarr_array_meaning.specs.StoreMaps.{StoreMap, counted}
-use Rattle.zarr_array_meaning.specs.Writing.{IsPartDamaged, IsCodecRefused, IsOversized, WroteChunks, ErasedChunks, stores_fill}
+use Rattle.zarr_array_meaning.specs.Writing.{IsPartDamaged, IsCodecRefused, IsOversized, WroteChunks, ErasedChunks}
 use Rattle.zarr_array_core.specs.declared.error.ChunkError.{ChunkError}
 use Rattle.zarr_array_core.specs.declared.error.ChunkError.TheVariants as error
 use Rattle.zarr_array_core.specs.declared.error.ManyError.{ManyError}
@@ -49,29 +49,29 @@ refused_by_many count (Ok value) = count
 refused_by_many count (Err e) = refused_with e.error count
 
 -- the cells of a box were written
-pub record WritesBox (path : List ℕ) (document : Document) (region : Region) (payload : Payload) (options : CodecOptions) (old new : StoreMap) : Type 0 where
+pub record WritesBox (path : List ℕ) (document : Document) (exact : Bool) (region : Region) (payload : Payload) (options : CodecOptions) (old new : StoreMap) : Type 0 where
   pub cells : List Cell
   pub lists : cells_in document.elements.type payload ≡ Some cells
-  pub wrote : WroteChunks path document region cells options (intersecting document.grid region) old new
+  pub wrote : WroteChunks path document exact region cells options (intersecting document.grid region) old new
 
 -- why a chunk is not written
 abbrev pub ChunkStops : List ℕ → Document → StoreMap → Region → List Cell → CodecOptions → List ℕ → Region → ChunkError → Type 0
 ChunkStops path document store region cells options chunk box error.Fit = fits_box document box ≡ false
 ChunkStops path document store region cells options chunk box (error.Storage e) = fits_box document box ≡ true
-ChunkStops path document store region cells options chunk box error.Damage = IsPartDamaged path document store region chunk box
-ChunkStops path document store region cells options chunk box error.Codec = IsCodecRefused path document store region cells (stores_fill document options region box) chunk box
-ChunkStops path document store region cells options chunk box error.Size = IsOversized path document store region cells (stores_fill document options region box) chunk box
+ChunkStops path document store region cells options chunk box error.Damage = IsPartDamaged path document store region options chunk box
+ChunkStops path document store region cells options chunk box error.Codec = IsCodecRefused path document store region cells options chunk box
+ChunkStops path document store region cells options chunk box error.Size = IsOversized path document store region cells options chunk box
 ChunkStops path document store region cells options chunk box error.Memory = Unit {0}
 
 -- the cells of a box were written to the first of the chunks that it intersects, and why the next one was not written
-pub record WriteStops (path : List ℕ) (document : Document) (region : Region) (payload : Payload) (options : CodecOptions) (old new : StoreMap) (stopped : ManyError) : Type 0 where
+pub record WriteStops (path : List ℕ) (document : Document) (exact : Bool) (region : Region) (payload : Payload) (options : CodecOptions) (old new : StoreMap) (stopped : ManyError) : Type 0 where
   pub cells : List Cell
   pub lists : cells_in document.elements.type payload ≡ Some cells
   pub chunk : List ℕ
   pub box : Region
   pub met : IsMet document.grid region stopped.applied chunk box
   pub stops : ChunkStops path document old region cells options chunk box stopped.error
-  pub wrote : WroteChunks path document region cells options (take stopped.applied (intersecting document.grid region)) old new
+  pub wrote : WroteChunks path document exact region cells options (take stopped.applied (intersecting document.grid region)) old new
 
 -- a count after at most n more; it stands still at 2^128 - 1
 abbrev pub CountsUpTo : ℕ → ℕ → ℕ → Type 0

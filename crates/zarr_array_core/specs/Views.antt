@@ -1,5 +1,5 @@
 -- What an array of `src/` stands for.
-use Rattle.std.specs.Prelude.{ℕ, List}
+use Rattle.std.specs.Prelude.{ℕ, List, Bool}
 use Rattle.zarr_grids_chunk_grids.specs.Grids.{grid_of_chunks, sizes_of_grid}
 use Rattle.zarr_grids_keys.specs.Encodings.{keys_of}
 use Rattle.zarr_codecs_meaning.specs.Types.{Cell}
@@ -14,6 +14,10 @@ use Rattle.zarr_array_core.specs.declared.array_core.ArrayCore.{ArrayCore}
 -- what the array's document says of the cells and of where they are stored, given the chain that its codecs are
 abbrev pub document_of : {C : Type 0} → (C → Chain) → ArrayCore C → Document
 document_of meaning array = record { shape = sizes_of_grid array.grid; elements = elements_of array.elements; grid = grid_of_chunks array.grid; keys = keys_of array.keys; chain = meaning array.codecs }
+
+-- whether what the array's codecs make of elements depends on these alone
+abbrev pub is_exact : {C : Type 0} → (C → Bool) → ArrayCore C → Bool
+is_exact is_function array = is_function array.codecs
 
 -- the path of the array's node
 abbrev pub path_of : {C : Type 0} → ArrayCore C → List ℕ

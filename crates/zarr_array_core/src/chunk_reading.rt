@@ -49,7 +49,7 @@ impl<C: ArrayToBytesCodecTraits> ArrayCore<C> {
     ghost use Rattle.zarr_grids_chunks.specs.Grids.{IsInGrid, intersects};
     ghost use Rattle.zarr_codecs_meaning.specs.Types.{IsTooLarge};
     ghost use Rattle.zarr_codecs_arrays.specs.Views.{payload_of};
-    ghost use Rattle.zarr_codecs_traits.specs.Indexers.{in_box, lies_in};
+    ghost use Rattle.zarr_codecs_traits.specs.Indexers.{in_box, shape_has};
     ghost use Rattle.zarr_codecs_traits.specs.Outcomes.{IsPart};
     ghost use Rattle.zarr_array_meaning.specs.Chunks.{fits_box, stored_at};
     ghost use Rattle.zarr_array_elements.specs.Boxes.{AreOfBox};
@@ -224,7 +224,7 @@ impl<C: ArrayToBytesCodecTraits> ArrayCore<C> {
         part: &ArraySubset,
         read: ReadBox,
     ) -> Result<Option<ArrayBytes>, ChunkError>
-        requires inside { lies_in shape.now (region_of part.now) ≡ true }
+        requires inside { shape_has shape.now (region_of part.now) ≡ true }
         requires small { ¬ IsTooLarge (document_of C.meaning self.now).elements.type
             (product shape.now) }
         ensures part { IsTrue (S.is_honest store.old) → DecodesElements

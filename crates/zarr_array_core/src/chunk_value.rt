@@ -1,6 +1,7 @@
 //! The elements of one chunk before and after a write, and the value that stands for them.
 ghost use Rattle.std.specs.Prelude.{◌≡◌};
 ghost use Rattle.zarr_array_core.specs.ChunkValues.{IsRefusal, refusal_of};
+ghost use Rattle.zarr_array_core.specs.PartWrites.{tells_size};
 ghost use Rattle.zarr_grids_boxes.specs.Subsets.{region_of};
 ghost use Rattle.zarr_grids_overlay.specs.Overlays.{extent_of};
 
@@ -11,7 +12,7 @@ use std::alloc::Global;
 use zarr_array_elements::{put_over, take_out};
 use zarr_codecs_arrays::{ArrayBytes, CodecError};
 use zarr_codecs_options::CodecOptions;
-use zarr_codecs_traits::ArrayToBytesCodecTraits;
+use zarr_codecs_traits::{ArrayToBytesCodecTraits, BytesRepresentation};
 use zarr_grids_boxes::ArraySubset;
 use zarr_grids_boxes::walk::count_places;
 use zarr_grids_overlay::Extent;
@@ -28,6 +29,17 @@ pub(crate) struct BoxWrite<'r, 'b, 'o> {
     ghost same_box: { region_of subset.now ≡ extent_of region },
 }
 
+/// Whether a size is told, and not a bound or nothing.
+fn tells_size(told: BytesRepresentation) -> bool
+    ensures { result ≡ tells_size told }
+{
+    match told {
+        BytesRepresentation::FixedSize(_) => true,
+        BytesRepresentation::BoundedSize(_) => false,
+        BytesRepresentation::UnboundedSize => false,
+    }
+}
+
 /// Why a chunk is not written where its codecs refuse to encode it.
 fn of_encoding(error: CodecError) -> ChunkError
     requires { IsRefusal error }
@@ -42,16 +54,17 @@ fn of_encoding(error: CodecError) -> ChunkError
 }
 
 impl<C: ArrayToBytesCodecTraits> ArrayCore<C> {
-    ghost use Rattle.std.specs.Prelude.{◌≡◌, ◌*◌, ◌<◌, ℕ, List, Option, true, length, replicate, IfOk, IfErr, Some};
+    ghost use Rattle.std.specs.Prelude.{◌≡◌, ◌*◌, ◌<◌, ℕ, List, Option, true, length, replicate, IfOk, IfErr, IsTrue, Some};
     ghost use Rattle.std.specs.List.{list_all};
     ghost use Rattle.zarr_array_core.specs.ChunkValues.{CellsBecome, DecodeStops, EncodeRefuses, EncodeStops, IsNewValue};
-    ghost use Rattle.zarr_array_core.specs.Views.{array_cells, AreSoMany, document_of};
+    ghost use Rattle.zarr_array_core.specs.Views.{array_cells, AreSoMany, document_of, is_exact};
     ghost use Rattle.zarr_array_core.specs.declared.error.ChunkError.TheVariants.{Memory};
-    ghost use Rattle.zarr_array_meaning.specs.Writing.{stores_fill};
+    ghost use Rattle.zarr_array_meaning.specs.Writing.{is_in_part, may_be_in_part, stores_fill};
     ghost use Rattle.zarr_array_meaning.specs.Chunks.{holds_box};
     ghost use Rattle.zarr_array_storage.specs.Stores.{value_bytes};
     ghost use Rattle.zarr_codecs_meaning.specs.Chunks.{chunk_decoded};
     ghost use Rattle.zarr_codecs_meaning.specs.Decoding.{decoded};
+    ghost use Rattle.zarr_codecs_meaning.specs.Encoding.{encoded};
     ghost use Rattle.zarr_codecs_meaning.specs.Fits.{fits, is_lossless};
     ghost use Rattle.zarr_codecs_meaning.specs.Standing.{Stands};
     ghost use Rattle.zarr_codecs_meaning.specs.Types.{is_value, is_fill, IsTooLarge};
@@ -183,7 +196,7 @@ impl<C: ArrayToBytesCodecTraits> ArrayCore<C> {
     }
 
     /// As many elements as asked for that nobody wrote.
-    fn fill_elements(&self, alloc: Global, count: u64) -> Result<ArrayBytes, ChunkError>
+    pub(crate) fn fill_elements(&self, alloc: Global, count: u64) -> Result<ArrayBytes, ChunkError>
         requires { ¬ IsTooLarge (document_of C.meaning self.now).elements.type count }
         ensures counted { IfOk result (λ bytes. AreSoMany self.now bytes count) }
         ensures fill { IfOk result (λ bytes. array_cells self.now bytes
@@ -198,7 +211,7 @@ impl<C: ArrayToBytesCodecTraits> ArrayCore<C> {
     }
 
     /// The bytes that the elements of a chunk are encoded to.
-    fn encode_value(
+    pub(crate) fn encode_value(
         &self,
         write: &BoxWrite,
         shape: &[u64],
@@ -216,6 +229,10 @@ impl<C: ArrayToBytesCodecTraits> ArrayCore<C> {
             → Stands (document_of C.meaning self.now).chain
             (document_of C.meaning self.now).elements shape.now value.items
             (array_cells self.now bytes)) }
+        ensures encodes { IfOk result (λ value. IsTrue (is_exact C.is_function self.now)
+            → encoded (document_of C.meaning self.now).chain
+            (document_of C.meaning self.now).elements shape.now (array_cells self.now bytes)
+            ≡ Some value.items) }
         ensures err { IfErr result (EncodeRefuses (document_of C.meaning self.now) shape.now
             (array_cells self.now bytes)) }
     {
@@ -235,11 +252,47 @@ impl<C: ArrayToBytesCodecTraits> ArrayCore<C> {
         ensures { result ≡ stores_fill (document_of C.meaning self.now) write.now.options.now
             (extent_of write.now.region) (region_of own.now) }
     {
+        write.options.store_empty_chunks || self.may_be_in_part(write, own)
+    }
+
+    /// Whether a write may encode a chunk in part.
+    fn may_be_in_part(&self, write: &BoxWrite, own: &ArraySubset) -> bool
+        requires { length write.now.region.start.now ≡ length own.now.start.items }
+        ensures { result ≡ may_be_in_part (document_of C.meaning self.now) write.now.options.now
+            (extent_of write.now.region) (region_of own.now) }
+    {
         let (start, shape) = (own.start(), own.shape());
-        write.options.store_empty_chunks
-            || write.options.experimental_partial_encoding
-                && !holds_box(write.region, Extent { start, shape })
-                && self.codecs.partial_encoder_capability()
+        write.options.experimental_partial_encoding
+            && !holds_box(write.region, Extent { start, shape })
+            && self.codecs.partial_encoder_capability()
+    }
+
+    /// Whether a chunk is written in part, whatever its other elements are: the write may encode it
+    /// so, and the codecs make no shard. Of those that encode in part only these tell the size of
+    /// their values.
+    pub(crate) fn is_in_part(&self, write: &BoxWrite, own: &ArraySubset) -> Result<bool, ChunkError>
+        requires rank { length write.now.region.start.now ≡ length own.now.start.items }
+        requires small { ¬ IsTooLarge (document_of C.meaning self.now).elements.type
+            (product own.now.shape.items) }
+        requires fit { fits (document_of C.meaning self.now).chain
+            (document_of C.meaning self.now).elements.type own.now.shape.items ≡ true }
+        ensures ok { IfOk result (λ part. part ≡ is_in_part (document_of C.meaning self.now)
+            write.now.options.now (extent_of write.now.region) (region_of own.now)) }
+        ensures err { IfErr result (λ e. e ≡ Memory) }
+    {
+        if !self.may_be_in_part(write, own) {
+            return Ok(false);
+        }
+        let data_type = self.elements.data_type();
+        match self
+            .codecs
+            .encoded_representation(write.alloc, data_type, own.shape())
+        {
+            Ok(told) => Ok(tells_size(told)),
+            Err(CodecError::Size) => Ok(false),
+            Err(CodecError::Memory) => Err(ChunkError::Memory),
+            _ => unreachable!(),
+        }
     }
 
     /// The value of a chunk with these elements, or `None` where it is to have none: where they are
@@ -259,7 +312,8 @@ impl<C: ArrayToBytesCodecTraits> ArrayCore<C> {
         requires values { list_all (is_value (document_of C.meaning self.now).elements.type)
             (array_cells self.now bytes) ≡ true }
         ensures ok { IfOk result (λ value. IsNewValue (document_of C.meaning self.now)
-            store_empty shape.now (array_cells self.now bytes) (value_bytes value)) }
+            (is_exact C.is_function self.now) store_empty shape.now
+            (array_cells self.now bytes) (value_bytes value)) }
         ensures err { IfErr result (EncodeStops (document_of C.meaning self.now)
             store_empty shape.now (array_cells self.now bytes)) }
     {

@@ -8,6 +8,7 @@ use crate::array_core::ArrayCore;
 use crate::chunk_value::BoxWrite;
 use crate::error::ChunkError;
 use crate::holding::holds_box;
+use crate::rooms::ChunkRooms;
 use crate::store_calls::{erase, get, set};
 use zarr_array_storage::WritableStorageTraits;
 use zarr_codecs_arrays::ArrayBytes;
@@ -42,9 +43,9 @@ impl<C: ArrayToBytesCodecTraits> ArrayCore<C> {
     ghost use Rattle.std.specs.Prelude.{◌≡◌, ◌*◌, ℕ, List, Option, true, length, IsTrue, IfOk, OnOk, OnErr, IfErr};
     ghost use Rattle.std.specs.FinMap as map;
     ghost use Rattle.std.specs.List.{list_all};
-    ghost use Rattle.zarr_array_core.specs.ChunkValues.{CellsBecome, MergeStops, MakesValue, NewValueStops, with_value};
+    ghost use Rattle.zarr_array_core.specs.ChunkValues.{CellsBecome, ChangesValue, ChangeStops, MergeStops, MakesValue, NewValueStops, OnDamage, with_value};
     ghost use Rattle.zarr_array_core.specs.Outcomes.{CountsUpTo, refused_after};
-    ghost use Rattle.zarr_array_core.specs.Views.{array_cells, AreSoMany, document_of};
+    ghost use Rattle.zarr_array_core.specs.Views.{array_cells, AreSoMany, document_of, is_exact};
     ghost use Rattle.zarr_array_meaning.specs.Writing.{stores_fill};
     ghost use Rattle.zarr_codecs_meaning.specs.Fits.{fits};
     ghost use Rattle.zarr_codecs_meaning.specs.Types.{is_value, IsTooLarge};
@@ -95,8 +96,9 @@ impl<C: ArrayToBytesCodecTraits> ArrayCore<C> {
         self.part_cells(write, own, stored)
     }
 
-    /// Writes the elements of a box that lie in a chunk.
-    pub(crate) fn write_chunk<S: WritableStorageTraits>(
+    /// Writes the elements of a box that lie in a chunk that suits its codecs: the chunk's value is
+    /// made anew of the elements that it had and the new ones.
+    fn write_fitting<S: WritableStorageTraits>(
         &self,
         store: &mut S,
         key: &StoreKey,
@@ -105,6 +107,8 @@ impl<C: ArrayToBytesCodecTraits> ArrayCore<C> {
     ) -> Result<(), ChunkError>
         requires small { ¬ IsTooLarge (document_of C.meaning self.now).elements.type
             (product own.now.shape.items) }
+        requires fit { fits (document_of C.meaning self.now).chain
+            (document_of C.meaning self.now).elements.type own.now.shape.items ≡ true }
         requires shares { share_place own.now.start.items own.now.shape.items
             write.now.region.start.now write.now.region.shape.now ≡ true }
         requires rank { length write.now.region.start.now ≡ length own.now.start.items }
@@ -113,7 +117,8 @@ impl<C: ArrayToBytesCodecTraits> ArrayCore<C> {
         requires values { list_all (is_value (document_of C.meaning self.now).elements.type)
             (array_cells self.now write.now.bytes.now) ≡ true }
         ensures ok { IsTrue (S.is_honest store.old) → OnOk result ((made : Option (List ℕ))
-            × MakesValue (document_of C.meaning self.now) (extent_of write.now.region)
+            × MakesValue (document_of C.meaning self.now)
+            (is_exact C.is_function self.now) (extent_of write.now.region)
             (array_cells self.now write.now.bytes.now)
             (stores_fill (document_of C.meaning self.now) write.now.options.now
             (extent_of write.now.region) (region_of own.now)) (region_of own.now)
@@ -132,6 +137,51 @@ impl<C: ArrayToBytesCodecTraits> ArrayCore<C> {
             refused_after (S.refused_calls store.old) result }
         ensures counts { CountsUpTo 1 (S.accepted_writes store.old)
             (S.accepted_writes store.new) }
+        ensures unwritten { OnDamage result
+            (S.accepted_writes store.new ≡ S.accepted_writes store.old) }
+    {
+        let bytes = self.cells_after(store, key, write, own)?;
+        let empty = self.stores_fill(write, own);
+        let value = self.encode_chunk(write, own.shape(), bytes, empty)?;
+        put_value(store, key, value)
+    }
+
+    /// Writes the elements of a box that lie in a chunk. Where what is stored is not decoded, they
+    /// are put into it, if the chunk is written in part.
+    pub(crate) fn write_chunk<S: WritableStorageTraits>(
+        &self,
+        rooms: &mut ChunkRooms,
+        store: &mut S,
+        key: &StoreKey,
+        write: &BoxWrite,
+        own: &ArraySubset,
+    ) -> Result<(), ChunkError>
+        requires small { ¬ IsTooLarge (document_of C.meaning self.now).elements.type
+            (product own.now.shape.items) }
+        requires shares { share_place own.now.start.items own.now.shape.items
+            write.now.region.start.now write.now.region.shape.now ≡ true }
+        requires rank { length write.now.region.start.now ≡ length own.now.start.items }
+        requires many { AreSoMany self.now write.now.bytes.now
+            (product write.now.region.shape.now) }
+        requires values { list_all (is_value (document_of C.meaning self.now).elements.type)
+            (array_cells self.now write.now.bytes.now) ≡ true }
+        ensures ok { IsTrue (S.is_honest store.old) → OnOk result ((made : Option (List ℕ))
+            × ChangesValue (document_of C.meaning self.now)
+            (is_exact C.is_function self.now) (extent_of write.now.region)
+            (array_cells self.now write.now.bytes.now) write.now.options.now
+            (region_of own.now) (map.get (S.held store.old) key.now) made
+            × (S.held store.new ≡ with_value (S.held store.old) key.now made)) }
+        ensures err { IsTrue (S.is_honest store.old) → IfErr result
+            (ChangeStops (document_of C.meaning self.now) (extent_of write.now.region)
+            (array_cells self.now write.now.bytes.now) write.now.options.now
+            (region_of own.now) (map.get (S.held store.old) key.now)) }
+        ensures kept { IsTrue (S.is_honest store.old) →
+            OnErr result (S.held store.new ≡ S.held store.old) }
+        ensures honest { S.is_honest store.new ≡ S.is_honest store.old }
+        ensures refused { S.refused_calls store.new ≡
+            refused_after (S.refused_calls store.old) result }
+        ensures counts { CountsUpTo 1 (S.accepted_writes store.old)
+            (S.accepted_writes store.new) }
     {
         if !self
             .codecs
@@ -139,9 +189,9 @@ impl<C: ArrayToBytesCodecTraits> ArrayCore<C> {
         {
             return Err(ChunkError::Fit);
         }
-        let bytes = self.cells_after(store, key, write, own)?;
-        let empty = self.stores_fill(write, own);
-        let value = self.encode_chunk(write, own.shape(), bytes, empty)?;
-        put_value(store, key, value)
+        match self.write_fitting(store, key, write, own) {
+            Err(ChunkError::Damage) => self.put_part(rooms, store, key, write, own),
+            result => result,
+        }
     }
 }

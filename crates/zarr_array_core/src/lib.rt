@@ -10,6 +10,7 @@ pub mod erasing;
 pub mod error;
 mod holding;
 mod moving;
+mod part_putting;
 mod part_writing;
 pub mod reading;
 pub mod region_chunks;

@@ -1,4 +1,7 @@
 //! A part of a chunk written into its value, of which nothing is fetched.
+ghost use Rattle.std.specs.Prelude.{◌≡◌, replicate, IfOk, IfSome};
+ghost use Rattle.zarr_codecs_traits.specs.Patches.{patched};
+
 use crate::array_core::ArrayCore;
 use crate::chunk_value::BoxWrite;
 use crate::chunk_writing::put_value;
@@ -6,16 +9,18 @@ use crate::error::ChunkError;
 use crate::holding::holds_box;
 use crate::moving::{overlap_in, seen_from};
 use crate::rooms::ChunkRooms;
-use crate::store_calls::{set_partial, size_key};
-use std::alloc::Global;
+use crate::store_calls::{set, set_partial, size_key};
+use std::alloc::{AllocError, Global};
 use zarr_array_storage::{ValuePatch, WritableStorageTraits};
 use zarr_codecs_arrays::{ArrayBytes, CodecError};
 use zarr_codecs_options::CodecOptions;
+use zarr_codecs_traits::value_patch::{any_ends_past, overwrite_each};
 use zarr_codecs_traits::{ArrayPart, ArrayToBytesCodecTraits, Indexer};
+use zarr_codecs_types::Cell;
 use zarr_grids_boxes::ArraySubset;
 use zarr_grids_boxes::walk::count_places;
 use zarr_grids_keys::StoreKey;
-use zarr_grids_overlay::Extent;
+use zarr_grids_overlay::{Extent, is_all};
 
 /// Whether a box of an array of this shape has few lines of elements that lie one after another: at
 /// most 16, or one for each 32 elements of the array. What is done is the same either way.
@@ -29,18 +34,36 @@ fn has_few_lines(part: &ArraySubset, shape: &[u64]) -> bool {
     }
 }
 
+/// A value of so many zeros after ranges were written into it, where each of them lies in it.
+fn over_zeros(
+    alloc: Global,
+    size: usize,
+    patches: &[ValuePatch],
+) -> Result<Option<Vec<u8>>, AllocError>
+    ensures { IfOk result (λ made. IfSome made
+        (λ value. value.items ≡ patched (replicate size 0) patches.now)) }
+{
+    if any_ends_past(patches, size) {
+        return Ok(None);
+    }
+    let mut value = vec![in alloc; 0u8; size]?;
+    overwrite_each(value.as_mut_slice(), patches);
+    Ok(Some(value))
+}
+
 impl<C: ArrayToBytesCodecTraits> ArrayCore<C> {
-    ghost use Rattle.std.specs.Prelude.{◌≡◌, ◌*◌, ℕ, List, Option, Some, None, true, false, length, IsTrue, IfOk, OnOk, OnErr, IfErr, IfSome};
+    ghost use Rattle.std.specs.Prelude.{◌≡◌, ◌*◌, ℕ, List, Option, Some, None, true, false, length, replicate, IsTrue, IfOk, OnOk, OnErr, IfErr, IfSome};
     ghost use Rattle.std.specs.FinMap as map;
     ghost use Rattle.std.specs.List.{list_all};
-    ghost use Rattle.zarr_array_core.specs.ChunkValues.{MakesValue, NewValueStops, with_value};
+    ghost use Rattle.zarr_array_core.specs.ChunkValues.{ChangeStops, MakesValue, NewValueStops, with_value};
     ghost use Rattle.zarr_array_core.specs.Outcomes.{CountsUpTo, refused_after};
     ghost use Rattle.zarr_array_core.specs.PartWrites.{PatchesChunk};
-    ghost use Rattle.zarr_array_core.specs.Views.{array_cells, AreSoMany, document_of};
+    ghost use Rattle.zarr_array_core.specs.Views.{array_cells, AreSoMany, document_of, is_exact};
     ghost use Rattle.zarr_array_core.specs.declared.error.ChunkError.TheVariants.{Memory};
     ghost use Rattle.zarr_array_meaning.specs.Writing.{stores_fill};
     ghost use Rattle.zarr_array_meaning.specs.Chunks.{holds_box};
     ghost use Rattle.zarr_codecs_arrays.specs.Views.{payload_of};
+    ghost use Rattle.zarr_codecs_meaning.specs.Decoding.{decoded};
     ghost use Rattle.zarr_codecs_meaning.specs.Fits.{fits};
     ghost use Rattle.zarr_codecs_meaning.specs.Types.{byte_width, is_value, IsTooLarge};
     ghost use Rattle.zarr_codecs_traits.specs.PartEncoding.{EncodesPart, takes_patches};
@@ -68,8 +91,8 @@ impl<C: ArrayToBytesCodecTraits> ArrayCore<C> {
     }
 
     /// The ranges to be written into a chunk's value so that the elements of a box are put over its
-    /// own. `None` where the value is to be written whole: where those elements are all fill and the
-    /// chunk may lose its key, or they lie on too many lines to be worth a range each.
+    /// own. `None` where the value is to be written whole: where those elements are all fill and
+    /// the chunk may lose its key, or they lie on too many lines to be worth a range each.
     fn chunk_patches(
         &self,
         rooms: &mut ChunkRooms,
@@ -88,7 +111,8 @@ impl<C: ArrayToBytesCodecTraits> ArrayCore<C> {
         requires values { list_all (is_value (document_of C.meaning self.now).elements.type)
             (array_cells self.now write.now.bytes.now) ≡ true }
         ensures ok { IfOk result (λ found. IfSome found (λ patches.
-            PatchesChunk (document_of C.meaning self.now) (extent_of write.now.region)
+            PatchesChunk (document_of C.meaning self.now)
+            (is_exact C.is_function self.now) (extent_of write.now.region)
             (array_cells self.now write.now.bytes.now)
             (stores_fill (document_of C.meaning self.now) write.now.options.now
             (extent_of write.now.region) (region_of own.now)) (region_of own.now) patches.items)) }
@@ -136,13 +160,38 @@ impl<C: ArrayToBytesCodecTraits> ArrayCore<C> {
         self.codecs.encode_patches(alloc, given, asked, options)
     }
 
-    /// Writes the elements of a box that lie in a chunk that has no value.
+    /// How many bytes the value of a chunk of fill has, where all of them are 0.
+    fn zeros_of_fill(&self, shape: &[u64]) -> Option<usize>
+        requires { ¬ IsTooLarge (document_of C.meaning self.now).elements.type
+            (product shape.now) }
+        ensures { takes_patches (document_of C.meaning self.now).chain
+            (document_of C.meaning self.now).elements.type ≡ true → IfSome result
+            (λ size. decoded (document_of C.meaning self.now).chain
+            (document_of C.meaning self.now).elements shape.now (replicate size 0)
+            ≡ Some (replicate (product shape.now)
+            (document_of C.meaning self.now).elements.fill)) }
+    {
+        let width = self.element_width()?;
+        match self.elements.fill_value().as_cell() {
+            Cell::Bytes(fill) => {
+                if !is_all(fill.as_slice(), 0) {
+                    return None;
+                }
+                Some(count_places(shape).unwrap() as usize * width)
+            }
+            _ => None,
+        }
+    }
+
+    /// Writes the elements of a box that lie in a chunk that has no value, where ranges write them
+    /// into any value of it. Where a chunk of fill is zeros, they are written into these.
     fn write_new<S: WritableStorageTraits>(
         &self,
         store: &mut S,
         key: &StoreKey,
         write: &BoxWrite,
         own: &ArraySubset,
+        patches: &[ValuePatch],
     ) -> Result<(), ChunkError>
         requires small { ¬ IsTooLarge (document_of C.meaning self.now).elements.type
             (product own.now.shape.items) }
@@ -158,8 +207,16 @@ impl<C: ArrayToBytesCodecTraits> ArrayCore<C> {
         requires part { holds_box (extent_of write.now.region) (region_of own.now) ≡ false }
         requires absent { IsTrue (S.is_honest store.old) →
             map.get (S.held store.old) key.now ≡ None }
+        requires takes { takes_patches (document_of C.meaning self.now).chain
+            (document_of C.meaning self.now).elements.type ≡ true }
+        requires patches { PatchesChunk (document_of C.meaning self.now)
+            (is_exact C.is_function self.now) (extent_of write.now.region)
+            (array_cells self.now write.now.bytes.now)
+            (stores_fill (document_of C.meaning self.now) write.now.options.now
+            (extent_of write.now.region) (region_of own.now)) (region_of own.now) patches.now }
         ensures ok { IsTrue (S.is_honest store.old) → OnOk result ((made : Option (List ℕ))
-            × MakesValue (document_of C.meaning self.now) (extent_of write.now.region)
+            × MakesValue (document_of C.meaning self.now)
+            (is_exact C.is_function self.now) (extent_of write.now.region)
             (array_cells self.now write.now.bytes.now)
             (stores_fill (document_of C.meaning self.now) write.now.options.now
             (extent_of write.now.region) (region_of own.now)) (region_of own.now)
@@ -179,6 +236,11 @@ impl<C: ArrayToBytesCodecTraits> ArrayCore<C> {
         ensures counts { CountsUpTo 1 (S.accepted_writes store.old)
             (S.accepted_writes store.new) }
     {
+        if let Some(size) = self.zeros_of_fill(own.shape()) {
+            if let Some(value) = over_zeros(write.alloc, size, patches)? {
+                return set(store, key, value.as_slice());
+            }
+        }
         let bytes = self.part_cells(write, own, None)?;
         let empty = self.stores_fill(write, own);
         let value = self.encode_chunk(write, own.shape(), bytes, empty)?;
@@ -206,7 +268,8 @@ impl<C: ArrayToBytesCodecTraits> ArrayCore<C> {
             (array_cells self.now write.now.bytes.now) ≡ true }
         ensures ok { IsTrue (S.is_honest store.old) → IfOk result (λ done. done ≡ true →
             (made : Option (List ℕ))
-            × MakesValue (document_of C.meaning self.now) (extent_of write.now.region)
+            × MakesValue (document_of C.meaning self.now)
+            (is_exact C.is_function self.now) (extent_of write.now.region)
             (array_cells self.now write.now.bytes.now)
             (stores_fill (document_of C.meaning self.now) write.now.options.now
             (extent_of write.now.region) (region_of own.now)) (region_of own.now)
@@ -215,11 +278,9 @@ impl<C: ArrayToBytesCodecTraits> ArrayCore<C> {
         ensures undone { IsTrue (S.is_honest store.old) → IfOk result (λ done. done ≡ false →
             S.held store.new ≡ S.held store.old) }
         ensures err { IsTrue (S.is_honest store.old) → IfErr result
-            (NewValueStops (document_of C.meaning self.now) (extent_of write.now.region)
-            (array_cells self.now write.now.bytes.now)
-            (stores_fill (document_of C.meaning self.now) write.now.options.now
-            (extent_of write.now.region) (region_of own.now)) (region_of own.now)
-            (map.get (S.held store.old) key.now)) }
+            (ChangeStops (document_of C.meaning self.now) (extent_of write.now.region)
+            (array_cells self.now write.now.bytes.now) write.now.options.now
+            (region_of own.now) (map.get (S.held store.old) key.now)) }
         ensures kept { IsTrue (S.is_honest store.old) →
             OnErr result (S.held store.new ≡ S.held store.old) }
         ensures honest { S.is_honest store.new ≡ S.is_honest store.old }
@@ -247,7 +308,7 @@ impl<C: ArrayToBytesCodecTraits> ArrayCore<C> {
             return Ok(false);
         };
         let Some(size) = size_key(store, key)? else {
-            self.write_new(store, key, write, own)?;
+            self.write_new(store, key, write, own, patches.as_slice())?;
             return Ok(true);
         };
         if size != count_places(shape).unwrap() * width as u64 {

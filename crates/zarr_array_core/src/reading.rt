@@ -36,8 +36,8 @@ impl<C: ArrayToBytesCodecTraits> ArrayCore<C> {
     ghost use Rattle.zarr_array_core.specs.Views.{document_of, path_of};
     ghost use Rattle.zarr_array_core.specs.Outcomes.{GivesBox, ReadStops, IsSmall, refused_after};
 
-    /// The elements of a region that is not empty, row-major. Its chunks are read row-major, and the
-    /// first that isn't read decides: `Fit` where it has a value and does not fit its codecs,
+    /// The elements of a region that is not empty, row-major. Its chunks are read row-major, and
+    /// the first that isn't read decides: `Fit` where it has a value and does not fit its codecs,
     /// `Damage` where one of its places in the region cannot be decoded. `Storage` where the store
     /// refuses.
     pub fn read_region<S: ReadableStorageTraits>(

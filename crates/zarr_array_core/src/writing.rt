@@ -26,10 +26,9 @@ impl<C: ArrayToBytesCodecTraits> ArrayCore<C> {
     ghost use Rattle.zarr_codecs_arrays.specs.Views.{payload_of};
     ghost use Rattle.zarr_array_meaning.specs.Chunks.{stored_at};
     ghost use Rattle.zarr_array_meaning.specs.Writing.{WroteChunks};
-    ghost use Rattle.zarr_array_core.specs.Views.{array_cells, AreSoMany, document_of, path_of};
-    ghost use Rattle.zarr_array_core.specs.ChunkValues.{MakesValue, NewValueStops, with_value};
+    ghost use Rattle.zarr_array_core.specs.Views.{array_cells, AreSoMany, document_of, is_exact, path_of};
+    ghost use Rattle.zarr_array_core.specs.ChunkValues.{ChangesValue, ChangeStops, with_value};
     ghost use Rattle.zarr_array_core.specs.Outcomes.{WritesBox, WriteStops, CountsWrites, CountsUpTo, IsSmall, refused_after, refused_by_many};
-    ghost use Rattle.zarr_array_meaning.specs.Writing.{stores_fill};
 
     /// Writes the elements of a region that is not empty, row-major, chunk by chunk: `bytes` are as
     /// many values of the array's data type as the region has places. A chunk that becomes all fill
@@ -38,7 +37,8 @@ impl<C: ArrayToBytesCodecTraits> ArrayCore<C> {
     /// is fetched for it.
     ///
     /// `Fit` where a chunk does not fit its codecs, `Damage` where a part of a chunk is to stay and
-    /// what is stored cannot be decoded, `Codec` where a codec refuses to encode, `Size` where an
+    /// what is stored cannot be decoded, or, if the chunk is written in part, has another length than
+    /// the chunk's elements, `Codec` where a codec refuses to encode, `Size` where an
     /// offset or a length is too large for where it is written, `Storage` where the store refuses.
     /// The chunks before the one that stopped stay written.
     pub fn write_region<S: WritableStorageTraits>(
@@ -60,10 +60,12 @@ impl<C: ArrayToBytesCodecTraits> ArrayCore<C> {
             (payload_of bytes.now) (product target.region.now.shape.items) cells }
         ensures ok { IsTrue (S.is_honest store.old) → OnOk result
             (WritesBox (path_of self.now) (document_of C.meaning self.now)
+            (is_exact C.is_function self.now)
             (region_of target.entry.region.now) (payload_of bytes.now) options.now
             (S.held store.old) (S.held store.new)) }
         ensures err { IsTrue (S.is_honest store.old) → IfErr result
             (WriteStops (path_of self.now) (document_of C.meaning self.now)
+            (is_exact C.is_function self.now)
             (region_of target.entry.region.now) (payload_of bytes.now) options.now
             (S.held store.old) (S.held store.new)) }
         ensures honest { S.is_honest store.new ≡ S.is_honest store.old }
@@ -104,12 +106,14 @@ impl<C: ArrayToBytesCodecTraits> ArrayCore<C> {
         requires values { list_all (is_value (document_of C.meaning self.now).elements.type)
             (array_cells self.now write.now.bytes.now) ≡ true }
         ensures ok { IsTrue (S.is_honest store.old) → OnOk result (WroteChunks (path_of self.now)
-            (document_of C.meaning self.now) (extent_of write.now.region)
+            (document_of C.meaning self.now) (is_exact C.is_function self.now)
+            (extent_of write.now.region)
             (array_cells self.now write.now.bytes.now) write.now.options.now
             (intersecting (document_of C.meaning self.now).grid (extent_of write.now.region))
             (S.held store.old) (S.held store.new)) }
         ensures err { IsTrue (S.is_honest store.old) → IfErr result (WriteStops (path_of self.now)
-            (document_of C.meaning self.now) (extent_of write.now.region)
+            (document_of C.meaning self.now) (is_exact C.is_function self.now)
+            (extent_of write.now.region)
             (payload_of write.now.bytes.now) write.now.options.now
             (S.held store.old) (S.held store.new)) }
         ensures honest { S.is_honest store.new ≡ S.is_honest store.old }
@@ -158,19 +162,18 @@ impl<C: ArrayToBytesCodecTraits> ArrayCore<C> {
         ensures ok { IsTrue (S.is_honest store.old) → OnOk result
             ((box : Region) × (made : Option (List ℕ))
             × IsInGrid (document_of C.meaning self.now).grid chunk.now box
-            × MakesValue (document_of C.meaning self.now) (extent_of write.now.region)
-            (array_cells self.now write.now.bytes.now)
-            (stores_fill (document_of C.meaning self.now) write.now.options.now
-            (extent_of write.now.region) box) box (stored_at (path_of self.now)
+            × ChangesValue (document_of C.meaning self.now)
+            (is_exact C.is_function self.now) (extent_of write.now.region)
+            (array_cells self.now write.now.bytes.now) write.now.options.now
+            box (stored_at (path_of self.now)
             (document_of C.meaning self.now) (S.held store.old) chunk.now) made
             × (S.held store.new ≡ with_value (S.held store.old) (chunk_key (path_of self.now)
             (document_of C.meaning self.now).keys chunk.now) made)) }
         ensures err { IsTrue (S.is_honest store.old) → IfErr result (λ e. (box : Region)
             × IsInGrid (document_of C.meaning self.now).grid chunk.now box
-            × NewValueStops (document_of C.meaning self.now) (extent_of write.now.region)
-            (array_cells self.now write.now.bytes.now)
-            (stores_fill (document_of C.meaning self.now) write.now.options.now
-            (extent_of write.now.region) box) box (stored_at (path_of self.now)
+            × ChangeStops (document_of C.meaning self.now) (extent_of write.now.region)
+            (array_cells self.now write.now.bytes.now) write.now.options.now
+            box (stored_at (path_of self.now)
             (document_of C.meaning self.now) (S.held store.old) chunk.now) e) }
         ensures kept { IsTrue (S.is_honest store.old) →
             OnErr result (S.held store.new ≡ S.held store.old) }
@@ -182,7 +185,7 @@ impl<C: ArrayToBytesCodecTraits> ArrayCore<C> {
         let key = self.key_of(write.alloc, chunk)?;
         let own = self.box_of(rooms.take_own(), chunk)?;
         if !self.patch_chunk(rooms, store, &key, write, &own)? {
-            self.write_chunk(store, &key, write, &own)?;
+            self.write_chunk(rooms, store, &key, write, &own)?;
         }
         rooms.keep_own(own);
         Ok(())

@@ -15,7 +15,7 @@ use Rattle.zarr_grids_boxes.proofs.Sharing.{share_place-has}
 use Rattle.zarr_grids_boxes.proofs.Steps.{in_box_same}
 use Rattle.zarr_grids_boxes.proofs.Walking.{get_or-places}
 use Rattle.zarr_grids_chunks.specs.Grids.{Grid, chunk_box, intersects}
-use Rattle.zarr_codecs_traits.specs.Indexers.{lies_in, numbers_of}
+use Rattle.zarr_codecs_traits.specs.Indexers.{shape_has, numbers_of}
 use Rattle.zarr_array_meaning.specs.Chunks.{number_in}
 use Rattle.zarr_array_elements.proofs.Moved.{AtMost, place_at-shifted}
 
@@ -52,7 +52,7 @@ pub record IsMeeting (region box shared part : Region) : Type 0 where
   pub region_rank : length region.start ≡ length region.shape
   pub both : (place : List ℕ) → is_in_box shared.start shared.shape place ≡ (is_in_box region.start region.shape place && is_in_box box.start box.shape place)
   pub some : 0 < product shared.shape
-  pub inside : lies_in box.shape part ≡ true
+  pub inside : shape_has box.shape part ≡ true
   pub many : length (numbers_of box.shape part) ≡ product shared.shape
   pub number : (n : ℕ) → n < product shared.shape → get_or (numbers_of box.shape part) n 0 ≡ number_in box (place_at shared.start shared.shape n)
 

@@ -9,7 +9,10 @@ ghost use Rattle.zarr_array_elements.specs.Boxes.{IsWithin};
 ghost use Rattle.zarr_array_elements.specs.Renumbering.{renumbered};
 
 use std::alloc::{AllocError, Global};
+use zarr_codecs_regions::{numbers_asked, test_asked};
+use zarr_codecs_traits::Indexer;
 use zarr_grids_boxes::ArraySubset;
+use zarr_grids_boxes::walk::count_places;
 
 /// The numbers that the places of a box have in a box in which it lies, row-major.
 pub(crate) fn numbers_in(
@@ -34,10 +37,11 @@ fn box_numbers(alloc: Global, shape: &[u64], part: &ArraySubset) -> Result<Vec<u
     ensures { IfOk result
         (λ numbers. numbers.items ≡ linearised (region_of part.now) shape.now) }
 {
-    match part.linearised_indices(shape) {
-        Ok(numbers) => numbers.collect(alloc),
-        Err(_) => Err(AllocError),
+    let asked = Indexer::Subset(part);
+    if count_places(shape).is_none() || test_asked(shape, asked).is_err() {
+        return Err(AllocError);
     }
+    numbers_asked(alloc, shape, asked)
 }
 
 /// A list of numbers after those from the first one on were written one after another at these

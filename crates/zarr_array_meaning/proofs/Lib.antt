@@ -4,6 +4,7 @@ pub mod Points
 pub mod ReadsBack
 pub mod Showing
 pub mod ShownValues
+pub mod TakenParts
 pub mod TypeLevels
 pub mod WrittenDocuments
 pub mod WrittenFields

@@ -1,10 +1,13 @@
 -- What writing a box of cells makes of the chunks that it intersects.
-use Rattle.std.specs.Prelude.{◌≡◌, ◌⊎◌, ℕ, ◌^◌, ◌≤◌, List, length, replicate, Some, None, Bool, true, false, not, ◌&&◌, ◌||◌, is_some, MatchBool}
+use Rattle.std.specs.Prelude.{◌≡◌, ◌⊎◌, ℕ, ◌^◌, ◌≤◌, List, [], length, get_or, replicate, Option, Some, None, Bool, IsTrue, true, false, not, ◌&&◌, ◌||◌, if◌then◌else◌, is_some, unwrap_or, MatchBool}
 use Rattle.zarr_grids_boxes.specs.Boxes.{Region, product, is_in_box}
 use Rattle.zarr_grids_chunks.specs.Grids.{IsInGrid}
 use Rattle.zarr_codecs_meaning.specs.Types.{Cell, is_fill}
+use Rattle.zarr_codecs_meaning.specs.Chunks.{chunk_decoded}
+use Rattle.zarr_codecs_meaning.specs.Decoding.{opens}
 use Rattle.zarr_codecs_options.specs.declared.codec_options.CodecOptions.{CodecOptions}
 use Rattle.zarr_codecs_meaning.specs.Encoding.{encoded}
+use Rattle.zarr_codecs_meaning.specs.Fits.{is_plain}
 use Rattle.zarr_codecs_meaning.specs.Partial.{encodes_in_part}
 use Rattle.zarr_codecs_meaning.specs.Refusals.{CodecRefuses, PassesIndex}
 use Rattle.zarr_codecs_meaning.specs.Standing.{Stands}
@@ -14,37 +17,6 @@ use Rattle.zarr_array_meaning.specs.Documents.{Document}
 use Rattle.zarr_array_meaning.specs.Standing.{ChunkStandsAt, IsLossless, AreValues}
 use Rattle.zarr_array_meaning.specs.StoreMaps.{StoreMap}
 
--- the cells of a chunk after a write of a box: the given ones in the box, and those that were decoded where cells are to stay
-pub record ChunkBecomes (path : List ℕ) (document : Document) (store : StoreMap) (region : Region) (values : List Cell) (chunk : List ℕ) (box : Region) (cells : List Cell) : Type 0 where
-  pub many : length cells ≡ product box.shape
-  pub written : (place : List ℕ) → is_in_box region.start region.shape place ≡ true → is_in_box box.start box.shape place ≡ true
-      → cell_of_box box cells document.elements.fill place ≡ cell_of_box region values document.elements.fill place
-  pub kept : holds_box region box ≡ false → (before : List Cell) × (decoded_at path document store chunk box ≡ Some before)
-      × ((place : List ℕ) → is_in_box region.start region.shape place ≡ false → is_in_box box.start box.shape place ≡ true
-      → cell_of_box box cells document.elements.fill place ≡ cell_of_box box before document.elements.fill place)
-
--- a chunk of which a part is to stay is damaged
-pub record IsPartDamaged (path : List ℕ) (document : Document) (store : StoreMap) (region : Region) (chunk : List ℕ) (box : Region) : Type 0 where
-  pub fit : fits_box document box ≡ true
-  pub part : holds_box region box ≡ false
-  pub lost : decoded_at path document store chunk box ≡ None
-
--- the caller's codec refuses bytes that encoding the chunk's new cells calls for; cells that are all fill are encoded only where such a chunk is stored
-pub record IsCodecRefused (path : List ℕ) (document : Document) (store : StoreMap) (region : Region) (values : List Cell) (store_empty : Bool) (chunk : List ℕ) (box : Region) : Type 0 where
-  pub fit : fits_box document box ≡ true
-  pub cells : List Cell
-  pub becomes : ChunkBecomes path document store region values chunk box cells
-  pub called : store_empty ≡ false → is_fill document.elements.fill cells ≡ false
-  pub refuses : CodecRefuses document.chain document.elements box.shape cells
-
--- an offset or a length passes where it is written, or the chunk's value has 2^63 bytes or more
-pub record IsOversized (path : List ℕ) (document : Document) (store : StoreMap) (region : Region) (values : List Cell) (store_empty : Bool) (chunk : List ℕ) (box : Region) : Type 0 where
-  pub fit : fits_box document box ≡ true
-  pub cells : List Cell
-  pub becomes : ChunkBecomes path document store region values chunk box cells
-  pub called : store_empty ≡ false → is_fill document.elements.fill cells ≡ false
-  pub passes : PassesIndex document.chain document.elements box.shape cells ⊎ ((value : List ℕ) × (encoded document.chain document.elements box.shape cells ≡ Some value) × (2 ^ 63 ≤ length value))
-
 -- whether a write may encode a chunk in part: the option says so, a part of the chunk is to stay, and the chain can
 abbrev pub may_be_in_part : Document → CodecOptions → Region → Region → Bool
 may_be_in_part document options region box = options.experimental_partial_encoding && (not (holds_box region box) && encodes_in_part document.chain)
@@ -53,11 +25,60 @@ may_be_in_part document options region box = options.experimental_partial_encodi
 abbrev pub stores_fill : Document → CodecOptions → Region → Region → Bool
 stores_fill document options region box = options.store_empty_chunks || may_be_in_part document options region box
 
--- a chunk that was written has its new cells, and a key exactly where these are not all fill or such a chunk is stored, whatever the chain keeps of them
-pub record IsKeyed (path : List ℕ) (document : Document) (region : Region) (values : List Cell) (options : CodecOptions) (old new : StoreMap) (chunk : List ℕ) (box : Region) : Type 0 where
+-- whether a chunk is written in part: the write may encode it so, and the chain makes no shard
+abbrev pub is_in_part : Document → CodecOptions → Region → Region → Bool
+is_in_part document options region box = may_be_in_part document options region box && is_plain document.chain
+
+-- whether what is stored for a chunk opens: nothing, or a value that can be read at places; through `bytes` it is one of the chunk's length, whatever its cells are
+abbrev pub opens_in : Document → Region → Option (List ℕ) → Bool
+opens_in document box stored = elim stored [ None ↦ true | Some value ↦ opens document.chain document.elements box.shape value ]
+
+-- whether cells may be put into what is stored for a chunk: all of it is decoded; a chunk that is written in part only has to open, and no stored cell is tested
+abbrev pub takes_cells : Document → CodecOptions → Region → Region → Option (List ℕ) → Bool
+takes_cells document options region box stored = if is_in_part document options region box then opens_in document box stored else is_some (chunk_decoded document.chain document.elements box.shape stored)
+
+-- the cell that is read at a place of a chunk, and the fill value where none can be
+abbrev pub cell_read : List ℕ → Document → StoreMap → List ℕ → Region → List ℕ → Cell
+cell_read path document store chunk box place = get_or (unwrap_or (part_at path document store chunk box place) []) 0 document.elements.fill
+
+-- the cells of a chunk after a write of a box: the given ones in the box, and those that are read where cells are to stay, which what is stored takes
+pub record ChunkBecomes (path : List ℕ) (document : Document) (store : StoreMap) (region : Region) (values : List Cell) (options : CodecOptions) (chunk : List ℕ) (box : Region) (cells : List Cell) : Type 0 where
+  pub many : length cells ≡ product box.shape
+  pub written : (place : List ℕ) → is_in_box region.start region.shape place ≡ true → is_in_box box.start box.shape place ≡ true
+      → cell_of_box box cells document.elements.fill place ≡ cell_of_box region values document.elements.fill place
+  pub takes : holds_box region box ≡ false → takes_cells document options region box (stored_at path document store chunk) ≡ true
+  pub kept : holds_box region box ≡ false → (place : List ℕ) → is_in_box region.start region.shape place ≡ false → is_in_box box.start box.shape place ≡ true
+      → cell_of_box box cells document.elements.fill place ≡ cell_read path document store chunk box place
+
+-- a chunk of which a part is to stay is damaged
+pub record IsPartDamaged (path : List ℕ) (document : Document) (store : StoreMap) (region : Region) (options : CodecOptions) (chunk : List ℕ) (box : Region) : Type 0 where
+  pub fit : fits_box document box ≡ true
+  pub part : holds_box region box ≡ false
+  pub lost : takes_cells document options region box (stored_at path document store chunk) ≡ false
+
+-- the caller's codec refuses bytes that encoding the chunk's new cells calls for; cells that are all fill are encoded only where such a chunk is stored
+pub record IsCodecRefused (path : List ℕ) (document : Document) (store : StoreMap) (region : Region) (values : List Cell) (options : CodecOptions) (chunk : List ℕ) (box : Region) : Type 0 where
+  pub fit : fits_box document box ≡ true
   pub cells : List Cell
-  pub becomes : ChunkBecomes path document old region values chunk box cells
+  pub becomes : ChunkBecomes path document store region values options chunk box cells
+  pub called : stores_fill document options region box ≡ false → is_fill document.elements.fill cells ≡ false
+  pub refuses : CodecRefuses document.chain document.elements box.shape cells
+
+-- an offset or a length passes where it is written, or the chunk's value has 2^63 bytes or more
+pub record IsOversized (path : List ℕ) (document : Document) (store : StoreMap) (region : Region) (values : List Cell) (options : CodecOptions) (chunk : List ℕ) (box : Region) : Type 0 where
+  pub fit : fits_box document box ≡ true
+  pub cells : List Cell
+  pub becomes : ChunkBecomes path document store region values options chunk box cells
+  pub called : stores_fill document options region box ≡ false → is_fill document.elements.fill cells ≡ false
+  pub passes : PassesIndex document.chain document.elements box.shape cells ⊎ ((value : List ℕ) × (encoded document.chain document.elements box.shape cells ≡ Some value) × (2 ^ 63 ≤ length value))
+
+-- a chunk that was written has its new cells, and a key exactly where these are not all fill or such a chunk is stored, whatever the chain keeps of them; its value is what encoding makes of these cells, where that depends on them alone (`exact`), as without shards, and each cell that is to stay was decoded
+pub record IsKeyed (path : List ℕ) (document : Document) (exact : Bool) (region : Region) (values : List Cell) (options : CodecOptions) (old new : StoreMap) (chunk : List ℕ) (box : Region) : Type 0 where
+  pub cells : List Cell
+  pub becomes : ChunkBecomes path document old region values options chunk box cells
   pub key : is_some (stored_at path document new chunk) ≡ (stores_fill document options region box || not (is_fill document.elements.fill cells))
+  pub encodes : IsTrue exact → (holds_box region box ≡ false → is_some (decoded_at path document old chunk box) ≡ true)
+      → (value : List ℕ) → stored_at path document new chunk ≡ Some value → encoded document.chain document.elements box.shape cells ≡ Some value
 
 -- of these chunks each that is stored even if all its cells are fill has a key; no other has a value that stands for the fill value alone
 pub record HasKeys (path : List ℕ) (document : Document) (region : Region) (options : CodecOptions) (chunks : List (List ℕ)) (store : StoreMap) : Type 0 where
@@ -73,11 +94,11 @@ ShowsWritten path document region values chunks old new = (chunk : List ℕ) (bo
     (part_at path document new chunk box place ≡ part_at path document old chunk box place)
 
 -- the cells of a box are given to some of the chunks that it intersects. Where the chain keeps every bit, each chunk is read so afterwards; one that stood for its cells stands for its new ones;
--- and one that lies in the box stands for the given cells, whatever was stored. Whatever the chain keeps, each chunk fits, one of which a part is to stay was not damaged, each has a key exactly where its new cells call for one, and only those chunks' keys changed
-pub record WroteChunks (path : List ℕ) (document : Document) (region : Region) (values : List Cell) (options : CodecOptions) (chunks : List (List ℕ)) (old new : StoreMap) : Type 0 where
+-- and one that lies in the box stands for the given cells, whatever was stored. Whatever the chain keeps, each chunk fits, one of which a part is to stay was not damaged, each has a key exactly where its new cells call for one, and only those chunks' keys changed; and where what encoding makes of cells depends on these alone (`exact`), each value is the encoding of its chunk's new cells, if each cell that is to stay was decoded
+pub record WroteChunks (path : List ℕ) (document : Document) (exact : Bool) (region : Region) (values : List Cell) (options : CodecOptions) (chunks : List (List ℕ)) (old new : StoreMap) : Type 0 where
   pub fit : (chunk : List ℕ) (box : Region) → IsInGrid document.grid chunk box → is_listed chunks chunk ≡ true → fits_box document box ≡ true
   pub undamaged : (chunk : List ℕ) (box : Region) → IsInGrid document.grid chunk box → is_listed chunks chunk ≡ true → holds_box region box ≡ false
-      → is_some (decoded_at path document old chunk box) ≡ true
+      → takes_cells document options region box (stored_at path document old chunk) ≡ true
   pub shows : IsLossless document → ShowsWritten path document region values chunks old new
   pub keeps : IsLossless document → (cells : List ℕ → Cell) → AreValues document cells → (chunk : List ℕ) (box : Region) → IsInGrid document.grid chunk box → ChunkStandsAt path document old chunk box cells
       → ChunkStandsAt path document new chunk box (with_chunks document.grid region chunks (cell_of_box region values document.elements.fill) cells)
@@ -85,7 +106,7 @@ pub record WroteChunks (path : List ℕ) (document : Document) (region : Region)
       → ChunkStandsAt path document new chunk box (cell_of_box region values document.elements.fill)
   pub others : KeepsOtherKeys path document chunks old new
   pub keys : HasKeys path document region options chunks new
-  pub keyed : (chunk : List ℕ) (box : Region) → IsInGrid document.grid chunk box → is_listed chunks chunk ≡ true → IsKeyed path document region values options old new chunk box
+  pub keyed : (chunk : List ℕ) (box : Region) → IsInGrid document.grid chunk box → is_listed chunks chunk ≡ true → IsKeyed path document exact region values options old new chunk box
 
 -- some chunks are erased: they have no key, and no other key changed
 pub record ErasedChunks (path : List ℕ) (document : Document) (chunks : List (List ℕ)) (old new : StoreMap) : Type 0 where
@@ -96,11 +117,24 @@ pub record ErasedChunks (path : List ℕ) (document : Document) (chunks : List (
 
 -- no chunk that was written was damaged where a part of it is to stay
 abbrev pub WrittenUndamaged : Type 0
-WrittenUndamaged = (path : List ℕ) (document : Document) (region : Region) (values : List Cell) (options : CodecOptions) (chunks : List (List ℕ)) (old new : StoreMap) (chunk : List ℕ) (box : Region)
-    → WroteChunks path document region values options chunks old new → IsInGrid document.grid chunk box → is_listed chunks chunk ≡ true → IsPartDamaged path document old region chunk box → ⊥
+WrittenUndamaged = (path : List ℕ) (document : Document) (exact : Bool) (region : Region) (values : List Cell) (options : CodecOptions) (chunks : List (List ℕ)) (old new : StoreMap) (chunk : List ℕ) (box : Region)
+    → WroteChunks path document exact region values options chunks old new → IsInGrid document.grid chunk box → is_listed chunks chunk ≡ true → IsPartDamaged path document old region options chunk box → ⊥
 
 -- two writes of the same cells over the same store leave keys to the same chunks of those that they wrote, whatever the chain keeps
 abbrev pub WrittenKeysAlike : Type 0
-WrittenKeysAlike = (path : List ℕ) (document : Document) (region : Region) (values : List Cell) (options : CodecOptions) (chunks : List (List ℕ)) (old new other : StoreMap) (chunk : List ℕ) (box : Region)
-    → WroteChunks path document region values options chunks old new → WroteChunks path document region values options chunks old other → IsInGrid document.grid chunk box → is_listed chunks chunk ≡ true
+WrittenKeysAlike = (path : List ℕ) (document : Document) (exact : Bool) (region : Region) (values : List Cell) (options : CodecOptions) (chunks : List (List ℕ)) (old new other : StoreMap) (chunk : List ℕ) (box : Region)
+    → WroteChunks path document exact region values options chunks old new → WroteChunks path document exact region values options chunks old other → IsInGrid document.grid chunk box → is_listed chunks chunk ≡ true
     → length region.start ≡ length region.shape → length region.start ≡ length document.grid → is_some (stored_at path document new chunk) ≡ is_some (stored_at path document other chunk)
+
+-- two stores are decoded, to the same cells at the places of a chunk that lie outside a box
+abbrev pub DecodesAlikeOutside : List ℕ → Document → Region → StoreMap → StoreMap → List ℕ → Region → Type 0
+DecodesAlikeOutside path document region old before chunk box = (a : List Cell) × (b : List Cell) × (decoded_at path document old chunk box ≡ Some a) × (decoded_at path document before chunk box ≡ Some b)
+    × ((place : List ℕ) → is_in_box region.start region.shape place ≡ false → is_in_box box.start box.shape place ≡ true
+    → cell_of_box box a document.elements.fill place ≡ cell_of_box box b document.elements.fill place)
+
+-- two writes of the same cells with the same options leave the same value of a chunk, or none, whatever was stored before: where a part of the chunk is to stay, that part has to be decoded alike. So a rewrite leaves what a first write leaves
+abbrev pub RewrittenAlike : Type 0
+RewrittenAlike = (path : List ℕ) (document : Document) (region : Region) (values : List Cell) (options : CodecOptions) (chunks others : List (List ℕ)) (old new before after : StoreMap) (chunk : List ℕ) (box : Region)
+    → WroteChunks path document true region values options chunks old new → WroteChunks path document true region values options others before after
+    → IsInGrid document.grid chunk box → is_listed chunks chunk ≡ true → is_listed others chunk ≡ true → length region.start ≡ length region.shape → length region.start ≡ length document.grid
+    → (holds_box region box ≡ false → DecodesAlikeOutside path document region old before chunk box) → stored_at path document new chunk ≡ stored_at path document after chunk

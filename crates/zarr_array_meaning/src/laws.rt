@@ -3,7 +3,7 @@
 ghost use Rattle.zarr_array_meaning.specs.Laws.{MetadataReadsBack, DocumentReadsBack, WrittenOnce};
 ghost use Rattle.zarr_array_meaning.specs.Boxes.{ReadsOneWay};
 ghost use Rattle.zarr_array_meaning.specs.Standing.{StandingShows, NothingStoredShows, ShowingSomething, ReadsValues};
-ghost use Rattle.zarr_array_meaning.specs.Writing.{WrittenUndamaged, WrittenKeysAlike};
+ghost use Rattle.zarr_array_meaning.specs.Writing.{WrittenUndamaged, WrittenKeysAlike, RewrittenAlike};
 
 /// What is written for a document that opens says what that one says, with the mark among its
 /// attributes.
@@ -56,4 +56,10 @@ pub fn written_undamaged()
 /// of the cells.
 pub fn written_keys_alike()
     ensures { WrittenKeysAlike }
+{}
+
+/// Where what the codecs make of cells depends on these alone, as without shards, a rewrite leaves no
+/// trace of what was stored: writes of the same cells leave the same value of a chunk.
+pub fn rewritten_alike()
+    ensures { RewrittenAlike }
 {}

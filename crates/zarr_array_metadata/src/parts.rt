@@ -14,7 +14,7 @@ use serde_json::Value;
 use std::alloc::{AllocError, Global};
 use zarr_array_meaning::DocumentError;
 use zarr_codecs_arrays::Elements;
-use zarr_codecs_chains::CodecChain;
+use zarr_codecs_chains::{CodecChain, read_allowed};
 use zarr_codecs_traits::BytesToBytesCodecTraits;
 use zarr_codecs_types::{DataType, DataTypeError, FillValue, FillValueError};
 use zarr_grids_metadata::{MetadataV3, PluginCreateError};
@@ -35,7 +35,7 @@ pub(crate) fn codecs_in<B: BytesToBytesCodecTraits>(
     let Some(points) = points_in(alloc, codecs.as_slice())? else {
         return Err(DocumentError::Codecs);
     };
-    match CodecChain::from_metadata(alloc, points.as_slice()) {
+    match read_allowed(alloc, points.as_slice()) {
         Ok(chain) => Ok(chain),
         Err(PluginCreateError::Memory) => Err(DocumentError::Memory),
         Err(_) => Err(DocumentError::Codecs),

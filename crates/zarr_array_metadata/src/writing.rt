@@ -19,9 +19,9 @@ struct Form {
     has_names: bool,
 }
 
-/// The tree that is written for a document: each extension point in its shortest form, base64 in the
-/// fill value as a list of bytes, no storage transformers, no dimension names that are null, and
-/// among the attributes the mark `_zarrs`. A value that is no object stays. `Err` only where an
+/// The tree that is written for a document: each extension point in its shortest form, base64 in
+/// the fill value as a list of bytes, no storage transformers, no dimension names that are null,
+/// and among the attributes the mark `_zarrs`. A value that is no object stays. `Err` only where an
 /// allocation failed.
 pub fn written_document(alloc: Global, tree: &Value) -> Result<Value, AllocError>
     ensures { IfOk result (λ written. view written ≡ written_document (view tree.now)) }

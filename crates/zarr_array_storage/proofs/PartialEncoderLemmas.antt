@@ -1,14 +1,15 @@
 -- What a store's writing calls are to a codec.
-use Rattle.std.proofs.Common.{◌≡◌, ◌∙◌, ℕ, List, Option, Some, None, Err, Bool, true, false, cond, IsTrue, refl, sym, ap}
+use Rattle.std.proofs.Common.{◌≡◌, ◌∙◌, ℕ, List, length, inr, Option, Some, None, Err, Bool, true, false, cond, IsTrue, refl, sym, ap}
+use Rattle.std.specs.Option.{option_map_or}
 use Rattle.std.specs.Ordering.{nat_cmp, eq_by_cmp}
 use Rattle.std.specs.Cmp.{eq_by_cmp_equiv}
 use Rattle.std.specs.Cmp.Lexicographic.{slice_cmp}
 use Rattle.std.specs.FinMap.{get, insert, remove, get-insert, get-remove, same_map}
 use Rattle.std.proofs.lemmas.Cmp.{nat_list_cmp_total}
 use Rattle.std.proofs.lemmas.Map.Lookups.{exact_bytes}
-use Rattle.zarr_array_meaning.specs.StoreMaps.{StoreMap}
+use Rattle.zarr_array_meaning.specs.StoreMaps.{StoreMap, counted}
 use Rattle.zarr_codecs_traits.specs.Sources as source
-use Rattle.zarr_codecs_traits.specs.Writes.{PatchesRefused, WriteRefused}
+use Rattle.zarr_codecs_traits.specs.Writes.{IsGivenByPatching, PatchesRefused, WriteRefused}
 use Rattle.zarr_codecs_traits.specs.Patches.{any_too_far}
 use Rattle.zarr_codecs_traits.specs.declared.value_patch.ValuePatch.{ValuePatch}
 use Rattle.zarr_array_storage.specs.PartialEncoders.{SameElsewhere, target_error}
@@ -44,6 +45,12 @@ patches_refused A patches InvalidKey far = tt
 patches_refused A patches InvalidByteRange far = far
 patches_refused A patches (Other text) far = tt
 patches_refused A patches Memory far = tt
+
+-- ---- bytes given
+
+-- a value that was fetched to be set anew was given once
+pub given_by_get : (contents found : Option (List ℕ)) (count after last : ℕ) → found ≡ contents → after ≡ counted count (option_map_or length found 0) → last ≡ after → IsGivenByPatching contents count last
+given_by_get contents found count after last same given still = inr (still ∙ (given ∙ ap (λ o. counted count (option_map_or length o 0)) same))
 
 -- ---- one key
 

@@ -1,4 +1,5 @@
 -- The value at a key of a store, read in part.
+use base.Fml.{GName}
 use Rattle.std.specs.Prelude.{◌≡◌, List, ℕ}
 use Rattle.zarr_codecs_arrays.specs.declared.error.CodecError.{CodecError}
 use Rattle.zarr_codecs_arrays.specs.declared.error.CodecError.TheVariants as codec
@@ -9,6 +10,10 @@ use Rattle.zarr_array_storage.specs.declared.storage_partial_decoder.StoragePart
 -- the store in which a value is read in part
 abbrev pub store_behind : {S : Type 0} → StoragePartialDecoder S → S
 store_behind decoder = decoder.store.now
+
+-- the reference to that store that was lent
+abbrev pub reference_behind : {S : Type 0} → StoragePartialDecoder S → GName
+reference_behind decoder = decoder.store.ghost_name
 
 -- the key of a value that is read in part
 abbrev pub key_behind : {S : Type 0} → StoragePartialDecoder S → List ℕ

@@ -1,11 +1,26 @@
 -- The value at a key of a store, written in part.
+use base.Fml.{GName}
 use Rattle.std.specs.Prelude.{◌≡◌, List, ℕ}
 use Rattle.std.specs.FinMap.{remove}
 use Rattle.zarr_array_meaning.specs.StoreMaps.{StoreMap}
 use Rattle.zarr_codecs_arrays.specs.declared.error.CodecError.{CodecError}
 use Rattle.zarr_codecs_arrays.specs.declared.error.CodecError.TheVariants as codec
+use Rattle.zarr_array_storage.specs.PartialDecoders as decoders
 use Rattle.zarr_array_storage.specs.declared.error.StorageError.{StorageError}
 use Rattle.zarr_array_storage.specs.declared.error.StorageError.TheVariants.{Io, InvalidMetadata, InvalidKey, InvalidByteRange, Other, Memory}
+use Rattle.zarr_array_storage.specs.declared.storage_partial_encoder.StoragePartialEncoder.{StoragePartialEncoder}
+
+-- the store in which a value is written in part
+abbrev pub store_behind : {S : Type 0} → StoragePartialEncoder S → S
+store_behind encoder = decoders.store_behind encoder.source
+
+-- the reference to that store that was lent
+abbrev pub reference_behind : {S : Type 0} → StoragePartialEncoder S → GName
+reference_behind encoder = decoders.reference_behind encoder.source
+
+-- the key of a value that is written in part
+abbrev pub key_behind : {S : Type 0} → StoragePartialEncoder S → List ℕ
+key_behind encoder = decoders.key_behind encoder.source
 
 -- two stores hold the same at every key but one
 abbrev pub SameElsewhere : List ℕ → StoreMap → StoreMap → Type 0

@@ -1,6 +1,6 @@
 //! The value at a key of a store, read in part.
 ghost use Rattle.std.specs.Prelude.{◌≡◌};
-ghost use Rattle.zarr_array_storage.specs.PartialDecoders.{source_error};
+ghost use Rattle.zarr_array_storage.specs.PartialDecoders.{key_behind, reference_behind, source_error, store_behind};
 
 use crate::error::StorageError;
 use crate::traits::ReadableStorageTraits;
@@ -21,9 +21,9 @@ pub struct StoragePartialDecoder<'a, S> {
 impl<'a, S: ReadableStorageTraits> StoragePartialDecoder<'a, S> {
     /// The value at a key of a store, or none where it has none.
     pub fn new(store: &'a mut S, key: &'a StoreKey) -> Self
-        ensures same_reference { result.store.ghost_name ≡ store.entry.ghost_name }
-        ensures store { result.store.now ≡ store.old }
-        ensures key { result.key.now ≡ key.now }
+        ensures same_reference { reference_behind result ≡ store.entry.ghost_name }
+        ensures store { store_behind result ≡ store.old }
+        ensures key { key_behind result ≡ key.now }
     {
         StoragePartialDecoder {
             store,
@@ -34,18 +34,18 @@ impl<'a, S: ReadableStorageTraits> StoragePartialDecoder<'a, S> {
 
     /// Why the store refused a call, if it refused one since this was last asked.
     pub fn take_refusal(&mut self) -> Option<StorageError>
-        ensures same_reference { self.new.store.ghost_name ≡ self.old.store.ghost_name }
-        ensures store { self.new.store.now ≡ self.old.store.now }
-        ensures key { self.new.key.now ≡ self.old.key.now }
+        ensures same_reference { reference_behind self.new ≡ reference_behind self.old }
+        ensures store { store_behind self.new ≡ store_behind self.old }
+        ensures key { key_behind self.new ≡ key_behind self.old }
     {
         self.refusal.take()
     }
 
     /// Keeps why the store refused a call.
     pub(crate) fn keep(&mut self, error: StorageError)
-        ensures same_reference { self.new.store.ghost_name ≡ self.old.store.ghost_name }
-        ensures store { self.new.store.now ≡ self.old.store.now }
-        ensures key { self.new.key.now ≡ self.old.key.now }
+        ensures same_reference { reference_behind self.new ≡ reference_behind self.old }
+        ensures store { store_behind self.new ≡ store_behind self.old }
+        ensures key { key_behind self.new ≡ key_behind self.old }
     {
         self.refusal = Some(error);
     }
@@ -67,18 +67,18 @@ impl<'a, S: ReadableStorageTraits> BytesPartialDecoderTraits for StoragePartialD
     ghost use Rattle.std.proofs.Common.{ap, ◌∙◌};
     ghost use Rattle.std.specs.FinMap.{get};
 
-    ghost contents = { λ d. get (S.held d.store.now) d.key.now };
+    ghost contents = { λ d. get (S.held (store_behind d)) (key_behind d) };
 
-    ghost is_honest = { λ d. S.is_honest d.store.now };
+    ghost is_honest = { λ d. S.is_honest (store_behind d) };
 
-    ghost refused_calls = { λ d. S.refused_calls d.store.now };
+    ghost refused_calls = { λ d. S.refused_calls (store_behind d) };
 
-    ghost given_bytes = { λ d. S.given_bytes d.store.now };
+    ghost given_bytes = { λ d. S.given_bytes (store_behind d) };
 
-    ghost follows = { λ a b. (a.store.ghost_name ≡ b.store.ghost_name)
-        × (a.key.now ≡ b.key.now) × (S.held a.store.now ≡ S.held b.store.now)
-        × (S.is_honest a.store.now ≡ S.is_honest b.store.now)
-        × (S.accepted_writes a.store.now ≡ S.accepted_writes b.store.now) };
+    ghost follows = { λ a b. (reference_behind a ≡ reference_behind b)
+        × (key_behind a ≡ key_behind b) × (S.held (store_behind a) ≡ S.held (store_behind b))
+        × (S.is_honest (store_behind a) ≡ S.is_honest (store_behind b))
+        × (S.accepted_writes (store_behind a) ≡ S.accepted_writes (store_behind b)) };
 
     ghost held_bytes = { λ _. 0 };
 
@@ -114,7 +114,8 @@ impl<'a, S: ReadableStorageTraits> BytesPartialDecoderTraits for StoragePartialD
         0
     }
 
-    ghost same = { λ a b f. ap (λ held. get held a.key.now) f.2 ∙ ap (get (S.held b.store.now)) f.1 };
+    ghost same = { λ a b f. ap (λ held. get held (key_behind a)) f.2
+        ∙ ap (get (S.held (store_behind b))) f.1 };
 
     ghost honest = { λ _ _ f. f.3 };
 

@@ -1,11 +1,12 @@
 //! The value at a key of a store, written in part.
 ghost use Rattle.std.specs.Prelude.{◌≡◌, IsTrue, OnOk, OnErr};
-ghost use Rattle.std.specs.FinMap.{insert};
+ghost use Rattle.std.specs.FinMap.{get, insert};
 ghost use Rattle.zarr_array_meaning.specs.StoreMaps.{counted};
-ghost use Rattle.zarr_array_storage.specs.PartialEncoders.{target_error};
+ghost use Rattle.zarr_array_storage.specs.PartialEncoders.{key_behind, reference_behind, store_behind, target_error};
 ghost use Rattle.zarr_array_storage.specs.Ranges.{patched_at};
 ghost use Rattle.zarr_array_storage.specs.Refusals.{OnByteRange, refused_after};
 ghost use Rattle.zarr_codecs_traits.specs.Patches.{any_too_far};
+ghost use Rattle.zarr_codecs_traits.specs.Writes.{IsGivenByPatching};
 
 use crate::error::StorageError;
 use crate::storage_partial_decoder::StoragePartialDecoder;
@@ -30,9 +31,9 @@ pub struct StoragePartialEncoder<'a, S> {
 impl<'a, S: WritableStorageTraits> StoragePartialEncoder<'a, S> {
     /// The value at a key of a store, or none where it has none.
     pub fn new(store: &'a mut S, key: &'a StoreKey) -> Self
-        ensures same_store { result.source.store.ghost_name ≡ store.entry.ghost_name }
-        ensures store { result.source.store.now ≡ store.old }
-        ensures key { result.source.key.now ≡ key.now }
+        ensures same_store { reference_behind result ≡ store.entry.ghost_name }
+        ensures store { store_behind result ≡ store.old }
+        ensures key { key_behind result ≡ key.now }
     {
         StoragePartialEncoder {
             source: StoragePartialDecoder::new(store, key),
@@ -41,9 +42,9 @@ impl<'a, S: WritableStorageTraits> StoragePartialEncoder<'a, S> {
 
     /// Why the store refused a call, if it refused one since this was last asked.
     pub fn take_refusal(&mut self) -> Option<StorageError>
-        ensures same_store { self.new.source.store.ghost_name ≡ self.old.source.store.ghost_name }
-        ensures store { self.new.source.store.now ≡ self.old.source.store.now }
-        ensures key { self.new.source.key.now ≡ self.old.source.key.now }
+        ensures same_store { reference_behind self.new ≡ reference_behind self.old }
+        ensures store { store_behind self.new ≡ store_behind self.old }
+        ensures key { key_behind self.new ≡ key_behind self.old }
     {
         self.source.take_refusal()
     }
@@ -51,9 +52,9 @@ impl<'a, S: WritableStorageTraits> StoragePartialEncoder<'a, S> {
     /// Keeps why the store refused to be written, and tells what that is to a codec.
     fn refuse(&mut self, error: StorageError) -> CodecError
         ensures cause { result ≡ target_error error }
-        ensures same_store { self.new.source.store.ghost_name ≡ self.old.source.store.ghost_name }
-        ensures store { self.new.source.store.now ≡ self.old.source.store.now }
-        ensures key { self.new.source.key.now ≡ self.old.source.key.now }
+        ensures same_store { reference_behind self.new ≡ reference_behind self.old }
+        ensures store { store_behind self.new ≡ store_behind self.old }
+        ensures key { key_behind self.new ≡ key_behind self.old }
     {
         let cause = of_storage(&error);
         self.source.keep(error);
@@ -72,7 +73,9 @@ fn of_storage(error: &StorageError) -> CodecError
     }
 }
 
-/// Writes several ranges into the value at a key, in their order, by one writing call.
+/// Writes several ranges into the value at a key, in their order, by one writing call. Nothing is
+/// read where the store takes ranges, else the value once.
+#[tactic(auto, using(crate::proofs::PartialEncoderLemmas::given_by_get))]
 fn write_ranges<S: WritableStorageTraits>(
     alloc: Global,
     store: &mut S,
@@ -88,6 +91,10 @@ fn write_ranges<S: WritableStorageTraits>(
         refused_after (S.refused_calls store.old) result }
     ensures byte_range { IsTrue (S.is_honest store.old) →
         OnByteRange result (IsTrue (any_too_far patches.now)) }
+    ensures given { IsTrue (S.supports_set_partial store.old) →
+        S.given_bytes store.new ≡ S.given_bytes store.old }
+    ensures given_once { IsTrue (S.is_honest store.old) → IsGivenByPatching
+        (get (S.held store.old) key.now) (S.given_bytes store.old) (S.given_bytes store.new) }
     ensures accepted { OnOk result
         (S.accepted_writes store.new ≡ counted (S.accepted_writes store.old) 1) }
     ensures none_accepted { OnErr result
@@ -111,19 +118,19 @@ impl<'a, S: WritableStorageTraits> BytesPartialDecoderTraits for StoragePartialE
     ghost use Rattle.std.proofs.Common.{ap, ◌∙◌};
     ghost use Rattle.std.specs.FinMap.{get};
 
-    ghost contents = { λ e. get (S.held e.source.store.now) e.source.key.now };
+    ghost contents = { λ e. get (S.held (store_behind e)) (key_behind e) };
 
-    ghost is_honest = { λ e. S.is_honest e.source.store.now };
+    ghost is_honest = { λ e. S.is_honest (store_behind e) };
 
-    ghost refused_calls = { λ e. S.refused_calls e.source.store.now };
+    ghost refused_calls = { λ e. S.refused_calls (store_behind e) };
 
-    ghost given_bytes = { λ e. S.given_bytes e.source.store.now };
+    ghost given_bytes = { λ e. S.given_bytes (store_behind e) };
 
-    ghost follows = { λ a b. (a.source.store.ghost_name ≡ b.source.store.ghost_name)
-        × (a.source.key.now ≡ b.source.key.now)
-        × (S.held a.source.store.now ≡ S.held b.source.store.now)
-        × (S.is_honest a.source.store.now ≡ S.is_honest b.source.store.now)
-        × (S.accepted_writes a.source.store.now ≡ S.accepted_writes b.source.store.now) };
+    ghost follows = { λ a b. (reference_behind a ≡ reference_behind b)
+        × (key_behind a ≡ key_behind b)
+        × (S.held (store_behind a) ≡ S.held (store_behind b))
+        × (S.is_honest (store_behind a) ≡ S.is_honest (store_behind b))
+        × (S.accepted_writes (store_behind a) ≡ S.accepted_writes (store_behind b)) };
 
     ghost held_bytes = { λ _. 0 };
 
@@ -143,8 +150,8 @@ impl<'a, S: WritableStorageTraits> BytesPartialDecoderTraits for StoragePartialE
         self.source.size_held()
     }
 
-    ghost same = { λ a b f. ap (λ held. get held a.source.key.now) f.2
-        ∙ ap (get (S.held b.source.store.now)) f.1 };
+    ghost same = { λ a b f. ap (λ held. get held (key_behind a)) f.2
+        ∙ ap (get (S.held (store_behind b))) f.1 };
 
     ghost honest = { λ _ _ f. f.3 };
 
@@ -159,13 +166,15 @@ impl<'a, S: WritableStorageTraits> BytesPartialEncoderTraits for StoragePartialE
     ghost use Rattle.std.specs.FinMap.{remove};
     ghost use Rattle.zarr_array_storage.specs.PartialEncoders.{SameElsewhere};
 
-    ghost accepted_writes = { λ e. S.accepted_writes e.source.store.now };
+    ghost accepted_writes = { λ e. S.accepted_writes (store_behind e) };
 
-    ghost rewrites = { λ a b. (a.source.store.ghost_name ≡ b.source.store.ghost_name)
-        × (a.source.key.now ≡ b.source.key.now)
-        × (S.is_honest a.source.store.now ≡ S.is_honest b.source.store.now)
-        × (IsTrue (S.is_honest a.source.store.now) → SameElsewhere a.source.key.now
-        (S.held a.source.store.now) (S.held b.source.store.now)) };
+    ghost writes_ranges = { λ e. S.supports_set_partial (store_behind e) };
+
+    ghost rewrites = { λ a b. (reference_behind a ≡ reference_behind b)
+        × (key_behind a ≡ key_behind b)
+        × (S.is_honest (store_behind a) ≡ S.is_honest (store_behind b))
+        × (IsTrue (S.is_honest (store_behind a)) → SameElsewhere (key_behind a)
+        (S.held (store_behind a)) (S.held (store_behind b))) };
 
     #[tactic(auto, using(crate::proofs::PartialEncoderLemmas::target_counts, crate::proofs::PartialEncoderLemmas::patches_refused, crate::proofs::PartialEncoderLemmas::get_inserted, crate::proofs::PartialEncoderLemmas::inserted_elsewhere))]
     fn partial_encode(
@@ -198,7 +207,7 @@ impl<'a, S: WritableStorageTraits> BytesPartialEncoderTraits for StoragePartialE
         }
     }
 
-    ghost reads = { λ a _ f. (f.0, f.1, f.3, λ _. ap (λ held. remove held a.source.key.now) f.2) };
+    ghost reads = { λ a _ f. (f.0, f.1, f.3, λ _. ap (λ held. remove held (key_behind a)) f.2) };
 
     ghost unwritten = { λ _ _ f. f.4 };
 
@@ -209,7 +218,7 @@ impl<'a, S: WritableStorageTraits> BytesPartialEncoderTraits for StoragePartialE
       f.1 ∙ h.1,
       f.2 ∙ h.2,
       λ honest. f.3 honest
-          ∙ subst (λ key. SameElsewhere key (S.held b.source.store.now) (S.held c.source.store.now))
+          ∙ subst (λ key. SameElsewhere key (S.held (store_behind b)) (S.held (store_behind c)))
           (sym f.1) (h.3 (subst (λ b. IsTrue b) f.2 honest)),
     ) };
 }

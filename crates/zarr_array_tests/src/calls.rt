@@ -36,7 +36,7 @@ pub(crate) enum End {
 }
 
 /// A key, a call at it, and how it ends.
-pub(crate) type Step<'x> = (&'x str, Call<'x>, End);
+pub(crate) type KeyedCall<'x> = (&'x str, Call<'x>, End);
 
 pub(crate) fn key(alloc: Global, text: &str) -> Result<StoreKey, StorageError> {
     match StoreKey::new(String::from_str(alloc, text)?) {
@@ -108,13 +108,20 @@ fn write(
 ) -> Result<(), StorageError> {
     let mut patches = Vec::new(alloc);
     for (offset, bytes) in pairs {
-        let bytes = bytes.to_vec(alloc)?;
-        patches.push(ValuePatch {
-            offset: *offset,
-            bytes,
-        })?;
+        push_patch(alloc, &mut patches, *offset, bytes)?;
     }
     store.set_partial(key, patches.as_slice())
+}
+
+/// Appends a patch.
+fn push_patch(
+    alloc: Global,
+    patches: &mut Vec<ValuePatch>,
+    offset: u64,
+    bytes: &[u8],
+) -> Result<(), StorageError> {
+    let bytes = bytes.to_vec(alloc)?;
+    Ok(patches.push(ValuePatch { offset, bytes })?)
 }
 
 /// Makes a call at a key. Whether what is read is as said.
@@ -150,13 +157,22 @@ fn ends(done: Result<bool, StorageError>, want: End) -> bool {
 pub(crate) fn answers(
     alloc: Global,
     store: &mut Store,
-    steps: &[Step<'_>],
+    calls: &[KeyedCall<'_>],
 ) -> Result<bool, StorageError> {
-    for (name, call, want) in steps {
-        let key = key(alloc, name)?;
-        if !ends(made(alloc, store, &key, *call), *want) {
+    for call in calls {
+        if !ends_so(alloc, store, *call)? {
             return Ok(false);
         }
     }
     Ok(true)
+}
+
+/// Makes a call. Whether it ends so.
+fn ends_so(
+    alloc: Global,
+    store: &mut Store,
+    (name, call, want): KeyedCall<'_>,
+) -> Result<bool, StorageError> {
+    let key = key(alloc, name)?;
+    Ok(ends(made(alloc, store, &key, call), want))
 }

@@ -1,4 +1,5 @@
-//! How deep array documents may be. What else they say, and why they are refused, is in calls/documents.calls.
+//! How deep array documents may be. What else they say, and why they are refused, is in
+//! calls/documents.calls.
 
 use serde_json::{Map, Value, put};
 use std::alloc::{AllocError, Global};
@@ -9,14 +10,18 @@ use zarr_codecs_reverse::ReverseCodec;
 fn nested(alloc: Global, levels: u32) -> Result<Value, AllocError> {
     let mut value = Value::Null;
     for _ in 0..levels {
-        let mut list = Vec::new(alloc);
-        list.push(value)?;
-        value = Value::Array(list);
+        value = in_list(alloc, value)?;
     }
     Ok(value)
 }
 
-/// Whether a document is too deep that has one member of this name, with so many lists within one another.
+/// A list of one value.
+fn in_list(alloc: Global, value: Value) -> Result<Value, AllocError> {
+    Ok(Value::Array(vec![in alloc; value]?))
+}
+
+/// Whether a document is too deep that has one member of this name, with so many lists within one
+/// another.
 fn is_too_deep(alloc: Global, name: &str, levels: u32) -> Result<bool, AllocError> {
     let mut members = Map::new(alloc);
     put(&mut members, alloc, name, nested(alloc, levels)?)?;
@@ -24,8 +29,9 @@ fn is_too_deep(alloc: Global, name: &str, levels: u32) -> Result<bool, AllocErro
     Ok(matches!(read, Err(DocumentError::Depth)))
 }
 
-/// The document is an object, so 126 lists are 127 levels. Documents of so many levels are read in calls/documents.calls; this one has
-/// none of the fields that it needs, and its depth is tested first.
+/// The document is an object, so 126 lists are 127 levels. Documents of so many levels are read in
+/// calls/documents.calls; this one has none of the fields that it needs, and its depth is tested
+/// first.
 #[test]
 fn a_document_is_at_most_127_levels_deep(rt: HostRuntime) {
     for name in ["attributes", "more"] {

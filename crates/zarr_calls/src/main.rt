@@ -1,7 +1,7 @@
 //! A program for tests: it makes the calls that lines name, and prints what they give.
 //!
-//! Standard input has a call on each line: its name, a space, and its arguments with ` | ` between them. Standard output has a
-//! line for each of them. calls/README.md lists the calls.
+//! Standard input has a call on each line: its name, a space, and its arguments with ` | ` between
+//! them. Standard output has a line for each of them. calls/README.md lists the calls.
 #![tactic(auto)]
 
 mod chains;

@@ -8,6 +8,7 @@ use std::alloc::Global;
 use zarr_codecs_arrays::{ArrayBytes, CodecError, Elements};
 use zarr_codecs_options::CodecOptions;
 use zarr_codecs_traits::ArrayToBytesCodecTraits;
+use zarr_codecs_types::DataType;
 
 /// An array that a chain may encode: its elements and its shape.
 #[derive(Drop)]
@@ -37,9 +38,14 @@ pub(crate) fn array_in(alloc: Global, text: &str) -> Result<(Array, &str)> {
     let (data_type, rest) = cut(text)?;
     let (fill, rest) = cut(rest)?;
     let (shape, rest) = cut(rest)?;
-    let shape = numbers_in(alloc, shape)?;
     let elements = elements_in(alloc, data_type, fill)?;
-    Ok((Array { elements, shape }, rest))
+    Ok((shaped(alloc, elements, shape)?, rest))
+}
+
+/// The array of elements and of a shape.
+fn shaped(alloc: Global, elements: Elements, shape: &str) -> Result<Array> {
+    let shape = numbers_in(alloc, shape)?;
+    Ok(Array { elements, shape })
 }
 
 /// What cells are encoded to.
@@ -82,10 +88,18 @@ fn decode<C: ArrayToBytesCodecTraits>(
     is_raw: bool,
 ) -> Result<String> {
     let (array, value) = array_in(alloc, rest)?;
-    match decoded(alloc, chain, &array, bytes_in(alloc, value)?) {
-        Ok(cells) if is_raw => raw(alloc, &cells),
-        Ok(cells) => json(alloc, array.elements.data_type(), &cells),
+    let value = bytes_in(alloc, value)?;
+    match decoded(alloc, chain, &array, value) {
+        Ok(cells) => told(alloc, array.elements.data_type(), &cells, is_raw),
         Err(error) => refused(alloc, &error),
+    }
+}
+
+fn told(alloc: Global, data_type: &DataType, cells: &ArrayBytes, is_raw: bool) -> Result<String> {
+    if is_raw {
+        raw(alloc, cells)
+    } else {
+        json(alloc, data_type, cells)
     }
 }
 
@@ -105,8 +119,14 @@ fn compact<C: ArrayToBytesCodecTraits>(alloc: Global, chain: &C, rest: &str) -> 
     let (array, value) = array_in(alloc, rest)?;
     let value = bytes_in(alloc, value)?;
     match compacted(alloc, chain, &array, value.as_slice()) {
-        Ok(Some(compacted)) => digits(alloc, compacted.as_slice()),
-        Ok(None) => word(alloc, "none"),
+        Ok(compacted) => digits_or_none(alloc, &compacted),
         Err(error) => refused(alloc, &error),
+    }
+}
+
+fn digits_or_none(alloc: Global, value: &Option<Vec<u8>>) -> Result<String> {
+    match value {
+        Some(value) => digits(alloc, value.as_slice()),
+        None => word(alloc, "none"),
     }
 }

@@ -7,8 +7,7 @@ use zarr_codecs_traits::{BytesRepresentation, BytesToBytesCodecTraits};
 use zarr_grids_metadata::{MetadataV3, PluginCreateError};
 
 /// `Reverse` puts bytes the other way round. `Refuse` leaves them as they are, and refuses the
-/// bytes 1, 2, 3. `Lengthen` puts a byte 0 before them, and tells
-/// nothing of sizes.
+/// bytes 1, 2, 3. `Lengthen` puts a byte 0 before them, and tells nothing of sizes.
 #[derive(Clone, Copy, Debug, PartialEq, Eq)]
 pub enum TestCodec {
     Reverse,

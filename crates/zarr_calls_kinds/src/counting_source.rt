@@ -71,10 +71,12 @@ impl BytesPartialDecoderTraits for CountingSource {
 }
 
 impl BytesPartialEncoderTraits for CountingSource {
-    ghost use Rattle.std.specs.Prelude.{refl};
+    ghost use Rattle.std.specs.Prelude.{refl, true};
     ghost use Rattle.zarr_codecs_traits.specs.Sources.{source_accepted};
 
     ghost accepted_writes = { λ s. source_accepted s.inner };
+
+    ghost writes_ranges = { λ _. true };
 
     ghost rewrites = { λ _ _. Unit {0} };
 

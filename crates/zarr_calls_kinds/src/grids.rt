@@ -3,11 +3,12 @@ use crate::words::{box_in, cut, metadata_in, numbers, numbers_in, refused, truth
 use anyhow::{Result, bail};
 use serde_json::{Map, Value};
 use std::alloc::{AllocError, Global};
-use zarr_grids_boxes::ArraySubset;
+use zarr_grids_boxes::{ArrayIndices, ArraySubset};
 use zarr_grids_chunk_grids::{ChunkGrid, ChunkGridTraits};
 use zarr_grids_dimensions::LookupError;
 
-/// What a call of a grid gives. Its first two arguments are the metadata of the grid and the shape of the array.
+/// What a call of a grid gives. Its first two arguments are the metadata of the grid and the shape
+/// of the array.
 pub(crate) fn answer(alloc: Global, name: &str, rest: &str) -> Option<Result<String>> {
     match name {
         "grid" => Some(read(alloc, rest)),
@@ -74,10 +75,20 @@ fn configured(alloc: Global, grid: &ChunkGrid) -> Result<String> {
 /// Whether two grids are equal, and the first of them to its copy.
 fn same(alloc: Global, rest: &str) -> Result<String> {
     let (grid, rest) = cut_grid(alloc, rest)?;
-    if grid.try_clone(alloc)? != grid {
+    let other = grid_in(alloc, rest)?;
+    compared(alloc, &grid, &other)
+}
+
+fn compared(alloc: Global, grid: &ChunkGrid, other: &ChunkGrid) -> Result<String> {
+    if !is_copied(alloc, grid)? {
         bail!("the copy of a grid differs");
     }
-    truth(alloc, grid == grid_in(alloc, rest)?)
+    truth(alloc, *grid == *other)
+}
+
+/// Whether a grid is equal to its copy.
+fn is_copied(alloc: Global, grid: &ChunkGrid) -> Result<bool, AllocError> {
+    Ok(grid.try_clone(alloc)? == *grid)
 }
 
 /// What a look-up found.
@@ -174,31 +185,70 @@ fn push_box(
 /// Each chunk of a grid, in the order of its walk.
 fn walked(alloc: Global, rest: &str) -> Result<String> {
     let grid = grid_in(alloc, rest)?;
-    let mut all = String::from_str(alloc, "chunks")?;
-    for chunk in grid.iter_chunk_indices(alloc)? {
-        push_numbers(alloc, &mut all, chunk?.as_slice())?;
-    }
+    let mut all = word(alloc, "chunks")?;
+    push_walk(alloc, &mut all, &grid)?;
     Ok(all)
 }
 
+/// Appends each chunk of a grid.
+fn push_walk(alloc: Global, all: &mut String, grid: &ChunkGrid) -> Result<(), AllocError> {
+    for chunk in grid.iter_chunk_indices(alloc)? {
+        push_chunk(alloc, all, chunk)?;
+    }
+    Ok(())
+}
+
+/// Appends a chunk, where memory was found for it.
+fn push_chunk(
+    alloc: Global,
+    all: &mut String,
+    chunk: Result<ArrayIndices, AllocError>,
+) -> Result<(), AllocError> {
+    push_numbers(alloc, all, chunk?.as_slice())
+}
+
 /// How many boxes the chunks of a grid have.
-fn count_boxes(alloc: Global, grid: &ChunkGrid) -> Result<usize> {
+fn count_boxes(alloc: Global, grid: &ChunkGrid) -> Result<usize, AllocError> {
     let mut count = 0usize;
     for subset in grid.iter_chunk_subsets(alloc)? {
-        let _subset = subset?;
-        count = count.saturating_add(1);
+        count = count.saturating_add(count_box(subset)?);
     }
     Ok(count)
+}
+
+/// One, where memory was found for a box.
+fn count_box(subset: Result<ArraySubset, AllocError>) -> Result<usize, AllocError> {
+    let _subset = subset?;
+    Ok(1)
 }
 
 /// How many boxes the chunks of a grid have, and each chunk that has one with it.
 fn boxes(alloc: Global, rest: &str) -> Result<String> {
     let grid = grid_in(alloc, rest)?;
-    let count = count_boxes(alloc, &grid)?;
-    let mut all = format!(in alloc; "{count} boxes")?;
-    for pair in grid.iter_chunk_indices_and_subsets(alloc)? {
-        let (chunk, subset) = pair?;
-        push_box(alloc, &mut all, chunk.as_slice(), &subset)?;
-    }
+    let mut all = counted(alloc, &grid)?;
+    push_boxes(alloc, &mut all, &grid)?;
     Ok(all)
+}
+
+fn counted(alloc: Global, grid: &ChunkGrid) -> Result<String, AllocError> {
+    let count = count_boxes(alloc, grid)?;
+    format!(in alloc; "{count} boxes")
+}
+
+/// Appends each chunk of a grid with its box.
+fn push_boxes(alloc: Global, all: &mut String, grid: &ChunkGrid) -> Result<(), AllocError> {
+    for pair in grid.iter_chunk_indices_and_subsets(alloc)? {
+        push_pair(alloc, all, pair)?;
+    }
+    Ok(())
+}
+
+/// Appends a chunk and its box, where memory was found for both.
+fn push_pair(
+    alloc: Global,
+    all: &mut String,
+    pair: Result<(ArrayIndices, ArraySubset), AllocError>,
+) -> Result<(), AllocError> {
+    let (chunk, subset) = pair?;
+    push_box(alloc, all, chunk.as_slice(), &subset)
 }

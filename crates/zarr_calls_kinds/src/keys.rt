@@ -39,12 +39,17 @@ fn written(alloc: Global, text: &str) -> Result<String> {
 /// The name that an encoding gives a chunk, and so does its copy.
 fn key(alloc: Global, rest: &str) -> Result<String> {
     let (encoding, chunk) = cut(rest)?;
+    let chunk = numbers_in(alloc, chunk)?;
     let keys = encoding_in(alloc, encoding)?;
+    name_of(alloc, &keys, chunk.as_slice())
+}
+
+fn name_of(alloc: Global, keys: &ChunkKeyEncoding, chunk: &[u64]) -> Result<String> {
     let copy = keys.try_clone(alloc)?;
-    if copy != keys {
+    if copy != *keys {
         bail!("the copy of an encoding differs");
     }
-    Ok(copy.encode(alloc, numbers_in(alloc, chunk)?.as_slice())?)
+    Ok(copy.encode(alloc, chunk)?)
 }
 
 /// The key of a chunk of an array at a path, which is also written into a text.
@@ -53,12 +58,17 @@ fn key_of_chunk(alloc: Global, rest: &str) -> Result<String> {
     let (path, chunk) = cut(rest)?;
     let keys = encoding_in(alloc, encoding)?;
     let chunk = numbers_in(alloc, chunk)?;
+    key_at(alloc, path, &keys, chunk.as_slice())
+}
+
+fn key_at(alloc: Global, path: &str, keys: &ChunkKeyEncoding, chunk: &[u64]) -> Result<String> {
     if !is_node_path(path) {
         bail!("an argument is no path");
     }
-    let mut key = String::new(alloc);
-    chunk_key_into(&mut key, path, &keys, chunk.as_slice())?;
-    if key.as_str() != chunk_key(alloc, path, &keys, chunk.as_slice())?.as_str() {
+    let key = chunk_key(alloc, path, keys, chunk)?;
+    let mut same = String::new(alloc);
+    chunk_key_into(&mut same, path, keys, chunk)?;
+    if key.as_str() != same.as_str() {
         bail!("a chunk has two keys");
     }
     Ok(key)

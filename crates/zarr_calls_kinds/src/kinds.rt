@@ -37,6 +37,7 @@ pub fn answer_of_chain<C: ArrayToBytesCodecTraits>(
     if let Some(answer) = telling::answer(alloc, chain, name, rest) {
         return answer;
     }
+    // Elements go through a copy, so each such call shows that a copy answers alike.
     let copy = chain.try_clone(alloc)?;
     if let Some(answer) = arrays::answer(alloc, &copy, name, rest) {
         return answer;

@@ -1,7 +1,8 @@
 //! Kinds of calls: what each makes of libraries, and the line that it answers.
 //!
-//! `answer` knows the calls of metadata, keys, grids, types, elements and codecs between arrays, and `answer_of_chain` those of a
-//! codec chain, whatever chain it is. They are for tests, so they promise nothing but to be safe.
+//! `answer` knows the calls of metadata, keys, grids, types, elements and codecs between arrays,
+//! and `answer_of_chain` those of a codec chain, whatever chain it is. They are for tests, so they
+//! promise nothing but to be safe.
 #![tactic(auto)]
 
 mod arrays;

@@ -86,12 +86,22 @@ fn cells_of<C: ArrayToBytesCodecTraits>(
     chain.partial_decode(alloc, source, asked(part), &options)
 }
 
-/// The cells at places that are read of a value, how many calls read it, and how many bytes these took.
+/// The cells at places that are read of a value, how many calls read it, and how many bytes these
+/// took.
 fn read<C: ArrayToBytesCodecTraits>(alloc: Global, chain: &C, rest: &str) -> Result<String> {
     let (part, value) = part_in(alloc, rest)?;
     let mut source = source_in(alloc, value)?;
-    match cells_of(alloc, chain, &part, &mut source) {
-        Ok(cells) => told(alloc, part.array.elements.data_type(), &cells, &source),
+    read_of(alloc, chain, &part, &mut source)
+}
+
+fn read_of<C: ArrayToBytesCodecTraits>(
+    alloc: Global,
+    chain: &C,
+    part: &Part,
+    source: &mut CountingSource,
+) -> Result<String> {
+    match cells_of(alloc, chain, part, source) {
+        Ok(cells) => told(alloc, part.array.elements.data_type(), &cells, source),
         Err(error) => refused(alloc, &error),
     }
 }
@@ -124,9 +134,19 @@ fn put_cells<C: ArrayToBytesCodecTraits>(
 fn put<C: ArrayToBytesCodecTraits>(alloc: Global, chain: &C, rest: &str) -> Result<String> {
     let (part, rest) = part_in(alloc, rest)?;
     let (value, cells) = cut(rest)?;
-    let mut source = source_in(alloc, value)?;
     let cells = given_in(alloc, part.array.elements.data_type(), cells)?;
-    match put_cells(alloc, chain, &part, &mut source, cells) {
+    put_into(alloc, chain, &part, cells, value)
+}
+
+fn put_into<C: ArrayToBytesCodecTraits>(
+    alloc: Global,
+    chain: &C,
+    part: &Part,
+    cells: ArrayBytes,
+    value: &str,
+) -> Result<String> {
+    let mut source = source_in(alloc, value)?;
+    match put_cells(alloc, chain, part, &mut source, cells) {
         Ok(()) => left(alloc, source),
         Err(error) => left_by(alloc, &error, source),
     }
@@ -161,9 +181,15 @@ fn patches<C: ArrayToBytesCodecTraits>(alloc: Global, chain: &C, rest: &str) -> 
     let (part, cells) = part_in(alloc, rest)?;
     let cells = given_in(alloc, part.array.elements.data_type(), cells)?;
     match patches_for(alloc, chain, &part, cells) {
-        Ok(Some(patches)) => texts(alloc, patches.as_slice()),
-        Ok(None) => word(alloc, "none"),
+        Ok(patches) => texts_or_none(alloc, &patches),
         Err(error) => refused(alloc, &error),
+    }
+}
+
+fn texts_or_none(alloc: Global, patches: &Option<Vec<ValuePatch>>) -> Result<String> {
+    match patches {
+        Some(patches) => texts(alloc, patches.as_slice()),
+        None => word(alloc, "none"),
     }
 }
 
@@ -181,7 +207,11 @@ fn texts(alloc: Global, patches: &[ValuePatch]) -> Result<String> {
     }
     let mut all = String::new(alloc);
     for patch in patches {
-        push_word(&mut all, text_of(alloc, patch)?.as_str())?;
+        push_patch(alloc, &mut all, patch)?;
     }
     Ok(all)
+}
+
+fn push_patch(alloc: Global, all: &mut String, patch: &ValuePatch) -> Result<()> {
+    Ok(push_word(all, text_of(alloc, patch)?.as_str())?)
 }

@@ -1,6 +1,6 @@
 //! Values in sources.
 use crate::counting_source::CountingSource;
-use crate::words::{bytes_in, cut, digits, word};
+use crate::words::{bytes_in, cut, digits, number_in, word};
 use anyhow::Result;
 use std::alloc::Global;
 use zarr_codecs_arrays::CodecError;
@@ -44,21 +44,23 @@ fn patch(alloc: Global, source: &mut MemorySource, patch: ValuePatch) -> Result<
 /// The bytes of an argument, and the offset of the one before it.
 fn patch_in(alloc: Global, text: &str) -> Result<ValuePatch> {
     let (offset, bytes) = cut(text)?;
-    Ok(ValuePatch {
-        offset: offset.parse()?,
-        bytes: bytes_in(alloc, bytes)?,
-    })
+    let offset = number_in(offset)?;
+    let bytes = bytes_in(alloc, bytes)?;
+    Ok(ValuePatch { offset, bytes })
 }
 
 /// The value once bytes are written into it from an offset on.
 fn write(alloc: Global, rest: &str) -> Result<String> {
     let (value, rest) = cut(rest)?;
-    let bytes = patch_in(alloc, rest)?;
     let mut source = source_in(alloc, value)?.inner;
-    let done = patch(alloc, &mut source, bytes);
-    let value = value_of(alloc, source)?;
-    match done {
-        Ok(()) => Ok(value),
-        Err(error) => Ok(format!(in alloc; "refused {error:?}: {value}")?),
+    match patch(alloc, &mut source, patch_in(alloc, rest)?) {
+        Ok(()) => value_of(alloc, source),
+        Err(error) => left_by(alloc, &error, source),
     }
+}
+
+/// The value of a source, after a refusal.
+fn left_by(alloc: Global, error: &CodecError, source: MemorySource) -> Result<String> {
+    let value = value_of(alloc, source)?;
+    Ok(format!(in alloc; "refused {error:?}: {value}")?)
 }

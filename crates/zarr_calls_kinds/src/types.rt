@@ -58,11 +58,15 @@ fn written_fill(alloc: Global, rest: &str) -> Result<String> {
     let data_type = type_in(alloc, type_text)?;
     let value = Value::from_str(alloc, text)?;
     match FillValue::from_metadata(alloc, &data_type, &value) {
-        Ok(fill) => match fill.to_metadata(alloc, &data_type)? {
-            Some(written) => Ok(written.to_string(alloc)?),
-            None => word(alloc, "none"),
-        },
+        Ok(fill) => fill_text(alloc, &data_type, &fill),
         Err(error) => refused(alloc, &error),
+    }
+}
+
+fn fill_text(alloc: Global, data_type: &DataType, fill: &FillValue) -> Result<String> {
+    match fill.to_metadata(alloc, data_type)? {
+        Some(written) => Ok(written.to_string(alloc)?),
+        None => word(alloc, "none"),
     }
 }
 

@@ -13,6 +13,11 @@ pub fn cut(text: &str) -> Result<(&str, &str)> {
         .context("a call has too few arguments")
 }
 
+/// The number of a text.
+pub fn number_in(text: &str) -> Result<u64> {
+    Ok(text.parse()?)
+}
+
 /// The values of a JSON list.
 pub fn list_in(alloc: Global, text: &str) -> Result<Vec<Value>> {
     match Value::from_str(alloc, text)? {
@@ -25,9 +30,14 @@ pub fn list_in(alloc: Global, text: &str) -> Result<Vec<Value>> {
 fn numbers_of(alloc: Global, values: &[Value]) -> Result<Vec<u64>> {
     let mut numbers = Vec::new(alloc);
     for value in values {
-        numbers.push(value.as_u64().context("an argument has no number")?)?;
+        push_number(&mut numbers, value)?;
     }
     Ok(numbers)
+}
+
+fn push_number(numbers: &mut Vec<u64>, value: &Value) -> Result<()> {
+    let number = value.as_u64().context("an argument has no number")?;
+    Ok(numbers.push(number)?)
 }
 
 /// The numbers of a JSON list.
@@ -47,11 +57,22 @@ fn range_of(pair: &Value) -> Option<Range<u64>> {
 /// The box of a JSON list of pairs, each of a start and an end.
 pub fn box_in(alloc: Global, text: &str) -> Result<ArraySubset> {
     let pairs = list_in(alloc, text)?;
-    let mut ranges = Vec::new(alloc);
-    for pair in &pairs {
-        ranges.push(range_of(pair).context("a box has no pair")?)?;
-    }
+    let ranges = ranges_of(alloc, pairs.as_slice())?;
     Ok(ArraySubset::new_with_ranges(alloc, ranges.as_slice())?)
+}
+
+/// The ranges of pairs.
+fn ranges_of(alloc: Global, pairs: &[Value]) -> Result<Vec<Range<u64>>> {
+    let mut ranges = Vec::new(alloc);
+    for pair in pairs {
+        push_range(&mut ranges, pair)?;
+    }
+    Ok(ranges)
+}
+
+fn push_range(ranges: &mut Vec<Range<u64>>, pair: &Value) -> Result<()> {
+    let range = range_of(pair).context("a box has no pair")?;
+    Ok(ranges.push(range)?)
 }
 
 /// The metadata of a text.
@@ -64,10 +85,14 @@ pub fn metadatas_in(alloc: Global, text: &str) -> Result<Vec<MetadataV3>> {
     let values = list_in(alloc, text)?;
     let mut metadatas = Vec::new(alloc);
     for value in &values {
-        let metadata = MetadataV3::from_value(alloc, value)?;
-        metadatas.push(metadata.context("an argument is no metadata")?)?;
+        push_metadata(alloc, &mut metadatas, value)?;
     }
     Ok(metadatas)
+}
+
+fn push_metadata(alloc: Global, metadatas: &mut Vec<MetadataV3>, value: &Value) -> Result<()> {
+    let metadata = MetadataV3::from_value(alloc, value)?;
+    Ok(metadatas.push(metadata.context("an argument is no metadata")?)?)
 }
 
 /// The text of metadata.
@@ -79,9 +104,13 @@ pub fn text_of(alloc: Global, metadata: &MetadataV3) -> Result<String> {
 pub fn texts_of(alloc: Global, metadatas: &[MetadataV3]) -> Result<String> {
     let mut all = String::new(alloc);
     for metadata in metadatas {
-        push_word(&mut all, text_of(alloc, metadata)?.as_str())?;
+        push_text(alloc, &mut all, metadata)?;
     }
     Ok(all)
+}
+
+fn push_text(alloc: Global, all: &mut String, metadata: &MetadataV3) -> Result<()> {
+    Ok(push_word(all, text_of(alloc, metadata)?.as_str())?)
 }
 
 /// The answer of a call that is refused.

@@ -1,5 +1,5 @@
 -- Chains with array codecs before them.
-use Rattle.std.proofs.Common.{◌≡◌, ◌∙◌, ℕ, List, ap, sym, subst, Bool, true, false, ◌&&◌, if◌then◌else◌, inl, inr, Option, Some, None, option_map, Result, Ok, Err, Vec, Global}
+use Rattle.std.proofs.Common.{◌≡◌, ◌∙◌, ℕ, List, length, ap, sym, subst, Bool, true, false, ◌&&◌, if◌then◌else◌, inl, inr, Option, Some, None, option_map, Result, Ok, Err, Vec, Global}
 use Rattle.std.specs.List.{list_all}
 use Rattle.std.proofs.lemmas.Bool.{and_from, and_left, and_right}
 use Rattle.std.proofs.lemmas.Simd.{map-map}
@@ -57,10 +57,11 @@ larger_before codec type shape fit large = subst (IsTooLarge type) (array_codec_
 -- ---- elements that are moved are elements still
 
 not_invalid : (type : DataType) (payload : Payload) (count : ℕ) (cells : List Cell) (e : CodecError) → IsCounted type payload count cells → list_all (is_value type) cells ≡ true → IsInvalid type payload count e → ⊥
-not_invalid type payload count cells error.ExpectedFixedLengthBytes counted values h = let e = sym counted.lists ∙ h in cc
-not_invalid type payload count cells error.ExpectedVariableLengthBytes counted values h = let e = sym counted.lists ∙ h in cc
-not_invalid type payload count cells error.ExpectedOptionalBytes counted values h = let e = sym counted.lists ∙ h in cc
-not_invalid type payload count cells error.InvalidNumberOfElements counted values h = h cells counted
+not_invalid type payload count cells error.ExpectedFixedLengthBytes counted values h = let e = sym counted.lists ∙ h.0 in cc
+not_invalid type payload count cells error.ExpectedVariableLengthBytes counted values h = let e = sym counted.lists ∙ h.0 in cc
+not_invalid type payload count cells error.ExpectedOptionalBytes counted values h = let e = sym counted.lists ∙ h.0 in cc
+not_invalid type payload count cells error.InvalidNumberOfElements counted values (inl h) = let e = sym counted.lists ∙ h.0 in cc
+not_invalid type payload count cells error.InvalidNumberOfElements counted values (inr h) = h.2 (ap length (some_same (sym h.1 ∙ counted.lists)) ∙ counted.many)
 not_invalid type payload count cells error.CellOutOfRange counted values h =
     let same : h.0 ≡ cells = some_same (sym h.1.lists ∙ counted.lists) in
     let e : true ≡ false = sym values ∙ (ap (list_all (is_value type)) (sym same) ∙ h.2) in cc

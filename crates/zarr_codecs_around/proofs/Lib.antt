@@ -7,3 +7,4 @@ pub mod Telling
 pub mod Taken
 pub mod WritingAfter
 pub mod Compacting
+pub mod Copied

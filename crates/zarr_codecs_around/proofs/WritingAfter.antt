@@ -217,10 +217,6 @@ decoded_inside codec chain elements shape (Some value) before fit is =
     let many : length found.0 ≡ length places = decoded_count chain elements (encoded_shape codec shape) value found.0 found.1 ∙ sym (array_codec_count codec shape fit) in
     found.1 ∙ ap Some (sym (ap (λ cells. gather fill cells places) (sym found.2) ∙ gathered_again fill found.0 places (product shape) many (array_codec_once codec shape fit)))
 
-decoded_outside : (codec : ArrayCodec) (chain : Chain) (elements : Elements) (shape : List ℕ) (stored : Option (List ℕ)) → chunk_decoded chain elements (encoded_shape codec shape) stored ≡ None → chunk_decoded (after_array_codec codec chain) elements shape stored ≡ None
-decoded_outside codec chain elements shape None is = absurd (cc)
-decoded_outside codec chain elements shape (Some value) is = ap (option_map (λ cells. gather elements.fill cells (undone_places codec shape))) is
-
 stored_count : (codec : ArrayCodec) (chain : Chain) (elements : Elements) (shape : List ℕ) (stored : Option (List ℕ)) (before : List Cell) → chunk_decoded (after_array_codec codec chain) elements shape stored ≡ Some before → length before ≡ product shape
 stored_count codec chain elements shape None before is = ap length (sym (some_same is)) ∙ length-replicate {A = Cell} (product shape) elements.fill
 stored_count codec chain elements shape (Some value) before is = decoded_count (after_array_codec codec chain) elements shape value before is
@@ -245,6 +241,7 @@ written_after codec chain exact elements shape numbers payload cells old new fit
       fit = fit_after codec chain elements.type shape fit h.fit;
       inside = inside;
       opened = h.opened;
+      none_lost = h.none_lost;
       stands = λ lossless before are is.
           let inner = h.stands lossless (gather fill before places) (cells_moved codec elements shape before fit are) (stands_inside codec chain elements shape old before is) in
           stands_outside codec chain elements shape new (put numbers cells before) fit (long before are.whole)
@@ -321,8 +318,7 @@ unwritten_after codec chain elements shape numbers payload stored (Err error.Siz
     inr (refused_into codec chain elements shape numbers payload stored _ (λ after. PassesIndex (after_array_codec codec chain) elements shape after ⊎ PassesLength (after_array_codec codec chain) elements shape stored after) fit inside (λ after why. why) h)
 unwritten_after codec chain elements shape numbers payload stored (Err error.Codec) fit inside h =
     refused_into codec chain elements shape numbers payload stored (CodecRefuses chain elements (encoded_shape codec shape)) (CodecRefuses (after_array_codec codec chain) elements shape) fit inside (λ after why. why) h
-unwritten_after codec chain elements shape numbers payload stored (Err error.Damage) fit inside (fits_it, inl none) = (fit_after codec chain elements.type shape fit fits_it, inl (decoded_outside codec chain elements shape stored none))
-unwritten_after codec chain elements shape numbers payload stored (Err error.Damage) fit inside (fits_it, inr bad) = (fit_after codec chain elements.type shape fit fits_it, inr bad)
+unwritten_after codec chain elements shape numbers payload stored (Err error.Damage) fit inside h = (fit_after codec chain elements.type shape fit h.0, h.1)
 unwritten_after codec chain elements shape numbers payload stored (Err error.Source) fit inside h = tt
 unwritten_after codec chain elements shape numbers payload stored (Err error.Memory) fit inside h = tt
 unwritten_after codec chain elements shape numbers payload stored (Err e) fit inside h =
@@ -333,7 +329,7 @@ unwritten_after codec chain elements shape numbers payload stored (Err e) fit in
 pub written_by_numbers : (chain : Chain) (exact : Bool) (elements : Elements) (shape : List ℕ) (asked : Asked) (payload : Payload) (cells : List Cell) (old new : Option (List ℕ)) → are_inside shape asked ≡ true
     → IsEncodedInto chain exact elements shape (listed (numbers_asked shape asked)) payload cells old new → IsEncodedInto chain exact elements shape asked payload cells old new
 written_by_numbers chain exact elements shape asked payload cells old new inside h =
-    record { valid = h.valid; fit = h.fit; inside = inside; opened = h.opened; stands = h.stands; tight = h.tight; absent = h.absent; encodes = h.encodes; shows = h.shows }
+    record { valid = h.valid; fit = h.fit; inside = inside; opened = h.opened; none_lost = h.none_lost; stands = h.stands; tight = h.tight; absent = h.absent; encodes = h.encodes; shows = h.shows }
 
 listed_refused : (chain : Chain) (elements : Elements) (shape : List ℕ) (asked : Asked) (payload : Payload) (stored : Option (List ℕ)) (refuses : List Cell → Type 0) → are_inside shape asked ≡ true
     → IsRefusedInto chain elements shape (listed (numbers_asked shape asked)) payload stored refuses → IsRefusedInto chain elements shape asked payload stored refuses

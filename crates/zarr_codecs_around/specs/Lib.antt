@@ -3,3 +3,4 @@ pub mod Codecs
 pub mod ArrayCodecs
 pub mod ThenBytes
 pub mod ArrayMetadata
+pub mod Copies

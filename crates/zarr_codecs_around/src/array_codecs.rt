@@ -16,7 +16,8 @@ pub struct AfterArrayCodecs<'a, A> {
     pub rest: &'a A,
 }
 
-/// The shape of the array after array codecs. `Fit` where one doesn't suit the shape that reaches it.
+/// The shape of the array after array codecs. `Fit` where one doesn't suit the shape that reaches
+/// it.
 pub fn shape_after(
     alloc: Global,
     codecs: &[ArrayToArrayCodec],

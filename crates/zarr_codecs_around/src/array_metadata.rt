@@ -11,8 +11,8 @@ use std::alloc::{AllocError, Global};
 use zarr_codecs_array_to_array::ArrayToArrayCodec;
 use zarr_grids_metadata::{MetadataV3, PluginCreateError};
 
-/// The array to array codecs that metadata begins with. `MetadataInvalid` where the configuration of
-/// one of them is not one of its name's.
+/// The array to array codecs that metadata begins with. `MetadataInvalid` where the configuration
+/// of one of them is not one of its name's.
 pub fn first_array_codecs(
     alloc: Global,
     codecs: &[MetadataV3],

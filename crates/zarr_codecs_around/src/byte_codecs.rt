@@ -61,8 +61,8 @@ pub fn decode_all<B: BytesToBytesCodecTraits>(
     codec.decode(alloc, inside.as_slice())
 }
 
-/// What is known of the size of what the codecs make, by what is known of the size of what the first
-/// is given. `Size` only where one of them tells a size of 2^63 or more.
+/// What is known of the size of what the codecs make, by what is known of the size of what the
+/// first is given. `Size` only where one of them tells a size of 2^63 or more.
 pub fn represent_all<B: BytesToBytesCodecTraits>(
     codecs: &[B],
     decoded: BytesRepresentation,

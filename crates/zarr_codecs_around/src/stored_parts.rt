@@ -16,7 +16,8 @@ use zarr_codecs_traits::{
 };
 
 /// The elements at the places that are asked for, of a value that was read, or of none, which a
-/// codec and bytes codecs after it made. Errors as those of `ArrayToBytesCodecTraits::partial_decode`.
+/// codec and bytes codecs after it made. Errors as those of
+/// `ArrayToBytesCodecTraits::partial_decode`.
 pub fn decode_stored_part<A: ArrayToBytesCodecTraits, B: BytesToBytesCodecTraits>(
     codec: &A,
     alloc: Global,

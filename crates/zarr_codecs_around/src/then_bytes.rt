@@ -18,8 +18,8 @@ use zarr_codecs_traits::{
 };
 use zarr_codecs_types::DataType;
 
-/// A codec between arrays and bytes, and the caller's bytes to bytes codecs after it, in the order in
-/// which they encode. Where there are any, values are read and written whole, and what the codec
+/// A codec between arrays and bytes, and the caller's bytes to bytes codecs after it, in the order
+/// in which they encode. Where there are any, values are read and written whole, and what the codec
 /// makes of elements depends on these alone.
 #[derive(Debug, Drop)]
 pub struct ThenBytes<A: InnerCodec, B: BytesToBytesCodecTraits> {
@@ -70,11 +70,14 @@ impl<A: InnerCodec, B: BytesToBytesCodecTraits> ThenBytes<A, B> {
 }
 
 impl<A: InnerCodec, B: BytesToBytesCodecTraits> ArrayToBytesCodecTraits for ThenBytes<A, B> {
+    ghost use Rattle.zarr_codecs_around.specs.Copies.{then_copied};
     ghost use Rattle.zarr_codecs_around.specs.ThenBytes.{then_function, then_lawful, then_meaning};
 
     ghost meaning = { then_meaning A.meaning B.meaning };
 
     ghost is_function = { then_function A.is_function };
+
+    ghost copied = { then_copied A.copied B.meaning };
 
     fn encoding_is_function(&self) -> bool {
         self.codec.encoding_is_function()
@@ -213,6 +216,7 @@ impl<A: InnerCodec, B: BytesToBytesCodecTraits> ArrayToBytesCodecTraits for Then
         compact_inside(self, alloc, value, array, options)
     }
 
+    #[tactic(auto, using(crate::proofs::Copied::described_alike))]
     fn try_clone(&self, alloc: Global) -> Result<Self, AllocError> {
         let codec = self.codec.try_clone(alloc)?;
         let bytes_to_bytes = copies(alloc, self.bytes_to_bytes.as_slice())?;
@@ -225,8 +229,8 @@ impl<A: InnerCodec, B: BytesToBytesCodecTraits> ArrayToBytesCodecTraits for Then
     ghost lawful = { then_lawful A.meaning A.lawful B.meaning B.lawful };
 }
 
-/// The value of a codec that makes shards, and of bytes codecs after it, which are undone before it is
-/// compacted and encode again after that.
+/// The value of a codec that makes shards, and of bytes codecs after it, which are undone before it
+/// is compacted and encode again after that.
 fn compact_inside<A: InnerCodec, B: BytesToBytesCodecTraits>(
     codec: &ThenBytes<A, B>,
     alloc: Global,

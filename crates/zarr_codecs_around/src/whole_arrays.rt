@@ -18,8 +18,8 @@ use zarr_codecs_traits::{
 };
 use zarr_codecs_types::DataType;
 
-/// Whether array codecs, and the codec after them, suit arrays of a data type and a shape. `Err` only
-/// where an allocation failed.
+/// Whether array codecs, and the codec after them, suit arrays of a data type and a shape. `Err`
+/// only where an allocation failed.
 pub fn fits_after<A: ArrayToBytesCodecTraits>(
     rest: &A,
     alloc: Global,
@@ -37,8 +37,8 @@ pub fn fits_after<A: ArrayToBytesCodecTraits>(
     }
 }
 
-/// The bytes that array codecs, and the codec after them, encode the elements of an array to. Errors
-/// as those of `ArrayToBytesCodecTraits::encode`.
+/// The bytes that array codecs, and the codec after them, encode the elements of an array to.
+/// Errors as those of `ArrayToBytesCodecTraits::encode`.
 pub fn encode_after<A: ArrayToBytesCodecTraits>(
     rest: &A,
     alloc: Global,

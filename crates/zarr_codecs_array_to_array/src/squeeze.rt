@@ -11,9 +11,9 @@ use zarr_codecs_arrays::{ArrayBytes, CodecError, Elements};
 use zarr_codecs_traits::ArrayToArrayCodecTraits;
 use zarr_grids_metadata::{MetadataV3, PluginCreateError};
 
-/// The codec `squeeze` (this project's profile): the elements in their row-major order, in the shape
-/// without its dimensions of size one, or [1] where there are no others. It suits each shape. It
-/// keeps the name that its metadata has.
+/// The codec `squeeze` (this project's profile): the elements in their row-major order, in the
+/// shape without its dimensions of size one, or [1] where there are no others. It suits each shape.
+/// It keeps the name that its metadata has.
 #[derive(Clone, Copy, Debug, PartialEq, Eq)]
 pub struct SqueezeCodec {
     name: CodecName,
@@ -83,8 +83,8 @@ impl SqueezeCodec {
     }
 
     /// The codec that metadata describes, under the name that it has there. `NameUnsupported` where
-    /// this is neither `squeeze` nor `zarrs.squeeze`, `MetadataInvalid` where its configuration has a
-    /// member.
+    /// this is neither `squeeze` nor `zarrs.squeeze`, `MetadataInvalid` where its configuration has
+    /// a member.
     pub fn from_metadata(metadata: &MetadataV3) -> Result<SqueezeCodec, PluginCreateError>
         ensures ok { IfOk result
             (λ codec. squeeze_in (point_of metadata.now) ≡ Some (squeeze_of codec)) }
@@ -106,8 +106,8 @@ impl SqueezeCodec {
         Ok(SqueezeCodec { name })
     }
 
-    /// The codec's metadata under its name, of which `from_metadata` makes an equal codec. `Err` only
-    /// where an allocation failed.
+    /// The codec's metadata under its name, of which `from_metadata` makes an equal codec. `Err`
+    /// only where an allocation failed.
     pub fn metadata(&self, alloc: Global) -> Result<MetadataV3, AllocError>
         ensures written { IfOk result
             (λ metadata. point_of metadata ≡ named (squeeze_name self.now)) }

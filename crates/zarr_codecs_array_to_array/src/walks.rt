@@ -208,8 +208,8 @@ pub(crate) fn permuted(alloc: Global, shape: &[u64], order: &[u64]) -> Result<Ve
     Ok(sizes)
 }
 
-/// Where each number below the length of an order stands in it, or else the length. Of a number that
-/// stands in it twice this is the first place.
+/// Where each number below the length of an order stands in it, or else the length. Of a number
+/// that stands in it twice this is the first place.
 pub(crate) fn inverse(alloc: Global, order: &[u64]) -> Result<Vec<u64>, AllocError>
     ensures { IfOk result (λ v. v.items
         ≡ map (λ d. position_of d order.now) (range_with_len 0 (length order.now))) }

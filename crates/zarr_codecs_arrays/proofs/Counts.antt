@@ -1,19 +1,19 @@
 -- How many elements a payload is.
-use Rattle.std.proofs.Common.{◌≡◌, ℕ, zero, suc, ◌-◌, ◌/◌, ◌%◌, ◌^◌, ◌<◌, List, [], ◌∷◌, length, get_or, map, take, drop, ap, ◌∙◌, sym, refl, arith, Option, Some, None, Err, Bool, true, false, ◌&&◌, ◌==◌, if◌then◌else◌, option_map, option_and_then}
-use Rattle.std.specs.Prelude.{nat_lt, nat_le}
+use Rattle.std.proofs.Common.{◌≡◌, ℕ, zero, suc, inl, ◌-◌, ◌/◌, ◌%◌, ◌^◌, ◌<◌, List, [], ◌∷◌, length, get_or, map, take, drop, ap, ◌∙◌, sym, refl, arith, Option, Some, None, Err, Bool, true, false, ◌&&◌, ◌==◌, if◌then◌else◌, option_map, option_and_then}
+use Rattle.std.specs.Prelude.{is_some, nat_lt, nat_le}
 use Rattle.std.specs.List.{list_all}
 use Rattle.std.proofs.lemmas.Bool.{ltb-false, le-ltb, eq-eqb, ne_eqb, and_parts}
 use Rattle.std.proofs.lemmas.Bool.Decides.{same_from_decides, Decides-eqb, Decides-like}
 use Rattle.std.proofs.lemmas.List.{length-map}
 use Rattle.std.proofs.Math.Nat.{mod-eq_of_lt}
-use Rattle.zarr_codecs_meaning.specs.Types.{DataType, byte_width, Cell, of_bytes, absent, present}
-use Rattle.zarr_codecs_meaning.specs.Payloads.{Payload, fixed_cells, fixed_in, fixed, cells_in, bytes_between, variable_in, masked, masked_in}
+use Rattle.zarr_codecs_meaning.specs.Types.{DataType, string, variable_bytes, byte_width, is_fixed, is_variable, inner_type, Cell, of_bytes, absent, present}
+use Rattle.zarr_codecs_meaning.specs.Payloads.{Payload, fixed_cells, fixed_in, fixed, variable, optional, cells_in, bytes_between, variable_in, masked, masked_in}
 use Rattle.zarr_codecs_meaning.proofs.Lists.{bind_some, if_some, some_same}
 use Rattle.zarr_codecs_types.specs.Parts.{word_sized}
 use Rattle.zarr_codecs_arrays.specs.Offsets.{are_rising}
 use Rattle.zarr_codecs_arrays.specs.Views.{numbers_of}
 use Rattle.zarr_codecs_arrays.specs.declared.offsets.ArrayBytesOffsets.{ArrayBytesOffsets}
-use Rattle.zarr_codecs_arrays.specs.Outcomes.{IsMiscounted, Validates}
+use Rattle.zarr_codecs_arrays.specs.Outcomes.{IsMiscounted, IsMisformed, Validates, form_error, form_expected}
 use Rattle.zarr_codecs_arrays.specs.declared.error.CodecError.{CodecError}
 use Rattle.zarr_codecs_arrays.specs.declared.error.CodecError.TheVariants as error
 use Rattle.zarr_codecs_arrays.proofs.FixedCells.{fixed_in-some, length-fixed_cells}
@@ -150,13 +150,55 @@ no_length (Some xs) h = cc
 pub none_counted : (type : DataType) (payload : Payload) → None ≡ option_map length (cells_in type payload) → cells_in type payload ≡ None
 none_counted type payload h = no_length (cells_in type payload) h
 
--- an error of the form of the elements below a mask is one of those with the mask
-pub form_above : (e : CodecError) (type outer : DataType) (payload whole : Payload) (count : ℕ) → cells_in type payload ≡ None → cells_in outer whole ≡ None → IsMiscounted type payload count e → IsMiscounted outer whole count e
-form_above error.ExpectedFixedLengthBytes type outer payload whole count inside here h = here
-form_above error.ExpectedVariableLengthBytes type outer payload whole count inside here h = here
-form_above error.ExpectedOptionalBytes type outer payload whole count inside here h = here
-form_above error.InvalidNumberOfElements type outer payload whole count inside here h = λ cells is. let lists = is.lists in cc
-form_above _ type outer payload whole count inside here h = h
+-- whether elements of a wrong form or number may have an error
+abbrev is_counting : CodecError → Bool
+is_counting error.ExpectedFixedLengthBytes = true
+is_counting error.ExpectedVariableLengthBytes = true
+is_counting error.ExpectedOptionalBytes = true
+is_counting error.InvalidNumberOfElements = true
+is_counting e = false
+
+expected_counts : (type : DataType) → is_counting (form_expected type) ≡ true
+expected_counts type = by_tests (is_fixed type) (is_variable type) where
+  by_tests : (sized long : Bool) → is_counting (if sized then error.ExpectedFixedLengthBytes else (if long then error.ExpectedVariableLengthBytes else error.ExpectedOptionalBytes)) ≡ true
+  by_tests true long = refl
+  by_tests false true = refl
+  by_tests false false = refl
+
+either : (b : Bool) (x y : CodecError) → is_counting x ≡ true → is_counting y ≡ true → is_counting (if b then x else y) ≡ true
+either true x y h k = h
+either false x y h k = k
+
+form_counts : (type : DataType) (payload : Payload) → is_counting (form_error type payload) ≡ true
+form_counts type (fixed bytes) = either (is_fixed type) error.InvalidNumberOfElements (form_expected type) refl (expected_counts type)
+form_counts type (variable bytes offsets) = expected_counts type
+form_counts type (optional inner mask) = below (inner_type type) (λ of_type. form_counts of_type inner) where
+  below : (o : Option DataType) → ((of_type : DataType) → is_counting (form_error of_type inner) ≡ true)
+      → is_counting (elim o [ None ↦ form_expected type | Some of_type ↦ (if is_some (cells_in of_type inner) then error.ExpectedOptionalBytes else form_error of_type inner) ]) ≡ true
+  below None inside = expected_counts type
+  below (Some of_type) inside = either (is_some (cells_in of_type inner)) error.ExpectedOptionalBytes (form_error of_type inner) refl (inside of_type)
+
+misformed : (e : CodecError) (type : DataType) (payload : Payload) (count : ℕ) → is_counting e ≡ true → IsMisformed type payload e → IsMiscounted type payload count e
+misformed error.ExpectedFixedLengthBytes type payload count one h = h
+misformed error.ExpectedVariableLengthBytes type payload count one h = h
+misformed error.ExpectedOptionalBytes type payload count one h = h
+misformed error.InvalidNumberOfElements type payload count one h = inl h
+misformed e type payload count one h = absurd (cc)
+
+-- elements of variable length are wanted, whatever the payload is
+pub string_form : (payload : Payload) → error.ExpectedVariableLengthBytes ≡ form_error string payload
+string_form (fixed bytes) = refl
+string_form (variable bytes offsets) = refl
+string_form (optional inner mask) = refl
+
+pub bytes_form : (payload : Payload) → error.ExpectedVariableLengthBytes ≡ form_error variable_bytes payload
+bytes_form (fixed bytes) = refl
+bytes_form (variable bytes offsets) = refl
+bytes_form (optional inner mask) = refl
+
+-- the error of its form is why a payload is not so many elements of a type
+pub form_refused : (e : CodecError) (type : DataType) (payload : Payload) (count : ℕ) → e ≡ form_error type payload → None ≡ option_map length (cells_in type payload) → IsMiscounted type payload count e
+form_refused e type payload count is none = misformed e type payload count (ap is_counting is ∙ form_counts type payload) (none_counted type payload none, is)
 
 -- what are not so many elements are not so many values
 pub count_refused : (A : Type 0) (e : CodecError) (type : DataType) (payload : Payload) (count : ℕ) → IsMiscounted type payload count e → Validates {A = A} type payload count (Err e)

@@ -1,10 +1,10 @@
 //! How many elements of a data type there are.
-ghost use Rattle.std.specs.Prelude.{◌≡◌, ℕ, List, Option, Some, None, length, option_map, option_and_then};
+ghost use Rattle.std.specs.Prelude.{◌≡◌, List, Option, length, option_map, option_and_then};
 ghost use Rattle.zarr_codecs_meaning.specs.Payloads as payloads;
 ghost use Rattle.zarr_codecs_meaning.specs.Types.{Cell};
 ghost use Rattle.zarr_codecs_types.specs.Views.{type_of};
 ghost use Rattle.zarr_codecs_arrays.specs.Views.{payload_of, numbers_of};
-ghost use Rattle.zarr_codecs_arrays.specs.Outcomes.{IsMiscounted};
+ghost use Rattle.zarr_codecs_arrays.specs.Outcomes.{form_error};
 
 use crate::array_bytes::ArrayBytes;
 use crate::error::CodecError;
@@ -65,10 +65,9 @@ fn masked_count(count: Option<usize>, mask: &[u8]) -> Option<usize>
 }
 
 /// Why elements are none of a data type's, where they are not.
+#[tactic(auto, using(crate::proofs::Counts::string_form, crate::proofs::Counts::bytes_form))]
 pub(crate) fn form_error(elements: &ArrayBytes, data_type: &DataType) -> CodecError
-    ensures { payloads.cells_in (type_of data_type.now) (payload_of elements.now) ≡ None
-        → (count : ℕ)
-        → IsMiscounted (type_of data_type.now) (payload_of elements.now) count result }
+    ensures { result ≡ form_error (type_of data_type.now) (payload_of elements.now) }
 {
     match data_type {
         DataType::String | DataType::Bytes => CodecError::ExpectedVariableLengthBytes,

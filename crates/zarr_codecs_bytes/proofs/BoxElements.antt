@@ -18,7 +18,7 @@ use Rattle.zarr_codecs_meaning.specs.Types.{Cell}
 use Rattle.zarr_codecs_meaning.specs.Payloads.{fixed_cells}
 use Rattle.zarr_codecs_meaning.proofs.Covers.{zeros}
 use Rattle.zarr_codecs_meaning.proofs.Lists.{Each, each_passes, zero_list}
-use Rattle.zarr_codecs_traits.specs.Indexers.{lies_in, numbers_of}
+use Rattle.zarr_codecs_traits.specs.Indexers.{shape_has, numbers_of}
 use Rattle.zarr_codecs_traits.specs.Sources.{bytes_at, bytes_in_ranges}
 use Rattle.zarr_codecs_traits.specs.declared.byte_range.ByteRange.{ByteRange}
 use Rattle.zarr_codecs_regions.proofs.InsideArray.{each_place, ends_at_most, inside_rank, inside_places}
@@ -74,7 +74,7 @@ same_flat P f g [] each law = refl
 same_flat P f g (x ∷ xs) each law = ap (λ ys. ys ++ flat_map f xs) (law x each.0) ∙ ap (λ ys. g x ++ ys) (same_flat P f g xs each.1 law)
 
 -- the bytes of the elements at the places of a box are what is to be extracted
-box_extracted : (width : ℕ) (value shape : List ℕ) (region : Region) (other : Cell) → 0 < width → length value ≡ product shape * width → lies_in shape region ≡ true → length region.shape ≡ length region.start
+box_extracted : (width : ℕ) (value shape : List ℕ) (region : Region) (other : Cell) → 0 < width → length value ≡ product shape * width → shape_has shape region ≡ true → length region.shape ≡ length region.start
     → IsExtracted width value shape region other (flat_map (element width value) (numbers_of shape region))
 box_extracted width value shape region other some whole inside same =
     let ps = places region.start region.shape in

@@ -1,5 +1,5 @@
 -- What `bytes` decodes a value to: the elements that its bytes are in the other order, where each is a value.
-use Rattle.std.proofs.Common.{◌≡◌, ℕ, ◌*◌, ◌/◌, ◌%◌, ◌<◌, List, [], ◌∷◌, length, map, take, drop, ap, ◌∙◌, sym, refl, arith, Option, Some, None, option_and_then, option_map, Bool, true, false, ◌&&◌, if◌then◌else◌, Result, Err, subst}
+use Rattle.std.proofs.Common.{◌≡◌, ℕ, ◌*◌, ◌/◌, ◌%◌, ◌<◌, List, [], ◌∷◌, length, map, take, drop, ap, ◌∙◌, sym, refl, arith, Option, Some, None, option_and_then, option_map, Bool, true, false, ◌&&◌, if◌then◌else◌, Result, Err, subst, inl, inr}
 use Rattle.std.specs.List.{list_all, range_with_len}
 use Rattle.std.proofs.lemmas.Bool.{eq-eqb, and_parts}
 use Rattle.std.proofs.lemmas.Simd.{map-map}
@@ -117,10 +117,11 @@ refused_value type value count cells error.CellOutOfRange counted h =
     let same : h.0 ≡ cells = some_same (sym h.1.lists ∙ counted.lists) in
     ap (list_all (is_value type)) (sym same) ∙ h.2
 refused_value type value count cells error.IncompatibleIndexer counted h = absurd h
-refused_value type value count cells error.InvalidNumberOfElements counted h = absurd (h cells counted)
-refused_value type value count cells error.ExpectedFixedLengthBytes counted h = let k = sym counted.lists ∙ h in cc
-refused_value type value count cells error.ExpectedVariableLengthBytes counted h = let k = sym counted.lists ∙ h in cc
-refused_value type value count cells error.ExpectedOptionalBytes counted h = let k = sym counted.lists ∙ h in cc
+refused_value type value count cells error.InvalidNumberOfElements counted (inl h) = let k = sym counted.lists ∙ h.0 in cc
+refused_value type value count cells error.InvalidNumberOfElements counted (inr h) = absurd (h.2 (ap length (some_same (sym h.1 ∙ counted.lists)) ∙ counted.many))
+refused_value type value count cells error.ExpectedFixedLengthBytes counted h = let k = sym counted.lists ∙ h.0 in cc
+refused_value type value count cells error.ExpectedVariableLengthBytes counted h = let k = sym counted.lists ∙ h.0 in cc
+refused_value type value count cells error.ExpectedOptionalBytes counted h = let k = sym counted.lists ∙ h.0 in cc
 refused_value type value count cells error.Unsupported counted h = absurd h
 refused_value type value count cells error.Memory counted h = absurd h
 refused_value type value count cells (error.Other text) counted h = absurd h

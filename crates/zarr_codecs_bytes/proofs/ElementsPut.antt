@@ -135,6 +135,7 @@ put_over order elements shape asked given content cells value patches h =
       fit = h.fit;
       inside = h.inside;
       opened = is_whole_value type shape value h.long;
+      none_lost = λ lost. lost;
       stands = λ lossless before are is. stands before are is;
       tight = λ exact lossless before are is. stands before are is;
       absent = λ no. cc;

@@ -26,7 +26,7 @@ use Rattle.zarr_codecs_types.specs.Parts.{word_sized}
 use Rattle.zarr_codecs_arrays.specs.Views.{payload_of}
 use Rattle.zarr_codecs_arrays.proofs.Counts.{known_width}
 use Rattle.zarr_codecs_arrays.proofs.FixedCells.{fixed_cells-nil, get_or-fixed_cells, length-fixed_cells}
-use Rattle.zarr_codecs_traits.specs.Indexers.{Asked, in_box, are_inside, lies_in, numbers_asked, numbers_of}
+use Rattle.zarr_codecs_traits.specs.Indexers.{Asked, in_box, are_inside, shape_has, numbers_asked, numbers_of}
 use Rattle.zarr_codecs_traits.specs.Outcomes.{DecodesPart, IsPart}
 use Rattle.zarr_codecs_regions.proofs.InsideArray.{inside_product}
 use Rattle.zarr_codecs_bytes.specs.Orders.{all_ordered}
@@ -118,7 +118,7 @@ part_not_whole order elements shape value ns other =
 -- ---- sizes
 
 -- a box that lies in an array is too large only where the array is
-pub larger_too : (type : DataType) (shape : List ℕ) (region : Region) → length region.shape ≡ length region.start → lies_in shape region ≡ true → IsTooLarge type (product region.shape) → IsTooLarge type (product shape)
+pub larger_too : (type : DataType) (shape : List ℕ) (region : Region) → length region.shape ≡ length region.start → shape_has shape region ≡ true → IsTooLarge type (product region.shape) → IsTooLarge type (product shape)
 larger_too type shape region l inside (inl many) = inl (let few = inside_product shape region l inside in omega (arith, many, few))
 larger_too type shape region l inside (inr wide) = inr (at_width (byte_width type) wide) where
   at_width : (o : Option ℕ) → MatchOption o ⊥ (λ width. 2 ^ 63 ≤ product region.shape * width) → MatchOption o ⊥ (λ width. 2 ^ 63 ≤ product shape * width)
@@ -128,7 +128,7 @@ larger_too type shape region l inside (inr wide) = inr (at_width (byte_width typ
 -- ---- nothing is stored
 
 -- as many fill values as the box has places
-pub filled_part : (chain : Chain) (elements : Elements) (shape : List ℕ) (region : Region) (payload : Payload) → length region.shape ≡ length region.start → lies_in shape region ≡ true → fits chain elements.type shape ≡ true
+pub filled_part : (chain : Chain) (elements : Elements) (shape : List ℕ) (region : Region) (payload : Payload) → length region.shape ≡ length region.start → shape_has shape region ≡ true → fits chain elements.type shape ≡ true
     → cells_in elements.type payload ≡ Some (replicate (product region.shape) elements.fill) → IsPart chain elements shape None (in_box region) payload
 filled_part chain elements shape region payload l inside fit lists = record {
   cells = replicate (product region.shape) elements.fill;
@@ -173,7 +173,7 @@ too_wide type one_size h =
 
 -- an array whose elements are too wide for a slice has none
 pub nothing_extracted : (type : DataType) (value shape : List ℕ) (region : Region) (extracted : List ℕ) → is_fixed type ≡ true → None ≡ option_and_then word_sized (byte_width type) → length value ≡ product shape * bytes_in (components type) → length value < 2 ^ 64
-    → length region.shape ≡ length region.start → lies_in shape region ≡ true → extracted ≡ [] → (other : Cell) → IsExtracted (bytes_in (components type)) value shape region other extracted
+    → length region.shape ≡ length region.start → shape_has shape region ≡ true → extracted ≡ [] → (other : Cell) → IsExtracted (bytes_in (components type)) value shape region other extracted
 nothing_extracted type value shape region extracted one_size h whole few l inside empty other =
     let width = bytes_in (components type) in
     let wide : 2 ^ 64 ≤ width = too_wide type one_size h in
@@ -189,13 +189,13 @@ nothing_extracted type value shape region extracted one_size h whole few l insid
 
 -- a part whose elements have no width has none
 pub no_width : (type : DataType) (shape : List ℕ) (region : Region) (size : ℕ) → is_fixed type ≡ true → None ≡ option_and_then word_sized (byte_width type) → size ≡ product shape * bytes_in (components type) → size < 2 ^ 63
-    → length region.shape ≡ length region.start → lies_in shape region ≡ true → product region.shape ≡ 0
+    → length region.shape ≡ length region.start → shape_has shape region ≡ true → product region.shape ≡ 0
 no_width type shape region size one_size h all small l inside =
     no_places (product shape) (bytes_in (components type)) (product region.shape) (inside_product shape region l inside) (omega (arith, all, small)) (too_wide type one_size h)
 
 -- ---- where nothing is stored
 
-pub fills_part : (chain : Chain) (elements : Elements) (shape : List ℕ) (region : Region) (count : ℕ) (r : Result ArrayBytes CodecError) → length region.shape ≡ length region.start → lies_in shape region ≡ true → fits chain elements.type shape ≡ true → count ≡ product region.shape
+pub fills_part : (chain : Chain) (elements : Elements) (shape : List ℕ) (region : Region) (count : ℕ) (r : Result ArrayBytes CodecError) → length region.shape ≡ length region.start → shape_has shape region ≡ true → fits chain elements.type shape ≡ true → count ≡ product region.shape
     → IfOk r (λ made. cells_in elements.type (payload_of made) ≡ Some (replicate count elements.fill)) → IfErr r (λ e. e ≢ error.Memory → (e ≡ error.Size) × IsTooLarge elements.type count) → DecodesPart chain elements shape None (in_box region) r
 fills_part chain elements shape region count (Ok made) l inside fit many lists large = filled_part chain elements shape region (payload_of made) l inside fit (lists ∙ ap (λ n. Some (replicate n elements.fill)) many)
 fills_part chain elements shape region count (Err error.Memory) l inside fit many lists large = tt
@@ -216,7 +216,7 @@ fills_part chain elements shape region count (Err (error.Other text)) l inside f
 -- ---- a part that is too large
 
 -- elements of a part that cannot be counted
-pub uncounted_part : (chain : Chain) (elements : Elements) (shape : List ℕ) (stored : Option (List ℕ)) (region : Region) (type : DataType) (count : ℕ) (e : CodecError) → length region.shape ≡ length region.start → lies_in shape region ≡ true → type ≡ elements.type → count ≡ product region.shape
+pub uncounted_part : (chain : Chain) (elements : Elements) (shape : List ℕ) (stored : Option (List ℕ)) (region : Region) (type : DataType) (count : ℕ) (e : CodecError) → length region.shape ≡ length region.start → shape_has shape region ≡ true → type ≡ elements.type → count ≡ product region.shape
     → (e ≢ error.Memory → (e ≡ error.Size) × IsTooLarge type count) → DecodesPart chain elements shape stored (in_box region) (Err e)
 uncounted_part chain elements shape stored region type count error.Memory l inside same many large = tt
 uncounted_part chain elements shape stored region type count error.Size l inside same many large = larger_too elements.type shape region l inside (subst (λ t. IsTooLarge t (product region.shape)) same (subst (IsTooLarge type) many (large (λ q. cc)).1))

@@ -31,7 +31,7 @@ use Rattle.zarr_codecs_arrays.specs.Views.{elements_of}
 use Rattle.zarr_codecs_arrays.proofs.FixedCells.{fixed_in-whole, flat_map-fixed_cells, get_or-fixed_cells, length-fixed_cells, whole_length}
 use Rattle.zarr_codecs_regions.proofs.Extracts.{element_bytes, bytes_of_place, place_width, elements_are, element_within, array_laid}
 use Rattle.zarr_codecs_regions.proofs.InsideArray.{all_places, inside_places}
-use Rattle.zarr_codecs_traits.specs.Indexers.{lies_in, numbers_of}
+use Rattle.zarr_codecs_traits.specs.Indexers.{shape_has, numbers_of}
 use Rattle.zarr_codecs_traits.specs.PartEncoding.{EncodesPart, cells_with_box}
 use Rattle.zarr_codecs_traits.specs.Patches.{any_too_far, overwritten, patched, written_at}
 use Rattle.zarr_codecs_traits.specs.declared.byte_range.ByteRange.{ByteRange}
@@ -141,7 +141,7 @@ box_laid width content region some same whole =
     ∙ elements_are width (product region.shape) content some whole)))
 
 -- where the bytes of a part stand, of the value whose bytes are their own places
-part_positions : (width : ℕ) (shape : List ℕ) (region : Region) (extracted : List ℕ) → 0 < width → lies_in shape region ≡ true → IsExtracted width (range_with_len 0 (product shape * width)) shape region nothing extracted
+part_positions : (width : ℕ) (shape : List ℕ) (region : Region) (extracted : List ℕ) → 0 < width → shape_has shape region ≡ true → IsExtracted width (range_with_len 0 (product shape * width)) shape region nothing extracted
     → extracted ≡ flat_map (element_positions width shape) (places region.start region.shape)
 part_positions width shape region extracted some inside is =
     let own = range_with_len 0 (product shape * width) in
@@ -166,7 +166,7 @@ part_positions width shape region extracted some inside is =
 -- what is known of ranges in which the elements of a box stand
 pub record AreBoxRanges (width : ℕ) (shape : List ℕ) (region : Region) (ranges : List ByteRange) : Type 0 where
   pub some : 0 < width
-  pub inside : lies_in shape region ≡ true
+  pub inside : shape_has shape region ≡ true
   pub same : length region.shape ≡ length region.start
   pub within : list_any (ends_after (product shape * width)) ranges ≡ false
   pub are : IsExtracted width (range_with_len 0 (product shape * width)) shape region nothing (bytes_in_ranges (range_with_len 0 (product shape * width)) ranges)

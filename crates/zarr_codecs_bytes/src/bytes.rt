@@ -242,12 +242,14 @@ impl Default for BytesCodec {
 }
 
 impl ArrayToBytesCodecTraits for BytesCodec {
-    ghost use Rattle.std.specs.Prelude.{true};
+    ghost use Rattle.std.specs.Prelude.{◌≡◌, true};
     ghost use Rattle.zarr_codecs_bytes.specs.Views.{bytes_chain};
 
     ghost meaning = { bytes_chain };
 
     ghost is_function = { λ codec. true };
+
+    ghost copied = { λ codec copy. copy ≡ codec };
 
     fn encoding_is_function(&self) -> bool {
         true

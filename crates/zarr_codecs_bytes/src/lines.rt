@@ -103,8 +103,8 @@ fn ranges_in(
     ranges_of_rows(alloc, &row, start[0], *count, shape[0])
 }
 
-/// The ranges of a box in an array of so many rows, of the rows from `start` on, as many as `count`;
-/// in each of them the box has the same ranges.
+/// The ranges of a box in an array of so many rows, of the rows from `start` on, as many as
+/// `count`; in each of them the box has the same ranges.
 fn ranges_of_rows(
     alloc: Global,
     row: &PartRanges,

@@ -20,9 +20,9 @@ use zarr_codecs_regions::extract_list;
 use zarr_codecs_traits::{ByteRange, BytesPartialDecoderTraits};
 
 /// The elements with these numbers, of the value of `bytes` that a source holds. It is asked for
-/// their bytes alone; where they have more bytes than the value, for the whole value, once. `Damage`
-/// where the value has another length, or one of the elements is no value; `Size` where the array is
-/// too large; `Source` where the source refuses.
+/// their bytes alone; where they have more bytes than the value, for the whole value, once.
+/// `Damage` where the value has another length, or one of the elements is no value; `Size` where
+/// the array is too large; `Source` where the source refuses.
 pub(crate) fn read_listed<D: BytesPartialDecoderTraits>(
     alloc: Global,
     source: &mut D,

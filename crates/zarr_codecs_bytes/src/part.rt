@@ -3,7 +3,7 @@ ghost use Rattle.std.specs.Prelude.{◌≡◌, true, nat_lt};
 ghost use Rattle.std.specs.List.{list_all};
 ghost use Rattle.zarr_grids_boxes.specs.Boxes.{product};
 ghost use Rattle.zarr_grids_boxes.specs.Subsets.{region_of};
-ghost use Rattle.zarr_codecs_traits.specs.Indexers.{lies_in};
+ghost use Rattle.zarr_codecs_traits.specs.Indexers.{shape_has};
 
 use zarr_codecs_arrays::Elements;
 use zarr_grids_boxes::ArraySubset;
@@ -15,7 +15,7 @@ pub(crate) struct BoxPart<'a> {
     pub elements: &'a Elements,
     pub shape: &'a [u64],
     pub region: &'a ArraySubset,
-    ghost inside: { lies_in shape.now (region_of region.now) ≡ true },
+    ghost inside: { shape_has shape.now (region_of region.now) ≡ true },
 }
 
 /// The elements of an array that are asked for by their numbers: what they are, the array's shape,

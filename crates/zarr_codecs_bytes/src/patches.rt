@@ -17,8 +17,8 @@ use zarr_codecs_traits::{ByteRange, ValuePatch};
 use zarr_grids_boxes::walk::count_places;
 
 /// The ranges to be written into a value of `bytes`, so that the elements of a part are replaced by
-/// others. `Size` where the array is too large, and the errors of `ArrayBytes::validate` where these
-/// are not the part's elements.
+/// others. `Size` where the array is too large, and the errors of `ArrayBytes::validate` where
+/// these are not the part's elements.
 pub(crate) fn replace_part(
     alloc: Global,
     codec: BytesCodec,
@@ -46,8 +46,8 @@ pub(crate) fn replace_part(
     }
 }
 
-/// The ranges to be written into a value of `bytes` of this size, so that the elements of a part are
-/// replaced by others, which have these bytes.
+/// The ranges to be written into a value of `bytes` of this size, so that the elements of a part
+/// are replaced by others, which have these bytes.
 pub(crate) fn part_patches(
     alloc: Global,
     codec: BytesCodec,

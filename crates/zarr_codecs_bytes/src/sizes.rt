@@ -35,8 +35,8 @@ pub(crate) fn byte_count(data_type: &DataType, count: u64) -> Result<u64, CodecE
     }
 }
 
-/// How many bytes the elements of an array have. `Size` where they are 2^63 or more, or have as many
-/// bytes; `Memory` where an element has no bytes, which no array holds.
+/// How many bytes the elements of an array have. `Size` where they are 2^63 or more, or have as
+/// many bytes; `Memory` where an element has no bytes, which no array holds.
 pub(crate) fn array_size(data_type: &DataType, shape: &[u64]) -> Result<u64, CodecError>
     requires { is_fixed (type_of data_type.now) ≡ true }
     ensures ok { IfOk result

@@ -59,7 +59,8 @@ pub(crate) fn write_asked<E: BytesPartialEncoderTraits>(
     }
 }
 
-/// Puts elements in the place of those at the places that are asked for, in a value of so many bytes.
+/// Puts elements in the place of those at the places that are asked for, in a value of so many
+/// bytes.
 fn write_over<E: BytesPartialEncoderTraits>(
     alloc: Global,
     source: &mut E,

@@ -1,16 +1,6 @@
--- Copies are written as what they are copies of.
-use Rattle.std.proofs.Common.{◌≡◌, List, [], ◌∷◌, map, refl}
-use Rattle.zarr_grids_metadata.specs.ExtensionPoints.{ExtensionPoint}
-use Rattle.zarr_codecs_meaning.specs.Chains.{ByteCodec}
-use Rattle.zarr_codecs_chains.specs.Names.{WritesAlike}
+-- What is said of a copy for each way to describe codecs.
+use Rattle.std.proofs.Common.{IfOk, Result, Ok, Err}
 
--- the caller's codecs that do the same, in their order, are written as the same extension points
-pub described_alike : {B : Type 0} (meaning : B → ByteCodec) (described : B → ExtensionPoint) → WritesAlike meaning described
-    → (copies codecs : List B) → map meaning copies ≡ map meaning codecs → map described copies ≡ map described codecs
-described_alike meaning described alike [] [] e = refl
-described_alike meaning described alike [] (codec ∷ codecs) e = absurd (cc)
-described_alike meaning described alike (copy ∷ copies) [] e = absurd (cc)
-described_alike meaning described alike (copy ∷ copies) (codec ∷ codecs) e =
-    let first : meaning copy ≡ meaning codec = cc in
-    let others : map meaning copies ≡ map meaning codecs = cc in
-    cc (alike copy codec first, described_alike meaning described alike copies codecs others)
+pub copied_each : {A E D : Type 0} (alike : D → Type 0) (same : D → A → Type 0) (r : Result A E) → ((described : D) → alike described → IfOk r (same described)) → IfOk r (λ copy. (described : D) → alike described → same described copy)
+copied_each alike same (Ok copy) each = each
+copied_each alike same (Err e) each = tt

@@ -1,11 +1,11 @@
 -- The names of codecs that hold chains, and the codecs that keep the names of metadata (this project's profile).
 use Rattle.std.specs.Prelude.{◌≡◌, ℕ, List, [], ◌∷◌, codes, Option, Some, None}
 use Rattle.zarr_grids_metadata.specs.ExtensionPoints.{ExtensionPoint, configuration_members}
-use Rattle.zarr_codecs_meaning.specs.Chains.{ByteCodec}
 use Rattle.zarr_codecs_array_to_array.specs.Names.{written_codec}
 use Rattle.zarr_codecs_array_to_array.specs.declared.codec.ArrayToArrayCodec.{ArrayToArrayCodec}
 use Rattle.zarr_codecs_array_to_array.specs.declared.name.CodecName.{CodecName}
 use Rattle.zarr_codecs_array_to_array.specs.declared.name.CodecName.TheVariants as names
+pub use Rattle.zarr_codecs_around.specs.Copies.{WritesAlike}
 use Rattle.zarr_codecs_configurations.specs.Reading.{listed_points}
 use Rattle.zarr_codecs_chains.specs.declared.array_to_bytes.ArrayToBytesCodec.{ArrayToBytesCodec}
 use Rattle.zarr_codecs_chains.specs.declared.array_to_bytes.ArrayToBytesCodec.TheVariants.{Bytes, PackBits, Vlen', Optional'}
@@ -71,7 +71,3 @@ NamesOptional codec point =
     (optional_name codec ≡ point.name)
     × ListNames codec.mask_codecs.array_to_array.items (Names codec.mask_codecs.others.array_to_bytes) (listed_points (codes "mask_codecs") (configuration_members point.configuration))
     × ListNames codec.data_codecs.array_to_array.items (Names codec.data_codecs.others.array_to_bytes) (listed_points (codes "data_codecs") (configuration_members point.configuration))
-
--- the caller's codecs that do the same are written as the same extension point
-abbrev pub WritesAlike : {B : Type 0} → (B → ByteCodec) → (B → ExtensionPoint) → Type 0
-WritesAlike {B} meaning described = (a b : B) → meaning a ≡ meaning b → described a ≡ described b

@@ -1,5 +1,5 @@
 -- Why extension points are refused as codecs (Zarr core specification, "Codecs"; which refusal comes is this project's profile).
-use Rattle.std.specs.Prelude.{◌≡◌, ◌⊎◌, ℕ, List, [], ◌∷◌, codes, bytes_eq, Bool, true, false, ◌||◌, if◌then◌else◌, is_some, Option, Some, None, option_map}
+use Rattle.std.specs.Prelude.{◌≡◌, ◌⊎◌, ℕ, List, [], ◌∷◌, codes, bytes_eq, Bool, true, false, ◌||◌, if◌then◌else◌, is_some, Option, Some, None, option_map, MatchBool}
 use Rattle.zarr_grids_metadata.specs.ExtensionPoints.{ExtensionPoint, configuration_members}
 use Rattle.zarr_grids_metadata.specs.declared.error.PluginCreateError.{PluginCreateError}
 use Rattle.zarr_grids_metadata.specs.declared.error.PluginCreateError.TheVariants as plugin
@@ -7,11 +7,12 @@ use Rattle.zarr_codecs_meaning.specs.Chains.{ArrayCodec, Chain}
 use Rattle.zarr_codecs_meaning.specs.Fits.{takes_each_shape}
 use Rattle.zarr_codecs_metadata.specs.Allowed.{has_no_array_codec, is_allowed}
 use Rattle.zarr_codecs_metadata.specs.ArrayCodecs.{array_codec_in}
-use Rattle.zarr_codecs_metadata.specs.Chains.{ReadsCodecs, array_to_bytes_in, chain_of}
+use Rattle.zarr_codecs_metadata.specs.Chains.{ReadsCodecs, any_too_deep, array_to_bytes_in, chain_of, is_too_deep}
 use Rattle.zarr_codecs_metadata.specs.Sections.{names_vlen, names_optional}
 use Rattle.zarr_codecs_array_to_array.specs.Refusals.{names_array_codec}
 use Rattle.zarr_codecs_configurations.specs.Reading.{VlenPoints, OptionalPoints, vlen_points_in, optional_points_in}
 use Rattle.zarr_codecs_around.specs.Codecs.{codecs_in}
+use Rattle.zarr_codecs_chains.specs.Configured.{optional_too_deep, vlen_too_deep}
 use Rattle.zarr_codecs_chains.specs.Reading.{leaf_in}
 
 -- whether a name is that of a codec between arrays and bytes that holds no chains
@@ -75,9 +76,17 @@ IsSaidBut said holds = (chain : Chain) × (said ≡ Some chain) × (holds chain 
 abbrev pub RefusesChain : ReadsCodecs → List ExtensionPoint → PluginCreateError → Type 0
 RefusesChain reads points cause = RefusedChain reads points cause ⊎ ((cause ≡ plugin.MetadataInvalid) × IsSaidBut (chain_of reads points) is_allowed)
 
+-- why a caller's extension points are refused as a chain: one of them nests deeper than is read, which is tested first, or they say no chain
+abbrev pub RefusesRead : ReadsCodecs → List ExtensionPoint → PluginCreateError → Type 0
+RefusesRead reads points cause = MatchBool (any_too_deep points) (cause ≡ plugin.TooDeep) (RefusesChain reads points cause)
+
 -- why an extension point is refused as a codec between arrays and bytes: as any such codec, or since array to array codecs stand where none may
 abbrev pub RefusesCodec : ReadsCodecs → ExtensionPoint → PluginCreateError → Type 0
 RefusesCodec reads point cause = RefusedCodec reads point cause ⊎ ((cause ≡ plugin.MetadataInvalid) × IsSaidBut (array_to_bytes_in reads point) is_allowed)
+
+-- why a caller's extension point is refused as a codec between arrays and bytes: it nests deeper than is read, which is tested first, or it says no such codec
+abbrev pub RefusesReadCodec : ReadsCodecs → ExtensionPoint → PluginCreateError → Type 0
+RefusesReadCodec reads point cause = MatchBool (is_too_deep point) (cause ≡ plugin.TooDeep) (RefusesCodec reads point cause)
 
 -- why `vlen` is not made of what it is configured by: a chain is refused, or that of the data has a codec between arrays
 abbrev pub RefusesVlen : ReadsCodecs → VlenPoints → PluginCreateError → Type 0
@@ -88,3 +97,11 @@ RefusesVlen reads given cause =
 abbrev pub RefusesOptional : ReadsCodecs → OptionalPoints → PluginCreateError → Type 0
 RefusesOptional reads given cause =
     RefusesChain reads given.mask cause ⊎ (RefusesChain reads given.content cause ⊎ ((cause ≡ plugin.MetadataInvalid) × IsSaidBut (chain_of reads given.content) takes_each_shape))
+
+-- why a caller's configuration of `vlen` is refused: a codec in it nests deeper than is read, which is tested first, or no `vlen` is made of it
+abbrev pub RefusesReadVlen : ReadsCodecs → VlenPoints → PluginCreateError → Type 0
+RefusesReadVlen reads given cause = MatchBool (vlen_too_deep given) (cause ≡ plugin.TooDeep) (RefusesVlen reads given cause)
+
+-- why a caller's configuration of `optional` is refused: a codec in it nests deeper than is read, which is tested first, or no `optional` is made of it
+abbrev pub RefusesReadOptional : ReadsCodecs → OptionalPoints → PluginCreateError → Type 0
+RefusesReadOptional reads given cause = MatchBool (optional_too_deep given) (cause ≡ plugin.TooDeep) (RefusesOptional reads given cause)

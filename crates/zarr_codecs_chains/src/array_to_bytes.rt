@@ -1,7 +1,16 @@
 //! Any codec between arrays and bytes.
+ghost use Rattle.std.specs.Prelude.{◌≡◌, ◌≢◌, Some, None, option_and_then, IfOk, IfErr};
+ghost use Rattle.zarr_grids_metadata.specs.Views.{point_of};
+ghost use Rattle.zarr_codecs_metadata.specs.Allowed.{allowed};
+ghost use Rattle.zarr_codecs_metadata.specs.Chains.{array_to_bytes_in};
+ghost use Rattle.zarr_codecs_chains.specs.Names.{Names};
+ghost use Rattle.zarr_codecs_chains.specs.Refusals.{RefusesCodec};
+ghost use Rattle.zarr_codecs_chains.specs.Views.{codec_chain};
+
 use crate::allowing::codec_is_allowed;
 use crate::copying::copy_codec;
 use crate::decoding::decode_codec;
+use crate::depth::is_too_deep;
 use crate::encoding::encode_codec;
 use crate::fitting::fits_codec;
 use crate::optional::OptionalCodec;
@@ -34,20 +43,21 @@ pub enum ArrayToBytesCodec<B: BytesToBytesCodecTraits> {
 }
 
 impl<B: BytesToBytesCodecTraits> ArrayToBytesCodec<B> {
-    ghost use Rattle.std.specs.Prelude.{◌≡◌, ◌≢◌, Some, None, true, option_and_then, IfOk, IfErr};
+    ghost use Rattle.std.specs.Prelude.{◌≡◌, ◌≢◌, ◌⊎◌, Some, None, true, false, option_and_then, IfOk, IfErr};
     ghost use Rattle.zarr_grids_metadata.specs.Views.{point_of};
     ghost use Rattle.zarr_codecs_metadata.specs.Allowed.{allowed, is_allowed};
-    ghost use Rattle.zarr_codecs_metadata.specs.Chains.{array_to_bytes_in};
+    ghost use Rattle.zarr_codecs_metadata.specs.Chains.{array_to_bytes_in, is_too_deep};
     ghost use Rattle.zarr_codecs_chains.specs.Names.{Names};
-    ghost use Rattle.zarr_codecs_chains.specs.Refusals.{RefusesCodec};
+    ghost use Rattle.zarr_codecs_chains.specs.Refusals.{RefusesReadCodec};
     ghost use Rattle.zarr_codecs_chains.specs.Views.{codec_chain, codec_point};
 
-    /// The codec that metadata describes, with all chains inside of it, each codec under the name that
-    /// it has there. `NameUnsupported` where its name is that of none, `MetadataInvalid` where its
-    /// configuration is not one of the name's, or where an array to array codec stands in it where
-    /// none may: in the data chain of `vlen` or `optional`, or in any chain inside that of `optional`
-    /// (this project's profile). Codecs inside of it are refused as they are elsewhere. `Memory` where
-    /// an allocation failed. It goes as deep as chains nest.
+    /// The codec that metadata describes, with all chains inside of it, each codec under the name
+    /// that it has there. `TooDeep`, before all else, where it nests deeper than
+    /// `CodecChain::from_metadata` reads; `NameUnsupported` where its name is that of none;
+    /// `MetadataInvalid` where its configuration is not one of the name's, or where an array to array
+    /// codec stands in it where none may: in the data chain of `vlen` or `optional`, or in any chain
+    /// inside that of `optional` (this project's profile). Codecs inside of it are refused as they
+    /// are elsewhere. `Memory` where an allocation failed.
     pub fn from_metadata(
         alloc: Global,
         metadata: &MetadataV3,
@@ -56,25 +66,23 @@ impl<B: BytesToBytesCodecTraits> ArrayToBytesCodec<B> {
             option_and_then allowed (array_to_bytes_in B.reads (point_of metadata.now))
             ≡ Some (codec_chain B.meaning codec)) }
         ensures names { IfOk result (λ codec. Names codec (point_of metadata.now)) }
+        ensures shallow { IfOk result (λ _. is_too_deep (point_of metadata.now) ≡ false) }
         ensures err { IfErr result (λ e. e ≢ PluginCreateError.Memory →
-            option_and_then allowed (array_to_bytes_in B.reads (point_of metadata.now))
-            ≡ None) }
+            (is_too_deep (point_of metadata.now) ≡ true)
+            ⊎ (option_and_then allowed (array_to_bytes_in B.reads (point_of metadata.now))
+            ≡ None)) }
         ensures refused { IfErr result (λ e. e ≢ PluginCreateError.Memory →
-            RefusesCodec B.reads (point_of metadata.now) e) }
+            RefusesReadCodec B.reads (point_of metadata.now) e) }
     {
-        match read_codec(alloc, metadata) {
-            Ok(codec) => if codec_is_allowed(&codec) {
-                Ok(codec)
-            } else {
-                Err(PluginCreateError::MetadataInvalid)
-            },
-            Err(error) => Err(error),
+        if is_too_deep(metadata) {
+            return Err(PluginCreateError::TooDeep);
         }
+        read_allowed_codec(alloc, metadata)
     }
 
     /// The codec's metadata under the names that its codecs keep, of which `from_metadata` makes an
-    /// equal codec where array to array codecs stand only where they may. `Err` only where an
-    /// allocation failed.
+    /// equal codec where it nests no deeper than that reads, and array to array codecs stand only
+    /// where they may. `Err` only where an allocation failed.
     pub fn metadata(&self, alloc: Global) -> Result<MetadataV3, AllocError>
         ensures written { IfOk result
             (λ metadata. point_of metadata ≡ codec_point B.described self.now) }
@@ -97,6 +105,10 @@ impl<B: BytesToBytesCodecTraits> ArrayToBytesCodecTraits for ArrayToBytesCodec<B
     ghost meaning = { codec_chain B.meaning };
 
     ghost is_function = { λ codec. true };
+
+    ghost copied = { λ codec copy. (described : B → ExtensionPoint)
+        → WritesAlike B.meaning described
+        → codec_point described copy ≡ codec_point described codec };
 
     fn encoding_is_function(&self) -> bool {
         true
@@ -247,11 +259,37 @@ impl<B: BytesToBytesCodecTraits> ArrayToBytesCodecTraits for ArrayToBytesCodec<B
         ensures meaning { IfOk result
             (λ copy. codec_chain B.meaning copy ≡ codec_chain B.meaning self.now) }
         ensures function { IfOk result (λ copy. true ≡ true) }
-        ensures written { (described : B → ExtensionPoint) → WritesAlike B.meaning described
-            → IfOk result (λ copy. codec_point described copy ≡ codec_point described self.now) }
+        ensures copied { IfOk result (λ copy. (described : B → ExtensionPoint)
+            → WritesAlike B.meaning described
+            → codec_point described copy ≡ codec_point described self.now) }
     {
         copy_codec(self, alloc)
     }
 
     ghost lawful = { codec_lawful B.meaning B.lawful };
+}
+
+/// The codec that metadata describes, however deep chains nest in it.
+fn read_allowed_codec<B: BytesToBytesCodecTraits>(
+    alloc: Global,
+    metadata: &MetadataV3,
+) -> Result<ArrayToBytesCodec<B>, PluginCreateError>
+    ensures ok { IfOk result (λ codec.
+        option_and_then allowed (array_to_bytes_in B.reads (point_of metadata.now))
+        ≡ Some (codec_chain B.meaning codec)) }
+    ensures names { IfOk result (λ codec. Names codec (point_of metadata.now)) }
+    ensures err { IfErr result (λ e. e ≢ PluginCreateError.Memory →
+        option_and_then allowed (array_to_bytes_in B.reads (point_of metadata.now))
+        ≡ None) }
+    ensures refused { IfErr result (λ e. e ≢ PluginCreateError.Memory →
+        RefusesCodec B.reads (point_of metadata.now) e) }
+{
+    match read_codec(alloc, metadata) {
+        Ok(codec) => if codec_is_allowed(&codec) {
+            Ok(codec)
+        } else {
+            Err(PluginCreateError::MetadataInvalid)
+        },
+        Err(error) => Err(error),
+    }
 }

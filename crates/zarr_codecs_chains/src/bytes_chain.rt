@@ -23,12 +23,18 @@ pub(crate) struct BytesChain<B: BytesToBytesCodecTraits> {
 }
 
 impl<B: BytesToBytesCodecTraits> ArrayToBytesCodecTraits for BytesChain<B> {
-    ghost use Rattle.std.specs.Prelude.{true};
-    ghost use Rattle.zarr_codecs_chains.specs.Views.{bytes_meaning, bytes_lawful};
+    ghost use Rattle.std.specs.Prelude.{◌≡◌, true};
+    ghost use Rattle.zarr_grids_metadata.specs.ExtensionPoints.{ExtensionPoint};
+    ghost use Rattle.zarr_codecs_chains.specs.Names.{WritesAlike};
+    ghost use Rattle.zarr_codecs_chains.specs.Views.{bytes_lawful, bytes_meaning, bytes_points};
 
     ghost meaning = { bytes_meaning B.meaning };
 
     ghost is_function = { λ chain. true };
+
+    ghost copied = { λ codec copy. (described : B → ExtensionPoint)
+        → WritesAlike B.meaning described
+        → bytes_points described copy ≡ bytes_points described codec };
 
     fn encoding_is_function(&self) -> bool {
         true
@@ -177,6 +183,7 @@ impl<B: BytesToBytesCodecTraits> ArrayToBytesCodecTraits for BytesChain<B> {
         Ok(None)
     }
 
+    #[tactic(auto, using(zarr_codecs_around::proofs::Copied::described_alike))]
     fn try_clone(&self, alloc: Global) -> Result<Self, AllocError> {
         let array_to_bytes = self.array_to_bytes.try_clone(alloc)?;
         let bytes_to_bytes = copies(alloc, self.bytes_to_bytes.as_slice())?;

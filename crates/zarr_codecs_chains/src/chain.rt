@@ -1,12 +1,12 @@
 //! Codec chains.
-use crate::allowing::is_allowed;
 use crate::array_to_bytes::ArrayToBytesCodec;
 use crate::bytes_chain::BytesChain;
 use crate::copying::copy_chain;
 use crate::decoding::decode_chain;
+use crate::depth::any_too_deep;
 use crate::encoding::encode_chain;
 use crate::fitting::fits_chain;
-use crate::reading::read_chain;
+use crate::reading::read_allowed;
 use crate::writing::chain_metadatas;
 use std::alloc::{AllocError, Global};
 use zarr_codecs_around::array_codecs::AfterArrayCodecs;
@@ -34,18 +34,18 @@ pub struct CodecChain<B: BytesToBytesCodecTraits> {
 }
 
 impl<B: BytesToBytesCodecTraits> CodecChain<B> {
-    ghost use Rattle.std.specs.Prelude.{◌≡◌, ◌≢◌, List, Some, None, map, IfOk, IfErr, true};
+    ghost use Rattle.std.specs.Prelude.{◌≡◌, ◌≢◌, ◌⊎◌, List, Some, None, map, IfOk, IfErr, true, false};
     ghost use Rattle.zarr_codecs_chains.specs.Parts.{arrays_of, bytes_of, codec_of};
     ghost use Rattle.zarr_codecs_chains.specs.Views.{codec_chain, meaning_of, points_of};
     ghost use Rattle.zarr_codecs_metadata.specs.Allowed.{is_allowed};
-    ghost use Rattle.zarr_codecs_metadata.specs.Chains.{allowed_chain, chain_of};
+    ghost use Rattle.zarr_codecs_metadata.specs.Chains.{allowed_chain, any_too_deep, chain_of};
     ghost use Rattle.zarr_codecs_chains.specs.Configured.{little_bytes};
     ghost use Rattle.zarr_codecs_chains.specs.Names.{NamesChain};
-    ghost use Rattle.zarr_codecs_chains.specs.Refusals.{RefusesChain};
+    ghost use Rattle.zarr_codecs_chains.specs.Refusals.{RefusesRead};
     ghost use Rattle.zarr_grids_metadata.specs.Views.{point_of};
 
-    /// The chain of array to array codecs, of an array to bytes codec, and of bytes to bytes codecs,
-    /// in the order in which they encode.
+    /// The chain of array to array codecs, of an array to bytes codec, and of bytes to bytes
+    /// codecs, in the order in which they encode.
     pub fn new(
         array_to_array: Vec<ArrayToArrayCodec>,
         array_to_bytes: ArrayToBytesCodec<B>,
@@ -97,14 +97,15 @@ impl<B: BytesToBytesCodecTraits> CodecChain<B> {
     }
 
     /// The chain that the metadata of its codecs names and describes, in their order, with all
-    /// chains inside of them, each codec under the name that it has there. The first codec that is
-    /// refused decides: `NameUnsupported` where its name is that of none, as that of a shard is here;
-    /// `MetadataInvalid` where its configuration is not one of its name's, or where no array to bytes
-    /// codec stands after the array to array codecs; a caller's codec is refused as its `create`
-    /// answers. `MetadataInvalid` also where an array to array codec stands where none may: in the
-    /// data chain of `vlen` or `optional`, or in any chain inside that of `optional` (this project's
-    /// profile). `Memory` where an allocation failed. It goes as deep as chains nest, and no codec but
-    /// a caller's is `TooDeep`.
+    /// chains inside of them, each codec under the name that it has there. `TooDeep`, before all
+    /// else, where one of them nests deeper than 127 levels, as no document does: the object that
+    /// it is counts as one, and its configuration as one. Else the first codec that is refused
+    /// decides: `NameUnsupported` where its name is that of none, as that of a shard is here;
+    /// `MetadataInvalid` where its configuration is not one of its name's, or where no array to
+    /// bytes codec stands after the array to array codecs; a caller's codec is refused as its
+    /// `create` answers. `MetadataInvalid` also where an array to array codec stands where none
+    /// may: in the data chain of `vlen` or `optional`, or in any chain inside that of `optional`
+    /// (this project's profile). `Memory` where an allocation failed.
     pub fn from_metadata(
         alloc: Global,
         codecs: &[MetadataV3],
@@ -112,25 +113,23 @@ impl<B: BytesToBytesCodecTraits> CodecChain<B> {
         ensures ok { IfOk result (λ chain.
             allowed_chain B.reads (map point_of codecs.now) ≡ Some (meaning_of B.meaning chain)) }
         ensures names { IfOk result (λ chain. NamesChain chain (map point_of codecs.now)) }
+        ensures shallow { IfOk result (λ _. any_too_deep (map point_of codecs.now) ≡ false) }
         ensures err { IfErr result (λ e. e ≢ PluginCreateError.Memory →
-            allowed_chain B.reads (map point_of codecs.now) ≡ None) }
+            (any_too_deep (map point_of codecs.now) ≡ true)
+            ⊎ (allowed_chain B.reads (map point_of codecs.now) ≡ None)) }
         ensures refused { IfErr result (λ e. e ≢ PluginCreateError.Memory →
-            RefusesChain B.reads (map point_of codecs.now) e) }
+            RefusesRead B.reads (map point_of codecs.now) e) }
     {
-        match read_chain(alloc, codecs) {
-            Ok(chain) => if is_allowed(&chain) {
-                Ok(chain)
-            } else {
-                Err(PluginCreateError::MetadataInvalid)
-            },
-            Err(error) => Err(error),
+        if any_too_deep(codecs) {
+            return Err(PluginCreateError::TooDeep);
         }
+        read_allowed(alloc, codecs)
     }
 
     /// The metadata of the codecs under the names that they keep, of which `from_metadata` makes an
-    /// equal chain where array to array codecs stand only where they may: in any chain that it made,
-    /// and in any that is made by `new` with codecs that it or their own `new` made. `Err` only where
-    /// an allocation failed.
+    /// equal chain where it nests no deeper than that reads, and array to array codecs stand only
+    /// where they may: in any chain that it made, and in any that is made by `new` with codecs that
+    /// it or their own `new` made. `Err` only where an allocation failed.
     pub fn create_metadatas(&self, alloc: Global) -> Result<Vec<MetadataV3>, AllocError>
         ensures written { IfOk result
             (λ codecs. map point_of codecs.items ≡ points_of B.described self.now) }
@@ -153,6 +152,10 @@ impl<B: BytesToBytesCodecTraits> ArrayToBytesCodecTraits for CodecChain<B> {
     ghost meaning = { meaning_of B.meaning };
 
     ghost is_function = { λ chain. true };
+
+    ghost copied = { λ codec copy. (described : B → ExtensionPoint)
+        → WritesAlike B.meaning described
+        → points_of described copy ≡ points_of described codec };
 
     fn encoding_is_function(&self) -> bool {
         true
@@ -293,8 +296,9 @@ impl<B: BytesToBytesCodecTraits> ArrayToBytesCodecTraits for CodecChain<B> {
         ensures meaning { IfOk result
             (λ copy. meaning_of B.meaning copy ≡ meaning_of B.meaning self.now) }
         ensures function { IfOk result (λ copy. true ≡ true) }
-        ensures written { (described : B → ExtensionPoint) → WritesAlike B.meaning described
-            → IfOk result (λ copy. points_of described copy ≡ points_of described self.now) }
+        ensures copied { IfOk result (λ copy. (described : B → ExtensionPoint)
+            → WritesAlike B.meaning described
+            → points_of described copy ≡ points_of described self.now) }
     {
         copy_chain(self, alloc)
     }

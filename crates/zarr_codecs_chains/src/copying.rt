@@ -16,7 +16,7 @@ use zarr_codecs_traits::BytesToBytesCodecTraits;
 
 /// An equal chain, whose codecs keep their names. `Err` only where an allocation failed.
 #[cycle(copying)]
-#[tactic(auto, using(crate::proofs::Copied::described_alike))]
+#[tactic(auto, using(zarr_codecs_around::proofs::Copied::described_alike))]
 pub(crate) fn copy_chain<B: BytesToBytesCodecTraits>(
     chain: &CodecChain<B>,
     alloc: Global,

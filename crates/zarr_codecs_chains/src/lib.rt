@@ -1,4 +1,5 @@
-//! Codec chains: array to array codecs, an array to bytes codec, and the caller's bytes to bytes codecs.
+//! Codec chains: array to array codecs, an array to bytes codec, and the caller's bytes to bytes
+//! codecs.
 #![tactic(auto)]
 
 mod allowing;
@@ -8,6 +9,7 @@ pub mod chain;
 mod coders;
 mod copying;
 mod decoding;
+mod depth;
 mod encoding;
 mod fitting;
 mod inner;
@@ -21,7 +23,9 @@ mod writing;
 
 pub use array_to_bytes::ArrayToBytesCodec;
 pub use chain::CodecChain;
+pub use depth::any_too_deep;
 pub use optional::OptionalCodec;
+pub use reading::read_allowed;
 pub use vlen::VlenCodec;
 pub use zarr_codecs_bytes::{BytesCodec, BytesCodecConfiguration, Endianness};
 pub use zarr_codecs_configurations::{OptionalCodecConfiguration, VlenCodecConfiguration};

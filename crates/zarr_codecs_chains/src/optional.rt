@@ -1,7 +1,16 @@
 //! The codec `optional`.
+ghost use Rattle.std.specs.Prelude.{◌≡◌, ◌≢◌, codes, Some, None, IfOk, IfErr};
+ghost use Rattle.zarr_codecs_configurations.specs.Views.{optional_points};
+ghost use Rattle.zarr_codecs_chains.specs.Configured.{configured_optional};
+ghost use Rattle.zarr_codecs_chains.specs.Names.{NamesChain, optional_name};
+ghost use Rattle.zarr_codecs_chains.specs.Refusals.{RefusesOptional};
+ghost use Rattle.zarr_codecs_chains.specs.Views.{optional_chain};
+ghost use Rattle.zarr_codecs_chains.specs.Parts.{optional_data, optional_mask};
 
 use crate::chain::CodecChain;
+use crate::depth::optional_too_deep;
 use crate::fitting::takes_each_shape;
+use crate::reading::read_allowed;
 use crate::writing::optional_configuration;
 use std::alloc::{AllocError, Global};
 use zarr_codecs_array_to_array::CodecName;
@@ -20,13 +29,13 @@ pub struct OptionalCodec<B: BytesToBytesCodecTraits> {
 }
 
 impl<B: BytesToBytesCodecTraits> OptionalCodec<B> {
-    ghost use Rattle.std.specs.Prelude.{◌≡◌, ◌≢◌, codes, true, false, Some, None, IfOk, IfErr};
+    ghost use Rattle.std.specs.Prelude.{◌≡◌, ◌≢◌, ◌⊎◌, codes, true, false, Some, None, IfOk, IfErr};
     ghost use Rattle.zarr_codecs_meaning.specs.Fits.{takes_each_shape};
     ghost use Rattle.zarr_codecs_metadata.specs.Allowed.{is_allowed};
     ghost use Rattle.zarr_codecs_configurations.specs.Views.{optional_points};
-    ghost use Rattle.zarr_codecs_chains.specs.Configured.{configured_optional};
+    ghost use Rattle.zarr_codecs_chains.specs.Configured.{configured_optional, optional_too_deep};
     ghost use Rattle.zarr_codecs_chains.specs.Names.{NamesChain, optional_name};
-    ghost use Rattle.zarr_codecs_chains.specs.Refusals.{RefusesOptional};
+    ghost use Rattle.zarr_codecs_chains.specs.Refusals.{RefusesReadOptional};
     ghost use Rattle.zarr_codecs_chains.specs.Views.{given_to_optional, meaning_of, optional_chain};
     ghost use Rattle.zarr_codecs_chains.specs.Parts.{optional_data, optional_mask};
 
@@ -58,9 +67,10 @@ impl<B: BytesToBytesCodecTraits> OptionalCodec<B> {
     }
 
     /// `optional` as a configuration gives it, under its default name. Its codecs keep the names
-    /// that they have there, and are refused as `CodecChain::from_metadata` refuses them;
-    /// `MetadataInvalid` also where the chain of the elements, or a chain inside of it, has an array
-    /// to array codec.
+    /// that they have there, and are refused as `CodecChain::from_metadata` refuses them:
+    /// `TooDeep`, before all else, where one of them, for the mask or the elements, nests deeper
+    /// than that reads. `MetadataInvalid` also where the chain of the elements, or a chain inside
+    /// of it, has an array to array codec.
     pub fn new_with_configuration(
         alloc: Global,
         configuration: &OptionalCodecConfiguration,
@@ -74,35 +84,23 @@ impl<B: BytesToBytesCodecTraits> OptionalCodec<B> {
         ensures data_names { IfOk result
             (λ codec. NamesChain (optional_data codec)
             (optional_points configuration.now).content) }
+        ensures shallow { IfOk result
+            (λ _. optional_too_deep (optional_points configuration.now) ≡ false) }
         ensures err { IfErr result (λ e. e ≢ PluginCreateError.Memory
-            → configured_optional B.reads (optional_points configuration.now) ≡ None) }
+            → (optional_too_deep (optional_points configuration.now) ≡ true)
+            ⊎ (configured_optional B.reads (optional_points configuration.now) ≡ None)) }
         ensures refused { IfErr result (λ e. e ≢ PluginCreateError.Memory
-            → RefusesOptional B.reads (optional_points configuration.now) e) }
+            → RefusesReadOptional B.reads (optional_points configuration.now) e) }
     {
-        let mask = configuration.mask_codecs.as_slice();
-        let mask_codecs = match CodecChain::from_metadata(alloc, mask) {
-            Ok(chain) => chain,
-            Err(error) => return Err(error),
-        };
-        let content = configuration.data_codecs.as_slice();
-        let data_codecs = match CodecChain::from_metadata(alloc, content) {
-            Ok(chain) => chain,
-            Err(error) => return Err(error),
-        };
-        if takes_each_shape(&data_codecs) {
-            Ok(OptionalCodec {
-                mask_codecs,
-                data_codecs,
-                name: CodecName::Default,
-            })
-        } else {
-            Err(PluginCreateError::MetadataInvalid)
+        if optional_too_deep(configuration) {
+            return Err(PluginCreateError::TooDeep);
         }
+        read_allowed_optional(alloc, configuration)
     }
 
-    /// What the codec is configured by, of which `new_with_configuration` makes an equal codec under
-    /// the default name, where array to array codecs stand only where they may. `Err` only where an
-    /// allocation failed.
+    /// What the codec is configured by, of which `new_with_configuration` makes an equal codec
+    /// under the default name, where it nests no deeper than that reads, and array to array codecs
+    /// stand only where they may. `Err` only where an allocation failed.
     pub fn configuration(&self, alloc: Global) -> Result<OptionalCodecConfiguration, AllocError>
         ensures given { IfOk result (λ configuration.
             optional_points configuration ≡ given_to_optional B.described self.now) }
@@ -125,5 +123,45 @@ impl<B: BytesToBytesCodecTraits> OptionalCodec<B> {
         ensures { result.now ≡ optional_data self.now }
     {
         &self.data_codecs
+    }
+}
+
+/// `optional` as a configuration gives it, however deep its codecs nest.
+fn read_allowed_optional<B: BytesToBytesCodecTraits>(
+    alloc: Global,
+    configuration: &OptionalCodecConfiguration,
+) -> Result<OptionalCodec<B>, PluginCreateError>
+    ensures ok { IfOk result
+        (λ codec. configured_optional B.reads (optional_points configuration.now)
+        ≡ Some (optional_chain B.meaning codec)) }
+    ensures name { IfOk result (λ codec. optional_name codec ≡ codes "optional") }
+    ensures mask_names { IfOk result
+        (λ codec. NamesChain (optional_mask codec) (optional_points configuration.now).mask) }
+    ensures data_names { IfOk result
+        (λ codec. NamesChain (optional_data codec)
+        (optional_points configuration.now).content) }
+    ensures err { IfErr result (λ e. e ≢ PluginCreateError.Memory
+        → configured_optional B.reads (optional_points configuration.now) ≡ None) }
+    ensures refused { IfErr result (λ e. e ≢ PluginCreateError.Memory
+        → RefusesOptional B.reads (optional_points configuration.now) e) }
+{
+    let mask = configuration.mask_codecs.as_slice();
+    let mask_codecs = match read_allowed(alloc, mask) {
+        Ok(chain) => chain,
+        Err(error) => return Err(error),
+    };
+    let content = configuration.data_codecs.as_slice();
+    let data_codecs = match read_allowed(alloc, content) {
+        Ok(chain) => chain,
+        Err(error) => return Err(error),
+    };
+    if takes_each_shape(&data_codecs) {
+        Ok(OptionalCodec {
+            mask_codecs,
+            data_codecs,
+            name: CodecName::Default,
+        })
+    } else {
+        Err(PluginCreateError::MetadataInvalid)
     }
 }

@@ -3,17 +3,18 @@ ghost use Rattle.std.specs.Prelude.{◌≡◌, ◌≢◌, ℕ, List, [], bytes_e
 ghost use Rattle.zarr_grids_metadata.specs.ExtensionPoints.{configuration_members};
 ghost use Rattle.zarr_grids_metadata.specs.Views.{point_of};
 ghost use Rattle.zarr_codecs_meaning.specs.Chains.{Chain};
-ghost use Rattle.zarr_codecs_metadata.specs.Chains.{array_to_bytes_in, bytes_chain_of, bytes_in, chain_of, listed_chain};
+ghost use Rattle.zarr_codecs_metadata.specs.Chains.{allowed_chain, array_to_bytes_in, bytes_chain_of, bytes_in, chain_of, listed_chain};
 ghost use Rattle.zarr_codecs_metadata.specs.Sections.{names_optional, names_vlen, optional_of, vlen_of};
 ghost use Rattle.zarr_codecs_packbits.specs.Metadata.{packbits_in};
 ghost use Rattle.zarr_grids_metadata.specs.ExtensionPoints.{ExtensionPoint};
 ghost use Rattle.zarr_codecs_chains.specs.Names.{NameAll, Names, NamesChain, NamesOptional, NamesVlen, name_of_optional, name_of_vlen};
 ghost use Rattle.zarr_codecs_chains.specs.Reading.{leaf_in};
 ghost use Rattle.zarr_codecs_array_to_array.specs.Refusals.{cause_of};
-ghost use Rattle.zarr_codecs_chains.specs.Refusals.{RefusedChain, RefusedCodec, names_leaf};
+ghost use Rattle.zarr_codecs_chains.specs.Refusals.{RefusedChain, RefusedCodec, RefusesChain, names_leaf};
 ghost use Rattle.zarr_codecs_around.specs.ArrayMetadata.{begins_with_array_codec};
 ghost use Rattle.zarr_codecs_chains.specs.Views.{bytes_meaning, codec_chain, meaning_of, optional_chain, vlen_chain};
 
+use crate::allowing::is_allowed;
 use crate::array_to_bytes::ArrayToBytesCodec;
 use crate::bytes_chain::BytesChain;
 use crate::chain::CodecChain;
@@ -28,6 +29,30 @@ use zarr_codecs_configurations::{OptionalCodecConfiguration, VlenCodecConfigurat
 use zarr_codecs_packbits::PackBitsCodec;
 use zarr_codecs_traits::BytesToBytesCodecTraits;
 use zarr_grids_metadata::{MetadataV3, PluginCreateError};
+
+/// The chain that metadata says, as `CodecChain::from_metadata` does, however deep it nests: for
+/// metadata of which that is known, as that of a document.
+pub fn read_allowed<B: BytesToBytesCodecTraits>(
+    alloc: Global,
+    codecs: &[MetadataV3],
+) -> Result<CodecChain<B>, PluginCreateError>
+    ensures ok { IfOk result (λ chain.
+        allowed_chain B.reads (map point_of codecs.now) ≡ Some (meaning_of B.meaning chain)) }
+    ensures names { IfOk result (λ chain. NamesChain chain (map point_of codecs.now)) }
+    ensures err { IfErr result (λ e. e ≢ PluginCreateError.Memory →
+        allowed_chain B.reads (map point_of codecs.now) ≡ None) }
+    ensures refused { IfErr result (λ e. e ≢ PluginCreateError.Memory →
+        RefusesChain B.reads (map point_of codecs.now) e) }
+{
+    match read_chain(alloc, codecs) {
+        Ok(chain) => if is_allowed(&chain) {
+            Ok(chain)
+        } else {
+            Err(PluginCreateError::MetadataInvalid)
+        },
+        Err(error) => Err(error),
+    }
+}
 
 /// The chain that metadata says. Whether its array to array codecs may stand there isn't asked.
 #[cycle(reading)]

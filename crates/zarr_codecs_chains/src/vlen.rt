@@ -1,7 +1,16 @@
 //! The codec `vlen`.
+ghost use Rattle.std.specs.Prelude.{◌≡◌, ◌≢◌, codes, Some, None, IfOk, IfErr};
+ghost use Rattle.zarr_codecs_configurations.specs.Views.{vlen_points};
+ghost use Rattle.zarr_codecs_chains.specs.Configured.{configured_vlen};
+ghost use Rattle.zarr_codecs_chains.specs.Names.{NamesChain, vlen_name};
+ghost use Rattle.zarr_codecs_chains.specs.Refusals.{RefusesVlen};
+ghost use Rattle.zarr_codecs_chains.specs.Views.{vlen_chain};
+ghost use Rattle.zarr_codecs_chains.specs.Parts.{vlen_data, vlen_index};
 
 use crate::allowing::has_no_array_codec;
 use crate::chain::CodecChain;
+use crate::depth::vlen_too_deep;
+use crate::reading::read_allowed;
 use crate::writing::vlen_configuration;
 use std::alloc::{AllocError, Global};
 use zarr_codecs_array_to_array::CodecName;
@@ -23,13 +32,13 @@ pub struct VlenCodec<B: BytesToBytesCodecTraits> {
 }
 
 impl<B: BytesToBytesCodecTraits> VlenCodec<B> {
-    ghost use Rattle.std.specs.Prelude.{◌≡◌, ◌≢◌, codes, true, false, Some, None, IfOk, IfErr};
+    ghost use Rattle.std.specs.Prelude.{◌≡◌, ◌≢◌, ◌⊎◌, codes, true, false, Some, None, IfOk, IfErr};
     ghost use Rattle.zarr_codecs_meaning.specs.Chains as chains;
     ghost use Rattle.zarr_codecs_metadata.specs.Allowed.{has_no_array_codec, is_allowed};
     ghost use Rattle.zarr_codecs_configurations.specs.Views.{vlen_points};
-    ghost use Rattle.zarr_codecs_chains.specs.Configured.{configured_vlen, little_bytes};
+    ghost use Rattle.zarr_codecs_chains.specs.Configured.{configured_vlen, little_bytes, vlen_too_deep};
     ghost use Rattle.zarr_codecs_chains.specs.Names.{NamesChain, vlen_name};
-    ghost use Rattle.zarr_codecs_chains.specs.Refusals.{RefusesVlen};
+    ghost use Rattle.zarr_codecs_chains.specs.Refusals.{RefusesReadVlen};
     ghost use Rattle.zarr_codecs_chains.specs.Views.{given_to_vlen, meaning_of, vlen_chain};
     ghost use Rattle.zarr_codecs_chains.specs.Parts.{vlen_data_type, vlen_data, vlen_index, vlen_location};
 
@@ -66,8 +75,8 @@ impl<B: BytesToBytesCodecTraits> VlenCodec<B> {
         })
     }
 
-    /// `vlen` on default codecs: `bytes` with the lowest byte first for the index and for the joined
-    /// data, and an index of `uint64` at the start.
+    /// `vlen` on default codecs: `bytes` with the lowest byte first for the index and for the
+    /// joined data, and an index of `uint64` at the start.
     pub fn new_default(alloc: Global) -> VlenCodec<B>
         ensures meaning { vlen_chain B.meaning result
             ≡ chains.Chain.vlen little_bytes little_bytes 64 chains.Location.at_start }
@@ -84,7 +93,8 @@ impl<B: BytesToBytesCodecTraits> VlenCodec<B> {
     }
 
     /// `vlen` as a configuration gives it, under its default name. Its codecs keep the names that
-    /// they have there, and are refused as `CodecChain::from_metadata` refuses them;
+    /// they have there, and are refused as `CodecChain::from_metadata` refuses them: `TooDeep`,
+    /// before all else, where one of them, for the index or the data, nests deeper than that reads.
     /// `MetadataInvalid` also where the chain of the data has an array to array codec.
     pub fn new_with_configuration(
         alloc: Global,
@@ -97,37 +107,23 @@ impl<B: BytesToBytesCodecTraits> VlenCodec<B> {
             (λ codec. NamesChain (vlen_index codec) (vlen_points configuration.now).index) }
         ensures data_names { IfOk result
             (λ codec. NamesChain (vlen_data codec) (vlen_points configuration.now).content) }
+        ensures shallow { IfOk result
+            (λ _. vlen_too_deep (vlen_points configuration.now) ≡ false) }
         ensures err { IfErr result (λ e. e ≢ PluginCreateError.Memory
-            → configured_vlen B.reads (vlen_points configuration.now) ≡ None) }
+            → (vlen_too_deep (vlen_points configuration.now) ≡ true)
+            ⊎ (configured_vlen B.reads (vlen_points configuration.now) ≡ None)) }
         ensures refused { IfErr result (λ e. e ≢ PluginCreateError.Memory
-            → RefusesVlen B.reads (vlen_points configuration.now) e) }
+            → RefusesReadVlen B.reads (vlen_points configuration.now) e) }
     {
-        let index = configuration.index_codecs.as_slice();
-        let index_codecs = match CodecChain::from_metadata(alloc, index) {
-            Ok(chain) => chain,
-            Err(error) => return Err(error),
-        };
-        let content = configuration.data_codecs.as_slice();
-        let data_codecs = match CodecChain::from_metadata(alloc, content) {
-            Ok(chain) => chain,
-            Err(error) => return Err(error),
-        };
-        if has_no_array_codec(&data_codecs) {
-            Ok(VlenCodec {
-                index_codecs,
-                data_codecs,
-                index_data_type: configuration.index_data_type,
-                index_location: configuration.index_location,
-                name: CodecName::Default,
-            })
-        } else {
-            Err(PluginCreateError::MetadataInvalid)
+        if vlen_too_deep(configuration) {
+            return Err(PluginCreateError::TooDeep);
         }
+        read_allowed_vlen(alloc, configuration)
     }
 
-    /// What the codec is configured by, of which `new_with_configuration` makes an equal codec under
-    /// the default name, where array to array codecs stand only where they may. `Err` only where an
-    /// allocation failed.
+    /// What the codec is configured by, of which `new_with_configuration` makes an equal codec
+    /// under the default name, where it nests no deeper than that reads, and array to array codecs
+    /// stand only where they may. `Err` only where an allocation failed.
     pub fn configuration(&self, alloc: Global) -> Result<VlenCodecConfiguration, AllocError>
         ensures given { IfOk result (λ configuration.
             vlen_points configuration ≡ given_to_vlen B.described self.now) }
@@ -177,5 +173,45 @@ impl<B: BytesToBytesCodecTraits> VlenCodec<B> {
         ensures { result ≡ vlen_location self.now }
     {
         self.index_location
+    }
+}
+
+/// `vlen` as a configuration gives it, however deep its codecs nest.
+fn read_allowed_vlen<B: BytesToBytesCodecTraits>(
+    alloc: Global,
+    configuration: &VlenCodecConfiguration,
+) -> Result<VlenCodec<B>, PluginCreateError>
+    ensures ok { IfOk result (λ codec. configured_vlen B.reads (vlen_points configuration.now)
+        ≡ Some (vlen_chain B.meaning codec)) }
+    ensures name { IfOk result (λ codec. vlen_name codec ≡ codes "vlen") }
+    ensures index_names { IfOk result
+        (λ codec. NamesChain (vlen_index codec) (vlen_points configuration.now).index) }
+    ensures data_names { IfOk result
+        (λ codec. NamesChain (vlen_data codec) (vlen_points configuration.now).content) }
+    ensures err { IfErr result (λ e. e ≢ PluginCreateError.Memory
+        → configured_vlen B.reads (vlen_points configuration.now) ≡ None) }
+    ensures refused { IfErr result (λ e. e ≢ PluginCreateError.Memory
+        → RefusesVlen B.reads (vlen_points configuration.now) e) }
+{
+    let index = configuration.index_codecs.as_slice();
+    let index_codecs = match read_allowed(alloc, index) {
+        Ok(chain) => chain,
+        Err(error) => return Err(error),
+    };
+    let content = configuration.data_codecs.as_slice();
+    let data_codecs = match read_allowed(alloc, content) {
+        Ok(chain) => chain,
+        Err(error) => return Err(error),
+    };
+    if has_no_array_codec(&data_codecs) {
+        Ok(VlenCodec {
+            index_codecs,
+            data_codecs,
+            index_data_type: configuration.index_data_type,
+            index_location: configuration.index_location,
+            name: CodecName::Default,
+        })
+    } else {
+        Err(PluginCreateError::MetadataInvalid)
     }
 }

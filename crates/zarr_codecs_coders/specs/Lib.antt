@@ -1,1 +1,3 @@
 pub mod Coders
+pub mod Decoders
+pub mod Encoders

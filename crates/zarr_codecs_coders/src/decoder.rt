@@ -6,8 +6,9 @@ ghost use Rattle.zarr_codecs_traits.specs.Capabilities.{decodes_parts};
 ghost use Rattle.zarr_codecs_traits.specs.Indexers.{asked_of};
 ghost use Rattle.zarr_codecs_traits.specs.Outcomes.{DecodesPart};
 ghost use Rattle.zarr_codecs_traits.specs.ReadBytes.{most_read};
-ghost use Rattle.zarr_codecs_traits.specs.Sources.{ReadRefused, refused_after};
+ghost use Rattle.zarr_codecs_traits.specs.Sources.{IsRefusedAfter, ReadRefused, refused_after};
 ghost use Rattle.zarr_codecs_coders.specs.Coders.{IsPartNotPut, IsPartPut};
+ghost use Rattle.zarr_codecs_coders.specs.Decoders.{array_of, codec_of, reference_of, source_of};
 
 use std::alloc::Global;
 use zarr_codecs_arrays::{ArrayBytes, CodecError};
@@ -29,11 +30,11 @@ pub struct CodecPartialDecoder<'a, C, D> {
 impl<'a, C: ArrayToBytesCodecTraits, D: BytesPartialDecoderTraits> CodecPartialDecoder<'a, C, D> {
     /// The decoder of an array's parts by a codec, of the value that a source holds.
     pub fn new(codec: &'a C, source: &'a mut D, array: WholeArray<'a>) -> Self
-        ensures same_reference { result.source.ghost_name ≡ source.entry.ghost_name }
-        ensures source { result.source.now ≡ source.old }
-        ensures codec { result.codec.now ≡ codec.now }
-        ensures elements { result.array.elements.now ≡ array.entry.elements.now }
-        ensures shape { result.array.shape.now ≡ array.entry.shape.now }
+        ensures same_reference { reference_of result ≡ source.entry.ghost_name }
+        ensures source { source_of result ≡ source.old }
+        ensures codec { codec_of result ≡ codec.now }
+        ensures elements { (array_of result).elements.now ≡ array.entry.elements.now }
+        ensures shape { (array_of result).shape.now ≡ array.entry.shape.now }
     {
         CodecPartialDecoder {
             codec,
@@ -45,31 +46,31 @@ impl<'a, C: ArrayToBytesCodecTraits, D: BytesPartialDecoderTraits> CodecPartialD
     /// Whether a part of the array can be decoded from a part of its value. Else the value is read
     /// whole, once a call.
     pub fn supports_partial_decode(&self) -> bool
-        ensures { result ≡ decodes_parts (C.meaning self.now.codec.now) }
+        ensures { result ≡ decodes_parts (C.meaning (codec_of self.now)) }
     {
         self.codec.partial_decoder_capability()
     }
 
     /// Whether there is a value. `Source` where the source refuses.
     pub fn exists(&mut self) -> Result<bool, CodecError>
-        ensures exists { IsTrue (D.is_honest self.old.source.now) →
-            IfOk result (λ there. there ≡ is_some (D.contents self.old.source.now)) }
+        ensures exists { IsTrue (D.is_honest (source_of self.old)) →
+            IfOk result (λ there. there ≡ is_some (D.contents (source_of self.old))) }
         ensures cause { ReadRefused result }
-        ensures refused { D.refused_calls self.new.source.now ≡
-            refused_after (D.refused_calls self.old.source.now) result }
-        ensures given { D.given_bytes self.new.source.now ≡ D.given_bytes self.old.source.now }
-        ensures follows { D.follows self.old.source.now self.new.source.now }
-        ensures same_reference { self.new.source.ghost_name ≡ self.old.source.ghost_name }
-        ensures codec { self.new.codec.now ≡ self.old.codec.now }
-        ensures elements { self.new.array.elements.now ≡ self.old.array.elements.now }
-        ensures shape { self.new.array.shape.now ≡ self.old.array.shape.now }
+        ensures refused { D.refused_calls (source_of self.new) ≡
+            refused_after (D.refused_calls (source_of self.old)) result }
+        ensures given { D.given_bytes (source_of self.new) ≡ D.given_bytes (source_of self.old) }
+        ensures follows { D.follows (source_of self.old) (source_of self.new) }
+        ensures same_reference { reference_of self.new ≡ reference_of self.old }
+        ensures codec { codec_of self.new ≡ codec_of self.old }
+        ensures elements { (array_of self.new).elements.now ≡ (array_of self.old).elements.now }
+        ensures shape { (array_of self.new).shape.now ≡ (array_of self.old).shape.now }
     {
         self.source.exists()
     }
 
     /// How many bytes are kept in memory for it: those that the source keeps.
     pub fn size_held(&self) -> usize
-        ensures { result ≡ D.held_bytes self.now.source.now }
+        ensures { result ≡ D.held_bytes (source_of self.now) }
     {
         self.source.size_held()
     }
@@ -82,22 +83,22 @@ impl<'a, C: ArrayToBytesCodecTraits, D: BytesPartialDecoderTraits> CodecPartialD
         indexer: Indexer<'_>,
         options: &CodecOptions,
     ) -> Result<ArrayBytes, CodecError>
-        ensures part { IsTrue (D.is_honest self.old.source.now) → DecodesPart
-            (C.meaning self.old.codec.now) (elements_of self.old.array.elements.now)
-            self.old.array.shape.now (D.contents self.old.source.now) (asked_of indexer.entry)
+        ensures part { IsTrue (D.is_honest (source_of self.old)) → DecodesPart
+            (C.meaning (codec_of self.old)) (elements_of (array_of self.old).elements.now)
+            (array_of self.old).shape.now (D.contents (source_of self.old)) (asked_of indexer.entry)
             result }
-        ensures refused { D.refused_calls self.new.source.now ≡
-            refused_after (D.refused_calls self.old.source.now) result }
-        ensures given { is_plain (C.meaning self.old.codec.now) ≡ true →
-            IsTrue (D.is_honest self.old.source.now) → D.given_bytes self.new.source.now
-            ≤ D.given_bytes self.old.source.now + most_read (C.meaning self.old.codec.now)
-            (elements_of self.old.array.elements.now).type self.old.array.shape.now
-            (D.contents self.old.source.now) (asked_of indexer.entry) }
-        ensures follows { D.follows self.old.source.now self.new.source.now }
-        ensures same_reference { self.new.source.ghost_name ≡ self.old.source.ghost_name }
-        ensures codec { self.new.codec.now ≡ self.old.codec.now }
-        ensures elements { self.new.array.elements.now ≡ self.old.array.elements.now }
-        ensures shape { self.new.array.shape.now ≡ self.old.array.shape.now }
+        ensures refused { D.refused_calls (source_of self.new) ≡
+            refused_after (D.refused_calls (source_of self.old)) result }
+        ensures given { is_plain (C.meaning (codec_of self.old)) ≡ true →
+            IsTrue (D.is_honest (source_of self.old)) → D.given_bytes (source_of self.new)
+            ≤ D.given_bytes (source_of self.old) + most_read (C.meaning (codec_of self.old))
+            (elements_of (array_of self.old).elements.now).type (array_of self.old).shape.now
+            (D.contents (source_of self.old)) (asked_of indexer.entry) }
+        ensures follows { D.follows (source_of self.old) (source_of self.new) }
+        ensures same_reference { reference_of self.new ≡ reference_of self.old }
+        ensures codec { codec_of self.new ≡ codec_of self.old }
+        ensures elements { (array_of self.new).elements.now ≡ (array_of self.old).elements.now }
+        ensures shape { (array_of self.new).shape.now ≡ (array_of self.old).shape.now }
     {
         let part = ArrayPart {
             elements: self.array.elements,
@@ -109,8 +110,8 @@ impl<'a, C: ArrayToBytesCodecTraits, D: BytesPartialDecoderTraits> CodecPartialD
     }
 
     /// Decodes the elements at the places that are asked for, and puts them over those of a target.
-    /// A refusal leaves the target as it was. Errors as those of `partial_decode` and of the target's
-    /// `put`.
+    /// A refusal leaves the target as it was. Errors as those of `partial_decode` and of the
+    /// target's `put`.
     pub fn partial_decode_into<T: ArrayBytesDecodeIntoTarget>(
         &mut self,
         alloc: Global,
@@ -118,25 +119,27 @@ impl<'a, C: ArrayToBytesCodecTraits, D: BytesPartialDecoderTraits> CodecPartialD
         target: &mut T,
         options: &CodecOptions,
     ) -> Result<(), CodecError>
-        ensures ok { IsTrue (D.is_honest self.old.source.now) → OnOk result (IsPartPut
-            (C.meaning self.old.codec.now) (elements_of self.old.array.elements.now)
-            self.old.array.shape.now (D.contents self.old.source.now) (asked_of indexer.entry)
+        ensures ok { IsTrue (D.is_honest (source_of self.old)) → OnOk result (IsPartPut
+            (C.meaning (codec_of self.old)) (elements_of (array_of self.old).elements.now)
+            (array_of self.old).shape.now (D.contents (source_of self.old)) (asked_of indexer.entry)
             (λ payload. T.puts target.old payload target.new)) }
         ensures err { OnErr result (target.new ≡ target.old) }
-        ensures cause { IsTrue (D.is_honest self.old.source.now) → IfErr result (IsPartNotPut
-            (C.meaning self.old.codec.now) (elements_of self.old.array.elements.now)
-            self.old.array.shape.now (D.contents self.old.source.now) (asked_of indexer.entry)
+        ensures cause { IsTrue (D.is_honest (source_of self.old)) → IfErr result (IsPartNotPut
+            (C.meaning (codec_of self.old)) (elements_of (array_of self.old).elements.now)
+            (array_of self.old).shape.now (D.contents (source_of self.old)) (asked_of indexer.entry)
             (T.misfits target.old)) }
-        ensures given { is_plain (C.meaning self.old.codec.now) ≡ true →
-            IsTrue (D.is_honest self.old.source.now) → D.given_bytes self.new.source.now
-            ≤ D.given_bytes self.old.source.now + most_read (C.meaning self.old.codec.now)
-            (elements_of self.old.array.elements.now).type self.old.array.shape.now
-            (D.contents self.old.source.now) (asked_of indexer.entry) }
-        ensures follows { D.follows self.old.source.now self.new.source.now }
-        ensures same_reference { self.new.source.ghost_name ≡ self.old.source.ghost_name }
-        ensures codec { self.new.codec.now ≡ self.old.codec.now }
-        ensures elements { self.new.array.elements.now ≡ self.old.array.elements.now }
-        ensures shape { self.new.array.shape.now ≡ self.old.array.shape.now }
+        ensures refused { IsRefusedAfter (T.misfits target.old)
+            (D.refused_calls (source_of self.old)) result (D.refused_calls (source_of self.new)) }
+        ensures given { is_plain (C.meaning (codec_of self.old)) ≡ true →
+            IsTrue (D.is_honest (source_of self.old)) → D.given_bytes (source_of self.new)
+            ≤ D.given_bytes (source_of self.old) + most_read (C.meaning (codec_of self.old))
+            (elements_of (array_of self.old).elements.now).type (array_of self.old).shape.now
+            (D.contents (source_of self.old)) (asked_of indexer.entry) }
+        ensures follows { D.follows (source_of self.old) (source_of self.new) }
+        ensures same_reference { reference_of self.new ≡ reference_of self.old }
+        ensures codec { codec_of self.new ≡ codec_of self.old }
+        ensures elements { (array_of self.new).elements.now ≡ (array_of self.old).elements.now }
+        ensures shape { (array_of self.new).shape.now ≡ (array_of self.old).shape.now }
     {
         match self.partial_decode(alloc, indexer, options) {
             Ok(elements) => target.put(alloc, &elements),

@@ -10,6 +10,7 @@ ghost use Rattle.zarr_codecs_traits.specs.PartWriting.{IsEncodedInto, NotEncoded
 ghost use Rattle.zarr_codecs_traits.specs.ReadBytes.{most_read};
 ghost use Rattle.zarr_codecs_traits.specs.Sources.{ReadRefused, refused_after};
 ghost use Rattle.zarr_codecs_traits.specs.Writes.{WriteRefused, accepted_after};
+ghost use Rattle.zarr_codecs_coders.specs.Encoders.{array_of, codec_of, reference_of, source_of};
 
 use std::alloc::Global;
 use zarr_codecs_arrays::{ArrayBytes, CodecError};
@@ -30,11 +31,11 @@ pub struct CodecPartialEncoder<'a, C, E> {
 impl<'a, C: ArrayToBytesCodecTraits, E: BytesPartialEncoderTraits> CodecPartialEncoder<'a, C, E> {
     /// The encoder of an array's parts by a codec, into the value that a source holds.
     pub fn new(codec: &'a C, source: &'a mut E, array: WholeArray<'a>) -> Self
-        ensures same_reference { result.source.ghost_name ≡ source.entry.ghost_name }
-        ensures source { result.source.now ≡ source.old }
-        ensures codec { result.codec.now ≡ codec.now }
-        ensures elements { result.array.elements.now ≡ array.entry.elements.now }
-        ensures shape { result.array.shape.now ≡ array.entry.shape.now }
+        ensures same_reference { reference_of result ≡ source.entry.ghost_name }
+        ensures source { source_of result ≡ source.old }
+        ensures codec { codec_of result ≡ codec.now }
+        ensures elements { (array_of result).elements.now ≡ array.entry.elements.now }
+        ensures shape { (array_of result).shape.now ≡ array.entry.shape.now }
     {
         CodecPartialEncoder {
             codec,
@@ -46,31 +47,31 @@ impl<'a, C: ArrayToBytesCodecTraits, E: BytesPartialEncoderTraits> CodecPartialE
     /// Whether a part of the array can be encoded as a part of its value. Else the value is read
     /// and written whole, once a call.
     pub fn supports_partial_encode(&self) -> bool
-        ensures { result ≡ encodes_in_part (C.meaning self.now.codec.now) }
+        ensures { result ≡ encodes_in_part (C.meaning (codec_of self.now)) }
     {
         self.codec.partial_encoder_capability()
     }
 
     /// Whether there is a value. `Source` where the source refuses.
     pub fn exists(&mut self) -> Result<bool, CodecError>
-        ensures exists { IsTrue (E.is_honest self.old.source.now) →
-            IfOk result (λ there. there ≡ is_some (E.contents self.old.source.now)) }
+        ensures exists { IsTrue (E.is_honest (source_of self.old)) →
+            IfOk result (λ there. there ≡ is_some (E.contents (source_of self.old))) }
         ensures cause { ReadRefused result }
-        ensures refused { E.refused_calls self.new.source.now ≡
-            refused_after (E.refused_calls self.old.source.now) result }
-        ensures given { E.given_bytes self.new.source.now ≡ E.given_bytes self.old.source.now }
-        ensures follows { E.follows self.old.source.now self.new.source.now }
-        ensures same_reference { self.new.source.ghost_name ≡ self.old.source.ghost_name }
-        ensures codec { self.new.codec.now ≡ self.old.codec.now }
-        ensures elements { self.new.array.elements.now ≡ self.old.array.elements.now }
-        ensures shape { self.new.array.shape.now ≡ self.old.array.shape.now }
+        ensures refused { E.refused_calls (source_of self.new) ≡
+            refused_after (E.refused_calls (source_of self.old)) result }
+        ensures given { E.given_bytes (source_of self.new) ≡ E.given_bytes (source_of self.old) }
+        ensures follows { E.follows (source_of self.old) (source_of self.new) }
+        ensures same_reference { reference_of self.new ≡ reference_of self.old }
+        ensures codec { codec_of self.new ≡ codec_of self.old }
+        ensures elements { (array_of self.new).elements.now ≡ (array_of self.old).elements.now }
+        ensures shape { (array_of self.new).shape.now ≡ (array_of self.old).shape.now }
     {
         self.source.exists()
     }
 
     /// How many bytes are kept in memory for it: those that the source keeps.
     pub fn size_held(&self) -> usize
-        ensures { result ≡ E.held_bytes self.now.source.now }
+        ensures { result ≡ E.held_bytes (source_of self.now) }
     {
         self.source.size_held()
     }
@@ -83,22 +84,22 @@ impl<'a, C: ArrayToBytesCodecTraits, E: BytesPartialEncoderTraits> CodecPartialE
         indexer: Indexer<'_>,
         options: &CodecOptions,
     ) -> Result<ArrayBytes, CodecError>
-        ensures part { IsTrue (E.is_honest self.old.source.now) → DecodesPart
-            (C.meaning self.old.codec.now) (elements_of self.old.array.elements.now)
-            self.old.array.shape.now (E.contents self.old.source.now) (asked_of indexer.entry)
+        ensures part { IsTrue (E.is_honest (source_of self.old)) → DecodesPart
+            (C.meaning (codec_of self.old)) (elements_of (array_of self.old).elements.now)
+            (array_of self.old).shape.now (E.contents (source_of self.old)) (asked_of indexer.entry)
             result }
-        ensures refused { E.refused_calls self.new.source.now ≡
-            refused_after (E.refused_calls self.old.source.now) result }
-        ensures given { is_plain (C.meaning self.old.codec.now) ≡ true →
-            IsTrue (E.is_honest self.old.source.now) → E.given_bytes self.new.source.now
-            ≤ E.given_bytes self.old.source.now + most_read (C.meaning self.old.codec.now)
-            (elements_of self.old.array.elements.now).type self.old.array.shape.now
-            (E.contents self.old.source.now) (asked_of indexer.entry) }
-        ensures follows { E.follows self.old.source.now self.new.source.now }
-        ensures same_reference { self.new.source.ghost_name ≡ self.old.source.ghost_name }
-        ensures codec { self.new.codec.now ≡ self.old.codec.now }
-        ensures elements { self.new.array.elements.now ≡ self.old.array.elements.now }
-        ensures shape { self.new.array.shape.now ≡ self.old.array.shape.now }
+        ensures refused { E.refused_calls (source_of self.new) ≡
+            refused_after (E.refused_calls (source_of self.old)) result }
+        ensures given { is_plain (C.meaning (codec_of self.old)) ≡ true →
+            IsTrue (E.is_honest (source_of self.old)) → E.given_bytes (source_of self.new)
+            ≤ E.given_bytes (source_of self.old) + most_read (C.meaning (codec_of self.old))
+            (elements_of (array_of self.old).elements.now).type (array_of self.old).shape.now
+            (E.contents (source_of self.old)) (asked_of indexer.entry) }
+        ensures follows { E.follows (source_of self.old) (source_of self.new) }
+        ensures same_reference { reference_of self.new ≡ reference_of self.old }
+        ensures codec { codec_of self.new ≡ codec_of self.old }
+        ensures elements { (array_of self.new).elements.now ≡ (array_of self.old).elements.now }
+        ensures shape { (array_of self.new).shape.now ≡ (array_of self.old).shape.now }
     {
         let part = ArrayPart {
             elements: self.array.elements,
@@ -119,26 +120,26 @@ impl<'a, C: ArrayToBytesCodecTraits, E: BytesPartialEncoderTraits> CodecPartialE
         bytes: ArrayBytes,
         options: &CodecOptions,
     ) -> Result<(), CodecError>
-        ensures ok { IsTrue (E.is_honest self.old.source.now) → OnOk result ((cells : List Cell)
-            × IsEncodedInto (C.meaning self.old.codec.now) (C.is_function self.old.codec.now)
-            (elements_of self.old.array.elements.now) self.old.array.shape.now
-            (asked_of indexer.entry) (payload_of bytes) cells (E.contents self.old.source.now)
-            (E.contents self.new.source.now)) }
-        ensures err { IsTrue (E.is_honest self.old.source.now) →
-            OnErr result (E.contents self.new.source.now ≡ E.contents self.old.source.now) }
-        ensures cause { IsTrue (E.is_honest self.old.source.now) → NotEncodedInto
-            (C.meaning self.old.codec.now) (elements_of self.old.array.elements.now)
-            self.old.array.shape.now (asked_of indexer.entry) (payload_of bytes)
-            (E.contents self.old.source.now) result }
-        ensures refused { E.refused_calls self.new.source.now ≡
-            refused_after (E.refused_calls self.old.source.now) result }
-        ensures once { WritesOnce (E.accepted_writes self.old.source.now)
-            (E.accepted_writes self.new.source.now) result }
-        ensures rewrites { E.rewrites self.old.source.now self.new.source.now }
-        ensures same_reference { self.new.source.ghost_name ≡ self.old.source.ghost_name }
-        ensures codec { self.new.codec.now ≡ self.old.codec.now }
-        ensures elements { self.new.array.elements.now ≡ self.old.array.elements.now }
-        ensures shape { self.new.array.shape.now ≡ self.old.array.shape.now }
+        ensures ok { IsTrue (E.is_honest (source_of self.old)) → OnOk result ((cells : List Cell)
+            × IsEncodedInto (C.meaning (codec_of self.old)) (C.is_function (codec_of self.old))
+            (elements_of (array_of self.old).elements.now) (array_of self.old).shape.now
+            (asked_of indexer.entry) (payload_of bytes) cells (E.contents (source_of self.old))
+            (E.contents (source_of self.new))) }
+        ensures err { IsTrue (E.is_honest (source_of self.old)) →
+            OnErr result (E.contents (source_of self.new) ≡ E.contents (source_of self.old)) }
+        ensures cause { IsTrue (E.is_honest (source_of self.old)) → NotEncodedInto
+            (C.meaning (codec_of self.old)) (elements_of (array_of self.old).elements.now)
+            (array_of self.old).shape.now (asked_of indexer.entry) (payload_of bytes)
+            (E.contents (source_of self.old)) result }
+        ensures refused { E.refused_calls (source_of self.new) ≡
+            refused_after (E.refused_calls (source_of self.old)) result }
+        ensures once { WritesOnce (E.accepted_writes (source_of self.old))
+            (E.accepted_writes (source_of self.new)) result }
+        ensures rewrites { E.rewrites (source_of self.old) (source_of self.new) }
+        ensures same_reference { reference_of self.new ≡ reference_of self.old }
+        ensures codec { codec_of self.new ≡ codec_of self.old }
+        ensures elements { (array_of self.new).elements.now ≡ (array_of self.old).elements.now }
+        ensures shape { (array_of self.new).shape.now ≡ (array_of self.old).shape.now }
     {
         let part = ArrayPart {
             elements: self.array.elements,
@@ -152,20 +153,20 @@ impl<'a, C: ArrayToBytesCodecTraits, E: BytesPartialEncoderTraits> CodecPartialE
     /// Takes the value away, so that each element is the fill value. That there is none is fine.
     /// `Source` where the source refuses.
     pub fn erase(&mut self) -> Result<(), CodecError>
-        ensures ok { IsTrue (E.is_honest self.old.source.now) →
-            OnOk result (E.contents self.new.source.now ≡ None) }
-        ensures err { IsTrue (E.is_honest self.old.source.now) →
-            OnErr result (E.contents self.new.source.now ≡ E.contents self.old.source.now) }
+        ensures ok { IsTrue (E.is_honest (source_of self.old)) →
+            OnOk result (E.contents (source_of self.new) ≡ None) }
+        ensures err { IsTrue (E.is_honest (source_of self.old)) →
+            OnErr result (E.contents (source_of self.new) ≡ E.contents (source_of self.old)) }
         ensures cause { WriteRefused result }
-        ensures refused { E.refused_calls self.new.source.now ≡
-            refused_after (E.refused_calls self.old.source.now) result }
-        ensures accepted { E.accepted_writes self.new.source.now ≡
-            accepted_after (E.accepted_writes self.old.source.now) result }
-        ensures rewrites { E.rewrites self.old.source.now self.new.source.now }
-        ensures same_reference { self.new.source.ghost_name ≡ self.old.source.ghost_name }
-        ensures codec { self.new.codec.now ≡ self.old.codec.now }
-        ensures elements { self.new.array.elements.now ≡ self.old.array.elements.now }
-        ensures shape { self.new.array.shape.now ≡ self.old.array.shape.now }
+        ensures refused { E.refused_calls (source_of self.new) ≡
+            refused_after (E.refused_calls (source_of self.old)) result }
+        ensures accepted { E.accepted_writes (source_of self.new) ≡
+            accepted_after (E.accepted_writes (source_of self.old)) result }
+        ensures rewrites { E.rewrites (source_of self.old) (source_of self.new) }
+        ensures same_reference { reference_of self.new ≡ reference_of self.old }
+        ensures codec { codec_of self.new ≡ codec_of self.old }
+        ensures elements { (array_of self.new).elements.now ≡ (array_of self.old).elements.now }
+        ensures shape { (array_of self.new).shape.now ≡ (array_of self.old).shape.now }
     {
         self.source.erase()
     }

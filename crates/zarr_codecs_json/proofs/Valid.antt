@@ -64,21 +64,18 @@ no_list type (cell ∷ cells) h = elim (and_cases (is_value type cell) (list_all
 none_of : (type : DataType) (o : Option (List Cell)) → o ≡ None → option_and_then (elements_data type) o ≡ None
 none_of type o h = ap (option_and_then (elements_data type)) h
 
-by_cells : (type : DataType) (o : Option (List Cell)) → ((cells : List Cell) → o ≡ Some cells → ⊥) → option_and_then (elements_data type) o ≡ None
-by_cells type None law = refl
-by_cells type (Some cells) law = absurd (law cells refl)
-
 count_of : (type : DataType) (width : ℕ) (bytes : List ℕ) (cells : List Cell) → byte_width type ≡ Some width → cells_in type (fixed bytes) ≡ Some cells → IsWhole width bytes cells
 count_of type width bytes cells wide is = fixed_in-whole width bytes cells (sym (ap (λ (o : Option ℕ). option_and_then (λ n. fixed_in n bytes) o) wide) ∙ is)
 
 pub refused : {A : Type 0} (type : DataType) (width : ℕ) (bytes : List ℕ) (r : Result A CodecError) → single_width type ≡ Some width → Validates type (fixed bytes) (length bytes / width) r → is_ok r ≡ false → payload_data type (fixed bytes) ≡ None
 refused type width bytes (Ok v) wide h e = cc
-refused type width bytes (Err error.ExpectedFixedLengthBytes) wide h e = none_of type (cells_in type (fixed bytes)) h
-refused type width bytes (Err error.ExpectedVariableLengthBytes) wide h e = none_of type (cells_in type (fixed bytes)) h
-refused type width bytes (Err error.ExpectedOptionalBytes) wide h e = none_of type (cells_in type (fixed bytes)) h
-refused type width bytes (Err error.InvalidNumberOfElements) wide h e = by_cells type (cells_in type (fixed bytes)) (λ cells is.
-    let w = count_of type width bytes cells (known_width type width wide) is in
-    h cells (record { lists = is; many = ap length w.is ∙ length-fixed_cells width bytes }))
+refused type width bytes (Err error.ExpectedFixedLengthBytes) wide h e = none_of type (cells_in type (fixed bytes)) h.0
+refused type width bytes (Err error.ExpectedVariableLengthBytes) wide h e = none_of type (cells_in type (fixed bytes)) h.0
+refused type width bytes (Err error.ExpectedOptionalBytes) wide h e = none_of type (cells_in type (fixed bytes)) h.0
+refused type width bytes (Err error.InvalidNumberOfElements) wide (inl h) e = none_of type (cells_in type (fixed bytes)) h.0
+refused type width bytes (Err error.InvalidNumberOfElements) wide (inr h) e =
+    let w = count_of type width bytes h.0 (known_width type width wide) h.1 in
+    absurd (h.2 (ap length w.is ∙ length-fixed_cells width bytes))
 refused type width bytes (Err error.CellOutOfRange) wide h e = ap (option_and_then (elements_data type)) h.1.lists ∙ no_list type h.0 h.2
 refused type width bytes (Err error.Fit) wide h e = elim h [ ]
 refused type width bytes (Err error.Damage) wide h e = elim h [ ]

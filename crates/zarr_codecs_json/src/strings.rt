@@ -68,8 +68,8 @@ fn push_quoted(text: &mut Vec<u8>, string: &str) -> Result<(), AllocError>
     Ok(())
 }
 
-/// Appends the bytes before the first that needs an escape, and this one's escape. Returns the bytes
-/// after it.
+/// Appends the bytes before the first that needs an escape, and this one's escape. Returns the
+/// bytes after it.
 fn push_run<'a>(text: &mut Vec<u8>, bytes: &'a [u8]) -> Result<&'a [u8], AllocError>
     requires { 0 < length bytes.now }
     ensures ok { IfOk result (λ rest.

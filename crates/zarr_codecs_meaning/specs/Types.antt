@@ -78,7 +78,7 @@ bytes_in (c ∷ cs) = c.byte_count + bytes_in cs
 abbrev pub byte_width : DataType → Option ℕ
 byte_width type = if is_fixed type then Some (bytes_in (components type)) else None
 
--- so many elements of a type have 2^63 bytes or more, or are as many
+-- this many elements of a type are 2^63 or more, or have 2^63 bytes or more
 abbrev pub IsTooLarge : DataType → ℕ → Type 0
 IsTooLarge type count = (2 ^ 63 ≤ count) ⊎ MatchOption (byte_width type) ⊥ (λ width. 2 ^ 63 ≤ count * width)
 

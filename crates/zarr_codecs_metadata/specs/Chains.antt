@@ -1,5 +1,6 @@
 -- What the metadata of codecs says (Zarr core specification, "Codecs"; the names of codecs are this project's profile).
-use Rattle.std.specs.Prelude.{ℕ, zero, suc, List, [], ◌∷◌, codes, bytes_eq, if◌then◌else◌, Option, Some, None, option_map, option_and_then}
+use Rattle.std.specs.Prelude.{ℕ, zero, suc, ◌+◌, List, [], ◌∷◌, codes, bytes_eq, nat_lt, Bool, if◌then◌else◌, Option, Some, None, option_map, option_and_then}
+use Rattle.std.specs.List.{list_any}
 use Rattle.serde_json.specs.Data.{Data, Items, no_items, item, Members, members_depth}
 use Rattle.serde_json.specs.Find.{get_member, as_str, as_array}
 use Rattle.zarr_grids_metadata.specs.ExtensionPoints.{ExtensionPoint, extension_point, configuration_members}
@@ -83,6 +84,18 @@ array_to_bytes_within reads (suc levels) point = array_to_bytes_by (listed_chain
 -- how deep the members of an extension point's configuration nest
 abbrev pub point_depth : ExtensionPoint → ℕ
 point_depth point = members_depth (configuration_members point.configuration)
+
+-- how deep arrays and objects may nest in metadata, as in a document (this project's profile)
+abbrev pub depth_limit : ℕ
+depth_limit = 127
+
+-- whether an extension point nests deeper than is read: the object that it is counts as one level, and its configuration as one
+abbrev pub is_too_deep : ExtensionPoint → Bool
+is_too_deep point = nat_lt depth_limit (2 + point_depth point)
+
+-- whether one of several extension points nests deeper than is read
+abbrev pub any_too_deep : List ExtensionPoint → Bool
+any_too_deep points = list_any is_too_deep points
 
 -- the array to bytes codec that an extension point is, however deep chains nest in it
 abbrev pub array_to_bytes_in : ReadsCodecs → ReadsCodec

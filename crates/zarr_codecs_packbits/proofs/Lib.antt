@@ -6,6 +6,6 @@ pub mod ReadsBack
 pub mod AskedParts
 pub mod PackedWords
 pub mod Singles
-pub mod RunNumbers
+pub mod SpanNumbers
 pub mod Unpacked
 pub mod PackedParts

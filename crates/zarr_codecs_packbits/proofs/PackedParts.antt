@@ -28,9 +28,9 @@ use Rattle.zarr_codecs_traits.specs.Outcomes.{DecodesPart, IsPart}
 use Rattle.zarr_codecs_traits.specs.Sources.{RangesRefused, ReadRefused, any_past_end, bytes_at, ends_past, given_after, part_lists, parts_length, parts_of}
 use Rattle.zarr_codecs_traits.specs.declared.byte_range.ByteRange.{ByteRange}
 use Rattle.zarr_codecs_packbits.specs.Packing.{element_in}
-use Rattle.zarr_codecs_packbits.specs.Runs.{ends_within, run_numbers, run_range, run_ranges, runs_numbers, total_length}
+use Rattle.zarr_codecs_packbits.specs.Spans.{ends_within, span_numbers, span_range, span_ranges, spans_numbers, total_length}
 use Rattle.zarr_codecs_packbits.specs.Turning.{bits_of}
-use Rattle.zarr_codecs_packbits.specs.declared.runs.Run.{Run}
+use Rattle.zarr_codecs_packbits.specs.declared.spans.Span.{Span}
 use Rattle.zarr_codecs_packbits.proofs.PackedCells.{fixed_cells_in, fixed_where, length-element_in}
 
 -- ---- elements that were unpacked
@@ -73,7 +73,7 @@ packed_part first last elements shape value made asked fit some inside long is =
       is = part_read chain elements shape value all ns fit decoded_is below ∙ ap Some (gathered_cells f elements.fill (product shape) ns below);
     }
 
--- ---- runs of numbers
+-- ---- spans of numbers
 
 pub small_numbers : (count limit : ℕ) (ns : List ℕ) → count ≤ limit → list_all (λ n. nat_lt n count) ns ≡ true → list_all (λ n. nat_lt n limit) ns ≡ true
 small_numbers count limit [] few below = refl
@@ -88,29 +88,29 @@ both_pass test (x ∷ xs) ys h =
     let parts = and_parts (test x) (list_all test (xs ++ ys)) h in
     let rest = both_pass test xs ys parts.1 in (ap (λ (b : Bool). b && list_all test xs) parts.0 ∙ rest.0, rest.1)
 
--- where all numbers of a run are below a number, its end is at most it
-run_ends : (count many n : ℕ) → list_all (λ m. nat_lt m count) (range_with_len n (suc many)) ≡ true → n + suc many ≤ count
-run_ends count zero n h = let below = ltb-true n count (and_parts (nat_lt n count) true h).0 in omega arith
-run_ends count (suc many) n h =
-    let rest = run_ends count many (n + 1) (and_parts (nat_lt n count) (list_all (λ m. nat_lt m count) (range_with_len (n + 1) (suc many))) h).1 in
+-- where all numbers of a span are below a number, its end is at most it
+span_ends : (count many n : ℕ) → list_all (λ m. nat_lt m count) (range_with_len n (suc many)) ≡ true → n + suc many ≤ count
+span_ends count zero n h = let below = ltb-true n count (and_parts (nat_lt n count) true h).0 in omega arith
+span_ends count (suc many) n h =
+    let rest = span_ends count many (n + 1) (and_parts (nat_lt n count) (list_all (λ m. nat_lt m count) (range_with_len (n + 1) (suc many))) h).1 in
     omega (arith, rest)
 
-some_ends : (count : ℕ) (run : Run) (many : ℕ) → run.count ≡ many → 0 < many → list_all (λ m. nat_lt m count) (run_numbers run) ≡ true → run.start + run.count ≤ count
-some_ends count run zero e some h = absurd (omega (arith, some))
-some_ends count run (suc many) e some h =
-    let end = run_ends count many run.start (ap (λ k. list_all (λ m. nat_lt m count) (range_with_len run.start k)) (sym e) ∙ h) in
+some_ends : (count : ℕ) (span : Span) (many : ℕ) → span.count ≡ many → 0 < many → list_all (λ m. nat_lt m count) (span_numbers span) ≡ true → span.start + span.count ≤ count
+some_ends count span zero e some h = absurd (omega (arith, some))
+some_ends count span (suc many) e some h =
+    let end = span_ends count many span.start (ap (λ k. list_all (λ m. nat_lt m count) (range_with_len span.start k)) (sym e) ∙ h) in
     omega (arith, end, e)
 
--- the bits of runs of places of an array end within as many as the array has
-pub runs_end : (count bits limit : ℕ) (runs : List Run) → count * bits ≤ limit → list_all (λ (run : Run). nat_lt 0 run.count) runs ≡ true → list_all (λ m. nat_lt m count) (runs_numbers runs) ≡ true
-    → list_all (λ (run : Run). nat_le ((run.start + run.count) * bits) limit) runs ≡ true
-runs_end count bits limit [] few some below = refl
-runs_end count bits limit (run ∷ runs) few some below =
-    let first = and_parts (nat_lt 0 run.count) (list_all (λ (r : Run). nat_lt 0 r.count) runs) some in
-    let both = both_pass (λ m. nat_lt m count) (run_numbers run) (runs_numbers runs) below in
-    let end = some_ends count run run.count refl (ltb-true 0 run.count first.0) both.0 in
+-- the bits of spans of places of an array end within as many as the array has
+pub spans_end : (count bits limit : ℕ) (spans : List Span) → count * bits ≤ limit → list_all (λ (span : Span). nat_lt 0 span.count) spans ≡ true → list_all (λ m. nat_lt m count) (spans_numbers spans) ≡ true
+    → list_all (λ (span : Span). nat_le ((span.start + span.count) * bits) limit) spans ≡ true
+spans_end count bits limit [] few some below = refl
+spans_end count bits limit (span ∷ spans) few some below =
+    let first = and_parts (nat_lt 0 span.count) (list_all (λ (r : Span). nat_lt 0 r.count) spans) some in
+    let both = both_pass (λ m. nat_lt m count) (span_numbers span) (spans_numbers spans) below in
+    let end = some_ends count span span.count refl (ltb-true 0 span.count first.0) both.0 in
     let less = mul-le-mul_right bits end in
-    ap (λ (b : Bool). b && list_all (λ (r : Run). nat_le ((r.start + r.count) * bits) limit) runs) (le-leb ((run.start + run.count) * bits) limit (omega (arith, less, few))) ∙ runs_end count bits limit runs few first.1 both.1
+    ap (λ (b : Bool). b && list_all (λ (r : Span). nat_le ((r.start + r.count) * bits) limit) spans) (le-leb ((span.start + span.count) * bits) limit (omega (arith, less, few))) ∙ spans_end count bits limit spans few first.1 both.1
 
 -- an array has no more bits than the bytes that it is packed to
 pub packed_bits_few : (bits count size : ℕ) → size ≡ 0 + (bits * count + 7) / 8 → count * bits ≤ 8 * size
@@ -123,17 +123,17 @@ none_packed bits (suc count) size many small is = let more : bits * suc count �
 
 -- ---- ranges that are read
 
-range_within : (bits : ℕ) (value : List ℕ) (run : Run) → ends_within bits value run ≡ true → ends_past value (run_range bits run) ≡ false
-range_within bits value run h =
-    let end = leb-true ((run.start + run.count) * bits) (8 * length value) h in
-    let wide : (run.start + run.count) * bits ≡ run.start * bits + run.count * bits = grind arith in
-    le-ltb (length value) ((run_range bits run).offset + (run_range bits run).length) (omega (arith, end, wide))
+range_within : (bits : ℕ) (value : List ℕ) (span : Span) → ends_within bits value span ≡ true → ends_past value (span_range bits span) ≡ false
+range_within bits value span h =
+    let end = leb-true ((span.start + span.count) * bits) (8 * length value) h in
+    let wide : (span.start + span.count) * bits ≡ span.start * bits + span.count * bits = grind arith in
+    le-ltb (length value) ((span_range bits span).offset + (span_range bits span).length) (omega (arith, end, wide))
 
-ranges_within : (bits : ℕ) (value : List ℕ) (runs : List Run) → list_all (ends_within bits value) runs ≡ true → list_any (ends_past value) (run_ranges bits runs) ≡ false
+ranges_within : (bits : ℕ) (value : List ℕ) (spans : List Span) → list_all (ends_within bits value) spans ≡ true → list_any (ends_past value) (span_ranges bits spans) ≡ false
 ranges_within bits value [] h = refl
-ranges_within bits value (run ∷ runs) h =
-    let both = and_parts (ends_within bits value run) (list_all (ends_within bits value) runs) h in
-    ap (λ (b : Bool). b || list_any (ends_past value) (run_ranges bits runs)) (range_within bits value run both.0) ∙ ranges_within bits value runs both.1
+ranges_within bits value (span ∷ spans) h =
+    let both = and_parts (ends_within bits value span) (list_all (ends_within bits value) spans) h in
+    ap (λ (b : Bool). b || list_any (ends_past value) (span_ranges bits spans)) (range_within bits value span both.0) ∙ ranges_within bits value spans both.1
 
 ranges_refused : {A : Type 0} (contents : Option (List ℕ)) (value : List ℕ) (ranges : List ByteRange) (result : Result A CodecError) → contents ≡ Some value → list_any (ends_past value) ranges ≡ false → RangesRefused contents ranges result → ReadRefused result
 ranges_refused contents value ranges (Ok found) is within refused = tt
@@ -147,11 +147,11 @@ part_unread chain elements shape stored asked error.Source refused = tt
 part_unread chain elements shape stored asked error.Memory refused = tt
 part_unread chain elements shape stored asked e refused = absurd refused
 
--- ranges of runs that end within the value are refused only by the source, or for want of memory
-pub runs_unread : (chain : Chain) (elements : Elements) (shape : List ℕ) (stored : Option (List ℕ)) (asked : Asked) (contents : Option (List ℕ)) (value : List ℕ) (bits : ℕ) (runs : List Run) (ranges : List ByteRange) (e : CodecError) → contents ≡ Some value
-    → list_all (ends_within bits value) runs ≡ true → ranges ≡ run_ranges bits runs → RangesRefused {A = Option (Vec (Vec ℕ Global) Global)} contents ranges (Err e) → DecodesPart chain elements shape stored asked (Err e)
-runs_unread chain elements shape stored asked contents value bits runs ranges e is within are refused =
-    part_unread chain elements shape stored asked e (ranges_refused {A = Option (Vec (Vec ℕ Global) Global)} contents value ranges (Err e) is (ap (list_any (ends_past value)) are ∙ ranges_within bits value runs within) refused)
+-- ranges of spans that end within the value are refused only by the source, or for want of memory
+pub spans_unread : (chain : Chain) (elements : Elements) (shape : List ℕ) (stored : Option (List ℕ)) (asked : Asked) (contents : Option (List ℕ)) (value : List ℕ) (bits : ℕ) (spans : List Span) (ranges : List ByteRange) (e : CodecError) → contents ≡ Some value
+    → list_all (ends_within bits value) spans ≡ true → ranges ≡ span_ranges bits spans → RangesRefused {A = Option (Vec (Vec ℕ Global) Global)} contents ranges (Err e) → DecodesPart chain elements shape stored asked (Err e)
+spans_unread chain elements shape stored asked contents value bits spans ranges e is within are refused =
+    part_unread chain elements shape stored asked e (ranges_refused {A = Option (Vec (Vec ℕ Global) Global)} contents value ranges (Err e) is (ap (list_any (ends_past value)) are ∙ ranges_within bits value spans within) refused)
 
 bytes_few : (value : List ℕ) (ranges : List ByteRange) → sum_by (λ (bytes : List ℕ). length bytes) (map (bytes_at value) ranges) ≤ total_length ranges
 bytes_few value [] = omega arith
@@ -164,11 +164,11 @@ bytes_few value (range ∷ ranges) =
     omega (arith, rest, cut, one, two)
 
 -- as many bytes were given at most as the ranges have
-pub runs_given : (count : ℕ) (contents : Option (List ℕ)) (value : List ℕ) (ranges : List ByteRange) (result : Result (Option (Vec (Vec ℕ Global) Global)) CodecError) → contents ≡ Some value → IfOk result (λ found. part_lists found ≡ parts_of contents ranges)
+pub spans_given : (count : ℕ) (contents : Option (List ℕ)) (value : List ℕ) (ranges : List ByteRange) (result : Result (Option (Vec (Vec ℕ Global) Global)) CodecError) → contents ≡ Some value → IfOk result (λ found. part_lists found ≡ parts_of contents ranges)
     → given_after count result ≤ count + total_length ranges
-runs_given count contents value ranges (Ok found) is read =
+spans_given count contents value ranges (Ok found) is read =
     let same : part_lists found ≡ Some (map (bytes_at value) ranges) = read ∙ ap (λ (stored : Option (List ℕ)). parts_of stored ranges) is in
     let long : parts_length found ≡ sum_by (λ (bytes : List ℕ). length bytes) (map (bytes_at value) ranges) = ap (λ (lists : Option (List (List ℕ))). option_map_or (λ parts. sum_by (λ (bytes : List ℕ). length bytes) parts) lists 0) same in
     let few = bytes_few value ranges in
     omega (arith, long, few)
-runs_given count contents value ranges (Err e) is read = omega arith
+spans_given count contents value ranges (Err e) is read = omega arith

@@ -1,4 +1,4 @@
--- The elements of a run, of the bytes that their bits touch.
+-- The elements of a span, of the bytes that their bits touch.
 use Rattle.std.proofs.Common.{◌≡◌, ◌∙◌, ℕ, zero, suc, ◌+◌, ◌-◌, ◌*◌, ◌/◌, ◌%◌, ◌<◌, ◌≤◌, List, [], ◌∷◌, ◌++◌, length, map, take, drop, get_or, replicate, flat_map, ap, sym, refl, arith, true, Option, Vec, Global, length-drop, length-take}
 use Rattle.std.specs.List.{list_all, range_with_len}
 use Rattle.std.proofs.lemmas.Bool.{and_parts}
@@ -10,9 +10,9 @@ use Rattle.zarr_codecs_meaning.specs.Types.{Component}
 use Rattle.zarr_codecs_meaning.proofs.Digits.{each-drop, each-take, unpacked_packed}
 use Rattle.zarr_codecs_traits.specs.Sources.{bytes_at, part_bytes}
 use Rattle.zarr_codecs_packbits.specs.Packing.{bytes_of, element_in}
-use Rattle.zarr_codecs_packbits.specs.Runs.{ends_within, run_numbers, run_range, run_ranges}
+use Rattle.zarr_codecs_packbits.specs.Spans.{ends_within, span_numbers, span_range, span_ranges}
 use Rattle.zarr_codecs_packbits.specs.Turning.{bits_of}
-use Rattle.zarr_codecs_packbits.specs.declared.runs.Run.{Run}
+use Rattle.zarr_codecs_packbits.specs.declared.spans.Span.{Span}
 use Rattle.zarr_codecs_packbits.proofs.BitLists.{bits_of_bits, drop_bits, length-bits_of, take_bits}
 
 -- ---- parts of lists
@@ -28,21 +28,21 @@ window k n m xs h =
     let all : m ≡ k + (m - k) = omega (arith, h) in
     ap (λ j. take n (drop k (take j xs))) all ∙ (ap (take n) (drop-take k (m - k) xs) ∙ take_take n (m - k) (drop k xs) (omega (arith, h)))
 
--- ---- the bits of a run
+-- ---- the bits of a span
 
--- the bytes that a run touches lie in a value in which its bits end
-pub record LiesIn (bits : ℕ) (value part : List ℕ) (run : Run) : Type 0 where
-  pub long : length part ≡ ((run.start + run.count) * bits + 7) / 8 - run.start * bits / 8
-  pub enough : run.start * bits % 8 + run.count * bits ≤ 8 * length part
-  pub are : take (run.count * bits) (drop (run.start * bits % 8) (bits_of part)) ≡ take (run.count * bits) (drop (run.start * bits) (bits_of value))
+-- the bytes that a span touches lie in a value in which its bits end
+pub record LiesIn (bits : ℕ) (value part : List ℕ) (span : Span) : Type 0 where
+  pub long : length part ≡ ((span.start + span.count) * bits + 7) / 8 - span.start * bits / 8
+  pub enough : span.start * bits % 8 + span.count * bits ≤ 8 * length part
+  pub are : take (span.count * bits) (drop (span.start * bits % 8) (bits_of part)) ≡ take (span.count * bits) (drop (span.start * bits) (bits_of value))
 
-pub lies_in_value : (bits : ℕ) (value part : List ℕ) (run : Run) → part ≡ bytes_at value (run_range bits run) → (run.start + run.count) * bits ≤ 8 * length value → LiesIn bits value part run
-lies_in_value bits value part run is within =
-    let a = run.start * bits in
-    let n = run.count * bits in
-    let both : (run.start + run.count) * bits ≡ a + n = grind arith in
+pub lies_in_value : (bits : ℕ) (value part : List ℕ) (span : Span) → part ≡ bytes_at value (span_range bits span) → (span.start + span.count) * bits ≤ 8 * length value → LiesIn bits value part span
+lies_in_value bits value part span is within =
+    let a = span.start * bits in
+    let n = span.count * bits in
+    let both : (span.start + span.count) * bits ≡ a + n = grind arith in
     let first = a / 8 in
-    let many = ((run.start + run.count) * bits + 7) / 8 - first in
+    let many = ((span.start + span.count) * bits + 7) / 8 - first in
     let room : first + many ≤ length value = omega (arith, within, both) in
     let left : length (drop first value) ≡ length value - first = length-drop first value in
     let long : length part ≡ many = ap length is ∙ (length-take many (drop first value) ∙ omega (arith, room, left)) in
@@ -98,32 +98,32 @@ element_from first last parts xs ys s count i same below =
     ∙ (window (i * w) w (count * w) (drop (s * w) ys) room
     ∙ (ap (take w) (drop-drop (i * w) (s * w) ys) ∙ ap (λ k. take w (drop k ys)) next))))
 
--- the elements of bytes whose first bits are those of a run are the run's
-pub unpacked_run : (first : ℕ) (last : Option ℕ) (parts : List Component) (value part given made : List ℕ) (run : Run) → LiesIn (bits_in first last parts) value part run
-    → take (run.count * bits_in first last parts) (bits_of given) ≡ take (run.count * bits_in first last parts) (drop (run.start * bits_in first last parts % 8) (bits_of part))
-    → made ≡ bytes_of first last parts run.count (bits_of given) → made ≡ flat_map (element_in first last parts (bits_of value)) (run_numbers run)
-unpacked_run first last parts value part given made run h same is =
-    let s = run.start in
+-- the elements of bytes whose first bits are those of a span are the span's
+pub unpacked_span : (first : ℕ) (last : Option ℕ) (parts : List Component) (value part given made : List ℕ) (span : Span) → LiesIn (bits_in first last parts) value part span
+    → take (span.count * bits_in first last parts) (bits_of given) ≡ take (span.count * bits_in first last parts) (drop (span.start * bits_in first last parts % 8) (bits_of part))
+    → made ≡ bytes_of first last parts span.count (bits_of given) → made ≡ flat_map (element_in first last parts (bits_of value)) (span_numbers span)
+unpacked_span first last parts value part given made span h same is =
+    let s = span.start in
     let start : s + 0 ≡ s = omega arith in
     is
-    ∙ (same_range (element_in first last parts (bits_of given)) (element_in first last parts (bits_of value)) 0 s run.count (λ i low high. element_from first last parts (bits_of given) (bits_of value) s run.count i (same ∙ h.are) (omega (arith, high)))
-    ∙ ap (λ k. flat_map (element_in first last parts (bits_of value)) (range_with_len k run.count)) start)
+    ∙ (same_range (element_in first last parts (bits_of given)) (element_in first last parts (bits_of value)) 0 s span.count (λ i low high. element_from first last parts (bits_of given) (bits_of value) s span.count i (same ∙ h.are) (omega (arith, high)))
+    ∙ ap (λ k. flat_map (element_in first last parts (bits_of value)) (range_with_len k span.count)) start)
 
--- ---- the parts of runs
+-- ---- the parts of spans
 
--- the part at the index of a run has the bytes that this touches
-pub part_at : (value : List ℕ) (bits : ℕ) (runs : List Run) (parts : List (Vec ℕ Global)) (i : ℕ) (part : Vec ℕ Global) (d : Run) → part_bytes parts ≡ map (bytes_at value) (run_ranges bits runs) → i < length runs → part ≡ get_or parts i part
-    → part.items ≡ bytes_at value (run_range bits (get_or runs i d))
-part_at value bits runs parts i part d same below found =
-    let ranges = run_ranges bits runs in
-    let many : length ranges ≡ length runs = length-map runs (run_range bits) in
-    let long : length parts ≡ length runs = sym (length-map parts (λ (p : Vec ℕ Global). p.items)) ∙ (ap (λ (bs : List (List ℕ)). length bs) same ∙ (length-map ranges (bytes_at value) ∙ many)) in
+-- the part at the index of a span has the bytes that this touches
+pub part_at : (value : List ℕ) (bits : ℕ) (spans : List Span) (parts : List (Vec ℕ Global)) (i : ℕ) (part : Vec ℕ Global) (d : Span) → part_bytes parts ≡ map (bytes_at value) (span_ranges bits spans) → i < length spans → part ≡ get_or parts i part
+    → part.items ≡ bytes_at value (span_range bits (get_or spans i d))
+part_at value bits spans parts i part d same below found =
+    let ranges = span_ranges bits spans in
+    let many : length ranges ≡ length spans = length-map spans (span_range bits) in
+    let long : length parts ≡ length spans = sym (length-map parts (λ (p : Vec ℕ Global). p.items)) ∙ (ap (λ (bs : List (List ℕ)). length bs) same ∙ (length-map ranges (bytes_at value) ∙ many)) in
     let left = get_or-map (λ (p : Vec ℕ Global). p.items) parts i part [] (omega (arith, below, long)) in
-    let right = get_or-map (bytes_at value) ranges i (run_range bits d) [] (omega (arith, below, many)) in
+    let right = get_or-map (bytes_at value) ranges i (span_range bits d) [] (omega (arith, below, many)) in
     ap (λ (p : Vec ℕ Global). p.items) found
-    ∙ (sym left ∙ (ap (λ (bs : List (List ℕ)). get_or bs i []) same ∙ (right ∙ ap (bytes_at value) (get_or-map (run_range bits) runs i d (run_range bits d) below))))
+    ∙ (sym left ∙ (ap (λ (bs : List (List ℕ)). get_or bs i []) same ∙ (right ∙ ap (bytes_at value) (get_or-map (span_range bits) spans i d (span_range bits d) below))))
 
-pub run_within : (value : List ℕ) (bits : ℕ) (runs : List Run) (i : ℕ) (d : Run) → list_all (ends_within bits value) runs ≡ true → i < length runs → ends_within bits value (get_or runs i d) ≡ true
-run_within value bits [] i d h below = absurd (omega (arith, below))
-run_within value bits (run ∷ runs) zero d h below = (and_parts (ends_within bits value run) (list_all (ends_within bits value) runs) h).0
-run_within value bits (run ∷ runs) (suc i) d h below = run_within value bits runs i d (and_parts (ends_within bits value run) (list_all (ends_within bits value) runs) h).1 (omega (arith, below))
+pub span_within : (value : List ℕ) (bits : ℕ) (spans : List Span) (i : ℕ) (d : Span) → list_all (ends_within bits value) spans ≡ true → i < length spans → ends_within bits value (get_or spans i d) ≡ true
+span_within value bits [] i d h below = absurd (omega (arith, below))
+span_within value bits (span ∷ spans) zero d h below = (and_parts (ends_within bits value span) (list_all (ends_within bits value) spans) h).0
+span_within value bits (span ∷ spans) (suc i) d h below = span_within value bits spans i d (and_parts (ends_within bits value span) (list_all (ends_within bits value) spans) h).1 (omega (arith, below))

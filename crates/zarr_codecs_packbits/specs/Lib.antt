@@ -3,5 +3,5 @@ pub mod Turning
 pub mod Packing
 pub mod Metadata
 pub mod Told
-pub mod Runs
+pub mod Spans
 pub mod Parts

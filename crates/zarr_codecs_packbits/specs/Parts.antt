@@ -13,12 +13,12 @@ use Rattle.zarr_codecs_traits.specs.Indexers.{asked_of, numbers_asked}
 use Rattle.zarr_codecs_traits.specs.Outcomes.{DecodesPart}
 use Rattle.zarr_codecs_traits.specs.ReadBytes.{most_read}
 use Rattle.zarr_codecs_packbits.specs.Packing.{element_in}
-use Rattle.zarr_codecs_packbits.specs.Runs.{AreRuns, run_ranges, total_length}
+use Rattle.zarr_codecs_packbits.specs.Spans.{AreSpans, span_ranges, total_length}
 use Rattle.zarr_codecs_packbits.specs.Turning.{bits_of}
 use Rattle.zarr_codecs_packbits.specs.Views.{packbits_chain, padding_of}
 use Rattle.zarr_codecs_packbits.specs.declared.part.PackedPart.{PackedPart}
 use Rattle.zarr_codecs_packbits.specs.declared.part.PackedBits.{PackedBits}
-use Rattle.zarr_codecs_packbits.specs.declared.runs.RunRanges.{RunRanges}
+use Rattle.zarr_codecs_packbits.specs.declared.spans.SpanRanges.{SpanRanges}
 
 -- the elements that are asked for, of what is stored, or why there are none
 abbrev pub GivesPacked : Option (List ℕ) → PackedPart → Result ArrayBytes CodecError → Type 0
@@ -48,10 +48,10 @@ unpacked_bytes packed value numbers = flat_map (element_in (unwrap_or packed.cod
 abbrev pub IsUnpacked : PackedBits → List ℕ → List ℕ → Option (Vec ℕ Global) → Type 0
 IsUnpacked packed value numbers found = MatchOption found ⊥ (λ made. made.items ≡ unpacked_bytes packed value numbers)
 
--- runs of the elements that are asked for, and the ranges that their bits touch, which have no more bytes than the array is packed to
-pub record AreAsked (packed : PackedPart) (found : RunRanges) : Type 0 where
-  pub runs : AreRuns (numbers_of_packed packed) found.runs.items
-  pub ranges : found.ranges.items ≡ run_ranges (bits_of_packed packed) found.runs.items
+-- spans of the elements that are asked for, and the ranges that their bits touch, which have no more bytes than the array is packed to
+pub record AreAsked (packed : PackedPart) (found : SpanRanges) : Type 0 where
+  pub spans : AreSpans (numbers_of_packed packed) found.spans.items
+  pub ranges : found.ranges.items ≡ span_ranges (bits_of_packed packed) found.spans.items
   pub few : total_length found.ranges.items ≤ size_of_packed packed
 
 -- why a value of so many bytes is not read, of an array that is packed to 2^63 or more: it has fewer, or no memory holds it

@@ -17,8 +17,8 @@ pub(crate) fn bits_of(alloc: Global, bytes: &[u8]) -> Result<Vec<u8>, AllocError
     Ok(bits)
 }
 
-/// So many bits of bytes, from the bit `skip` on, as bytes that begin with them. Zeros fill the last
-/// one. `None` where there are fewer. While it works, each of the bits takes a byte.
+/// So many bits of bytes, from the bit `skip` on, as bytes that begin with them. Zeros fill the
+/// last one. `None` where there are fewer. While it works, each of the bits takes a byte.
 pub(crate) fn aligned(
     alloc: Global,
     bytes: &[u8],

@@ -148,7 +148,7 @@ impl Default for PackBitsCodec {
 }
 
 impl ArrayToBytesCodecTraits for PackBitsCodec {
-    ghost use Rattle.std.specs.Prelude.{true};
+    ghost use Rattle.std.specs.Prelude.{◌≡◌, true};
     ghost use Rattle.zarr_codecs_types.specs.Views.{type_of};
     ghost use Rattle.zarr_codecs_traits.specs.Representations.{RepresentsArray};
     ghost use Rattle.zarr_codecs_packbits.specs.Told.{RefusesToldSizes};
@@ -157,6 +157,8 @@ impl ArrayToBytesCodecTraits for PackBitsCodec {
     ghost meaning = { packbits_chain };
 
     ghost is_function = { λ codec. true };
+
+    ghost copied = { λ codec copy. copy ≡ codec };
 
     fn encoding_is_function(&self) -> bool {
         true

@@ -12,8 +12,8 @@ mod part;
 mod partial;
 mod reading;
 mod restoring;
-mod runs;
 mod sizes;
+mod spans;
 mod turning;
 mod unpacking;
 

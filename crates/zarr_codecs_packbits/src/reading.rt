@@ -6,15 +6,15 @@ ghost use Rattle.zarr_codecs_types.specs.Views.{components_of};
 ghost use Rattle.zarr_codecs_traits.specs.ReadBytes.{bytes_touched};
 ghost use Rattle.zarr_codecs_traits.specs.Sources.{refused_after};
 ghost use Rattle.zarr_codecs_packbits.specs.Parts.{AreAsked, GivesPacked, IsUnreadable, bits_of_packed, most_of_packed, numbers_of_packed, size_of_packed};
-ghost use Rattle.zarr_codecs_packbits.specs.Runs.{AreRuns, total_length};
+ghost use Rattle.zarr_codecs_packbits.specs.Spans.{AreSpans, total_length};
 ghost use Rattle.zarr_codecs_packbits.specs.Views.{padding_of};
 
 use crate::part::{PackedBits, PackedPart};
 use crate::partial::{fill_packed, read_whole};
-use crate::runs::{Run, RunRanges, box_runs, run_ranges, runs_of, total_length};
 use crate::sizes::{element_bits, has_bytes, packed_size};
+use crate::spans::{Span, SpanRanges, box_spans, span_ranges, spans_of, total_length};
 use crate::turning::Way;
-use crate::unpacking::unpack_runs;
+use crate::unpacking::unpack_spans;
 use std::alloc::{AllocError, Global};
 use zarr_codecs_arrays::{ArrayBytes, CodecError};
 use zarr_codecs_traits::{BytesPartialDecoderTraits, Indexer};
@@ -70,7 +70,7 @@ fn read_sized<D: BytesPartialDecoderTraits>(
         return read_whole(alloc, source, packed);
     };
     match ranges_asked(alloc, packed, bits.bits, total)? {
-        Some(found) => read_runs(alloc, source, packed, bits, &found),
+        Some(found) => read_spans(alloc, source, packed, bits, &found),
         None => read_whole(alloc, source, packed),
     }
 }
@@ -137,14 +137,14 @@ fn packed_bits(packed: PackedPart) -> Option<PackedBits<'_>>
     })
 }
 
-/// The runs of the elements that are asked for, and the ranges that their bits touch. `None` where
+/// The spans of the elements that are asked for, and the ranges that their bits touch. `None` where
 /// these have more bytes than the value.
 fn ranges_asked(
     alloc: Global,
     packed: PackedPart,
     bits: u128,
     total: u64,
-) -> Result<Option<RunRanges>, AllocError>
+) -> Result<Option<SpanRanges>, AllocError>
     requires untold { padding_of packed.codec.padding ≡ no_padding_byte }
     requires bits { bits ≡ bits_of_packed packed }
     requires sized { total ≡ size_of_packed packed }
@@ -153,31 +153,31 @@ fn ranges_asked(
     ensures none { IfOk result (λ found. IfNone found
         (total ≤ bytes_touched bits 0 (numbers_of_packed packed.entry))) }
 {
-    let runs = runs_asked(alloc, packed)?;
-    let ranges = run_ranges(alloc, &runs, bits)?;
+    let spans = spans_asked(alloc, packed)?;
+    let ranges = span_ranges(alloc, &spans, bits)?;
     if total_length(&ranges) > total as u128 {
         return Ok(None);
     }
-    Ok(Some(RunRanges { runs, ranges }))
+    Ok(Some(SpanRanges { spans, ranges }))
 }
 
-/// The runs of the elements that are asked for.
-fn runs_asked(alloc: Global, packed: PackedPart) -> Result<Vec<Run>, AllocError>
-    ensures { IfOk result (λ runs. AreRuns (numbers_of_packed packed.entry) runs.items) }
+/// The spans of the elements that are asked for.
+fn spans_asked(alloc: Global, packed: PackedPart) -> Result<Vec<Span>, AllocError>
+    ensures { IfOk result (λ spans. AreSpans (numbers_of_packed packed.entry) spans.items) }
 {
     match packed.part.indexer {
-        Indexer::Subset(region) => box_runs(alloc, packed.part.shape, region),
-        Indexer::List(numbers) => runs_of(alloc, numbers),
+        Indexer::Subset(region) => box_spans(alloc, packed.part.shape, region),
+        Indexer::List(numbers) => spans_of(alloc, numbers),
     }
 }
 
-/// The elements of runs, of the ranges that their bits touch.
-fn read_runs<D: BytesPartialDecoderTraits>(
+/// The elements of spans, of the ranges that their bits touch.
+fn read_spans<D: BytesPartialDecoderTraits>(
     alloc: Global,
     source: &mut D,
     packed: PackedPart,
     bits: PackedBits,
-    asked: &RunRanges,
+    asked: &SpanRanges,
 ) -> Result<ArrayBytes, CodecError>
     requires asked { AreAsked packed asked.now }
     requires codec { bits.codec ≡ packed.codec }
@@ -194,7 +194,7 @@ fn read_runs<D: BytesPartialDecoderTraits>(
     ensures follows { D.follows source.old source.new }
 {
     match source.partial_decode(alloc, &asked.ranges) {
-        Ok(Some(parts)) => match unpack_runs(alloc, bits, &asked.runs, &parts)? {
+        Ok(Some(parts)) => match unpack_spans(alloc, bits, &asked.spans, &parts)? {
             Some(bytes) => Ok(ArrayBytes::Fixed(bytes)),
             None => Err(CodecError::Damage),
         },

@@ -5,7 +5,7 @@ use Rattle.std.proofs.lemmas.List.{length-map}
 use Rattle.std.proofs.lemmas.Bool.{cases_lt}
 use Rattle.zarr_grids_boxes.specs.Boxes.{Region, places, product, ravel}
 use Rattle.zarr_grids_boxes.proofs.InBox.{length-places}
-use Rattle.zarr_codecs_traits.specs.Indexers.{in_box, lies_in, numbers_asked}
+use Rattle.zarr_codecs_traits.specs.Indexers.{in_box, shape_has, numbers_asked}
 use Rattle.zarr_codecs_regions.proofs.InsideArray.{inside_product}
 
 count_of_box : (shape : List ℕ) (region : Region) → length region.shape ≡ length region.start → product region.shape ≡ length (numbers_asked shape (in_box region))
@@ -15,7 +15,7 @@ pub box_counted : (shape : List ℕ) (region : Region) (found : Option ℕ) → 
 box_counted shape region None same h = tt
 box_counted shape region (Some count) same h = h.1 ∙ count_of_box shape region same
 
-pub box_too_large : (shape : List ℕ) (region : Region) (found : Option ℕ) → length region.shape ≡ length region.start → lies_in shape region ≡ true → SomeIff found (product region.shape < 2 ^ 63) (product region.shape) → IfNone found (2 ^ 63 ≤ product shape)
+pub box_too_large : (shape : List ℕ) (region : Region) (found : Option ℕ) → length region.shape ≡ length region.start → shape_has shape region ≡ true → SomeIff found (product region.shape < 2 ^ 63) (product region.shape) → IfNone found (2 ^ 63 ≤ product shape)
 box_too_large shape region None same inside h =
     let few = inside_product shape region same inside in
     elim (cases_lt (product region.shape) (2 ^ 63)) [ inl below ↦ absurd (h below) | inr above ↦ omega (arith, few, above) ]

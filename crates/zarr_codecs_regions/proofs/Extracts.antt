@@ -21,7 +21,7 @@ use Rattle.zarr_codecs_meaning.specs.Places.{gather}
 use Rattle.zarr_codecs_meaning.proofs.Covers.{zeros, length-zeros, ravel_place}
 use Rattle.zarr_codecs_meaning.proofs.Lists.{Each, each_passes, zero_list}
 use Rattle.zarr_codecs_arrays.proofs.FixedCells.{fixed_cells-nil, fixed_cells-cons, get_or-fixed_cells, flat_map-fixed_cells}
-use Rattle.zarr_codecs_traits.specs.Indexers.{lies_in, numbers_of}
+use Rattle.zarr_codecs_traits.specs.Indexers.{shape_has, numbers_of}
 use Rattle.zarr_codecs_regions.proofs.InsideArray.{inside_rank, inside_places}
 
 -- ---- the bytes of one element
@@ -95,7 +95,7 @@ same_map P f g [] each law = refl
 same_map P f g (x ∷ xs) each law = ap (λ y. y ∷ map f xs) (law x each.0) ∙ ap (λ ys. g x ∷ ys) (same_map P f g xs each.1 law)
 
 -- the elements that an overlay of an array gives a box are those that the box's places gather
-pub gathered_box : (width : ℕ) (bytes shape : List ℕ) (region : Region) (other : Cell) (old : List ℕ → List ℕ) → 0 < width → length bytes ≡ product shape * width → HasWidth width old → lies_in shape region ≡ true
+pub gathered_box : (width : ℕ) (bytes shape : List ℕ) (region : Region) (other : Cell) (old : List ℕ → List ℕ) → 0 < width → length bytes ≡ product shape * width → HasWidth width old → shape_has shape region ≡ true
     → fixed_cells width (laid (overlaid (zeros shape) shape (bytes_of_place width bytes shape) old) region.start region.shape) ≡ gather other (fixed_cells width bytes) (numbers_of shape region)
 gathered_box width bytes shape region other old some whole h inside =
     let new = bytes_of_place width bytes shape in
@@ -127,7 +127,7 @@ gathered_box width bytes shape region other old some whole h inside =
 pub record IsPutOver (width : ℕ) (bytes shape : List ℕ) (region : Region) (start ss es before after : List ℕ) : Type 0 where
   pub some : 0 < width
   pub whole : length bytes ≡ product shape * width
-  pub inside : lies_in shape region ≡ true
+  pub inside : shape_has shape region ≡ true
   pub rank : length region.shape ≡ length region.start
   pub start_is : start ≡ zero_list (length shape)
   pub ss_is : ss ≡ region.start

@@ -13,7 +13,7 @@ use Rattle.zarr_grids_boxes.proofs.Places.{in_box_below, places_by_number}
 use Rattle.zarr_grids_boxes.proofs.InBox.{in_box-place_at, place_at-number, length-places}
 use Rattle.zarr_grids_boxes.proofs.Walking.{get_or-places, start_in_box}
 use Rattle.zarr_codecs_meaning.proofs.Covers.{zeros}
-use Rattle.zarr_codecs_traits.specs.Indexers.{lies_in}
+use Rattle.zarr_codecs_traits.specs.Indexers.{shape_has}
 
 -- ---- a test of each place of a box
 
@@ -96,14 +96,14 @@ ends_at_most (s ∷ ss) (e ∷ es) (n ∷ ns) l m some law =
 
 -- ---- whether a box lies in an array
 
-pub inside_rank : (shape : List ℕ) (region : Region) → lies_in shape region ≡ true → length region.start ≡ length shape
+pub inside_rank : (shape : List ℕ) (region : Region) → shape_has shape region ≡ true → length region.start ≡ length shape
 inside_rank shape region h = eqb-true (length region.start) (length shape) (and_parts (length region.start == length shape) (list_all (is_in_box (zeros shape) shape) (places region.start region.shape)) h).0
 
-pub inside_places : (shape : List ℕ) (region : Region) → lies_in shape region ≡ true → list_all (λ place. is_in_box (zeros shape) shape place) (places region.start region.shape) ≡ true
+pub inside_places : (shape : List ℕ) (region : Region) → shape_has shape region ≡ true → list_all (λ place. is_in_box (zeros shape) shape place) (places region.start region.shape) ≡ true
 inside_places shape region h = (and_parts (length region.start == length shape) (list_all (is_in_box (zeros shape) shape) (places region.start region.shape)) h).1
 
 -- a box with no place lies in each array of as many dimensions
-pub empty_inside : (shape : List ℕ) (region : Region) → length region.shape ≡ length region.start → length region.start ≡ length shape → product region.shape ≡ 0 → true ≡ lies_in shape region
+pub empty_inside : (shape : List ℕ) (region : Region) → length region.shape ≡ length region.start → length region.start ≡ length shape → product region.shape ≡ 0 → true ≡ shape_has shape region
 empty_inside shape region l m none =
     sym (ap (λ (b : Bool). b && list_all (is_in_box (zeros shape) shape) (places region.start region.shape)) (eq-eqb (length region.start) (length shape) m)
     ∙ ap (list_all (is_in_box (zeros shape) shape)) (no_elements (places region.start region.shape) (length-places region.start region.shape (sym l) ∙ none))) where
@@ -112,7 +112,7 @@ empty_inside shape region l m none =
       no_elements (p ∷ ps) h = absurd (omega arith)
 
 -- a box with a place lies in an array where its ends are at most those of the array
-pub ends_inside : (shape : List ℕ) (region : Region) (b : Bool) → length region.shape ≡ length region.start → length region.start ≡ length shape → (product region.shape ≡ 0 → ⊥) → (b ≡ true → IsAtMost (ends region) shape) → (IsAtMost (ends region) shape → b ≡ true) → b ≡ lies_in shape region
+pub ends_inside : (shape : List ℕ) (region : Region) (b : Bool) → length region.shape ≡ length region.start → length region.start ≡ length shape → (product region.shape ≡ 0 → ⊥) → (b ≡ true → IsAtMost (ends region) shape) → (IsAtMost (ends region) shape → b ≡ true) → b ≡ shape_has shape region
 ends_inside shape region b l m some there back =
     let test = is_in_box (zeros shape) shape in
     same_from_decides b (list_all test (places region.start region.shape)) (there, back) (
@@ -132,7 +132,7 @@ at_most_product (s ∷ ss) (e ∷ es) (n ∷ ns) l most =
     let end : s + e ≤ n = most.each 0 (omega arith) in
     mul-le-mul (let h : e ≤ n = omega arith in h) (at_most_product ss es ns (omega arith) (IsAtMost-tail (s + e) n (each2 (λ s e. s + e) ss es) ns most))
 
-pub inside_product : (shape : List ℕ) (region : Region) → length region.shape ≡ length region.start → lies_in shape region ≡ true → product region.shape ≤ product shape
+pub inside_product : (shape : List ℕ) (region : Region) → length region.shape ≡ length region.start → shape_has shape region ≡ true → product region.shape ≤ product shape
 inside_product shape region l inside = by_count (product region.shape) refl where
   by_count : (n : ℕ) → product region.shape ≡ n → product region.shape ≤ product shape
   by_count zero e = omega arith
@@ -142,8 +142,8 @@ inside_product shape region l inside = by_count (product region.shape) refl wher
       (λ p h. each_place (is_in_box (zeros shape) shape) region.start region.shape p (sym l) (inside_places shape region inside) h))
 
 -- its elements have no more bytes than the array's
-pub inside_bytes : (shape : List ℕ) (region : Region) (width : ℕ) → length region.shape ≡ length region.start → lies_in shape region ≡ true → product region.shape * width ≤ product shape * width
+pub inside_bytes : (shape : List ℕ) (region : Region) (width : ℕ) → length region.shape ≡ length region.start → shape_has shape region ≡ true → product region.shape * width ≤ product shape * width
 inside_bytes shape region width l inside = mul-le-mul_right width (inside_product shape region l inside)
 
-pub inside_count : (shape : List ℕ) (region : Region) (width : ℕ) → length region.shape ≡ length region.start → lies_in shape region ≡ true → 0 < width → product region.shape ≤ product shape * width
+pub inside_count : (shape : List ℕ) (region : Region) (width : ℕ) → length region.shape ≡ length region.start → shape_has shape region ≡ true → 0 < width → product region.shape ≤ product shape * width
 inside_count shape region width l inside some = let h = inside_product shape region l inside in let m = le-mul_of_pos_right (product shape) some in omega arith

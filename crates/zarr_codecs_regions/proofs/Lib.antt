@@ -9,3 +9,7 @@ pub mod BoxPayloads
 pub mod CountAsked
 pub mod Shown
 pub mod WholeWrites
+pub mod BoxLines
+mod Stretches
+pub mod PutPlaces
+pub mod BoxPuts

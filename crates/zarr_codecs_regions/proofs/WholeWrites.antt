@@ -1,6 +1,6 @@
 -- What is stored after a value was written whole, and why it isn't written.
 use Rattle.std.proofs.Common.{◌≡◌, ◌∙◌, ◌⊎◌, ◌≤◌, ◌^◌, ℕ, List, [], ◌∷◌, length, map, refl, sym, ap, subst, inl, inr, Option, Some, None, Bool, true, false, replicate, Result, Ok, Err, Vec, Global}
-use Rattle.std.specs.Prelude.{IfOk, IsTrue, option_map, unwrap_or}
+use Rattle.std.specs.Prelude.{IfOk, IsTrue, MatchOption, option_map, unwrap_or}
 use Rattle.std.specs.List.{list_all}
 use Rattle.zarr_grids_boxes.specs.Boxes.{product}
 use Rattle.zarr_codecs_meaning.specs.Chains.{Chain}
@@ -22,11 +22,17 @@ use Rattle.zarr_codecs_arrays.specs.declared.error.CodecError.{CodecError}
 use Rattle.zarr_codecs_arrays.specs.declared.error.CodecError.TheVariants as error
 use Rattle.zarr_codecs_traits.specs.Indexers.{Asked, are_inside, numbers_asked, put}
 use Rattle.zarr_codecs_traits.specs.Outcomes.{Encodes, IsEncoded, IsRefused}
-use Rattle.zarr_codecs_traits.specs.PartWriting.{IsEncodedInto, IsRefusedInto, NotEncodedInto, PassesLength, cells_after}
+use Rattle.zarr_codecs_traits.specs.PartWriting.{IsEncodedInto, IsRefusedInto, MeetsLost, NotEncodedWhole, PassesLength, cells_after}
 use Rattle.zarr_codecs_traits.specs.Sources.{ReadRefused, value_bytes}
+use Rattle.zarr_codecs_traits.proofs.Damage.{decoded_intact}
 use Rattle.zarr_codecs_regions.specs.Updates.{IsUpdated, Updates}
 use Rattle.zarr_codecs_regions.specs.Whole.{CanBePut, EncodesOrDrops, GivesStored, IsStoredAs}
 use Rattle.zarr_codecs_regions.proofs.Shown.{after_decoded, map_put, put_cells, shown_cells, standing_decoded, stored_cells, stored_opens, tight_standing}
+
+-- what is decoded has lost nothing
+stored_intact : (chain : Chain) (elements : Elements) (shape : List ℕ) (stored : Option (List ℕ)) (numbers : List ℕ) (before : List Cell) → chunk_decoded chain elements shape stored ≡ Some before → MatchOption stored (Unit {0}) (λ value. ¬ MeetsLost chain elements shape value numbers)
+stored_intact chain elements shape None numbers before is = tt
+stored_intact chain elements shape (Some value) numbers before is = decoded_intact chain elements shape value numbers before is
 
 -- what is known of a value that is to be written whole
 pub record IsWritten (chain : Chain) (exact : Bool) (elements : Elements) (shape : List ℕ) (asked : Asked) (payload made : Payload) (cells before : List Cell) (old : Option (List ℕ)) (value : List ℕ) : Type 0 where
@@ -52,6 +58,7 @@ written_whole chain exact elements shape asked payload made cells before old val
       fit = fit;
       inside = h.inside;
       opened = stored_opens chain elements shape old before fit h.stored;
+      none_lost = stored_intact chain elements shape old (numbers_asked shape asked) before h.stored;
       stands = λ lossless others theirs st.
           subst (λ bs. Stands chain elements shape value (put ns cells bs)) (same others (standing_decoded chain elements shape old others h.lawful fit lossless theirs st)) (h.is.stands lossless);
       tight = λ e lossless others theirs t.
@@ -94,6 +101,7 @@ dropped_whole chain exact elements shape asked payload cells before old h =
       fit = fit;
       inside = h.inside;
       opened = stored_opens chain elements shape old before fit h.stored;
+      none_lost = stored_intact chain elements shape old (numbers_asked shape asked) before h.stored;
       stands = λ lossless others theirs st.
           ap (λ bs. is_fill elements.fill (put ns cells bs)) (sym (same others (standing_decoded chain elements shape old others h.lawful fit lossless theirs st))) ∙ h.filled;
       tight = λ e lossless others theirs t.
@@ -191,19 +199,23 @@ updated_valid chain elements shape asked payload array made old h =
     record { is = record { lists = h.lists; many = are.whole }; values = are.values }
 
 -- so they are not refused as others
+not_miscounted : (type : DataType) (payload : Payload) (count : ℕ) (cells : List Cell) (e : CodecError) → IsCounted type payload count cells → IsMiscounted type payload count e → ⊥
+not_miscounted type payload count cells error.ExpectedFixedLengthBytes is why = let lists = is.lists in let none = why.0 in cc
+not_miscounted type payload count cells error.ExpectedVariableLengthBytes is why = let lists = is.lists in let none = why.0 in cc
+not_miscounted type payload count cells error.ExpectedOptionalBytes is why = let lists = is.lists in let none = why.0 in cc
+not_miscounted type payload count cells error.InvalidNumberOfElements is (inl why) = let lists = is.lists in let none = why.0 in cc
+not_miscounted type payload count cells error.InvalidNumberOfElements is (inr why) = why.2 (ap length (some_same (sym why.1 ∙ is.lists)) ∙ is.many)
+not_miscounted type payload count cells e is why = why
+
 not_invalid : (type : DataType) (payload : Payload) (count : ℕ) (cells : List Cell) (e : CodecError) → IsValid type payload count cells → IsInvalid type payload count e → ⊥
 not_invalid type payload count cells error.CellOutOfRange valid why =
     let same : why.0 ≡ cells = some_same (sym why.1.lists ∙ valid.is.lists) in
     let bad : list_all (is_value type) cells ≡ false = ap (list_all (is_value type)) (sym same) ∙ why.2 in
     let good = valid.values in cc
-not_invalid type payload count cells error.ExpectedFixedLengthBytes valid why = let lists = valid.is.lists in cc
-not_invalid type payload count cells error.ExpectedVariableLengthBytes valid why = let lists = valid.is.lists in cc
-not_invalid type payload count cells error.ExpectedOptionalBytes valid why = let lists = valid.is.lists in cc
-not_invalid type payload count cells error.InvalidNumberOfElements valid why = why cells valid.is
-not_invalid type payload count cells e valid why = why
+not_invalid type payload count cells e valid why = not_miscounted type payload count cells e valid.is why
 
 pub encode_refused : (chain : Chain) (exact : Bool) (elements : Elements) (shape : List ℕ) (asked : Asked) (payload array made : Payload) (old : Option (List ℕ)) (result : Result (Option (Vec ℕ Global)) CodecError)
-    → HasUpdated chain elements shape asked payload array made old → EncodesOrDrops chain exact elements shape made result → NotEncodedInto chain elements shape asked payload old result
+    → HasUpdated chain elements shape asked payload array made old → EncodesOrDrops chain exact elements shape made result → NotEncodedWhole chain elements shape asked payload old result
 encode_refused chain exact elements shape asked payload array made old (Ok None) h why = tt
 encode_refused chain exact elements shape asked payload array made old (Ok (Some value)) h why = tt
 encode_refused chain exact elements shape asked payload array made old (Err error.Fit) h why = why
@@ -217,17 +229,17 @@ encode_refused chain exact elements shape asked payload array made old (Err e) h
     absurd (not_invalid elements.type made (product shape) (put (numbers_asked shape asked) h.can.cells h.before) e (updated_valid chain elements shape asked payload array made old h) why.1)
 
 pub update_refused : (A : Type 0) (chain : Chain) (elements : Elements) (type : DataType) (shape : List ℕ) (asked : Asked) (payload array : Payload) (old : Option (List ℕ)) (before : List Cell) (e : CodecError)
-    → fits chain elements.type shape ≡ true → IsCounted elements.type array (product shape) before → type ≡ elements.type → Updates type shape asked array payload (Err e) → NotEncodedInto {A = A} chain elements shape asked payload old (Err e)
+    → fits chain elements.type shape ≡ true → IsCounted elements.type array (product shape) before → type ≡ elements.type → Updates type shape asked array payload (Err e) → NotEncodedWhole {A = A} chain elements shape asked payload old (Err e)
 update_refused A chain elements type shape asked payload array old before error.IncompatibleIndexer fit counted same why = why
 update_refused A chain elements type shape asked payload array old before error.Size fit counted same why = inl (inl why)
 update_refused A chain elements type shape asked payload array old before error.Memory fit counted same why = tt
-update_refused A chain elements type shape asked payload array old before error.ExpectedFixedLengthBytes fit counted same (inl why) = let lists = counted.lists in cc
-update_refused A chain elements type shape asked payload array old before error.ExpectedFixedLengthBytes fit counted same (inr why) = (fit, ap (λ t. cells_in t payload) (sym same) ∙ why)
-update_refused A chain elements type shape asked payload array old before error.ExpectedVariableLengthBytes fit counted same (inl why) = let lists = counted.lists in cc
-update_refused A chain elements type shape asked payload array old before error.ExpectedVariableLengthBytes fit counted same (inr why) = (fit, ap (λ t. cells_in t payload) (sym same) ∙ why)
-update_refused A chain elements type shape asked payload array old before error.ExpectedOptionalBytes fit counted same (inl why) = let lists = counted.lists in cc
-update_refused A chain elements type shape asked payload array old before error.ExpectedOptionalBytes fit counted same (inr why) = (fit, ap (λ t. cells_in t payload) (sym same) ∙ why)
-update_refused A chain elements type shape asked payload array old before error.InvalidNumberOfElements fit counted same (inl why) = absurd (why before (subst (λ t. IsCounted t array (product shape) before) (sym same) counted))
-update_refused A chain elements type shape asked payload array old before error.InvalidNumberOfElements fit counted same (inr why) = (fit, λ cells is. why cells (subst (λ t. IsCounted t payload (length (numbers_asked shape asked)) cells) (sym same) is))
+update_refused A chain elements type shape asked payload array old before error.ExpectedFixedLengthBytes fit counted same (inl why) = absurd (not_miscounted elements.type array (product shape) before error.ExpectedFixedLengthBytes counted (subst (λ t. IsMiscounted t array (product shape) error.ExpectedFixedLengthBytes) same why))
+update_refused A chain elements type shape asked payload array old before error.ExpectedFixedLengthBytes fit counted same (inr why) = (fit, subst (λ t. IsMiscounted t payload (length (numbers_asked shape asked)) error.ExpectedFixedLengthBytes) same why)
+update_refused A chain elements type shape asked payload array old before error.ExpectedVariableLengthBytes fit counted same (inl why) = absurd (not_miscounted elements.type array (product shape) before error.ExpectedVariableLengthBytes counted (subst (λ t. IsMiscounted t array (product shape) error.ExpectedVariableLengthBytes) same why))
+update_refused A chain elements type shape asked payload array old before error.ExpectedVariableLengthBytes fit counted same (inr why) = (fit, subst (λ t. IsMiscounted t payload (length (numbers_asked shape asked)) error.ExpectedVariableLengthBytes) same why)
+update_refused A chain elements type shape asked payload array old before error.ExpectedOptionalBytes fit counted same (inl why) = absurd (not_miscounted elements.type array (product shape) before error.ExpectedOptionalBytes counted (subst (λ t. IsMiscounted t array (product shape) error.ExpectedOptionalBytes) same why))
+update_refused A chain elements type shape asked payload array old before error.ExpectedOptionalBytes fit counted same (inr why) = (fit, subst (λ t. IsMiscounted t payload (length (numbers_asked shape asked)) error.ExpectedOptionalBytes) same why)
+update_refused A chain elements type shape asked payload array old before error.InvalidNumberOfElements fit counted same (inl why) = absurd (not_miscounted elements.type array (product shape) before error.InvalidNumberOfElements counted (subst (λ t. IsMiscounted t array (product shape) error.InvalidNumberOfElements) same why))
+update_refused A chain elements type shape asked payload array old before error.InvalidNumberOfElements fit counted same (inr why) = (fit, subst (λ t. IsMiscounted t payload (length (numbers_asked shape asked)) error.InvalidNumberOfElements) same why)
 update_refused A chain elements type shape asked payload array old before e fit counted same (inl why) = absurd why
 update_refused A chain elements type shape asked payload array old before e fit counted same (inr why) = absurd why

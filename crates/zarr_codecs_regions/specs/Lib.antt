@@ -3,3 +3,4 @@ pub mod Pieces
 pub mod Updates
 pub mod Filling
 pub mod Whole
+pub mod BoxLines

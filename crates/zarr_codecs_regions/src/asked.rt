@@ -1,10 +1,11 @@
 //! Places that are asked for.
-ghost use Rattle.std.specs.Prelude.{◌≡◌, ◌^◌, ◌<◌, true, IfOk, nat_lt};
-ghost use Rattle.std.specs.List.{list_all};
+ghost use Rattle.std.specs.Prelude.{◌≡◌, ◌^◌, ◌<◌, ◌++◌, true, IfOk, OnOk, nat_lt, flat_map};
+ghost use Rattle.std.specs.List.{list_all, range_with_len};
 ghost use Rattle.zarr_grids_boxes.specs.Boxes.{product};
 ghost use Rattle.zarr_grids_boxes.specs.Subsets.{region_of};
-ghost use Rattle.zarr_codecs_traits.specs.Indexers.{are_inside, asked_of, lies_in, numbers_of, numbers_asked};
+ghost use Rattle.zarr_codecs_traits.specs.Indexers.{are_inside, asked_of, shape_has, numbers_of, numbers_asked};
 ghost use Rattle.zarr_codecs_regions.specs.Asking.{TestsAsked};
+ghost use Rattle.zarr_codecs_regions.specs.BoxLines.{first_places, with_first_alone};
 
 use crate::inside::is_inside;
 use crate::list::are_below;
@@ -56,15 +57,84 @@ pub fn numbers_asked(
 
 /// The numbers of the places of a box, row-major.
 fn box_numbers(alloc: Global, shape: &[u64], region: &ArraySubset) -> Result<Vec<u64>, AllocError>
-    requires inside { lies_in shape.now (region_of region.now) ≡ true }
+    requires inside { shape_has shape.now (region_of region.now) ≡ true }
     requires small { product shape.now < 2 ^ 63 }
     ensures { IfOk result (λ numbers. numbers.items ≡ numbers_of shape.now (region_of region.now)) }
 {
     if region.is_empty() {
         return Ok(Vec::new(alloc));
     }
-    match region.linearised_indices(shape) {
+    let firsts = first_numbers(alloc, shape, region)?;
+    match region.shape().last() {
+        Some(length) => numbers_of_lines(alloc, firsts.as_slice(), *length),
+        None => Ok(firsts),
+    }
+}
+
+/// The numbers of the first places of a box's lines, row-major. A line is along the last dimension.
+fn first_numbers(alloc: Global, shape: &[u64], region: &ArraySubset) -> Result<Vec<u64>, AllocError>
+    requires inside { shape_has shape.now (region_of region.now) ≡ true }
+    requires small { product shape.now < 2 ^ 63 }
+    requires some { 0 < product region.now.shape.items }
+    ensures { IfOk result (λ numbers. numbers.items
+        ≡ numbers_of shape.now (first_places (region_of region.now))) }
+{
+    let firsts = first_places(alloc, region)?;
+    match firsts.linearised_indices(shape) {
         Ok(numbers) => numbers.collect(alloc),
         Err(_) => unreachable!(),
     }
+}
+
+/// The first places of a box's lines.
+fn first_places(alloc: Global, region: &ArraySubset) -> Result<ArraySubset, AllocError>
+    requires { 0 < product region.now.shape.items }
+    ensures { IfOk result (λ firsts. region_of firsts ≡ first_places (region_of region.now)) }
+{
+    let start = region.start().to_vec(alloc)?;
+    let shape = with_first_alone(region.shape().to_vec(alloc)?);
+    Ok(ArraySubset { start, shape })
+}
+
+/// A shape with 1 as its last length.
+#[tactic(auto, using(crate::proofs::BoxLines::alone_none, crate::proofs::BoxLines::alone_set))]
+fn with_first_alone(mut shape: Vec<u64>) -> Vec<u64>
+    ensures { result.items ≡ with_first_alone shape.items }
+{
+    let count = shape.len();
+    if count == 0 {
+        return shape;
+    }
+    shape[count - 1] = 1;
+    shape
+}
+
+/// The numbers of the places of lines, of so many places each, that begin at these numbers. `Err`
+/// also where a number is too large.
+fn numbers_of_lines(alloc: Global, firsts: &[u64], length: u64) -> Result<Vec<u64>, AllocError>
+    ensures { IfOk result
+        (λ numbers. numbers.items ≡ flat_map (λ n. range_with_len n length) firsts.now) }
+{
+    let Some(count) = firsts.len().checked_mul(length as usize) else {
+        return Err(AllocError);
+    };
+    let mut numbers = Vec::with_capacity(alloc, count)?;
+    for first in firsts {
+        push_line(&mut numbers, *first, length)?;
+    }
+    Ok(numbers)
+}
+
+/// Appends the numbers from the first one on, so many.
+fn push_line(numbers: &mut Vec<u64>, first: u64, length: u64) -> Result<(), AllocError>
+    ensures { OnOk result
+        (numbers.new.items ≡ numbers.old.items ++ range_with_len first length) }
+{
+    let Some(end) = first.checked_add(length) else {
+        return Err(AllocError);
+    };
+    for number in first..end {
+        numbers.push(number)?;
+    }
+    Ok(())
 }

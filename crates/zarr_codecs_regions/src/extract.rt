@@ -5,7 +5,7 @@ ghost use Rattle.zarr_grids_boxes.specs.Subsets.{region_of};
 ghost use Rattle.zarr_codecs_meaning.specs.Payloads.{fixed_cells};
 ghost use Rattle.zarr_codecs_meaning.specs.Places.{gather};
 ghost use Rattle.zarr_codecs_meaning.specs.Types.{Cell};
-ghost use Rattle.zarr_codecs_traits.specs.Indexers.{lies_in, numbers_of};
+ghost use Rattle.zarr_codecs_traits.specs.Indexers.{shape_has, numbers_of};
 
 use std::alloc::{AllocError, Global};
 use zarr_grids_boxes::ArraySubset;
@@ -21,7 +21,7 @@ pub fn extract_box(
     region: &ArraySubset,
     width: usize,
 ) -> Result<Vec<u8>, AllocError>
-    requires inside { lies_in shape.now (region_of region.now) ≡ true }
+    requires inside { shape_has shape.now (region_of region.now) ≡ true }
     requires positive { 0 < width }
     requires whole { length bytes.now ≡ product shape.now * width }
     ensures elements { (other : Cell) → IfOk result
@@ -52,7 +52,7 @@ fn zeros(
     region: &ArraySubset,
     width: usize,
 ) -> Result<Vec<u8>, AllocError>
-    requires inside { lies_in shape.now (region_of region.now) ≡ true }
+    requires inside { shape_has shape.now (region_of region.now) ≡ true }
     requires positive { 0 < width }
     requires room { product shape.now * width < 2 ^ 63 }
     ensures { IfOk result
@@ -65,7 +65,7 @@ fn zeros(
 }
 
 /// The first place of an array.
-fn origin(alloc: Global, shape: &[u64]) -> Result<Vec<u64>, AllocError>
+pub(crate) fn origin(alloc: Global, shape: &[u64]) -> Result<Vec<u64>, AllocError>
     ensures { IfOk result (λ place. place.items ≡ replicate (length shape.now) 0) }
 {
     vec![in alloc; 0u64; shape.len()]

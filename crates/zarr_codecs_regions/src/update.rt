@@ -9,12 +9,14 @@ ghost use Rattle.zarr_codecs_meaning.specs.Types.{Cell};
 ghost use Rattle.zarr_codecs_types.specs.Views.{type_of};
 ghost use Rattle.zarr_codecs_arrays.specs.Outcomes.{IsCounted};
 ghost use Rattle.zarr_codecs_arrays.specs.Views.{payload_of};
-ghost use Rattle.zarr_codecs_traits.specs.Indexers.{are_inside, asked_of, lies_in, numbers_asked, numbers_of};
+ghost use Rattle.zarr_codecs_traits.specs.Indexers.{are_inside, asked_of, shape_has, numbers_asked, numbers_of};
 ghost use Rattle.zarr_codecs_regions.specs.Updates.{Extracts, Updates, put};
 
 use crate::asked::{numbers_asked, test_asked};
 use crate::extract::extract_box;
 use crate::gather::gather;
+use crate::runs::put_fixed;
+use crate::whole::count_asked;
 use std::alloc::{AllocError, Global};
 use zarr_codecs_arrays::{ArrayBytes, CodecError, concat_elements};
 use zarr_codecs_traits::Indexer;
@@ -86,7 +88,7 @@ fn extract_fixed(
     region: &ArraySubset,
     data_type: &DataType,
 ) -> Result<ArrayBytes, AllocError>
-    requires inside { lies_in shape.now (region_of region.now) ≡ true }
+    requires inside { shape_has shape.now (region_of region.now) ≡ true }
     requires counted { (cells : List Cell)
         × IsCounted (type_of data_type.now) (fixed bytes.now) (product shape.now) cells }
     ensures { (cells : List Cell) (other : Cell)
@@ -123,16 +125,83 @@ pub fn update_array_bytes(
     };
     match bytes.test_count(data_type, count) {
         Ok(()) => match test_asked(shape, indexer) {
-            Ok(()) => {
-                let numbers = numbers_asked(alloc, shape, indexer)?;
-                match update.test_count(data_type, numbers.len() as u64) {
-                    Ok(()) => Ok(put_elements(alloc, bytes, count, &numbers, update, data_type)?),
+            Ok(()) => match count_asked(shape, indexer) {
+                Some(asked) => match update.test_count(data_type, asked) {
+                    Ok(()) => Ok(put_asked(alloc, bytes, shape, indexer, update, data_type)?),
                     Err(error) => Err(error),
-                }
-            }
+                },
+                None => Err(CodecError::Size),
+            },
             Err(error) => Err(error),
         },
         Err(error) => Err(error),
+    }
+}
+
+/// The elements of an array after new ones were put at places that are its. Those of one size that lie
+/// in a box are copied in runs.
+fn put_asked(
+    alloc: Global,
+    bytes: ArrayBytes,
+    shape: &[u64],
+    indexer: Indexer<'_>,
+    update: &ArrayBytes,
+    data_type: &DataType,
+) -> Result<ArrayBytes, AllocError>
+    requires inside { are_inside shape.now (asked_of indexer) ≡ true }
+    requires small { product shape.now < 2 ^ 63 }
+    ensures { (before given : List Cell)
+        → IsCounted (type_of data_type.now) (payload_of bytes) (product shape.now) before
+        → IsCounted (type_of data_type.now) (payload_of update.now)
+        (length (numbers_asked shape.now (asked_of indexer.entry))) given
+        → IfOk result (λ made. cells_in (type_of data_type.now) (payload_of made)
+        ≡ Some (put (numbers_asked shape.now (asked_of indexer.entry)) given before)) }
+{
+    match indexer {
+        Indexer::Subset(region) => put_in_box(alloc, bytes, shape, region, update, data_type),
+        Indexer::List(numbers) => {
+            let Some(count) = count_places(shape) else {
+                return Err(AllocError);
+            };
+            put_elements(alloc, bytes, count, numbers, update, data_type)
+        }
+    }
+}
+
+/// The elements of an array after new ones, one for each, were put at the places of a box of it.
+fn put_in_box(
+    alloc: Global,
+    bytes: ArrayBytes,
+    shape: &[u64],
+    region: &ArraySubset,
+    update: &ArrayBytes,
+    data_type: &DataType,
+) -> Result<ArrayBytes, AllocError>
+    requires inside { shape_has shape.now (region_of region.now) ≡ true }
+    requires small { product shape.now < 2 ^ 63 }
+    ensures { (before given : List Cell)
+        → cells_in (type_of data_type.now) (payload_of bytes) ≡ Some before
+        → length before ≡ product shape.now
+        → cells_in (type_of data_type.now) (payload_of update.now) ≡ Some given
+        → length given ≡ length (numbers_of shape.now (region_of region.now))
+        → IfOk result (λ made. cells_in (type_of data_type.now) (payload_of made)
+        ≡ Some (put (numbers_of shape.now (region_of region.now)) given before)) }
+{
+    match bytes {
+        ArrayBytes::Fixed(bytes) => match update {
+            ArrayBytes::Fixed(given) => {
+                let made = put_fixed(alloc, bytes, shape, given.as_slice(), region, data_type)?;
+                Ok(ArrayBytes::Fixed(made))
+            }
+            _ => Err(AllocError),
+        },
+        others => {
+            let Some(count) = count_places(shape) else {
+                return Err(AllocError);
+            };
+            let numbers = numbers_asked(alloc, shape, Indexer::Subset(region))?;
+            put_elements(alloc, others, count, &numbers, update, data_type)
+        }
     }
 }
 

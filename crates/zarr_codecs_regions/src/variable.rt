@@ -1,5 +1,5 @@
 //! Elements of variable length by their numbers.
-ghost use Rattle.std.specs.Prelude.{◌≡◌, ◌∷◌, List, length, map, flat_map, IfOk, IfSome};
+ghost use Rattle.std.specs.Prelude.{◌≡◌, ◌∷◌, ◌-◌, ◌≤◌, List, length, take, drop, map, flat_map, IfOk, IfSome};
 ghost use Rattle.zarr_codecs_meaning.specs.Payloads.{variable};
 ghost use Rattle.zarr_codecs_arrays.specs.Views.{payload_of};
 ghost use Rattle.zarr_codecs_regions.specs.Pieces.{ends_of, piece_of};
@@ -53,7 +53,8 @@ fn gather_offsets(
     Ok(ends)
 }
 
-/// The bytes of the elements with these numbers, one after another.
+/// The bytes of the elements with these numbers, one after another. Elements that stand so already
+/// are copied together.
 fn gather_pieces(
     alloc: Global,
     bytes: &[u8],
@@ -64,12 +65,19 @@ fn gather_pieces(
         (λ v. v.items ≡ flat_map (piece_of offsets.now bytes.now) numbers.now) }
 {
     let mut gathered = Vec::new(alloc);
+    let mut start: usize = 0;
+    let mut end: usize = 0;
     for number in numbers {
-        let Some(piece) = piece_of(bytes, offsets, *number) else {
+        let Some(piece) = bounds_of(bytes, offsets, *number) else {
             return Err(AllocError);
         };
-        gathered.extend_from_slice(piece)?;
+        if piece.0 != end {
+            gathered.extend_from_slice(&bytes[start..end])?;
+            start = piece.0;
+        }
+        end = piece.1;
     }
+    gathered.extend_from_slice(&bytes[start..end])?;
     Ok(gathered)
 }
 
@@ -77,8 +85,22 @@ fn gather_pieces(
 fn piece_of<'a>(bytes: &'a [u8], offsets: &[u64], number: u64) -> Option<&'a [u8]>
     ensures { IfSome result (λ piece. piece.now ≡ piece_of offsets.now bytes.now number) }
 {
+    let (start, end) = bounds_of(bytes, offsets, number)?;
+    Some(&bytes[start..end])
+}
+
+/// Where the bytes of the element with this number begin and end, where there is one.
+fn bounds_of(bytes: &[u8], offsets: &[u64], number: u64) -> Option<(usize, usize)>
+    ensures order { IfSome result (λ bounds. bounds.0 ≤ bounds.1) }
+    ensures within { IfSome result (λ bounds. bounds.1 ≤ length bytes.now) }
+    ensures piece { IfSome result (λ bounds. take (bounds.1 - bounds.0) (drop bounds.0 bytes.now)
+        ≡ piece_of offsets.now bytes.now number) }
+{
     let first = number as usize;
     let start = *offsets.get(first)? as usize;
     let end = *offsets.get(first.checked_add(1)?)? as usize;
-    bytes.get(start..end)
+    if start > end || end > bytes.len() {
+        return None;
+    }
+    Some((start, end))
 }

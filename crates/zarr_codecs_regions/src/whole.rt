@@ -5,7 +5,7 @@ ghost use Rattle.zarr_codecs_meaning.specs.Fits.{fits};
 ghost use Rattle.zarr_codecs_meaning.specs.Types.{Cell};
 ghost use Rattle.zarr_codecs_arrays.specs.Views.{elements_of, payload_of};
 ghost use Rattle.zarr_codecs_traits.specs.Indexers.{are_inside, asked_of, numbers_asked};
-ghost use Rattle.zarr_codecs_traits.specs.PartWriting.{IsEncodedInto, NotEncodedInto, WritesOnce};
+ghost use Rattle.zarr_codecs_traits.specs.PartWriting.{IsEncodedInto, NotEncodedWhole, NotTaken, WritesOnce};
 ghost use Rattle.zarr_codecs_traits.specs.Sources.{refused_after, value_bytes};
 ghost use Rattle.zarr_codecs_regions.specs.Whole.{CanBePut, EncodesOrDrops, GivesStored};
 
@@ -19,8 +19,8 @@ use zarr_codecs_traits::{ArrayPart, BytesPartialEncoderTraits, Indexer, read_val
 use zarr_grids_boxes::walk::count_places;
 
 /// Puts elements in the place of those at the places that are asked for, as
-/// `ArrayToBytesCodecTraits::partial_encode` says, for any codec: the value that the source holds is
-/// read whole, and one call replaces it, or takes it away.
+/// `ArrayToBytesCodecTraits::partial_encode` says, for any codec: the value that the source holds
+/// is read whole, and one call replaces it, or takes it away.
 pub fn encode_whole<C: WholeValues, E: BytesPartialEncoderTraits>(
     codec: &C,
     alloc: Global,
@@ -35,7 +35,7 @@ pub fn encode_whole<C: WholeValues, E: BytesPartialEncoderTraits>(
         (payload_of bytes) cells (E.contents source.old) (E.contents source.new)) }
     ensures err { IsTrue (E.is_honest source.old) →
         OnErr result (E.contents source.new ≡ E.contents source.old) }
-    ensures cause { IsTrue (E.is_honest source.old) → NotEncodedInto (C.meaning codec.now)
+    ensures cause { IsTrue (E.is_honest source.old) → NotEncodedWhole (C.meaning codec.now)
         (elements_of part.entry.elements.now) part.entry.shape.now (asked_of part.entry.indexer)
         (payload_of bytes) (E.contents source.old) result }
     ensures refused { E.refused_calls source.new ≡
@@ -56,10 +56,10 @@ pub fn encode_whole<C: WholeValues, E: BytesPartialEncoderTraits>(
     }
 }
 
-/// Nothing, where elements can be put at the places that are asked for. `Fit` where the codec doesn't
-/// suit the array; `IncompatibleIndexer` where a place isn't one of the array's;
-/// `InvalidNumberOfElements`, `Expected..` or `CellOutOfRange` where these are not elements, one for
-/// each place; `Size` where the array has 2^63 elements or more.
+/// Nothing, where elements can be put at the places that are asked for. `Fit` where the codec
+/// doesn't suit the array; `IncompatibleIndexer` where a place isn't one of the array's;
+/// `InvalidNumberOfElements`, `Expected..` or `CellOutOfRange` where these are not elements, one
+/// for each place; `Size` where the array has 2^63 elements or more.
 pub fn test_given<C: WholeValues>(
     codec: &C,
     alloc: Global,
@@ -68,7 +68,7 @@ pub fn test_given<C: WholeValues>(
 ) -> Result<(), CodecError>
     ensures ok { OnOk result (CanBePut (C.meaning codec.now) (elements_of part.entry.elements.now)
         part.entry.shape.now (asked_of part.entry.indexer) (payload_of bytes.now)) }
-    ensures cause { (stored : Option (List ℕ)) → NotEncodedInto (C.meaning codec.now)
+    ensures cause { (stored : Option (List ℕ)) → NotTaken (C.meaning codec.now)
         (elements_of part.entry.elements.now) part.entry.shape.now (asked_of part.entry.indexer)
         (payload_of bytes.now) stored result }
     ensures no_source { (count : ℕ) → refused_after count result ≡ count }
@@ -137,7 +137,7 @@ fn updated_value<C: WholeValues>(
         × IsEncodedInto (C.meaning codec.now) (C.is_function codec.now)
         (elements_of part.entry.elements.now) part.entry.shape.now (asked_of part.entry.indexer)
         (payload_of bytes) cells (value_bytes old) (value_bytes value)) }
-    ensures cause { NotEncodedInto (C.meaning codec.now) (elements_of part.entry.elements.now)
+    ensures cause { NotEncodedWhole (C.meaning codec.now) (elements_of part.entry.elements.now)
         part.entry.shape.now (asked_of part.entry.indexer) (payload_of bytes) (value_bytes old)
         result }
     ensures no_source { (count : ℕ) → refused_after count result ≡ count }
@@ -160,8 +160,8 @@ fn updated_value<C: WholeValues>(
     }
 }
 
-/// The value of updated elements of an array, or `None` where a codec that keeps no fill would have to
-/// encode fill alone.
+/// The value of updated elements of an array, or `None` where a codec that keeps no fill would have
+/// to encode fill alone.
 fn encode_updated<C: WholeValues>(
     codec: &C,
     alloc: Global,

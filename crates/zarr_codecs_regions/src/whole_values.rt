@@ -12,8 +12,8 @@ use zarr_codecs_arrays::{ArrayBytes, CodecError, Elements};
 use zarr_codecs_options::CodecOptions;
 use zarr_codecs_types::DataType;
 
-/// A codec between arrays and bytes, so far as `encode_whole` needs it. Each call that is named after
-/// one of `ArrayToBytesCodecTraits` does what that one does.
+/// A codec between arrays and bytes, so far as `encode_whole` needs it. Each call that is named
+/// after one of `ArrayToBytesCodecTraits` does what that one does.
 pub trait WholeValues: Sized {
     /// The chain that it does.
     ghost meaning: { Self → Chain };
@@ -55,7 +55,8 @@ pub trait WholeValues: Sized {
         ensures { Decodes (meaning self.now) (elements_of elements.now) shape.now value.items
             result };
 
-    /// Whether an array that became all fill keeps a value. A codec that makes shards takes it away.
+    /// Whether an array that became all fill keeps a value. A codec that makes shards takes it
+    /// away.
     fn keeps_fill(&self) -> bool
         ensures { result ≡ is_plain (meaning self.now) };
 

@@ -1,11 +1,13 @@
-//! Coders of a lent source. What they read and write is in the scripts of `zarr_scarcity`, and in calls/parts.calls.
+//! Coders of a lent source. What they read and write is in the scripts of `zarr_scarcity`, and in
+//! calls/parts.calls.
 use crate::samples::zeros;
 use std::alloc::Global;
 use zarr_codecs::{BytesCodec, CodecError, CodecPartialEncoder, MemorySource, WholeArray};
 
 type Encoder<'a> = CodecPartialEncoder<'a, BytesCodec, MemorySource>;
 
-/// Whether a coder tells that there is a value, how many bytes its source keeps, and that the value is written in part.
+/// Whether a coder tells that there is a value, how many bytes its source keeps, and that the value
+/// is written in part.
 fn tells_of_four(encoder: &mut Encoder<'_>) -> Result<bool, CodecError> {
     Ok(encoder.exists()? && encoder.size_held() == 4 && encoder.supports_partial_encode())
 }

@@ -42,7 +42,8 @@ fn a_negative_integer_is_its_complement(rt: HostRuntime) {
     assert!(rt; are_made == [true; 4]);
 }
 
-/// Whether 5 is a value of optional integers of 8 bits; whether it is as a present cell; and whether no cell is, and another one.
+/// Whether 5 is a value of optional integers of 8 bits; whether it is as a present cell; and
+/// whether no cell is, and another one.
 fn are_values(alloc: Global) -> Result<(bool, bool, bool, bool), AllocError> {
     let optional = data_type::optional(alloc, data_type::uint8())?;
     let five = FillValue::from_u8(alloc, 5)?;

@@ -29,7 +29,8 @@ fn read(
     BytesCodec::new(None).partial_decode(alloc, source, part, &CodecOptions::default())
 }
 
-/// Whether the second cell of four that stand in the middle of eight bytes is this one, and how many bytes are taken for it.
+/// Whether the second cell of four that stand in the middle of eight bytes is this one, and how
+/// many bytes are taken for it.
 fn is_read(alloc: Global, want: u8) -> Result<(bool, u128), CodecError> {
     let mut source = MemorySource::new(Some(EIGHT.to_vec(alloc)?));
     let mut interval = IntervalSource {

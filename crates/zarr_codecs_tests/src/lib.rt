@@ -1,11 +1,14 @@
-//! Tests of data types, fill values, elements and codecs that need code: constructors, intervals, targets and coders. What calls make
-//! of values is in the files of calls/, and in the scripts of `zarr_scarcity`.
+//! Tests of data types, fill values, elements and codecs that need code: constructors, intervals,
+//! targets and coders. What calls make of values is in the files of calls/, and in the scripts of
+//! `zarr_scarcity`.
 #![tactic(auto)]
 
 #[cfg(test)]
 mod bytes;
 #[cfg(test)]
 mod coders;
+#[cfg(test)]
+mod deep;
 #[cfg(test)]
 mod fill_values;
 #[cfg(test)]

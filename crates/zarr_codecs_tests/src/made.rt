@@ -1,5 +1,5 @@
-//! Codecs with chains inside of them, made by their constructors. What they make of values is in calls/sections.calls, and in the
-//! scripts of `zarr_scarcity`.
+//! Codecs with chains inside of them, made by their constructors. What they make of values is in
+//! calls/sections.calls, and in the scripts of `zarr_scarcity`.
 use std::alloc::{AllocError, Global};
 use zarr_codecs::{
     ArrayToArrayCodec, ArrayToBytesCodec, BytesCodec, CodecChain, OptionalCodec, PluginCreateError,
@@ -47,7 +47,8 @@ fn default_vlen_is_of_little_bytes(rt: HostRuntime) {
     assert!(rt; matches!(is_default, Ok(true)));
 }
 
-/// `vlen` with its offsets behind `squeeze`, and its index at the end, made anew of what it is configured by.
+/// `vlen` with its offsets behind `squeeze`, and its index at the end, made anew of what it is
+/// configured by.
 fn vlen_again(alloc: Global) -> Result<VlenCodec<ReverseCodec>, PluginCreateError> {
     let codec = VlenCodec::new(squeezed(alloc)?, plain(alloc), VlenIndexDataType::UInt32)?;
     let codec = codec.with_index_location(VlenIndexLocation::End);

@@ -1,5 +1,5 @@
-//! Elements taken out of an array, and fill values put into a target. What is put into an array is in calls/parts.calls and
-//! calls/sections.calls.
+//! Elements taken out of an array, and fill values put into a target. What is put into an array is
+//! in calls/parts.calls and calls/sections.calls.
 use crate::samples::{elements, fixed};
 use std::alloc::Global;
 use zarr_codecs::{

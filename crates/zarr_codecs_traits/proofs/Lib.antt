@@ -1,3 +1,5 @@
 mod PartLemmas
 pub mod PartValues
 mod Intervals
+pub mod Refusals
+pub mod Damage

@@ -16,9 +16,9 @@ abbrev pub asked_of : Indexer → Asked
 asked_of (indexer.Subset subset) = in_box (region_of subset.now)
 asked_of (indexer.List numbers) = listed numbers.now
 
--- whether a box lies in a shape of as many dimensions
-abbrev pub lies_in : List ℕ → Region → Bool
-lies_in shape region = (length region.start == length shape) && list_all (λ place. is_in_box (map (λ size. 0) shape) shape place) (places region.start region.shape)
+-- whether a shape has a box: the box is of as many dimensions, and each of its places lies in the shape
+abbrev pub shape_has : List ℕ → Region → Bool
+shape_has shape region = (length region.start == length shape) && list_all (λ place. is_in_box (map (λ size. 0) shape) shape place) (places region.start region.shape)
 
 -- the numbers of the places of a box in a shape, row-major
 abbrev pub numbers_of : List ℕ → Region → List ℕ
@@ -26,7 +26,7 @@ numbers_of shape region = map (λ place. ravel place shape) (places region.start
 
 -- whether all places that are asked for are places of a shape
 abbrev pub are_inside : List ℕ → Asked → Bool
-are_inside shape (in_box region) = lies_in shape region
+are_inside shape (in_box region) = shape_has shape region
 are_inside shape (listed numbers) = list_all (λ n. nat_lt n (product shape)) numbers
 
 -- the numbers of the places that are asked for

@@ -16,7 +16,7 @@ use Rattle.zarr_codecs_arrays.specs.Outcomes.{IsInvalid, IsValid}
 use Rattle.zarr_codecs_arrays.specs.Values.{takes_all_bytes}
 use Rattle.zarr_codecs_arrays.specs.declared.error.CodecError.{CodecError}
 use Rattle.zarr_codecs_arrays.specs.declared.error.CodecError.TheVariants as error
-use Rattle.zarr_codecs_traits.specs.Indexers.{Asked, in_box, listed, lies_in}
+use Rattle.zarr_codecs_traits.specs.Indexers.{Asked, in_box, listed, shape_has}
 use Rattle.zarr_codecs_traits.specs.Patches.{patched, any_too_far}
 use Rattle.zarr_codecs_traits.specs.declared.value_patch.ValuePatch.{ValuePatch}
 
@@ -60,7 +60,7 @@ pub record IsEncodedPart (chain : Chain) (exact : Bool) (elements : Elements) (s
   pub ranges : encodes_ranges chain ≡ true
   pub valid : IsValid elements.type payload (product region.shape) cells
   pub fit : fits chain elements.type shape ≡ true
-  pub inside : lies_in shape region ≡ true
+  pub inside : shape_has shape region ≡ true
   pub near : any_too_far patches ≡ false
   pub encodes : IsTrue exact → (value : List ℕ) (before : List Cell) → decoded chain elements shape value ≡ Some before → encoded chain elements shape (cells_with_box shape elements.fill region cells before) ≡ Some (patched value patches)
   pub stands : is_lossless chain elements.type ≡ true → (value : List ℕ) (before : List Cell) → decoded chain elements shape value ≡ Some before → Stands chain elements shape (patched value patches) (cells_with_box shape elements.fill region cells before)
@@ -70,7 +70,7 @@ abbrev pub EncodesPart : Chain → Bool → Elements → List ℕ → Region →
 EncodesPart chain exact elements shape region payload (Ok (Some patches)) = (cells : List Cell) × IsEncodedPart chain exact elements shape region payload cells patches.items
 EncodesPart chain exact elements shape region payload (Ok None) = encodes_ranges chain ≡ false
 EncodesPart chain exact elements shape region payload (Err error.Fit) = fits chain elements.type shape ≡ false
-EncodesPart chain exact elements shape region payload (Err error.IncompatibleIndexer) = lies_in shape region ≡ false
+EncodesPart chain exact elements shape region payload (Err error.IncompatibleIndexer) = shape_has shape region ≡ false
 EncodesPart chain exact elements shape region payload (Err error.Size) = IsTooLarge elements.type (product shape)
 EncodesPart chain exact elements shape region payload (Err error.Memory) = Unit {0}
 EncodesPart chain exact elements shape region payload (Err e) = (fits chain elements.type shape ≡ true) × IsInvalid elements.type payload (product region.shape) e

@@ -1,19 +1,20 @@
 -- What is stored for an array after some of its elements were replaced.
-use Rattle.std.specs.Prelude.{◌≡◌, ◌⊎◌, ℕ, ◌+◌, ◌^◌, ◌≤◌, List, [], ◌∷◌, map, length, get_or, Option, Some, None, unwrap_or, option_map, Result, Ok, Err, Bool, true, false, IsTrue, MatchOption}
+use Rattle.std.specs.Prelude.{◌≡◌, ◌⊎◌, ℕ, ◌+◌, ◌^◌, ◌≤◌, List, [], ◌∷◌, map, length, get_or, Option, Some, None, unwrap_or, option_map, option_and_then, Result, Ok, Err, Bool, true, false, nat_lt, IsTrue, MatchOption}
+use Rattle.std.specs.List.{list_any}
 use Rattle.std.specs.Option.{option_map_or}
 use Rattle.zarr_grids_boxes.specs.Boxes.{product}
 use Rattle.zarr_codecs_meaning.specs.Chains.{Chain}
 use Rattle.zarr_codecs_meaning.specs.Chains.Chain.{bytes, packbits, vlen, optional, after_array_codec, then_bytes, sharded}
 use Rattle.zarr_codecs_meaning.specs.Chunks.{chunk_decoded, chunk_part}
-use Rattle.zarr_codecs_meaning.specs.Decoding.{opens}
-use Rattle.zarr_codecs_meaning.specs.Encoding.{Piece, encoded, index_size, joined_slices, pieces_of}
+use Rattle.zarr_codecs_meaning.specs.Decoding.{decoded, is_absent, is_whole, opens, pairs_in, slice_at}
+use Rattle.zarr_codecs_meaning.specs.Encoding.{Pair, Piece, encoded, index_size, joined_slices, pieces_of}
 use Rattle.zarr_codecs_meaning.specs.Fits.{fits, is_lossless, is_plain}
 use Rattle.zarr_codecs_meaning.specs.Laws.{AreCells}
 use Rattle.zarr_codecs_meaning.specs.Payloads.{Payload}
-use Rattle.zarr_codecs_meaning.specs.Places.{encoded_shape, gather, index_shape, parts_of, place_numbers, source_places}
+use Rattle.zarr_codecs_meaning.specs.Places.{Part, encoded_shape, gather, index_shape, parts_of, place_numbers, position_of, source_places}
 use Rattle.zarr_codecs_meaning.specs.Refusals.{CodecRefuses, IsMade, PassesIndex}
 use Rattle.zarr_codecs_meaning.specs.Standing.{ChunkStands, Tight}
-use Rattle.zarr_codecs_meaning.specs.Types.{Cell, Elements, is_fill, IsTooLarge}
+use Rattle.zarr_codecs_meaning.specs.Types.{Cell, Elements, is_fill, uint64, zero_filled, IsTooLarge}
 use Rattle.zarr_sharding_changes.specs.Compactions.{compaction, damaged}
 use Rattle.zarr_codecs_arrays.specs.Outcomes.{IsInvalid, IsValid}
 use Rattle.zarr_codecs_arrays.specs.declared.error.CodecError.{CodecError}
@@ -43,6 +44,30 @@ ChunkTight chain elements shape stored cells = MatchOption stored (is_fill eleme
 abbrev pub OnCells : Elements → List ℕ → (List Cell → Type 0) → Type 0
 OnCells elements shape fact = (before : List Cell) → AreCells elements shape before → fact before
 
+-- whether one of the places with these numbers lies in a subchunk
+abbrev pub is_met : List ℕ → Part → Bool
+is_met numbers part = list_any (λ n. nat_lt (position_of n part.places) (length part.places)) numbers
+
+-- a subchunk that one of the places lies in is present in a value, and isn't decoded: its slice ends past the value, or its chain can't decode it
+abbrev pub IsLostAmong : (List ℕ → List ℕ → Option (List Cell)) → List ℕ → List ℕ → List Part → List Pair → Type 0
+IsLostAmong inner value numbers [] pairs = ⊥
+IsLostAmong inner value numbers (part ∷ parts) [] = ⊥
+IsLostAmong inner value numbers (part ∷ parts) (pair ∷ pairs) =
+    ((is_met numbers part ≡ true) × (is_absent pair ≡ false) × (option_and_then (inner part.shape) (slice_at value pair) ≡ None)) ⊎ IsLostAmong inner value numbers parts pairs
+
+-- a write at these places meets what can't be decoded: in a shard a subchunk that one of the places lies in, even where all of it is overwritten; before bytes codecs the whole value. Other values have no such parts: they open whole, or not at all
+abbrev pub MeetsLost : Chain → Elements → List ℕ → List ℕ → List ℕ → Type 0
+MeetsLost (bytes order) elements shape value numbers = ⊥
+MeetsLost (packbits padding first last) elements shape value numbers = ⊥
+MeetsLost (vlen index «data» width location) elements shape value numbers = ⊥
+MeetsLost (optional mask values) elements shape value numbers = ⊥
+MeetsLost (after_array_codec codec chain) elements shape value numbers = MeetsLost chain elements (encoded_shape codec shape) value (map (λ n. position_of n (source_places codec shape)) numbers)
+MeetsLost (then_bytes chain codec) elements shape value numbers = decoded (then_bytes chain codec) elements shape value ≡ None
+MeetsLost (sharded subchunk inner index location) elements shape value numbers =
+    let pairs_shape = index_shape shape subchunk in
+    (pairs : List Pair) × (pairs_in (decoded index (zero_filled uint64) pairs_shape) location (index_size index pairs_shape) value ≡ Some pairs)
+    × IsLostAmong (decoded inner elements) value numbers (parts_of shape subchunk) pairs
+
 -- new cells were put at the places that are asked for: what is stored for the array changed so, whatever was stored
 pub record IsEncodedInto (chain : Chain) (exact : Bool) (elements : Elements) (shape : List ℕ) (asked : Asked) (payload : Payload) (cells : List Cell) (old new : Option (List ℕ)) : Type 0 where
   pub valid : IsValid elements.type payload (length (numbers_asked shape asked)) cells
@@ -50,6 +75,8 @@ pub record IsEncodedInto (chain : Chain) (exact : Bool) (elements : Elements) (s
   pub inside : are_inside shape asked ≡ true
   -- a value that can't be read at all is not written over
   pub opened : MatchOption old (Unit {0}) (λ value. opens chain elements shape value ≡ true)
+  -- nor over a subchunk that isn't decoded, where one of the places lies in it
+  pub none_lost : MatchOption old (Unit {0}) (λ value. ¬ MeetsLost chain elements shape value (numbers_asked shape asked))
   -- what stood for cells stands for the updated ones
   pub stands : is_lossless chain elements.type ≡ true → OnCells elements shape (λ before. ChunkStands chain elements shape old before → ChunkStands chain elements shape new (put (numbers_asked shape asked) cells before))
   pub tight : IsTrue exact → is_lossless chain elements.type ≡ true → OnCells elements shape (λ before. ChunkTight chain elements shape old before → ChunkTight chain elements shape new (put (numbers_asked shape asked) cells before))
@@ -90,22 +117,41 @@ pub record IsRefusedInto (chain : Chain) (elements : Elements) (shape : List ℕ
   pub inside : are_inside shape asked ≡ true
   pub is : refuses (cells_after chain elements shape stored (numbers_asked shape asked) cells)
 
--- what is stored isn't decoded, or a present slice of a shard lies outside the data part
+-- what is stored is damaged, so that nothing is written over it. Through `bytes` it is a value of another length, and no stored element is tested. Any other value can't be decoded, or is a shard with a present slice outside its data part
 abbrev pub IsDamaged : Chain → Elements → List ℕ → Option (List ℕ) → Type 0
-IsDamaged chain elements shape stored = (chunk_decoded chain elements shape stored ≡ None) ⊎ MatchOption stored ⊥ (λ value. compaction chain shape value ≡ damaged)
+IsDamaged (bytes order) elements shape stored = MatchOption stored ⊥ (λ value. is_whole elements.type shape value ≡ false)
+IsDamaged (packbits padding first last) elements shape stored = chunk_decoded (packbits padding first last) elements shape stored ≡ None
+IsDamaged (vlen index «data» width location) elements shape stored = chunk_decoded (vlen index «data» width location) elements shape stored ≡ None
+IsDamaged (optional mask values) elements shape stored = chunk_decoded (optional mask values) elements shape stored ≡ None
+IsDamaged (after_array_codec codec chain) elements shape stored = IsDamaged chain elements (encoded_shape codec shape) stored
+IsDamaged (then_bytes chain codec) elements shape stored = chunk_decoded (then_bytes chain codec) elements shape stored ≡ None
+IsDamaged (sharded subchunk inner index location) elements shape stored =
+    (chunk_decoded (sharded subchunk inner index location) elements shape stored ≡ None) ⊎ MatchOption stored ⊥ (λ value. compaction (sharded subchunk inner index location) shape value ≡ damaged)
+
+-- why new elements are not put at the places that are asked for, with this for damage
+abbrev pub NotPut : {A : Type 0} → Type 0 → Chain → Elements → List ℕ → Asked → Payload → Option (List ℕ) → Result A CodecError → Type 0
+NotPut damage chain elements shape asked payload stored (Ok value) = Unit {0}
+NotPut damage chain elements shape asked payload stored (Err error.Fit) = fits chain elements.type shape ≡ false
+NotPut damage chain elements shape asked payload stored (Err error.IncompatibleIndexer) = are_inside shape asked ≡ false
+NotPut damage chain elements shape asked payload stored (Err error.Size) =
+    IsTooLarge elements.type (product shape) ⊎ IsRefusedInto chain elements shape asked payload stored (λ after. PassesIndex chain elements shape after ⊎ PassesLength chain elements shape stored after)
+NotPut damage chain elements shape asked payload stored (Err error.Codec) = IsRefusedInto chain elements shape asked payload stored (CodecRefuses chain elements shape)
+NotPut damage chain elements shape asked payload stored (Err error.Damage) = (fits chain elements.type shape ≡ true) × damage
+NotPut damage chain elements shape asked payload stored (Err error.Source) = Unit {0}
+NotPut damage chain elements shape asked payload stored (Err error.Memory) = Unit {0}
+NotPut damage chain elements shape asked payload stored (Err e) = (fits chain elements.type shape ≡ true) × IsInvalid elements.type payload (length (numbers_asked shape asked)) e
 
 -- why new elements are not put at the places that are asked for
 abbrev pub NotEncodedInto : {A : Type 0} → Chain → Elements → List ℕ → Asked → Payload → Option (List ℕ) → Result A CodecError → Type 0
-NotEncodedInto chain elements shape asked payload stored (Ok value) = Unit {0}
-NotEncodedInto chain elements shape asked payload stored (Err error.Fit) = fits chain elements.type shape ≡ false
-NotEncodedInto chain elements shape asked payload stored (Err error.IncompatibleIndexer) = are_inside shape asked ≡ false
-NotEncodedInto chain elements shape asked payload stored (Err error.Size) =
-    IsTooLarge elements.type (product shape) ⊎ IsRefusedInto chain elements shape asked payload stored (λ after. PassesIndex chain elements shape after ⊎ PassesLength chain elements shape stored after)
-NotEncodedInto chain elements shape asked payload stored (Err error.Codec) = IsRefusedInto chain elements shape asked payload stored (CodecRefuses chain elements shape)
-NotEncodedInto chain elements shape asked payload stored (Err error.Damage) = (fits chain elements.type shape ≡ true) × IsDamaged chain elements shape stored
-NotEncodedInto chain elements shape asked payload stored (Err error.Source) = Unit {0}
-NotEncodedInto chain elements shape asked payload stored (Err error.Memory) = Unit {0}
-NotEncodedInto chain elements shape asked payload stored (Err e) = (fits chain elements.type shape ≡ true) × IsInvalid elements.type payload (length (numbers_asked shape asked)) e
+NotEncodedInto chain elements shape asked payload stored result = NotPut (IsDamaged chain elements shape stored) chain elements shape asked payload stored result
+
+-- the same where the value is decoded whole and written anew: it is damaged where it isn't decoded
+abbrev pub NotEncodedWhole : {A : Type 0} → Chain → Elements → List ℕ → Asked → Payload → Option (List ℕ) → Result A CodecError → Type 0
+NotEncodedWhole chain elements shape asked payload stored result = NotPut (chunk_decoded chain elements shape stored ≡ None) chain elements shape asked payload stored result
+
+-- the same before anything is read, which tells of no damage
+abbrev pub NotTaken : {A : Type 0} → Chain → Elements → List ℕ → Asked → Payload → Option (List ℕ) → Result A CodecError → Type 0
+NotTaken chain elements shape asked payload stored result = NotPut ⊥ chain elements shape asked payload stored result
 
 -- at most one writing call was accepted, and none where the call is refused (a count stands still at 2^128 - 1)
 abbrev pub WritesOnce : {A : Type 0} → ℕ → ℕ → Result A CodecError → Type 0

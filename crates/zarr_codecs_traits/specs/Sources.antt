@@ -1,8 +1,9 @@
 -- What sources of bytes answer.
-use Rattle.std.specs.Prelude.{◌≡◌, ◌≤◌, ℕ, ◌+◌, ◌-◌, ◌^◌, min, map, List, Vec, flat_map, Bool, Option, None, Some, option_map, length, take, drop, false, nat_lt, IsTrue, Result, Ok, Err, nat_le, sum_by}
+use Rattle.std.specs.Prelude.{◌≡◌, ◌⊎◌, ◌≤◌, ℕ, ◌+◌, ◌-◌, ◌^◌, min, map, List, Vec, flat_map, Bool, Option, None, Some, option_map, length, take, drop, false, nat_lt, IsTrue, IfErr, Result, Ok, Err, nat_le, sum_by}
 use Rattle.std.specs.List.{list_any}
 use Rattle.std.specs.Option.{option_map_or}
 use Rattle.std.specs.declared.alloc.Global.{Global}
+use Rattle.zarr_codecs_meaning.specs.Payloads.{Payload}
 use Rattle.zarr_codecs_arrays.specs.declared.error.CodecError.{CodecError}
 use Rattle.zarr_codecs_arrays.specs.declared.error.CodecError.TheVariants as error
 use Rattle.zarr_codecs_traits.specs.declared.byte_range.ByteRange.{ByteRange}
@@ -48,6 +49,10 @@ refused_after count (Ok value) = count
 refused_after count (Err error.Source) = min (count + 1) (2 ^ 128 - 1)
 refused_after count (Err e) = count
 
+-- whether the second is the count of refused calls after elements were to be read and put into a target: as the answer tells, so that it rose where the source refused; or as it was, where the target doesn't take the elements
+abbrev pub IsRefusedAfter : {A : Type 0} → (Payload → CodecError → Type 0) → ℕ → Result A CodecError → ℕ → Type 0
+IsRefusedAfter misfits count result after = (after ≡ refused_after count result) ⊎ ((after ≡ count) × IfErr result (λ e. (payload : Payload) × misfits payload e))
+
 -- how many bytes the parts have together that were given, or 0 where there are none
 abbrev pub parts_length : Option (Vec (Vec ℕ Global) Global) → ℕ
 parts_length found = option_map_or (λ parts. sum_by length parts) (part_lists found) 0
@@ -87,6 +92,10 @@ RangesRefused contents ranges result = ReadRefused result
 abbrev pub has_range : Option (List ℕ) → ByteRange → Bool
 has_range None range = false
 has_range (Some value) range = nat_le (range.offset + range.length) (length value)
+
+-- an honest source holds a value that a range lies in
+abbrev pub HoldsRange : Bool → Option (List ℕ) → ByteRange → Type 0
+HoldsRange honest contents range = IsTrue honest → IsTrue (has_range contents range)
 
 -- the bytes of a value in a range, as a value of their own, or none where there is no value
 abbrev pub interval_of : Option (List ℕ) → ByteRange → Option (List ℕ)

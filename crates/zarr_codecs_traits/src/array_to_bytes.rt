@@ -39,6 +39,10 @@ pub trait ArrayToBytesCodecTraits: Sized + Drop {
     /// means, else any value that stands for them.
     ghost is_function: { Self → Bool };
 
+    /// Whether the second is a copy of the first: its codecs keep their names, and the subchunks of
+    /// its shards are written in the same orders.
+    ghost copied: { Self → Self → Type 0 };
+
     /// Whether what the codec makes of elements depends on these alone, and not on what was written
     /// before or on an order of writing.
     fn encoding_is_function(&self) -> bool
@@ -190,9 +194,11 @@ pub trait ArrayToBytesCodecTraits: Sized + Drop {
     /// A refusal leaves the source as it was.
     /// `Fit` where the codec doesn't suit the array; `IncompatibleIndexer` where a place isn't one of
     /// the array's; `InvalidNumberOfElements`, `Expected..` or `CellOutOfRange` where these are not
-    /// elements, one for each place; `Damage` where the value that was there can't be decoded;
-    /// `Codec` where the caller's codec refuses; `Size` where an offset, a length, the new value or
-    /// the array is too large; `Source` where the source refuses.
+    /// elements, one for each place; `Damage` where the value that was there can't be decoded, or a
+    /// subchunk of it that a place lies in, even one that is overwritten whole: through `bytes`,
+    /// which tests no element that is there, where it has another length; `Codec` where the
+    /// caller's codec refuses; `Size` where an offset, a length, the new value or the array is too
+    /// large; `Source` where the source refuses.
     fn partial_encode<E: BytesPartialEncoderTraits>(
         &self,
         alloc: Global,
@@ -234,10 +240,12 @@ pub trait ArrayToBytesCodecTraits: Sized + Drop {
         ensures { Compacts (meaning self.now) (elements_of elements.now).type shape.now value.now
             result };
 
-    /// An equal codec. `Err` only where an allocation failed.
+    /// An equal codec, whose codecs keep their names and whose shards their orders. `Err` only where
+    /// an allocation failed.
     fn try_clone(&self, alloc: Global) -> Result<Self, AllocError>
         ensures meaning { IfOk result (λ copy. meaning copy ≡ meaning self.now) }
-        ensures function { IfOk result (λ copy. is_function copy ≡ is_function self.now) };
+        ensures function { IfOk result (λ copy. is_function copy ≡ is_function self.now) }
+        ensures copied { IfOk result (λ copy. copied self.now copy) };
 
     ghost lawful: { (codec : Self) → IsLawfulChain (meaning codec) };
 }

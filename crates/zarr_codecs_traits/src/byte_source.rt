@@ -18,8 +18,8 @@ pub trait BytesPartialDecoderTraits {
     /// How many calls were refused by what stands behind it.
     ghost refused_calls: { Self → ℕ };
 
-    /// How many bytes `partial_decode` and `partial_decode_concat` gave. At 2^128 - 1 each count
-    /// stands still.
+    /// How many bytes of its value it gave: by `partial_decode` and `partial_decode_concat`, and to
+    /// write ranges that are not taken as they are. At 2^128 - 1 each count stands still.
     ghost given_bytes: { Self → ℕ };
 
     /// Whether the second is the first after calls: a source of the same value, with all else that

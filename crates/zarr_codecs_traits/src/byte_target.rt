@@ -1,8 +1,8 @@
 //! Values that are written in part.
-ghost use Rattle.std.specs.Prelude.{◌≡◌, ℕ, Some, None, IsTrue, OnOk, OnErr};
+ghost use Rattle.std.specs.Prelude.{◌≡◌, ℕ, Bool, Some, None, IsTrue, OnOk, OnErr};
 ghost use Rattle.zarr_codecs_traits.specs.Patches.{patched_contents};
 ghost use Rattle.zarr_codecs_traits.specs.Sources.{refused_after};
-ghost use Rattle.zarr_codecs_traits.specs.Writes.{PatchesRefused, WriteRefused, accepted_after};
+ghost use Rattle.zarr_codecs_traits.specs.Writes.{IsGivenByPatching, PatchesRefused, WriteRefused, accepted_after};
 
 use crate::byte_source::BytesPartialDecoderTraits;
 use crate::value_patch::ValuePatch;
@@ -15,13 +15,17 @@ pub trait BytesPartialEncoderTraits: BytesPartialDecoderTraits {
     /// How many writing calls were accepted. At 2^128 - 1 it stands still.
     ghost accepted_writes: { Self → ℕ };
 
+    /// Whether ranges are written without the value being given to do so.
+    ghost writes_ranges: { Self → Bool };
+
     /// Whether the second is the first after calls that read or write: the same place for a value,
     /// with all else that stands behind it as it was.
     ghost rewrites: { Self → Self → Type 0 };
 
     /// Writes several ranges into the value, in their order, by one call: all, or none where it is
     /// refused. No value counts as empty, and zeros come where a range begins past the end. `Size`
-    /// where a range ends past 2^63 - 1 bytes; `Source` where the source refuses.
+    /// where a range ends past 2^63 - 1 bytes; `Source` where the source refuses. No byte is given to
+    /// do so, but where the source takes no ranges: then the value is given once, and set anew.
     fn partial_encode(&mut self, alloc: Global, patches: Vec<ValuePatch>) -> Result<(), CodecError>
         ensures ok { IsTrue (Self.is_honest self.old) → OnOk result (Self.contents self.new
             ≡ Some (patched_contents (Self.contents self.old) patches.items)) }
@@ -30,6 +34,10 @@ pub trait BytesPartialEncoderTraits: BytesPartialDecoderTraits {
         ensures cause { IsTrue (Self.is_honest self.old) → PatchesRefused patches.items result }
         ensures refused { Self.refused_calls self.new ≡
             refused_after (Self.refused_calls self.old) result }
+        ensures given { IsTrue (writes_ranges self.old) →
+            Self.given_bytes self.new ≡ Self.given_bytes self.old }
+        ensures given_once { IsTrue (Self.is_honest self.old) → IsGivenByPatching
+            (Self.contents self.old) (Self.given_bytes self.old) (Self.given_bytes self.new) }
         ensures accepted { accepted_writes self.new ≡
             accepted_after (accepted_writes self.old) result }
         ensures rewrites { rewrites self.old self.new };
@@ -44,6 +52,7 @@ pub trait BytesPartialEncoderTraits: BytesPartialDecoderTraits {
         ensures cause { WriteRefused result }
         ensures refused { Self.refused_calls self.new ≡
             refused_after (Self.refused_calls self.old) result }
+        ensures given { Self.given_bytes self.new ≡ Self.given_bytes self.old }
         ensures accepted { accepted_writes self.new ≡
             accepted_after (accepted_writes self.old) result }
         ensures rewrites { rewrites self.old self.new };
@@ -57,6 +66,7 @@ pub trait BytesPartialEncoderTraits: BytesPartialDecoderTraits {
         ensures cause { WriteRefused result }
         ensures refused { Self.refused_calls self.new ≡
             refused_after (Self.refused_calls self.old) result }
+        ensures given { Self.given_bytes self.new ≡ Self.given_bytes self.old }
         ensures accepted { accepted_writes self.new ≡
             accepted_after (accepted_writes self.old) result }
         ensures rewrites { rewrites self.old self.new };

@@ -1,7 +1,7 @@
 //! A part of a value, as a source of its own.
 ghost use Rattle.std.specs.Prelude.{◌≡◌, ◌<◌, ◌+◌, ◌^◌, map, false, IsTrue, IfOk, IfNone, IfSome};
 ghost use Rattle.std.specs.List.{list_any};
-ghost use Rattle.zarr_codecs_traits.specs.Sources.{has_range, is_outside, moved_range};
+ghost use Rattle.zarr_codecs_traits.specs.Sources.{HoldsRange, is_outside, moved_range};
 
 use crate::byte_range::ByteRange;
 use crate::byte_source::BytesPartialDecoderTraits;
@@ -17,7 +17,7 @@ pub struct IntervalSource<'a, D: BytesPartialDecoderTraits> {
     pub source: &'a mut D,
     pub range: ByteRange,
     ghost fit: { range.offset + range.length < 2 ^ 64 },
-    ghost inside: { IsTrue (D.is_honest source.now) → IsTrue (has_range (D.contents source.now) range) },
+    ghost inside: { HoldsRange (D.is_honest source.now) (D.contents source.now) range },
 }
 
 /// Ranges of an interval as ranges of the whole value. `None` where one ends past the end of the

@@ -128,6 +128,8 @@ impl BytesPartialEncoderTraits for MemorySource {
 
     ghost accepted_writes = { source_accepted };
 
+    ghost writes_ranges = { λ _. true };
+
     ghost rewrites = { λ _ _. Unit {0} };
 
     fn partial_encode(

@@ -1,5 +1,5 @@
-//! What a regular grid alone answers. The four grids made of edges by their constructors are in the scripts of `zarr_scarcity`, and what
-//! they answer is in calls/grids.calls.
+//! What a regular grid alone answers. The four grids made of edges by their constructors are in the
+//! scripts of `zarr_scarcity`, and what they answer is in calls/grids.calls.
 use crate::samples::edges;
 use std::alloc::Global;
 use zarr_grids::{GridError, RegularChunkGrid};

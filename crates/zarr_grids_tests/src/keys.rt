@@ -1,5 +1,5 @@
-//! Chunk key encodings made by their constructors, with values typed in by hand. Encodings made of metadata, and node paths, are in
-//! calls/keys.calls and in the scripts of `zarr_scarcity`.
+//! Chunk key encodings made by their constructors, with values typed in by hand. Encodings made of
+//! metadata, and node paths, are in calls/keys.calls and in the scripts of `zarr_scarcity`.
 use std::alloc::Global;
 use zarr_grids::{
     ChunkKeyEncoding, ChunkKeyEncodingTraits, ChunkKeySeparator, DefaultChunkKeyEncoding,

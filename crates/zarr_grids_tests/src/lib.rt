@@ -1,5 +1,5 @@
-//! Tests of boxes, and of chunk grids, chunk keys and metadata by their constructors, using only the public names of
-//! `zarr_grids`. What calls make of metadata is in the files of calls/.
+//! Tests of boxes, and of chunk grids, chunk keys and metadata by their constructors, using only
+//! the public names of `zarr_grids`. What calls make of metadata is in the files of calls/.
 #![tactic(auto)]
 
 #[cfg(test)]

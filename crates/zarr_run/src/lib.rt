@@ -1,4 +1,5 @@
-//! Zarr arrays by commands: a session over a store, with commands and answers as values or as lines.
+//! Zarr arrays by commands: a session over a store, with commands and answers as values or as
+//! lines.
 #![tactic(auto)]
 
 pub use zarr_array_storage::{

@@ -104,13 +104,13 @@ none_intersecting grid region z = none_kept (intersects grid region) (chunk_indi
   at_box None = refl
   at_box (Some box) = no_true (share_place box.start box.shape region.start region.shape) (shares_none region box z)
 
-pub writes_empty : (path : List ℕ) (document : Document) (region : Region) (payload : Payload) (options : CodecOptions) (store : StoreMap) (values : List Cell) → product region.shape ≡ 0 → AreValuesOf document region payload values
-    → WritesCovered path document region (given_bytes payload) options store store
-writes_empty path document region payload options store values z are = record {
+pub writes_empty : (path : List ℕ) (document : Document) (exact : Bool) (region : Region) (payload : Payload) (options : CodecOptions) (store : StoreMap) (values : List Cell) → product region.shape ≡ 0 → AreValuesOf document region payload values
+    → WritesCovered path document exact region (given_bytes payload) options store store
+writes_empty path document exact region payload options store values z are = record {
   values = values;
   gives = (are.lists, are.many);
   small = fits_empty document region z;
-  wrote = subst (λ (chunks : List (List ℕ)). WroteChunks path document region values options chunks store store) (sym (none_intersecting document.grid region z)) (wrote_none path document region values options store);
+  wrote = subst (λ (chunks : List (List ℕ)). WroteChunks path document exact region values options chunks store store) (sym (none_intersecting document.grid region z)) (wrote_none path document exact region values options store);
 }
 
 -- ---- writes that stop at a chunk
@@ -124,13 +124,13 @@ chunk_refuses path document store region values options chunk box error.Codec st
 chunk_refuses path document store region values options chunk box error.Size stops = stops
 chunk_refuses path document store region values options chunk box error.Memory stops = stops
 
-pub stopped_covered : (path : List ℕ) (document : Document) (region : Region) (payload : Payload) (options : CodecOptions) (old new : StoreMap) (stopped : ManyError) (refusal : Refusal) (values : List Cell)
-    → AreValuesOf document region payload values → IsSmall document region → WriteStops path document region payload options old new stopped → refusal ≡ record { cause = cause_of stopped.error; applied = stopped.applied }
-    → CoveredWriteRefused path document region (given_bytes payload) options old new refusal
-stopped_covered path document region payload options old new stopped refusal values are small stops is =
+pub stopped_covered : (path : List ℕ) (document : Document) (exact : Bool) (region : Region) (payload : Payload) (options : CodecOptions) (old new : StoreMap) (stopped : ManyError) (refusal : Refusal) (values : List Cell)
+    → AreValuesOf document region payload values → IsSmall document region → WriteStops path document exact region payload options old new stopped → refusal ≡ record { cause = cause_of stopped.error; applied = stopped.applied }
+    → CoveredWriteRefused path document exact region (given_bytes payload) options old new refusal
+stopped_covered path document exact region payload options old new stopped refusal values are small stops is =
     let same : values ≡ stops.cells = some_same (sym (cells_of_values document.elements.type payload values are.lists) ∙ stops.lists) in
     let here = subst (λ (vs : List Cell). AreValuesOf document region payload vs) same are in
-    subst (λ (r : Refusal). CoveredWriteRefused path document region (given_bytes payload) options old new r) (sym is) (inr (record {
+    subst (λ (r : Refusal). CoveredWriteRefused path document exact region (given_bytes payload) options old new r) (sym is) (inr (record {
       values = stops.cells;
       gives = (here.lists, here.many);
       small = λ large. small_fits document region small large;
@@ -154,16 +154,16 @@ refuses_same document region a b cause.Size same why = (why.0, gives_same docume
 refuses_same document region a b cause.Memory same why = why
 refuses_same document region a b _ same why = why
 
-covered_same : (path : List ℕ) (document : Document) (region : Region) (a b : GivenCells) (options : CodecOptions) (old new : StoreMap) (refusal : Refusal) → given_in document.elements.type a ≡ given_in document.elements.type b
-    → CoveredWriteRefused path document region a options old new refusal → CoveredWriteRefused path document region b options old new refusal
-covered_same path document region a b options old new refusal same (inl (untouched, why)) = inl (untouched, refuses_same document region a b refusal.cause same why)
-covered_same path document region a b options old new refusal same (inr first) =
+covered_same : (path : List ℕ) (document : Document) (exact : Bool) (region : Region) (a b : GivenCells) (options : CodecOptions) (old new : StoreMap) (refusal : Refusal) → given_in document.elements.type a ≡ given_in document.elements.type b
+    → CoveredWriteRefused path document exact region a options old new refusal → CoveredWriteRefused path document exact region b options old new refusal
+covered_same path document exact region a b options old new refusal same (inl (untouched, why)) = inl (untouched, refuses_same document region a b refusal.cause same why)
+covered_same path document exact region a b options old new refusal same (inr first) =
     inr (record { values = first.values; gives = gives_same document region a b first.values same first.gives; small = first.small; stops = first.stops; wrote = first.wrote })
 
-pub refused_same : {A : Type 0} (path : List ℕ) (document : Document) (region : Region) (a b : GivenCells) (options : CodecOptions) (old new : StoreMap) (result : Result A Refusal) → given_in document.elements.type a ≡ given_in document.elements.type b
-    → IfErr result (CoveredWriteRefused path document region a options old new) → IfErr result (CoveredWriteRefused path document region b options old new)
-refused_same path document region a b options old new (Ok value) same why = tt
-refused_same path document region a b options old new (Err refusal) same why = covered_same path document region a b options old new refusal same why
+pub refused_same : {A : Type 0} (path : List ℕ) (document : Document) (exact : Bool) (region : Region) (a b : GivenCells) (options : CodecOptions) (old new : StoreMap) (result : Result A Refusal) → given_in document.elements.type a ≡ given_in document.elements.type b
+    → IfErr result (CoveredWriteRefused path document exact region a options old new) → IfErr result (CoveredWriteRefused path document exact region b options old new)
+refused_same path document exact region a b options old new (Ok value) same why = tt
+refused_same path document exact region a b options old new (Err refusal) same why = covered_same path document exact region a b options old new refusal same why
 
 -- ---- targets
 
@@ -173,14 +173,14 @@ refuses_target document target box given cause.Size is why = inl (box, why.0, re
 refuses_target document target box given cause.Memory is why = inr refl
 refuses_target document target box given _ is why = absurd why
 
-target_refused : (path : List ℕ) (document : Document) (target : Target) (box : Region) (given : GivenCells) (options : CodecOptions) (old new : StoreMap) (refusal : Refusal) → IsTarget document.grid target box
-    → CoveredWriteRefused path document box given options old new refusal → WriteRefused path document target given options old new refusal
-target_refused path document target box given options old new refusal is (inl (untouched, why)) = inl (untouched, refuses_target document target box given refusal.cause is why)
-target_refused path document target box given options old new refusal is (inr first) =
+target_refused : (path : List ℕ) (document : Document) (exact : Bool) (target : Target) (box : Region) (given : GivenCells) (options : CodecOptions) (old new : StoreMap) (refusal : Refusal) → IsTarget document.grid target box
+    → CoveredWriteRefused path document exact box given options old new refusal → WriteRefused path document exact target given options old new refusal
+target_refused path document exact target box given options old new refusal is (inl (untouched, why)) = inl (untouched, refuses_target document target box given refusal.cause is why)
+target_refused path document exact target box given options old new refusal is (inr first) =
     inr (record { box = box; values = first.values; is = record { is = is; gives = first.gives }; small = first.small; stops = first.stops; wrote = first.wrote })
 
 -- why a covered box is not written is why the target with that box is not
-pub refused_target : {A : Type 0} (path : List ℕ) (document : Document) (target : Target) (box : Region) (given : GivenCells) (options : CodecOptions) (old new : StoreMap) (result : Result A Refusal) → IsTarget document.grid target box
-    → IfErr result (CoveredWriteRefused path document box given options old new) → IfErr result (WriteRefused path document target given options old new)
-refused_target path document target box given options old new (Ok value) is why = tt
-refused_target path document target box given options old new (Err refusal) is why = target_refused path document target box given options old new refusal is why
+pub refused_target : {A : Type 0} (path : List ℕ) (document : Document) (exact : Bool) (target : Target) (box : Region) (given : GivenCells) (options : CodecOptions) (old new : StoreMap) (result : Result A Refusal) → IsTarget document.grid target box
+    → IfErr result (CoveredWriteRefused path document exact box given options old new) → IfErr result (WriteRefused path document exact target given options old new)
+refused_target path document exact target box given options old new (Ok value) is why = tt
+refused_target path document exact target box given options old new (Err refusal) is why = target_refused path document exact target box given options old new refusal is why

@@ -1,5 +1,5 @@
 -- What commands over the cells of one array answer and leave.
-use Rattle.std.specs.Prelude.{◌≡◌, ◌⊎◌, ℕ, ◌<◌, List, length, take, Some, None, Result, Ok, Err}
+use Rattle.std.specs.Prelude.{◌≡◌, ◌⊎◌, ℕ, ◌<◌, Bool, List, length, take, Some, None, Result, Ok, Err}
 use Rattle.serde_json.specs.Data.{Data}
 use Rattle.zarr_grids_boxes.specs.Boxes.{Region, product, places}
 use Rattle.zarr_grids_chunks.specs.Grids.{IsInGrid, intersecting}
@@ -51,41 +51,41 @@ ReadRefused path document store target c = ReadRefuses path document store targe
 -- ---- writes
 
 -- the cells that a write gives were written to each chunk that its box intersects
-pub record WritesTarget (path : List ℕ) (document : Document) (target : Target) (given : GivenCells) (options : CodecOptions) (old new : StoreMap) : Type 0 where
+pub record WritesTarget (path : List ℕ) (document : Document) (exact : Bool) (target : Target) (given : GivenCells) (options : CodecOptions) (old new : StoreMap) : Type 0 where
   pub box : Region
   pub values : List Cell
   pub is : IsGiven document target given box values
   pub small : ¬ HasTooLarge document box
-  pub wrote : WroteChunks path document box values options (intersecting document.grid box) old new
+  pub wrote : WroteChunks path document exact box values options (intersecting document.grid box) old new
 
 -- a write stopped at a chunk: of the chunks that its box intersects exactly those before it are written
-pub record WroteFirst (path : List ℕ) (document : Document) (target : Target) (given : GivenCells) (options : CodecOptions) (old new : StoreMap) (refusal : Refusal) : Type 0 where
+pub record WroteFirst (path : List ℕ) (document : Document) (exact : Bool) (target : Target) (given : GivenCells) (options : CodecOptions) (old new : StoreMap) (refusal : Refusal) : Type 0 where
   pub box : Region
   pub values : List Cell
   pub is : IsGiven document target given box values
   pub small : ¬ HasTooLarge document box
   pub stops : StopsAt path document old box values options refusal.applied refusal.cause
-  pub wrote : WroteChunks path document box values options (take refusal.applied (intersecting document.grid box)) old new
+  pub wrote : WroteChunks path document exact box values options (take refusal.applied (intersecting document.grid box)) old new
 
 -- a write was refused: as a whole, for want of memory before a chunk was touched, or at a chunk
-abbrev pub WriteRefused : List ℕ → Document → Target → GivenCells → CodecOptions → StoreMap → StoreMap → Refusal → Type 0
-WriteRefused path document target given options old new refusal =
-    (IsUntouched refusal old new × (WriteRefuses document target given refusal.cause ⊎ (refusal.cause ≡ cause.Memory))) ⊎ WroteFirst path document target given options old new refusal
+abbrev pub WriteRefused : List ℕ → Document → Bool → Target → GivenCells → CodecOptions → StoreMap → StoreMap → Refusal → Type 0
+WriteRefused path document exact target given options old new refusal =
+    (IsUntouched refusal old new × (WriteRefuses document target given refusal.cause ⊎ (refusal.cause ≡ cause.Memory))) ⊎ WroteFirst path document exact target given options old new refusal
 
 -- the cells that are given for a covered box were written
-pub record WritesCovered (path : List ℕ) (document : Document) (region : Region) (given : GivenCells) (options : CodecOptions) (old new : StoreMap) : Type 0 where
+pub record WritesCovered (path : List ℕ) (document : Document) (exact : Bool) (region : Region) (given : GivenCells) (options : CodecOptions) (old new : StoreMap) : Type 0 where
   pub values : List Cell
   pub gives : Gives document region given values
   pub small : ¬ HasTooLarge document region
-  pub wrote : WroteChunks path document region values options (intersecting document.grid region) old new
+  pub wrote : WroteChunks path document exact region values options (intersecting document.grid region) old new
 
 -- the cells that are given for a covered box were written to the first of the chunks that it intersects, and why the next one was not written
-pub record WroteFirstCovered (path : List ℕ) (document : Document) (region : Region) (given : GivenCells) (options : CodecOptions) (old new : StoreMap) (refusal : Refusal) : Type 0 where
+pub record WroteFirstCovered (path : List ℕ) (document : Document) (exact : Bool) (region : Region) (given : GivenCells) (options : CodecOptions) (old new : StoreMap) (refusal : Refusal) : Type 0 where
   pub values : List Cell
   pub gives : Gives document region given values
   pub small : ¬ HasTooLarge document region
   pub stops : StopsAt path document old region values options refusal.applied refusal.cause
-  pub wrote : WroteChunks path document region values options (take refusal.applied (intersecting document.grid region)) old new
+  pub wrote : WroteChunks path document exact region values options (take refusal.applied (intersecting document.grid region)) old new
 
 -- why the cells that are given for a covered box are not written, before a chunk is touched
 abbrev pub CoveredWriteRefuses : Document → Region → GivenCells → Cause → Type 0
@@ -95,9 +95,9 @@ CoveredWriteRefuses document region given cause.Memory = Unit {0}
 CoveredWriteRefuses document region given c = ⊥
 
 -- a write of a covered box was refused: before a chunk was touched, or at a chunk
-abbrev pub CoveredWriteRefused : List ℕ → Document → Region → GivenCells → CodecOptions → StoreMap → StoreMap → Refusal → Type 0
-CoveredWriteRefused path document region given options old new refusal =
-    (IsUntouched refusal old new × CoveredWriteRefuses document region given refusal.cause) ⊎ WroteFirstCovered path document region given options old new refusal
+abbrev pub CoveredWriteRefused : List ℕ → Document → Bool → Region → GivenCells → CodecOptions → StoreMap → StoreMap → Refusal → Type 0
+CoveredWriteRefused path document exact region given options old new refusal =
+    (IsUntouched refusal old new × CoveredWriteRefuses document region given refusal.cause) ⊎ WroteFirstCovered path document exact region given options old new refusal
 
 -- a payload is as many values of the type as a box has places
 pub record AreValuesOf (document : Document) (region : Region) (payload : Payload) (values : List Cell) : Type 0 where

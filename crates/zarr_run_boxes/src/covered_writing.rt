@@ -8,7 +8,7 @@ ghost use Rattle.zarr_codecs_arrays.specs.Views.{payload_of};
 ghost use Rattle.zarr_codecs_meaning.specs.Payloads.{values_in};
 ghost use Rattle.zarr_codecs_meaning.specs.Types.{Cell};
 ghost use Rattle.zarr_codecs_types.specs.Given.{given_bytes, given_in, given_json};
-ghost use Rattle.zarr_array_core.specs.Views.{document_of, path_of};
+ghost use Rattle.zarr_array_core.specs.Views.{document_of, is_exact, path_of};
 ghost use Rattle.zarr_run_boxes.specs.Outcomes.{AreValuesOf, CoveredWriteRefused, ElementsRefused, JsonRefused, WritesCovered, refused_by};
 ghost use Rattle.zarr_run_commands.specs.Commands.{given};
 ghost use Rattle.zarr_run_commands.specs.LineCells.{number_list};
@@ -40,10 +40,12 @@ pub(crate) fn write_covered<C: ArrayToBytesCodecTraits, S: WritableStorageTraits
     requires { IsCovered (document_of C.meaning array.now).grid (region_of region.now) }
     ensures ok { IsTrue (S.is_honest store.old) → OnOk result
         (WritesCovered (path_of array.now) (document_of C.meaning array.now)
+        (is_exact C.is_function array.now)
         (region_of region.now) (given cells.now) options.now
         (S.held store.old) (S.held store.new)) }
     ensures err { IsTrue (S.is_honest store.old) → IfErr result
         (CoveredWriteRefused (path_of array.now) (document_of C.meaning array.now)
+        (is_exact C.is_function array.now)
         (region_of region.now) (given cells.now) options.now
         (S.held store.old) (S.held store.new)) }
     ensures honest { S.is_honest store.new ≡ S.is_honest store.old }
@@ -144,10 +146,12 @@ fn write_elements<C: ArrayToBytesCodecTraits, S: WritableStorageTraits>(
     requires { IsCovered (document_of C.meaning array.now).grid (region_of region.now) }
     ensures ok { IsTrue (S.is_honest store.old) → OnOk result
         (WritesCovered (path_of array.now) (document_of C.meaning array.now)
+        (is_exact C.is_function array.now)
         (region_of region.now) (given_bytes (payload_of elements.now)) options.now
         (S.held store.old) (S.held store.new)) }
     ensures err { IsTrue (S.is_honest store.old) → IfErr result
         (CoveredWriteRefused (path_of array.now) (document_of C.meaning array.now)
+        (is_exact C.is_function array.now)
         (region_of region.now) (given_bytes (payload_of elements.now)) options.now
         (S.held store.old) (S.held store.new)) }
     ensures honest { S.is_honest store.new ≡ S.is_honest store.old }

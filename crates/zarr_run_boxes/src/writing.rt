@@ -2,7 +2,7 @@
 ghost use Rattle.std.specs.Prelude.{◌≡◌, IsTrue, OnOk, IfErr};
 ghost use Rattle.zarr_grids_boxes.specs.Subsets.{region_of};
 ghost use Rattle.zarr_run_meaning.specs.Requests.{in_box, in_chunk};
-ghost use Rattle.zarr_array_core.specs.Views.{document_of, path_of};
+ghost use Rattle.zarr_array_core.specs.Views.{document_of, is_exact, path_of};
 ghost use Rattle.zarr_run_boxes.specs.Outcomes.{WritesTarget, WriteRefused, refused_by};
 ghost use Rattle.zarr_run_commands.specs.Commands.{given};
 
@@ -34,10 +34,12 @@ pub fn write_box<C: ArrayToBytesCodecTraits, S: WritableStorageTraits>(
 ) -> Result<(), Refusal>
     ensures ok { IsTrue (S.is_honest store.old) → OnOk result
         (WritesTarget (path_of array.now) (document_of C.meaning array.now)
+        (is_exact C.is_function array.now)
         (in_box (region_of region.now)) (given cells.now) options.now
         (S.held store.old) (S.held store.new)) }
     ensures err { IsTrue (S.is_honest store.old) → IfErr result
         (WriteRefused (path_of array.now) (document_of C.meaning array.now)
+        (is_exact C.is_function array.now)
         (in_box (region_of region.now)) (given cells.now) options.now
         (S.held store.old) (S.held store.new)) }
     ensures honest { S.is_honest store.new ≡ S.is_honest store.old }
@@ -61,10 +63,12 @@ pub fn write_chunk<C: ArrayToBytesCodecTraits, S: WritableStorageTraits>(
 ) -> Result<(), Refusal>
     ensures ok { IsTrue (S.is_honest store.old) → OnOk result
         (WritesTarget (path_of array.now) (document_of C.meaning array.now)
+        (is_exact C.is_function array.now)
         (in_chunk chunk.now) (given cells.now) options.now
         (S.held store.old) (S.held store.new)) }
     ensures err { IsTrue (S.is_honest store.old) → IfErr result
         (WriteRefused (path_of array.now) (document_of C.meaning array.now)
+        (is_exact C.is_function array.now)
         (in_chunk chunk.now) (given cells.now) options.now
         (S.held store.old) (S.held store.new)) }
     ensures honest { S.is_honest store.new ≡ S.is_honest store.old }

@@ -77,8 +77,8 @@ fn command_of_text(alloc: Global, text: &str) -> Result<Option<Command>, AllocEr
     }
 }
 
-/// The command that the members of a line ask. `None` where it asks none, or one that is read of its
-/// JSON alone.
+/// The command that the members of a line ask. `None` where it asks none, or one that is read of
+/// its JSON alone.
 fn command_of_line(line: Line) -> Option<Command>
     ensures { IfSome result (λ command. (ms : Members) → IsLine ms line
         → request_of ms ≡ Some (asked command)) }

@@ -41,7 +41,8 @@ impl Limits {
     }
 }
 
-/// A buffer in front of a reader. It takes one byte more than the limit, so that an input that passes it is seen.
+/// A buffer in front of a reader. It takes one byte more than the limit, so that an input that
+/// passes it is seen.
 pub(crate) fn limited<R: Read + Drop>(
     alloc: Global,
     reader: R,

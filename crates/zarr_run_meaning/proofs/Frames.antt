@@ -81,7 +81,7 @@ module _ (h : Held) (old new : StoreMap) (region : Region) (values : List Cell) 
       ap (λ t. cell fill t place) is ∙ cell-written fill h.table h.document.grid region values chunks fill place few many
 
   pub written_table : IsFormed h.document → IsWritten → ((chunk : List ℕ) → is_listed chunks chunk ≡ true → is_listed (intersecting h.document.grid region) chunk ≡ true) → length values ≡ product region.shape
-      → WroteChunks h.path h.document region values options chunks old new → IsTableAt h.path h.document old h.table → IsTableAt h.path h.document new table
+      → WroteChunks h.path h.document true region values options chunks old new → IsTableAt h.path h.document old h.table → IsTableAt h.path h.document new table
   written_table f is few many w shows lossless chunk box place c below inside reads =
       ⊎_elim listed unlisted (told (is_listed chunks chunk)) ∙ sym (written_cell is few many place) where
         here : lies_in_chunk h.document.grid place chunk ≡ true

@@ -10,6 +10,7 @@ use Rattle.zarr_grids_cover.proofs.ChunkBoxes.{chunk_box-rank}
 use Rattle.zarr_codecs_meaning.specs.Types.{Cell}
 use Rattle.zarr_codecs_meaning.proofs.Chunks.{stored_part, stored_decoded}
 use Rattle.zarr_codecs_metadata.specs.Chains.{ReadsCodecs}
+use Rattle.zarr_codecs_options.specs.declared.codec_options.CodecOptions.{CodecOptions}
 use Rattle.zarr_array_meaning.specs.Boxes.{IsDamagedIn, IsUnfitIn}
 use Rattle.zarr_array_meaning.specs.Chunks.{number_in, stored_at, decoded_at, ReadsCell, IsMet}
 use Rattle.zarr_array_meaning.specs.Documents.{Document}
@@ -18,6 +19,7 @@ use Rattle.zarr_array_meaning.specs.StoreMaps.{StoreMap}
 use Rattle.zarr_array_meaning.specs.Texts.{HasDocument}
 use Rattle.zarr_array_meaning.specs.Writing.{IsPartDamaged}
 use Rattle.zarr_array_meaning.proofs.Showing.{are_cells, listed_at}
+use Rattle.zarr_array_meaning.proofs.TakenParts.{takes_decoded}
 use Rattle.zarr_run_meaning.specs.declared.cause.Cause.TheVariants as cause
 use Rattle.zarr_run_meaning.specs.Causes.{ReopenRefuses}
 use Rattle.zarr_run_meaning.specs.Laws.{NeverDamaged, AloneUndamaged, ReadsFit}
@@ -50,12 +52,13 @@ module _ (path : List ℕ) (document : Document) (store : StoreMap) (chunk : Lis
 -- ---- nothing is damaged
 
 module _ (reads : ReadsCodecs) (store : StoreMap) (h : Held) (good : ReadsGood reads) (sound : IsSoundAt reads store h) where
-  no_part_damaged : (region : Region) (n : ℕ) (chunk : List ℕ) (box : Region) → IsMet h.document.grid region n chunk box → IsPartDamaged h.path h.document store region chunk box → ⊥
-  no_part_damaged region n chunk box met damaged =
+  no_part_damaged : (region : Region) (options : CodecOptions) (n : ℕ) (chunk : List ℕ) (box : Region) → IsMet h.document.grid region n chunk box → IsPartDamaged h.path h.document store region options chunk box → ⊥
+  no_part_damaged region options n chunk box met damaged =
       let among = listed_below h.document.grid region chunk (number_listed _ n chunk met.listed) in
       let below : IsInGrid h.document.grid chunk box = record { below = among.1.below; has_box = met.has_box } in
-      none-some (map (cell h.document.elements.fill h.table) (places box.start box.shape)) (sym damaged.lost
-      ∙ standing_decoded h.path h.document store chunk box (cell h.document.elements.fill h.table) (good h.tree h.document sound.says) sound.lossless sound.values below (sound.stands chunk box below))
+      false≢true (sym damaged.lost
+      ∙ takes_decoded h.document options region box (stored_at h.path h.document store chunk) (map (cell h.document.elements.fill h.table) (places box.start box.shape)) damaged.fit
+      (standing_decoded h.path h.document store chunk box (cell h.document.elements.fill h.table) (good h.tree h.document sound.says) sound.lossless sound.values below (sound.stands chunk box below)))
 
   none_damaged : (region : Region) → IsDamagedIn h.path h.document store region → ⊥
   none_damaged region damaged =
@@ -92,7 +95,7 @@ module _ (reads : ReadsCodecs) (old new : World) (n : ℕ) (good : ReadsGood rea
     go : (o : Option Held) → held_at path old.arrays ≡ o → RefusesHeld o (RefusesWrite target given options) cause.Damage n old new → ⊥
     go None e r = r
     go (Some h) e r = ⊎_elim (λ whole. whole.0) (λ (first : WritesFirst h target given options cause.Damage n old new).
-        no_part_damaged reads old.store h good (sound h e) first.box n first.stops.chunk first.stops.box first.stops.met first.stops.refuses) r
+        no_part_damaged reads old.store h good (sound h e) first.box options n first.stops.chunk first.stops.box first.stops.met first.stops.refuses) r
   undamaged (read path target options) sound s = go (held_at path old.arrays) refl s.1 where
     go : (o : Option Held) → held_at path old.arrays ≡ o → RefusesHeld o (RefusesRead target) cause.Damage n old new → ⊥
     go None e r = r

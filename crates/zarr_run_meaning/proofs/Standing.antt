@@ -100,7 +100,7 @@ one_value type false b x y p q = q
 
 module _ (reads : ReadsCodecs) (h : Held) (old new : StoreMap) (region : Region) (values : List Cell) (options : CodecOptions) (chunks : List (List ℕ)) (table : Table) where
   pub written_sound : IsGood h.document → IsWritten h old new region values options chunks table → ((chunk : List ℕ) → is_listed chunks chunk ≡ true → is_listed (intersecting h.document.grid region) chunk ≡ true)
-      → length values ≡ product region.shape → list_all (is_value h.document.elements.type) values ≡ true → WroteChunks h.path h.document region values options chunks old new → IsSoundAt reads old h → IsSoundAt reads new (record h { table = table })
+      → length values ≡ product region.shape → list_all (is_value h.document.elements.type) values ≡ true → WroteChunks h.path h.document true region values options chunks old new → IsSoundAt reads old h → IsSoundAt reads new (record h { table = table })
   written_sound good is few many are w s = with_table reads old new h chunks table w.others s all stands where
     same : (place : List ℕ) → cell h.document.elements.fill table place ≡ with_chunks h.document.grid region chunks (cell_of_box region values h.document.elements.fill) (cell h.document.elements.fill h.table) place
     same place = written_cell h old new region values options chunks table is few many place

@@ -18,7 +18,7 @@ use Rattle.zarr_array_meaning.specs.Chunks.{IsMet, fits_box}
 use Rattle.zarr_array_meaning.specs.Documents.{Document, read_document}
 use Rattle.zarr_array_meaning.specs.StoreMaps.{StoreMap}
 use Rattle.zarr_array_meaning.specs.Texts.{HasDocument}
-use Rattle.zarr_array_meaning.specs.Writing.{IsPartDamaged, IsCodecRefused, IsOversized, stores_fill}
+use Rattle.zarr_array_meaning.specs.Writing.{IsPartDamaged, IsCodecRefused, IsOversized}
 use Rattle.zarr_run_meaning.specs.declared.cause.Cause.{Cause}
 use Rattle.zarr_run_meaning.specs.declared.cause.Cause.TheVariants as cause
 use Rattle.zarr_run_meaning.specs.Requests.{Target, in_box, in_chunk}
@@ -127,9 +127,9 @@ WriteRefuses document target given c = ⊥
 abbrev pub ChunkRefuses : List ℕ → Document → StoreMap → Region → List Cell → CodecOptions → List ℕ → Region → Cause → Type 0
 ChunkRefuses path document store region values options chunk box cause.Fit = fits_box document box ≡ false
 ChunkRefuses path document store region values options chunk box cause.Store = fits_box document box ≡ true
-ChunkRefuses path document store region values options chunk box cause.Damage = IsPartDamaged path document store region chunk box
-ChunkRefuses path document store region values options chunk box cause.Codec = IsCodecRefused path document store region values (stores_fill document options region box) chunk box
-ChunkRefuses path document store region values options chunk box cause.Size = IsOversized path document store region values (stores_fill document options region box) chunk box
+ChunkRefuses path document store region values options chunk box cause.Damage = IsPartDamaged path document store region options chunk box
+ChunkRefuses path document store region values options chunk box cause.Codec = IsCodecRefused path document store region values options chunk box
+ChunkRefuses path document store region values options chunk box cause.Size = IsOversized path document store region values options chunk box
 ChunkRefuses path document store region values options chunk box cause.Memory = Unit {0}
 ChunkRefuses path document store region values options chunk box c = ⊥
 

@@ -66,12 +66,12 @@ pub record Opens (reads : ReadsCodecs) (path : List ℕ) (order : SubchunkWriteO
   pub begins : Begins path tree meaning order old new
   pub stores : new.store ≡ old.store
 
--- the cells of a box are given to some of the chunks that it intersects: the table has them, and the store
+-- the cells of a box are given to some of the chunks that it intersects: the table has them, and the store, and the value of each of these that has one is what encoding makes of its new cells
 pub record WritesChunks (h : Held) (region : Region) (values : List Cell) (options : CodecOptions) (chunks : List (List ℕ)) (old new : World) : Type 0 where
   pub table : Table
   pub is : table ≡ updated h.document.elements.fill h.table (changes_in h.document.grid chunks (changes region values))
   pub updates : WithTable h.path table new.store old.arrays new.arrays
-  pub stores : WroteChunks h.path h.document region values options chunks old.store new.store
+  pub stores : WroteChunks h.path h.document true region values options chunks old.store new.store
 
 -- a write that is done
 pub record Writes (path : List ℕ) (target : Target) (given : GivenCells) (options : CodecOptions) (old new : World) : Type 0 where

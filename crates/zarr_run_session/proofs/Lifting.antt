@@ -124,7 +124,7 @@ module _ (B : Type 0) (meaning : B → ByteCodec) (reads : ReadsCodecs) where
 abbrev pub table_written : Held → Region → List Cell → List (List ℕ) → Table
 table_written h box values chunks = updated h.document.elements.fill h.table (changes_in h.document.grid chunks (changes box values))
 
-pub written : (h : Held) (box : Region) (values : List Cell) (options : CodecOptions) (chunks : List (List ℕ)) (w : World) (store : StoreMap) (n : ℕ) → WroteChunks h.path h.document box values options chunks w.store store
+pub written : (h : Held) (box : Region) (values : List Cell) (options : CodecOptions) (chunks : List (List ℕ)) (w : World) (store : StoreMap) (n : ℕ) → WroteChunks h.path h.document true box values options chunks w.store store
     → WritesChunks h box values options chunks w (world_after h.path (table_written h box values chunks) w store n)
 written h box values options chunks w store n wrote = record {
   table = table_written h box values chunks;

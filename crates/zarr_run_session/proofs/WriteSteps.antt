@@ -1,5 +1,5 @@
 -- What a write of cells answered and left for one array is a step of each world that the session was in.
-use Rattle.std.proofs.Common.{◌≡◌, ◌∙◌, ℕ, List, take, sym, ap, subst, ⊎_elim, inl, inr, IsTrue, Some, Result, Ok, Err, OnOk, IfErr}
+use Rattle.std.proofs.Common.{◌≡◌, ◌∙◌, ℕ, List, take, sym, ap, subst, ⊎_elim, inl, inr, true, IsTrue, Some, Result, Ok, Err, OnOk, IfErr}
 use Rattle.zarr_grids_chunks.specs.Grids.{intersecting}
 use Rattle.zarr_grids_keys.specs.Paths.{is_node_path}
 use Rattle.zarr_codecs_meaning.specs.Chains.{ByteCodec}
@@ -28,7 +28,7 @@ use Rattle.zarr_run_session.proofs.Lifting.{world_after, table_written, written,
 module _ (B : Type 0) (meaning : B → ByteCodec) (reads : ReadsCodecs) (arrays : Arrays B) (store store' : StoreMap) (n n' : ℕ) (path : List ℕ) (target : Target) (given : GivenCells) (options : CodecOptions) where
   module _ (w : World) (k : IsIn meaning reads (arrays, (store, n)) w) (h : Held) (node : IsTrue (is_node_path path)) (found : held_at path w.arrays ≡ Some h) where
     -- the cells were written
-    write_done : n' ≡ n → WritesTarget h.path h.document target given options w.store store' → LeadsTo meaning reads w (write path target given options) done arrays store' n'
+    write_done : n' ≡ n → WritesTarget h.path h.document true target given options w.store store' → LeadsTo meaning reads w (write path target given options) done arrays store' n'
     write_done calls wrote =
         let chunks = intersecting h.document.grid wrote.box in
         let table = table_written h wrote.box wrote.values chunks in
@@ -49,7 +49,7 @@ module _ (B : Type 0) (meaning : B → ByteCodec) (reads : ReadsCodecs) (arrays 
         (after, step, in_after B meaning reads arrays store store' n n' w (write path target given options) done h.path table k step)
 
     -- the write stopped at a chunk
-    write_stopped : (c : Cause) (m : ℕ) → n' ≡ refused_after c n → WroteFirst h.path h.document target given options w.store store' (record { cause = c; applied = m })
+    write_stopped : (c : Cause) (m : ℕ) → n' ≡ refused_after c n → WroteFirst h.path h.document true target given options w.store store' (record { cause = c; applied = m })
         → LeadsTo meaning reads w (write path target given options) (refused c m) arrays store' n'
     write_stopped c m calls first =
         let chunks = take m (intersecting h.document.grid first.box) in
@@ -85,13 +85,13 @@ module _ (B : Type 0) (meaning : B → ByteCodec) (reads : ReadsCodecs) (arrays 
         let step = short_of_memory reads path (write path target given options) c m w none is in
         (record w { refused = refused_after c w.refused }, step, in_untouched B meaning reads arrays store store' n n' w c k same calls)
 
-    write_answered : (result : Result (Unit {0}) Refusal) → n' ≡ refused_by n result → OnOk result (WritesTarget h.path h.document target given options store store') → IfErr result (WriteRefused h.path h.document target given options store store')
+    write_answered : (result : Result (Unit {0}) Refusal) → n' ≡ refused_by n result → OnOk result (WritesTarget h.path h.document true target given options store store') → IfErr result (WriteRefused h.path h.document true target given options store store')
         → LeadsTo meaning reads w (write path target given options) (answer_after result) arrays store' n'
     write_answered (Ok x) calls ok err =
-        let P : StoreMap → Type 0 = λ s. WritesTarget h.path h.document target given options s store' in
+        let P : StoreMap → Type 0 = λ s. WritesTarget h.path h.document true target given options s store' in
         write_done calls (subst P (sym k.store) ok)
     write_answered (Err refusal) calls ok err =
-        let P : StoreMap → Type 0 = λ s. WroteFirst h.path h.document target given options s store' refusal in
+        let P : StoreMap → Type 0 = λ s. WroteFirst h.path h.document true target given options s store' refusal in
         ⊎_elim
         (λ whole. ⊎_elim (write_refused refusal.cause refusal.applied calls whole.0.applied whole.0.same) (write_short refusal.cause refusal.applied calls whole.0.applied whole.0.same) whole.1)
         (λ first. write_stopped refusal.cause refusal.applied calls (subst P (sym k.store) first))
@@ -99,14 +99,14 @@ module _ (B : Type 0) (meaning : B → ByteCodec) (reads : ReadsCodecs) (arrays 
 
   -- what was answered and left for the array that is found is a step of each world
   pub write_steps : (array : HeldArray B) (result : Result (Unit {0}) Refusal) (answer : Answer) → IsFound arrays path array → n' ≡ refused_by n result → answer ≡ answer_after result
-      → OnOk result (WritesTarget (path_of array.core) (document_of meaning array) target given options store store') → IfErr result (WriteRefused (path_of array.core) (document_of meaning array) target given options store store')
+      → OnOk result (WritesTarget (path_of array.core) (document_of meaning array) true target given options store store') → IfErr result (WriteRefused (path_of array.core) (document_of meaning array) true target given options store store')
       → StepsFrom meaning reads (arrays, (store, n)) (write path target given options) answer (arrays, (store', n'))
   write_steps array result answer is calls says ok err w k =
       let held = agreed_held B meaning reads store (array_at arrays path) (held_at path w.arrays) array (k.agree path) is.found in
       let h = held.0 in
-      let P : List ℕ → Type 0 = λ p. OnOk result (WritesTarget p (document_of meaning array) target given options store store') in
-      let P' : Document → Type 0 = λ d. OnOk result (WritesTarget h.path d target given options store store') in
-      let Q : List ℕ → Type 0 = λ p. IfErr result (WriteRefused p (document_of meaning array) target given options store store') in
-      let Q' : Document → Type 0 = λ d. IfErr result (WriteRefused h.path d target given options store store') in
+      let P : List ℕ → Type 0 = λ p. OnOk result (WritesTarget p (document_of meaning array) true target given options store store') in
+      let P' : Document → Type 0 = λ d. OnOk result (WritesTarget h.path d true target given options store store') in
+      let Q : List ℕ → Type 0 = λ p. IfErr result (WriteRefused p (document_of meaning array) true target given options store store') in
+      let Q' : Document → Type 0 = λ d. IfErr result (WriteRefused h.path d true target given options store store') in
       let A : Answer → Type 0 = λ a. LeadsTo meaning reads w (write path target given options) a arrays store' n' in
       subst A (sym says) (write_answered w k h is.node held.1 result calls (subst P' (sym held.2.document) (subst P (sym held.2.path) ok)) (subst Q' (sym held.2.document) (subst Q (sym held.2.path) err)))

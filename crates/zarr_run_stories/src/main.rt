@@ -1,10 +1,12 @@
-//! A program for tests of whole sessions: it runs commands over a store that it is given, and prints the store that they leave.
+//! A program for tests of whole sessions: it runs commands over a store that it is given, and
+//! prints the store that they leave.
 //!
-//! Standard input has a line for each key of the store that the session begins with, then an empty line, and then the commands,
-//! one a line. The first line may be one such as `refuse write 4`: then the store refuses the fourth of the session's calls that
-//! write, or, with `read`, of those that read. Standard output has a line of answer for each command, then an empty line, and then
-//! a line for each key of the store that the session left, in the order of the keys' bytes. The line of a key is its value in
-//! hexadecimal digits, a space, and the key.
+//! Standard input has a line for each key of the store that the session begins with, then an empty
+//! line, and then the commands, one a line. The first line may be one such as `refuse write 4`:
+//! then the store refuses the fourth of the session's calls that write, or, with `read`, of those
+//! that read. Standard output has a line of answer for each command, then an empty line, and then a
+//! line for each key of the store that the session left, in the order of the keys' bytes. The line
+//! of a key is its value in hexadecimal digits, a space, and the key.
 #![tactic(auto)]
 
 mod entries;

@@ -3,7 +3,8 @@
 use anyhow::{Context, Result, bail};
 use zarr_run::CallKind;
 
-/// A call that the store refuses: the one with this number among those of a kind, counted from 1; at 0, none.
+/// A call that the store refuses: the one with this number among those of a kind, counted from 1;
+/// at 0, none.
 #[derive(Clone, Copy)]
 pub(crate) struct RefusedCall {
     pub kind: CallKind,

@@ -1,5 +1,5 @@
-//! The texts of replies that no session gives. How cells of each type are printed is in calls/types.calls, and how refusals are in the
-//! stories.
+//! The texts of replies that no session gives. How cells of each type are printed is in
+//! calls/types.calls, and how refusals are in the stories.
 use crate::samples::is_answered;
 use std::alloc::{AllocError, Global};
 use zarr_codecs::{Component, Sign};

@@ -1,5 +1,5 @@
-//! Tests of `zarr_run` that need code: typed commands, streams that fail, and what a line says that no answer shows.
-//! Whole sessions are in the stories.
+//! Tests of `zarr_run` that need code: typed commands, streams that fail, and what a line says that
+//! no answer shows. Whole sessions are in the stories.
 #![tactic(auto)]
 
 #[cfg(test)]

@@ -76,7 +76,8 @@ pub(crate) fn talks<S: WritableStorageTraits, B: BytesToBytesCodecTraits>(
     Ok(true)
 }
 
-/// Whether a session creates at `/a` an array of four cells in chunks of two, of a data type with a fill value and codecs.
+/// Whether a session creates at `/a` an array of four cells in chunks of two, of a data type with a
+/// fill value and codecs.
 pub(crate) fn creates<S: WritableStorageTraits, B: BytesToBytesCodecTraits>(
     alloc: Global,
     session: &mut Session<S, B>,

@@ -23,7 +23,8 @@ fn the_last_line_needs_no_line_feed(rt: HostRuntime) {
     assert!(rt; matches!(&answers, Some(found) if found.as_slice() == TWO_FAULTS));
 }
 
-/// Gives a text at some reads, and fails after them or ends. It fails too where a line that it gave is not answered yet.
+/// Gives a text at some reads, and fails after them or ends. It fails too where a line that it gave
+/// is not answered yet.
 #[derive(Drop)]
 struct Reader<'a> {
     text: &'a [u8],
@@ -87,8 +88,8 @@ fn count_lines(text: &[u8]) -> usize {
     text.iter().filter(|byte| **byte == b'\n').count()
 }
 
-/// Runs the lines of a text that is read so many times, then fails or ends, with a writer that fails after some calls. Gives
-/// how the run ended, and how many lines were answered.
+/// Runs the lines of a text that is read so many times, then fails or ends, with a writer that
+/// fails after some calls. Gives how the run ended, and how many lines were answered.
 fn run(
     alloc: Global,
     (text, left, ends): (&[u8], usize, bool),

@@ -6,9 +6,9 @@ use zarr_run::{
     WritableStorageTraits,
 };
 
-/// A store in memory that counts the values of chunks of the array at `/a` that were fetched, and the calls of `set_partial`. After
-/// some calls of `get` it gives one other value: the last of its bytes but two is 9 there, which in a document is the number of its
-/// format.
+/// A store in memory that counts the values of chunks of the array at `/a` that were fetched, and
+/// the calls of `set_partial`. After some calls of `get` it gives one other value: the last of its
+/// bytes but two is 9 there, which in a document is the number of its format.
 #[derive(Drop)]
 pub(crate) struct TestStore {
     pub inner: MemoryStore,

@@ -14,8 +14,8 @@ use zarr_codecs_reverse::ReverseCodec;
 
 type Chain = CodecChain<ReverseCodec>;
 
-/// A chain, what the elements of an array are and its shape, a value that the chain makes of such elements, and the value where
-/// the first two elements have changed places.
+/// A chain, what the elements of an array are and its shape, a value that the chain makes of such
+/// elements, and the value where the first two elements have changed places.
 #[derive(Clone, Copy)]
 struct Case {
     codecs: &'static [&'static str],

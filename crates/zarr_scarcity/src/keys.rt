@@ -5,8 +5,8 @@ use crate::texts::{expect_point, read_point};
 use std::alloc::Global;
 use zarr_grids::{ChunkKeyEncoding, NodePath, StoreKey};
 
-/// An encoding's extension point as it is written, the key of the chunk (1, 23), and that of the chunk of an array without
-/// dimensions.
+/// An encoding's extension point as it is written, the key of the chunk (1, 23), and that of the
+/// chunk of an array without dimensions.
 #[derive(Clone, Copy)]
 struct Encoding {
     text: &'static str,

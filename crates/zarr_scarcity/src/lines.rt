@@ -43,7 +43,8 @@ fn text(alloc: Global) -> Result<Vec<u8>, AllocError> {
     Ok(text)
 }
 
-/// Whether answers are those with ample memory, up to the first one that says that memory ran out or to their end.
+/// Whether answers are those with ample memory, up to the first one that says that memory ran out
+/// or to their end.
 fn are_as_stated(answers: &[u8]) -> bool {
     for (answer, want) in answers
         .split(|b| *b == b'\n')
@@ -84,7 +85,8 @@ fn commands(alloc: Global) -> Result<Vec<Command>, Stop> {
     Ok(commands)
 }
 
-/// Whether the first lines are answered as the tables say, which are then as the lines have changed them.
+/// Whether the first lines are answered as the tables say, which are then as the lines have changed
+/// them.
 fn answer(tables: &mut Tables, replies: &[Reply]) -> bool {
     for (line, reply) in LINES.iter().zip(replies) {
         if !tables.answer(*line, reply) {
@@ -106,14 +108,16 @@ fn reply_all(
     }
 }
 
-/// Whether the first lines are answered as the tables say, and have left the documents that these tell.
+/// Whether the first lines are answered as the tables say, and have left the documents that these
+/// tell.
 fn expect_replies(alloc: Global, replies: &[Reply], store: &mut MemoryStore) -> Result<(), Stop> {
     let mut tables = Tables::new();
     expect(answer(&mut tables, replies))?;
     expect(tables.agree_with(alloc, store)?)
 }
 
-/// The list. Where memory for the replies runs out, the store comes back empty, and the list is run once more.
+/// The list. Where memory for the replies runs out, the store comes back empty, and the list is run
+/// once more.
 fn run_list(alloc: Global) -> Result<(), Stop> {
     let commands = commands(alloc)?;
     match reply_all(alloc, MemoryStore::new(alloc), commands.as_slice()) {

@@ -64,21 +64,26 @@ fn look_places_up(alloc: Global, grid: &ChunkGrid, case: &Case) -> Result<(), St
     ))
 }
 
-/// The walk over the chunks and their boxes. Where memory for an item is refused, the walk goes on after it.
+/// The walk over the chunks and their boxes. Where memory for an item is refused, the walk goes on
+/// after it.
 fn walk(alloc: Global, grid: &ChunkGrid, case: &Case) -> Result<(), Stop> {
     let mut walk = grid.iter_chunk_indices_and_subsets(alloc)?;
-    let mut is_short = false;
+    let mut ran_out_of_memory = false;
     for (want, want_box) in CHUNKS.iter().zip(case.boxes.iter()) {
         match walk.next() {
             Some(Ok((chunk, subset))) => {
                 expect(chunk.as_slice() == want.as_slice() && is_area(&subset, *want_box))?;
             }
-            Some(Err(_)) => is_short = true,
+            Some(Err(_)) => ran_out_of_memory = true,
             None => return Err(Stop::Other),
         }
     }
     expect(walk.next().is_none())?;
-    if is_short { Err(Stop::Short) } else { Ok(()) }
+    if ran_out_of_memory {
+        Err(Stop::Short)
+    } else {
+        Ok(())
+    }
 }
 
 /// The first items of the walk over the chunks and of the walk over their boxes.

@@ -1,4 +1,5 @@
-//! Codecs that are made by their constructors and by their configurations, and elements that are taken and put.
+//! Codecs that are made by their constructors and by their configurations, and elements that are
+//! taken and put.
 
 use crate::elements::{expect_fixed, filled};
 use crate::stop::{Stop, expect};
@@ -23,7 +24,8 @@ const STRINGS: [u8; 35] = [
     0, 97, 98, 99,
 ];
 
-/// Nothing and 7 by `optional` of `packbits` and `bytes`: how long both parts are, the mask, and the byte.
+/// Nothing and 7 by `optional` of `packbits` and `bytes`: how long both parts are, the mask, and
+/// the byte.
 const OPTIONAL: [u8; 18] = [1, 0, 0, 0, 0, 0, 0, 0, 1, 0, 0, 0, 0, 0, 0, 0, 2, 7];
 
 /// Two rows of three cells that a codec between arrays makes these of, in this shape.

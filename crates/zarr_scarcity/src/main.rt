@@ -1,12 +1,14 @@
 //! Scripts of calls in which any allocation may be refused.
 //!
-//! The first byte of standard input names the script: `g` for grids, `k` for keys and metadata, `d` for data types and fill
-//! values, `c` for chains of codecs, `m` for codecs that are made by their constructors, and elements, `h` for shards, `s` for a
-//! session's commands, `r` for these over stores that refuse each of their calls in turn, `l` for a session's lines. It prints
-//! `as stated` if each answer is the one with ample memory and an honest store, which is typed in here, or says that memory ran out
-//! or the store refused, and has made just the change that it says.
+//! The first byte of standard input names the script: `g` for grids, `k` for keys and metadata, `d`
+//! for data types and fill values, `c` for chains of codecs, `m` for codecs that are made by their
+//! constructors, and elements, `h` for shards, `s` for a session's commands, `r` for these over
+//! stores that refuse each of their calls in turn, `l` for a session's lines. It prints `as stated`
+//! if each answer is the one with ample memory and an honest store, which is typed in here, or says
+//! that memory ran out or the store refused, and has made just the change that it says.
 //!
-//! The program itself refuses nothing: `tools/refused_allocations` runs it over a C library's allocator that does.
+//! The program itself refuses nothing: `tools/refused_allocations` runs it over a C library's
+//! allocator that does.
 #![tactic(auto)]
 
 mod cases;
@@ -56,7 +58,8 @@ fn run(alloc: Global, script: u8) -> Result<(), Stop> {
     }
 }
 
-/// Runs a script, and once more where memory ran out in it: one allocation is refused, so the second run has ample memory.
+/// Runs a script, and once more where memory ran out in it: one allocation is refused, so the
+/// second run has ample memory.
 fn run_twice(alloc: Global, script: u8) -> Result<(), Stop> {
     match run(alloc, script) {
         Err(Stop::Short) => run(alloc, script),

@@ -52,10 +52,11 @@ pub(crate) const REOPEN_ROW: Line = Line {
     asks: Asks::Reopen,
 };
 
-/// On `/a`: the middle, which intersects all chunks; the right of the two rows on top; zeros below, which take two keys out; one
-/// chunk as a whole; the erasure of the two chunks on the left; and zeros that keep their key, in a whole chunk and in a part of
-/// one. On `/b/c`: a box that intersects both chunks; one chunk as a whole; the erasure of the other one. Both are reopened, and
-/// read by box and by chunk.
+/// On `/a`: the middle, which intersects all chunks; the right of the two rows on top; zeros below,
+/// which take two keys out; one chunk as a whole; the erasure of the two chunks on the left; and
+/// zeros that keep their key, in a whole chunk and in a part of one. On `/b/c`: a box that
+/// intersects both chunks; one chunk as a whole; the erasure of the other one. Both are reopened,
+/// and read by box and by chunk.
 pub(crate) const LINES: [Line; 18] = [
     Line {
         text: r#"{"op":"create","path":"/a","document":{"zarr_format":3,"node_type":"array","shape":[4,4],"data_type":"uint8","chunk_grid":{"name":"regular","configuration":{"chunk_shape":[2,2]}},"chunk_key_encoding":{"name":"default"},"fill_value":0,"codecs":["bytes"]}}"#,
@@ -185,7 +186,8 @@ fn is_chance(cause: Cause) -> bool {
     cause == Cause::Memory || cause == Cause::Store
 }
 
-/// How many chunks a reply says were written or erased. `None` stands for a reply that no refusal at any time explains.
+/// How many chunks a reply says were written or erased. `None` stands for a reply that no refusal
+/// at any time explains.
 pub(crate) fn applied_in(reply: &Reply) -> Option<u64> {
     match reply {
         Reply::Done => Some(u64::MAX),
@@ -198,7 +200,8 @@ pub(crate) fn is_done(reply: &Reply) -> bool {
     matches!(reply, Reply::Done)
 }
 
-/// Whether a reply gives the cells that stand at these places of a table, each in so many bytes, of which the first is its value.
+/// Whether a reply gives the cells that stand at these places of a table, each in so many bytes, of
+/// which the first is its value.
 pub(crate) fn gives_cells(reply: &Reply, table: &[u8], places: &[usize], width: usize) -> bool {
     let Reply::Cells(ArrayBytes::Fixed(bytes)) = reply else {
         return false;
@@ -215,7 +218,7 @@ pub(crate) fn gives_cells(reply: &Reply, table: &[u8], places: &[usize], width: 
 }
 
 /// Whether a reply says that it was refused by chance, after whatever change.
-pub(crate) fn is_short(reply: &Reply) -> bool {
+pub(crate) fn is_refused_by_chance(reply: &Reply) -> bool {
     match reply {
         Reply::Refused { cause, .. } => is_chance(*cause),
         _ => false,

@@ -1,5 +1,5 @@
-//! Shards: a codec that is built, made of its configuration and copied; shards that are kept open by a state and by a decoder; and
-//! chains with shards in them.
+//! Shards: a codec that is built, made of its configuration and copied; shards that are kept open
+//! by a state and by a decoder; and chains with shards in them.
 
 use crate::elements::{expect_fixed, expect_held, filled, holding};
 use crate::stop::{Stop, expect};
@@ -21,7 +21,8 @@ type Chain = CodecChain<ReverseCodec>;
 
 type Codec = ShardingCodec<Chain, Chain>;
 
-/// The cells 1, 2, 0 and 0 in subchunks of two, of which the second is fill: a slice, a pair, and an absent one.
+/// The cells 1, 2, 0 and 0 in subchunks of two, of which the second is fill: a slice, a pair, and
+/// an absent one.
 const VALUE: [u8; 34] = [
     1, 2, 0, 0, 0, 0, 0, 0, 0, 0, 2, 0, 0, 0, 0, 0, 0, 0, 255, 255, 255, 255, 255, 255, 255, 255,
     255, 255, 255, 255, 255, 255, 255, 255,
@@ -43,7 +44,8 @@ const COMPACTED: [u8; 34] = [
 const TWO_SHARDS: &str =
     r#"{"configuration":{"chunk_shape":[2],"codecs":[{"configuration":{"chunk_shape":[1],"codecs":["bytes"],"index_codecs":[{"configuration":{"endian":"little"},"name":"bytes"}],"index_location":"start"},"name":"sharding_indexed"}],"index_codecs":[{"configuration":{"endian":"little"},"name":"bytes"}],"index_location":"end"},"name":"sharding_indexed"}"#;
 
-/// Those cells, where a subchunk is a shard too: its index stands before its two slices of one cell.
+/// Those cells, where a subchunk is a shard too: its index stands before its two slices of one
+/// cell.
 const NESTED: [u8; 66] = [
     32, 0, 0, 0, 0, 0, 0, 0, 1, 0, 0, 0, 0, 0, 0, 0, 33, 0, 0, 0, 0, 0, 0, 0, 1, 0, 0, 0, 0, 0, 0,
     0, 1, 2, 0, 0, 0, 0, 0, 0, 0, 0, 34, 0, 0, 0, 0, 0, 0, 0, 255, 255, 255, 255, 255, 255, 255,
@@ -215,8 +217,8 @@ fn erase_at_last<
     }
 }
 
-/// A shard that is kept open is written in part and read, and the source of it. That it has one slice more shows that a refusal
-/// left the value.
+/// A shard that is kept open is written in part and read, and the source of it. That it has one
+/// slice more shows that a refusal left the value.
 fn write_open<I: ArrayToBytesCodecTraits, X: ArrayToBytesCodecTraits>(
     alloc: Global,
     state: ShardState<'_, I, X, MemorySource>,

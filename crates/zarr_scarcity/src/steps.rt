@@ -1,7 +1,8 @@
 //! The commands of the script, step by step, over a store that may refuse a call.
 
 use crate::script::{
-    KEYS, LINES, LINES_AFTER, Line, READ_ROW, READ_SQUARE, command, is_by_store, is_short,
+    KEYS, LINES, LINES_AFTER, Line, READ_ROW, READ_SQUARE, command, is_by_store,
+    is_refused_by_chance,
 };
 use crate::stop::{Stop, expect};
 use crate::tables::{Tables, has_keys};
@@ -32,7 +33,7 @@ struct Chances {
 struct CheckedSession {
     session: Session,
     tables: Tables,
-    met: Chances,
+    refused: Chances,
 }
 
 /// Runs a command.
@@ -48,15 +49,16 @@ impl CheckedSession {
     fn reply_to(&mut self, command: &Command) -> Reply {
         let reply = reply(&mut self.session, command);
         let by_store = is_by_store(&reply);
-        self.met.by_store = self.met.by_store || by_store;
-        self.met.by_memory = self.met.by_memory || is_short(&reply) && !by_store;
+        self.refused.by_store = self.refused.by_store || by_store;
+        self.refused.by_memory = self.refused.by_memory
+            || is_refused_by_chance(&reply) && !by_store;
         reply
     }
 
     /// Runs a command, and once more where it was refused by chance.
     fn reply_at_last(&mut self, command: &Command) -> Reply {
         let reply = self.reply_to(command);
-        if is_short(&reply) {
+        if is_refused_by_chance(&reply) {
             self.reply_to(command)
         } else {
             reply
@@ -67,21 +69,21 @@ impl CheckedSession {
     fn are_as_stated(&mut self, reads: &Reads) -> bool {
         let square = self.reply_at_last(&reads.square);
         let row = self.reply_at_last(&reads.row);
-        !is_short(&square)
+        !is_refused_by_chance(&square)
             && self.tables.answer(READ_SQUARE, &square)
-            && !is_short(&row)
+            && !is_refused_by_chance(&row)
             && self.tables.answer(READ_ROW, &row)
     }
 
-    /// Runs a command, which is answered as the tables say. Where it is refused by chance, it has changed just what it says, and
-    /// it is run once more.
+    /// Runs a command, which is answered as the tables say. Where it is refused by chance, it has
+    /// changed just what it says, and it is run once more.
     fn step(&mut self, reads: &Reads, line: Line, command: &Command) -> Result<(), Stop> {
         let reply = self.reply_to(command);
         expect(self.tables.answer(line, &reply))?;
-        if is_short(&reply) {
+        if is_refused_by_chance(&reply) {
             expect(self.are_as_stated(reads))?;
             let again = self.reply_to(command);
-            expect(!is_short(&again) && self.tables.answer(line, &again))?;
+            expect(!is_refused_by_chance(&again) && self.tables.answer(line, &again))?;
         }
         Ok(())
     }
@@ -91,12 +93,12 @@ impl CheckedSession {
         let CheckedSession {
             session,
             tables,
-            met,
+            refused,
         } = self;
         CheckedSession {
             session: Session::new(alloc, session.close()),
             tables: tables.closed(),
-            met,
+            refused,
         }
     }
 
@@ -113,7 +115,7 @@ fn begin(alloc: Global, kind: CallKind, number: u64) -> CheckedSession {
     CheckedSession {
         session: Session::new(alloc, store),
         tables: Tables::new(),
-        met: Chances {
+        refused: Chances {
             by_store: false,
             by_memory: false,
         },
@@ -151,35 +153,36 @@ fn run_lines(
     expect(checked.are_as_stated(reads))
 }
 
-/// Runs each command, over a store that refuses the call of this kind with this number, and then some in another session over
-/// that store. Says what was refused.
+/// Runs each command, over a store that refuses the call of this kind with this number, and then
+/// some in another session over that store. Says what was refused.
 fn run_refused(alloc: Global, kind: CallKind, number: u64) -> Result<Chances, Stop> {
     let reads = read_all(alloc)?;
     let mut checked = begin(alloc, kind, number);
     run_lines(alloc, &mut checked, &reads, &LINES)?;
     let mut checked = checked.next(alloc);
     run_lines(alloc, &mut checked, &reads, &LINES_AFTER)?;
-    let met = checked.met;
+    let refused = checked.refused;
     expect(has_keys(&mut checked.into_store(), &KEYS)?)?;
-    Ok(met)
+    Ok(refused)
 }
 
 /// Each command, over a store that refuses none.
 pub(crate) fn run(alloc: Global) -> Result<(), Stop> {
-    let met = run_refused(alloc, CallKind::Read, 0)?;
-    expect(!met.by_store)
+    let refused = run_refused(alloc, CallKind::Read, 0)?;
+    expect(!refused.by_store)
 }
 
 /// More calls than the script makes.
 const MANY_CALLS: u64 = 10_000;
 
-/// Each command, with each call of the store of this kind refused in turn. As memory is ample then, no command is refused for want
-/// of it: so a refusal of the store that is answered otherwise does not pass for the end.
+/// Each command, with each call of the store of this kind refused in turn. As memory is ample then,
+/// no command is refused for want of it: so a refusal of the store that is answered otherwise does
+/// not pass for the end.
 fn run_each_refused(alloc: Global, kind: CallKind) -> Result<(), Stop> {
     for number in 1..MANY_CALLS {
-        let met = run_refused(alloc, kind, number)?;
-        expect(!met.by_memory)?;
-        if !met.by_store {
+        let refused = run_refused(alloc, kind, number)?;
+        expect(!refused.by_memory)?;
+        if !refused.by_store {
             return expect(number > 1);
         }
     }

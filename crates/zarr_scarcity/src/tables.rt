@@ -6,8 +6,8 @@ use crate::stop::Stop;
 use std::alloc::Global;
 use zarr_run::{Cause, MemoryStore, ReadableStorageTraits, Reply};
 
-/// An array of the script: `/a`, of 4 by 4 in chunks of 2 by 2, with cells of one byte; or `/b/c`, of 3 in chunks of 2, with cells
-/// of two.
+/// An array of the script: `/a`, of 4 by 4 in chunks of 2 by 2, with cells of one byte; or `/b/c`,
+/// of 3 in chunks of 2, with cells of two.
 #[derive(Clone, Copy)]
 pub(crate) enum Array {
     Square,
@@ -23,7 +23,8 @@ impl Array {
     }
 }
 
-/// Cells that a write puts: the number of the chunk among those that it intersects, the place, row-major, and the cell.
+/// Cells that a write puts: the number of the chunk among those that it intersects, the place,
+/// row-major, and the cell.
 pub(crate) type Cells = &'static [(u64, usize, u8)];
 
 /// The cells of all chunks of an array, row-major. Those of `/b/c` are the first four.
@@ -68,7 +69,8 @@ fn put(table: &mut Table, cells: Cells, applied: u64) {
     }
 }
 
-/// Whether this is how a line is answered where its array isn't stored. A create that is done holds it.
+/// Whether this is how a line is answered where its array isn't stored. A create that is done holds
+/// it.
 fn answers_none(stored: &mut Option<Stored>, asks: Asks, reply: &Reply) -> bool {
     match asks {
         Asks::Create => {
@@ -85,7 +87,8 @@ fn answers_none(stored: &mut Option<Stored>, asks: Asks, reply: &Reply) -> bool 
     }
 }
 
-/// Whether this is how a line is answered where its array is stored and not held. A reopening that is done holds it.
+/// Whether this is how a line is answered where its array is stored and not held. A reopening that
+/// is done holds it.
 fn answers_unheld(stored: &mut Stored, asks: Asks, reply: &Reply) -> bool {
     match asks {
         Asks::Create => is_refused(reply, Cause::PathTaken),
@@ -97,7 +100,8 @@ fn answers_unheld(stored: &mut Stored, asks: Asks, reply: &Reply) -> bool {
     }
 }
 
-/// Whether this is how a line is answered where its array has this table. The cells that were put then stand in it.
+/// Whether this is how a line is answered where its array has this table. The cells that were put
+/// then stand in it.
 fn answers_held(table: &mut Table, line: Line, reply: &Reply) -> bool {
     match line.asks {
         Asks::Create => is_refused(reply, Cause::PathTaken),
@@ -122,8 +126,8 @@ impl Tables {
         }
     }
 
-    /// Whether a line is answered as the tables say, or refused for memory or by the store with just the change that it says.
-    /// They are then as the line has changed them.
+    /// Whether a line is answered as the tables say, or refused for memory or by the store with
+    /// just the change that it says. They are then as the line has changed them.
     pub(crate) fn answer(&mut self, line: Line, reply: &Reply) -> bool {
         if is_refused(reply, Cause::Memory) || is_refused(reply, Cause::Store) {
             return true;

@@ -21,7 +21,8 @@ pub(crate) struct Values<'a> {
     pub compacted: &'a [u8],
 }
 
-/// What a codec tells of an array: it fits, in which parts it is decoded, and the size of its value.
+/// What a codec tells of an array: it fits, in which parts it is decoded, and the size of its
+/// value.
 fn tell<C: ArrayToBytesCodecTraits>(
     alloc: Global,
     codec: &C,
@@ -79,8 +80,8 @@ fn swap_in<C: ArrayToBytesCodecTraits, E: BytesPartialEncoderTraits>(
     encoder.partial_encode(alloc, Indexer::List(&[0, 1]), found, &options)
 }
 
-/// The first two elements change places in the value that a source holds. Where memory runs out the value stays, and they change
-/// places when asked once more.
+/// The first two elements change places in the value that a source holds. Where memory runs out the
+/// value stays, and they change places when asked once more.
 fn swap<C: ArrayToBytesCodecTraits>(
     alloc: Global,
     codec: &C,

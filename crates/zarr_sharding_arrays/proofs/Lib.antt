@@ -2,3 +2,4 @@ pub mod Telling
 pub mod ShardsNest
 pub mod Reading
 pub mod Written
+pub mod CopiedPoints

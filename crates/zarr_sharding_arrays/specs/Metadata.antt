@@ -1,6 +1,8 @@
 -- The metadata of chains of arrays, and the names that they keep.
-use Rattle.std.specs.Prelude.{List, Bool, false, Option, Some, None, MatchOption}
+use Rattle.std.specs.Prelude.{◌≡◌, List, Bool, false, Option, Some, None, MatchOption}
 use Rattle.zarr_grids_metadata.specs.ExtensionPoints.{ExtensionPoint, configuration_members}
+use Rattle.zarr_codecs_meaning.specs.Chains.{ByteCodec}
+use Rattle.zarr_codecs_around.specs.Copies.{WritesAlike}
 use Rattle.zarr_codecs_around.specs.Views.{points_between}
 use Rattle.zarr_codecs_chains.specs.Names.{NameAll, NamesChain}
 use Rattle.zarr_codecs_chains.specs.Views.{points_of}
@@ -11,6 +13,7 @@ use Rattle.zarr_sharding_configurations.specs.Written.{shard_point}
 use Rattle.zarr_sharding_codec.specs.Configured.{given_to_shard}
 use Rattle.zarr_sharding_codec.specs.Views.{index_of, inner_of}
 use Rattle.zarr_sharding_codec.specs.declared.codec.ShardingCodec.{ShardingCodec}
+use Rattle.zarr_sharding_arrays.specs.ArrayChains.{array_orders}
 use Rattle.zarr_sharding_arrays.specs.Views.{arrays_of, bytes_of, shard_of}
 use Rattle.zarr_sharding_arrays.specs.declared.sharded_chain.ShardedChain.{ShardedChain}
 use Rattle.zarr_sharding_arrays.specs.declared.array_chain.ArrayChain.{ArrayChain}
@@ -47,3 +50,8 @@ abbrev pub array_chain_points : {B : Type 0} → (B → ExtensionPoint) → Arra
 array_chain_points described (Plain chain) = points_of described chain
 array_chain_points described (Sharded chain) = sharded_points (points_of described) described chain
 array_chain_points described (Nested chain) = sharded_points (sharded_points (points_of described) described) described chain
+
+-- the chain of an array is a copy: its codecs are written alike, and the subchunks of its shards in the same orders
+pub record IsArrayCopy {B : Type 0} (bytes : B → ByteCodec) (chain copy : ArrayChain B) : Type 0 where
+  pub written : (described : B → ExtensionPoint) → WritesAlike bytes described → array_chain_points described copy ≡ array_chain_points described chain
+  pub orders : array_orders copy ≡ array_orders chain

@@ -1,10 +1,10 @@
 -- Why extension points are refused as the chain of an array (Zarr sharding codec, "Configuration parameters"; which refusal comes is this project's profile).
-use Rattle.std.specs.Prelude.{◌≡◌, ◌⊎◌, ℕ, zero, suc, List, [], ◌∷◌, length, drop, Bool, true, false, Option, Some, None, MatchOption}
+use Rattle.std.specs.Prelude.{◌≡◌, ◌⊎◌, ℕ, zero, suc, List, [], ◌∷◌, length, drop, Bool, true, false, Option, Some, None, MatchBool, MatchOption}
 use Rattle.zarr_grids_metadata.specs.ExtensionPoints.{ExtensionPoint, configuration_members}
 use Rattle.zarr_grids_metadata.specs.declared.error.PluginCreateError.{PluginCreateError}
 use Rattle.zarr_grids_metadata.specs.declared.error.PluginCreateError.TheVariants as plugin
 use Rattle.zarr_codecs_meaning.specs.Chains.{Chain}
-use Rattle.zarr_codecs_metadata.specs.Chains.{ReadsCodecs, allowed_chain}
+use Rattle.zarr_codecs_metadata.specs.Chains.{ReadsCodecs, allowed_chain, any_too_deep}
 use Rattle.zarr_codecs_array_to_array.specs.Refusals.{cause_of, names_array_codec}
 use Rattle.zarr_codecs_around.specs.ArrayMetadata.{array_codecs_of}
 use Rattle.zarr_codecs_around.specs.Codecs.{codecs_in}
@@ -49,3 +49,7 @@ RefusesWithin reads (suc shards) points cause = EitherCause (shard_stands points
 -- why extension points are refused as the chain of an array: as one of at most two shards in one another
 abbrev pub RefusesArray : ReadsCodecs → List ExtensionPoint → PluginCreateError → Type 0
 RefusesArray reads points cause = RefusesWithin reads 2 points cause
+
+-- why a caller's extension points are refused as the chain of an array: one of them nests deeper than is read, which is tested first, or they say no such chain
+abbrev pub RefusesReadArray : ReadsCodecs → List ExtensionPoint → PluginCreateError → Type 0
+RefusesReadArray reads points cause = MatchBool (any_too_deep points) (cause ≡ plugin.TooDeep) (RefusesArray reads points cause)

@@ -1,13 +1,15 @@
 -- What a chain of codecs around a shard stands for.
-use Rattle.std.specs.Prelude.{List, Bool, true}
+use Rattle.std.specs.Prelude.{◌≡◌, List, Bool, true}
+use Rattle.zarr_grids_metadata.specs.ExtensionPoints.{ExtensionPoint}
 use Rattle.zarr_codecs_meaning.specs.Chains.{ByteCodec, Chain}
 use Rattle.zarr_codecs_meaning.specs.Laws.{IsLawful, IsLawfulChain}
 use Rattle.zarr_codecs_array_to_array.specs.declared.codec.ArrayToArrayCodec.{ArrayToArrayCodec}
-use Rattle.zarr_codecs_around.specs.Views.{codecs_of, lawful_after, with_array_codecs}
+use Rattle.zarr_codecs_around.specs.Copies.{AreWrittenAlike, WritesAlike}
+use Rattle.zarr_codecs_around.specs.Views.{array_points, codecs_of, lawful_after, with_array_codecs}
 use Rattle.zarr_codecs_around.specs.ThenBytes as then
-use Rattle.zarr_codecs_chains.specs.Views.{lawful_of, meaning_of}
+use Rattle.zarr_codecs_chains.specs.Views.{lawful_of, meaning_of, points_of}
 use Rattle.zarr_codecs_chains.specs.declared.chain.CodecChain.{CodecChain}
-use Rattle.zarr_sharding_codec.specs.Views.{index_of, inner_of, makes_a_function, shard_chain}
+use Rattle.zarr_sharding_codec.specs.Views.{index_of, inner_of, makes_a_function, order_of, shard_chain}
 use Rattle.zarr_sharding_codec.specs.declared.codec.ShardingCodec.{ShardingCodec}
 use Rattle.zarr_sharding_arrays.specs.declared.sharded_chain.ShardedChain.{ShardedChain}
 
@@ -41,3 +43,11 @@ pub sharded_lawful : {B I : Type 0} (inner : I → Chain) → ((codec : I) → I
 sharded_lawful inner first meaning each chain =
     lawful_after (codecs_of (arrays_of chain)) (others_meaning inner meaning chain)
     (then.then_lawful (shard_chain inner (meaning_of meaning)) (λ codec. (first (inner_of codec), lawful_of meaning each (index_of codec))) meaning each chain.others)
+
+-- a chain around a shard is a copy: its array codecs are written alike, the codecs of its subchunks are a copy, those of its index and the caller's are written alike, and its subchunks are written in the same order
+pub record IsShardedCopy {B I : Type 0} (inner : I → I → Type 0) (bytes : B → ByteCodec) (chain copy : ShardedChain B I) : Type 0 where
+  pub arrays : array_points (arrays_of copy) ≡ array_points (arrays_of chain)
+  pub subchunks : inner (inner_of (shard_of chain)) (inner_of (shard_of copy))
+  pub index : (described : B → ExtensionPoint) → WritesAlike bytes described → points_of described (index_of (shard_of copy)) ≡ points_of described (index_of (shard_of chain))
+  pub order : order_of (shard_of copy) ≡ order_of (shard_of chain)
+  pub others : AreWrittenAlike bytes (bytes_of chain) (bytes_of copy)

@@ -12,10 +12,13 @@ use zarr_sharding_codec::{ShardingCodecOptions, TakesShardingOptions};
 
 impl<B: BytesToBytesCodecTraits> ArrayToBytesCodecTraits for ArrayChain<B> {
     ghost use Rattle.zarr_sharding_arrays.specs.ArrayChains.{array_function, array_lawful, array_meaning};
+    ghost use Rattle.zarr_sharding_arrays.specs.Metadata.{IsArrayCopy};
 
     ghost meaning = { array_meaning B.meaning };
 
     ghost is_function = { array_function };
+
+    ghost copied = { λ chain copy. IsArrayCopy B.meaning chain copy };
 
     fn encoding_is_function(&self) -> bool {
         match self {

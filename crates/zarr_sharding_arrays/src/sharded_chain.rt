@@ -25,11 +25,11 @@ use zarr_codecs_types::DataType;
 use zarr_sharding_codec::ShardingCodec;
 
 /// A codec chain with a shard: array to array codecs in the order in which they encode, the codec
-/// `sharding_indexed` over the codecs `I` of its subchunks and a chain of its index, and the caller's
-/// bytes to bytes codecs in that order (Zarr core specification, "Codecs"). Without bytes codecs it
-/// decodes parts of arrays from parts of their values, and encodes them so where no `reshape` stands
-/// before the shard; else values are read and written whole. An array that became all fill loses its
-/// value.
+/// `sharding_indexed` over the codecs `I` of its subchunks and a chain of its index, and the
+/// caller's bytes to bytes codecs in that order (Zarr core specification, "Codecs"). Without bytes
+/// codecs it decodes parts of arrays from parts of their values, and encodes them so where no
+/// `reshape` stands before the shard; else values are read and written whole. An array that became
+/// all fill loses its value.
 #[derive(Debug, Drop)]
 pub struct ShardedChain<B: BytesToBytesCodecTraits, I: InnerCodec> {
     pub(crate) array_to_array: Vec<ArrayToArrayCodec>,
@@ -40,8 +40,8 @@ impl<B: BytesToBytesCodecTraits, I: InnerCodec> ShardedChain<B, I> {
     ghost use Rattle.std.specs.Prelude.{◌≡◌};
     ghost use Rattle.zarr_sharding_arrays.specs.Views.{arrays_of, bytes_of, shard_of};
 
-    /// The chain of array to array codecs, of a shard, and of bytes to bytes codecs, in the order in
-    /// which they encode.
+    /// The chain of array to array codecs, of a shard, and of bytes to bytes codecs, in the order
+    /// in which they encode.
     pub fn new(
         array_to_array: Vec<ArrayToArrayCodec>,
         sharding_codec: ShardingCodec<I, CodecChain<B>>,
@@ -80,11 +80,13 @@ impl<B: BytesToBytesCodecTraits, I: InnerCodec> ShardedChain<B, I> {
 }
 
 impl<B: BytesToBytesCodecTraits, I: InnerCodec> ArrayToBytesCodecTraits for ShardedChain<B, I> {
-    ghost use Rattle.zarr_sharding_arrays.specs.Views.{sharded_function, sharded_lawful, sharded_meaning};
+    ghost use Rattle.zarr_sharding_arrays.specs.Views.{IsShardedCopy, sharded_function, sharded_lawful, sharded_meaning};
 
     ghost meaning = { sharded_meaning I.meaning B.meaning };
 
     ghost is_function = { sharded_function I.is_function };
+
+    ghost copied = { λ chain copy. IsShardedCopy I.copied B.meaning chain copy };
 
     fn encoding_is_function(&self) -> bool {
         self.others.encoding_is_function()

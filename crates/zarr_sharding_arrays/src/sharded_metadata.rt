@@ -23,6 +23,7 @@ use zarr_codecs_around::{InnerCodec, ThenBytes};
 use zarr_codecs_chains::CodecChain;
 use zarr_codecs_traits::BytesToBytesCodecTraits;
 use zarr_grids_metadata::{MetadataV3, PluginCreateError};
+use zarr_sharding_codec::configuration::read_allowed_shard;
 use zarr_sharding_codec::{ChainOfMetadata, ShardingCodec, ShardingCodecConfiguration};
 
 impl<B: BytesToBytesCodecTraits, I: InnerCodec + ChainOfMetadata> ChainOfMetadata
@@ -113,7 +114,7 @@ fn read_shard<B: BytesToBytesCodecTraits, I: ChainOfMetadata>(
         Ok(configuration) => configuration,
         Err(error) => return Err(error),
     };
-    ShardingCodec::new_with_configuration(alloc, &configuration)
+    read_allowed_shard(alloc, &configuration)
 }
 
 /// The metadata of a shard, which is read back where array codecs stand only where they may.

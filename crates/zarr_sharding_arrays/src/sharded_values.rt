@@ -1,5 +1,5 @@
-//! What reading and writing values whole, codecs around it, and options of shards need of a chain of
-//! codecs around a shard.
+//! What reading and writing values whole, codecs around it, and options of shards need of a chain
+//! of codecs around a shard.
 use crate::sharded_chain::ShardedChain;
 use std::alloc::{AllocError, Global};
 use zarr_codecs_around::array_metadata::array_copies;

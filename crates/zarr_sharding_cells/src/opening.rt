@@ -48,11 +48,11 @@ impl<
     ghost use Rattle.zarr_sharding_decoder.specs.Pairs.{index_length};
     ghost use Rattle.zarr_sharding_decoder.specs.Views.{shard_in};
 
-    /// The shard of an array that a source holds, or none; of the value the index alone is read, and
-    /// nothing is written. An error comes with the source: `Fit` where the codec doesn't suit the
-    /// array; `Damage` where the value has fewer bytes than its index, no index is decoded from
-    /// these, or a present pair lies outside the data part; `Size` where the array has 2^63 elements
-    /// or more, or the value as many bytes; `Source` where the source refuses.
+    /// The shard of an array that a source holds, or none; of the value the index alone is read,
+    /// and nothing is written. An error comes with the source: `Fit` where the codec doesn't suit
+    /// the array; `Damage` where the value has fewer bytes than its index, no index is decoded from
+    /// these, or a present pair lies outside the data part; `Size` where the array has 2^63
+    /// elements or more, or the value as many bytes; `Source` where the source refuses.
     pub fn open(
         alloc: Global,
         codec: &'a ShardingCodec<I, X>,

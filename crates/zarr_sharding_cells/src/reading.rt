@@ -22,10 +22,10 @@ impl<
     ghost use Rattle.zarr_sharding_decoder.specs.Parts.{ReadsPart, slices_met};
 
     /// The elements at the places that are asked for, in their order; each is the fill value where
-    /// its subchunk is absent. The index that is kept says where each subchunk stands: each slice that
-    /// the places lie in is fetched once, and nothing else. `IncompatibleIndexer` where a place isn't
-    /// one of the array's; `Damage` where a place that is asked for cannot be decoded; `Size` where the
-    /// array has 2^63 bytes or more; `Source` where the source refuses.
+    /// its subchunk is absent. The index that is kept says where each subchunk stands: each slice
+    /// that the places lie in is fetched once, and nothing else. `IncompatibleIndexer` where a
+    /// place isn't one of the array's; `Damage` where a place that is asked for cannot be decoded;
+    /// `Size` where the array has 2^63 bytes or more; `Source` where the source refuses.
     pub fn partial_decode(
         &mut self,
         alloc: Global,

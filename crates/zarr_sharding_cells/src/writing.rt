@@ -7,6 +7,7 @@ use zarr_codecs_options::CodecOptions;
 use zarr_codecs_traits::{ArrayToBytesCodecTraits, BytesPartialEncoderTraits, Indexer, WholeArray};
 use zarr_sharding_codec::{AskedElements, ShardInSource};
 use zarr_sharding_index::IndexLayout;
+use zarr_sharding_state::ShardChanges;
 
 impl<
     'a,
@@ -21,7 +22,7 @@ impl<
     ghost use Rattle.zarr_codecs_traits.specs.Indexers.{are_inside, asked_of, numbers_asked};
     ghost use Rattle.zarr_codecs_traits.specs.Sources.{refused_after};
     ghost use Rattle.zarr_codecs_traits.specs.Writes.{WriteRefused, accepted_after};
-    ghost use Rattle.zarr_sharding_cells.specs.Puts.{IsPutInto, IsRefusedFirst, IsWritten, NotPutInto, NotWritten};
+    ghost use Rattle.zarr_sharding_cells.specs.Puts.{IsPutInto, IsRefusedForGiven, IsWritten, NotPutInto, NotWritten};
     ghost use Rattle.zarr_sharding_cells.specs.Tables.{IsErased, IsTold};
     ghost use Rattle.zarr_sharding_cells.specs.Views.{codec_of, held_of, known_of, shard_of, source_of};
     ghost use Rattle.zarr_sharding_codec.specs.PartWriting.{put_at};
@@ -30,16 +31,17 @@ impl<
 
     /// Puts elements in the place of those at the places that are asked for, in their order; of a
     /// place that is asked for twice the last element stays. Each subchunk that is met is decoded,
-    /// changed, and encoded anew and whole; the new slices are appended to the data part, and go out
-    /// together with the index in one writing call. A subchunk that became all fill becomes absent,
-    /// and where none is present then, the value is taken away. All other subchunks keep their slices
-    /// where they stand. An `Err` leaves what the source holds and what is known of it as they were:
-    /// `IncompatibleIndexer` where a place isn't one of the array's; `InvalidNumberOfElements`,
-    /// `Expected..` or `CellOutOfRange` where these are not elements, one for each place; `Damage`
-    /// where the slice of a subchunk that is met isn't decoded; `Codec` where a caller's codec
-    /// refuses a new slice or the new index; `Size` where a subchunk, an offset or a length is too
-    /// large, or the shard would have 2^63 bytes or more; `Source` where the source refuses. Where
-    /// elements are refused, or for damage, an honest source gave at most the slices that are met.
+    /// changed, and encoded anew and whole; the new slices are appended to the data part, and go
+    /// out together with the index in one writing call. A subchunk that became all fill becomes
+    /// absent, and where none is present then, the value is taken away. All other subchunks keep
+    /// their slices where they stand. An `Err` leaves what the source holds and what is known of it
+    /// as they were: `IncompatibleIndexer` where a place isn't one of the array's;
+    /// `InvalidNumberOfElements`, `Expected..` or `CellOutOfRange` where these are not elements,
+    /// one for each place; `Damage` where the slice of a subchunk that is met isn't decoded;
+    /// `Codec` where a caller's codec refuses a new slice or the new index; `Size` where a
+    /// subchunk, an offset or a length is too large, or the shard would have 2^63 bytes or more;
+    /// `Source` where the source refuses. Where elements are refused, or for damage, an honest
+    /// source gave at most the slices that are met.
     pub fn partial_encode(
         &mut self,
         alloc: Global,
@@ -64,7 +66,7 @@ impl<
         ensures refused { E.refused_calls (source_of self.new) ≡
             refused_after (E.refused_calls (source_of self.old)) result }
         ensures given { IsTrue (E.is_honest (source_of self.old)) → IfErr result (λ error.
-            IsRefusedFirst error → E.given_bytes (source_of self.new)
+            IsRefusedForGiven error → E.given_bytes (source_of self.new)
             ≤ E.given_bytes (source_of self.old) + slices_met
             (shard_of I.meaning X.meaning self.old) (Some (known_of self.old).0)
             (asked_of indexer.entry)) }
@@ -129,7 +131,7 @@ impl<
         ensures refused { E.refused_calls (source_of self.new) ≡
             refused_after (E.refused_calls (source_of self.old)) result }
         ensures given { IsTrue (E.is_honest (source_of self.old)) → IfErr result (λ error.
-            IsRefusedFirst error → E.given_bytes (source_of self.new)
+            IsRefusedForGiven error → E.given_bytes (source_of self.new)
             ≤ E.given_bytes (source_of self.old) + slices_met
             (shard_of I.meaning X.meaning self.old) (Some (known_of self.old).0)
             (asked_of indexer.entry)) }
@@ -159,14 +161,13 @@ impl<
             .codec
             .update_asked(alloc, &mut self.source, shard, given, options)
         {
-            Ok(changes) => self.known.write_slices(
-                alloc,
-                &mut self.source,
-                self.codec.index_codecs(),
-                layout,
-                &changes,
-                options,
-            ),
+            Ok(changes) => {
+                let changes = changes.as_slice();
+                let given = ShardChanges { layout, changes };
+                let codecs = self.codec.index_codecs();
+                self.known
+                    .write_slices(alloc, &mut self.source, codecs, given, options)
+            }
             Err(error) => Err(error),
         }
     }

@@ -34,8 +34,8 @@ pub(crate) fn default_codec<B: BytesToBytesCodecTraits>(
     }
 }
 
-/// `optional` with a mask by `packbits` and this codec of the elements that are present, which takes
-/// each shape. `Err` only where an allocation failed.
+/// `optional` with a mask by `packbits` and this codec of the elements that are present, which
+/// takes each shape. `Err` only where an allocation failed.
 fn default_optional<B: BytesToBytesCodecTraits>(
     alloc: Global,
     values: ArrayToBytesCodec<B>,

@@ -14,7 +14,7 @@ use Rattle.zarr_codecs_meaning.specs.Places.{grid_of}
 use Rattle.zarr_codecs_meaning.proofs.Covers.{place_ravel, zeros}
 use Rattle.zarr_codecs_meaning.proofs.Parts.{block, length-parts, same_length}
 use Rattle.zarr_codecs_regions.proofs.InsideArray.{each_place, ends_at_most, inside_places, inside_rank}
-use Rattle.zarr_codecs_traits.specs.Indexers.{lies_in, numbers_of}
+use Rattle.zarr_codecs_traits.specs.Indexers.{shape_has, numbers_of}
 use Rattle.zarr_sharding_places.specs.Locating.{inside_of, subchunk_of}
 use Rattle.zarr_sharding_codec.specs.BoxReading.{AreMet, HasNumber, StandIn}
 use Rattle.zarr_sharding_codec.proofs.BoxInSubchunk.{IsAround, box_lies, inside_index, moved_place, number_at, numbers_many, starts_at}
@@ -26,12 +26,12 @@ use Rattle.zarr_sharding_codec.proofs.MetBox.{block_has, cut_as, met_has, number
 -- a box of subchunks: those from that of the box's start to that of its end
 pub record IsMetBox (shape subchunk : List ℕ) (region met : Region) : Type 0 where
   pub cuts : can_cut shape subchunk ≡ true
-  pub inside : lies_in shape region ≡ true
+  pub inside : shape_has shape region ≡ true
   pub same : length region.shape ≡ length region.start
   pub start : met.start ≡ block region.start subchunk
   pub shape_is : met.shape ≡ each2 (λ s e. e - s) (block region.start subchunk) (grid_of (ends region) subchunk)
   pub long : length met.shape ≡ length met.start
-  pub within : lies_in (grid_of shape subchunk) met ≡ true
+  pub within : shape_has (grid_of shape subchunk) met ≡ true
 
 -- the subchunk of a place of the box is one of these
 met_number : (shape subchunk : List ℕ) (region met : Region) (t : ℕ) → IsMetBox shape subchunk region met → t < product region.shape → HasNumber (numbers_of (grid_of shape subchunk) met) (subchunk_of shape subchunk (get_or (numbers_of shape region) t 0))
@@ -84,13 +84,13 @@ region_at start shape = record { start = start; shape = shape }
 -- a box's part in a subchunk: the overlap of both, as it stands in either
 pub record IsPiece (shape subchunk : List ℕ) (region cut moved target : Region) (k : ℕ) : Type 0 where
   pub around : IsAround shape subchunk cut moved k
-  pub inside : lies_in shape region ≡ true
+  pub inside : shape_has shape region ≡ true
   pub same : length region.shape ≡ length region.start
   pub some : 0 < product cut.shape
   pub overlap : cut ≡ overlapped region (record { start = each2 (λ i edge. i * edge) (place_at (zeros (grid_of shape subchunk)) (grid_of shape subchunk) k) subchunk; shape = subchunk })
   pub target_is : target ≡ relative cut region.start
   pub target_long : length target.shape ≡ length target.start
-  pub target_in : lies_in region.shape target ≡ true
+  pub target_in : shape_has region.shape target ≡ true
 
 -- the box of a subchunk, as calls tell it
 pub overlap_is : (shape subchunk grid edges start lengths : List ℕ) (n : ℕ) → grid ≡ grid_of shape subchunk → edges ≡ subchunk → start ≡ each2 (λ i edge. i * edge) (place_at (replicate (length grid) 0) grid n) edges → lengths ≡ edges

@@ -18,7 +18,7 @@ use Rattle.zarr_codecs_meaning.proofs.Parts.{box_lengths, length-parts, no_part,
 use Rattle.zarr_codecs_meaning.proofs.PartsOnce.{number_in}
 use Rattle.zarr_codecs_meaning.proofs.Positions.{each_at}
 use Rattle.zarr_codecs_regions.proofs.InsideArray.{each_place, ends_at_most, inside_places, inside_rank}
-use Rattle.zarr_codecs_traits.specs.Indexers.{lies_in, numbers_of}
+use Rattle.zarr_codecs_traits.specs.Indexers.{shape_has, numbers_of}
 use Rattle.zarr_codecs_arrays.specs.declared.array_bytes.ArrayBytes.{ArrayBytes}
 use Rattle.zarr_codecs_arrays.specs.declared.error.CodecError.{CodecError}
 use Rattle.zarr_codecs_arrays.specs.declared.error.CodecError.TheVariants as error
@@ -62,7 +62,7 @@ number_at shape region t l low =
     get_or-map (λ place. ravel place shape) (places region.start region.shape) t [] 0 (omega (arith, low, long)) ∙ ap (λ place. ravel place shape) (get_or-places region.start region.shape t [] (sym l) low)
 
 -- a place of a box that lies in a shape is an index of it
-pub inside_index : (shape : List ℕ) (region : Region) (t : ℕ) → length region.shape ≡ length region.start → lies_in shape region ≡ true → t < product region.shape → IsIndex (place_at region.start region.shape t) shape
+pub inside_index : (shape : List ℕ) (region : Region) (t : ℕ) → length region.shape ≡ length region.start → shape_has shape region ≡ true → t < product region.shape → IsIndex (place_at region.start region.shape t) shape
 inside_index shape region t l inside low =
     place_index region.start region.shape shape t l
     (ends_at_most region.start region.shape shape l (sym (inside_rank shape region inside)) (omega (arith, low))
@@ -80,7 +80,7 @@ pub record IsAround (shape subchunk : List ℕ) (region moved : Region) (n : ℕ
   pub start : moved.start ≡ each2 (λ s o. s - o) region.start (each2 (λ i edge. i * edge) (place_at (zeros (grid_of shape subchunk)) (grid_of shape subchunk) n) subchunk)
   pub shape_is : moved.shape ≡ region.shape
   pub long : length moved.shape ≡ length moved.start
-  pub inside : lies_in subchunk moved ≡ true
+  pub inside : shape_has subchunk moved ≡ true
 
 -- a place of the box is that place of the subchunk
 record IsThere (shape subchunk : List ℕ) (n i number : ℕ) : Type 0 where
@@ -146,7 +146,7 @@ starts_at shape subchunk grid edges start n is_grid is_edges is_start =
 -- what calls tell of a box and of the subchunk around it
 pub is_around : (shape subchunk grid edges start lengths : List ℕ) (region moved : Region) (n : ℕ) → can_cut shape subchunk ≡ true → divides shape subchunk ≡ true → n < product (grid_of shape subchunk) → grid ≡ grid_of shape subchunk → edges ≡ subchunk
     → start ≡ each2 (λ i edge. i * edge) (place_at (replicate (length grid) 0) grid n) edges → lengths ≡ edges → is_in_box start lengths region.start ≡ true → length region.shape ≡ length region.start → moved ≡ relative region start
-    → length moved.shape ≡ length moved.start → lies_in edges moved ≡ true → IsAround shape subchunk region moved n
+    → length moved.shape ≡ length moved.start → shape_has edges moved ≡ true → IsAround shape subchunk region moved n
 is_around shape subchunk grid edges start lengths region moved n cuts even below is_grid is_edges is_start is_lengths begins same is_moved long inside =
     let begin = starts_at shape subchunk grid edges start n is_grid is_edges is_start in
     record {
@@ -158,7 +158,7 @@ is_around shape subchunk grid edges start lengths region moved n cuts even below
       start = ap (λ (r : Region). r.start) is_moved ∙ ap (each2 (λ s o. s - o) region.start) begin;
       shape_is = ap (λ (r : Region). r.shape) is_moved;
       long = long;
-      inside = ap (λ e. lies_in e moved) (sym is_edges) ∙ inside;
+      inside = ap (λ e. shape_has e moved) (sym is_edges) ∙ inside;
     }
 
 pub some_place : (n : ℕ) → (n ≡ 0 → ⊥) → 0 < n

@@ -1,5 +1,6 @@
 pub mod Configured
 pub mod EvenParts
+pub mod TakenRuns
 pub mod StoredParts
 pub mod StoredLoop
 pub mod EncodedShard
@@ -14,10 +15,12 @@ pub mod ShardBounds
 pub mod PartsRead
 pub mod SoFarRead
 pub mod ShardSizes
+pub mod WholeRead
 pub mod PutPieces
 pub mod PartShown
 pub mod ChangedPairs
 pub mod PartHolds
+pub mod PartIntact
 pub mod GroupWritten
 pub mod SoFarWritten
 pub mod PartFill
@@ -28,6 +31,8 @@ pub mod PartAppended
 pub mod GivenSoFar
 pub mod WholeSubchunk
 pub mod BoxInSubchunk
+pub mod WholeBox
 pub mod MetBox
+pub mod NumberedSubchunks
 pub mod BoxCuts
 pub mod BoxRead

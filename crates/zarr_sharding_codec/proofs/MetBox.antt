@@ -17,7 +17,7 @@ use Rattle.zarr_sharding_places.specs.Locating.{subchunk_of}
 -- ---- in which subchunk a place lies
 
 -- a quotient is told by the multiples that it lies between
-quotient_is : (x p g : ℕ) → 0 < p → g * p ≤ x → x < g * p + p → x / p ≡ g
+pub quotient_is : (x p g : ℕ) → 0 < p → g * p ≤ x → x < g * p + p → x / p ≡ g
 quotient_is x p g some low high =
     let turn : (g + 1) * p ≡ g * p + p = grind arith in
     let below : x / p < g + 1 = div_below x p (g + 1) some (omega (arith, high, turn)) in

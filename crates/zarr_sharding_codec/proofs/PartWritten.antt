@@ -39,6 +39,7 @@ use Rattle.zarr_sharding_codec.specs.PartWriting.{AreChanged, IsOf, IsRefusedAt,
 use Rattle.zarr_sharding_codec.proofs.EvenParts.{part_fewer, whole_parts}
 use Rattle.zarr_sharding_codec.proofs.PartFill.{none_present}
 use Rattle.zarr_sharding_codec.proofs.PartHolds.{piece_there, put_gathered}
+use Rattle.zarr_sharding_codec.proofs.PartIntact.{part_intact}
 use Rattle.zarr_sharding_codec.proofs.ShardSizes.{divides_fit}
 use Rattle.zarr_sharding_codec.proofs.PartKept.{shown_put}
 use Rattle.zarr_sharding_codec.proofs.PartShown.{IsShardOpened, absent_at, piece_gathered, shown_count}
@@ -64,6 +65,7 @@ part_encoded subchunk inner index location exact one whole elements shape asked 
       fit = tested.fit;
       inside = tested.inside;
       opened = opened_opens subchunk inner index location elements shape (length (parts_of shape subchunk)) h.end old h.pairs h.opened;
+      none_lost = part_intact subchunk inner index location exact elements shape ns tested.cells (length (parts_of shape subchunk)) h.end old h.pairs h.changes (fitted subchunk inner index location elements shape h.fit).cuts (divides_fit subchunk inner index location elements.type shape h.fit) h.changed h.opened;
       stands = λ lossless before are stands. stands_put subchunk inner index location exact one elements shape ns tested.cells old new h before lossless are stands;
       tight = λ e lossless before are tight. tight_put subchunk inner index location exact one elements shape ns tested.cells old new h before (to_exact e) lossless are tight;
       absent = λ no lossless before are stands filled. absent_put subchunk inner index location exact one elements shape ns tested.cells old new h before lossless are stands filled;

@@ -35,10 +35,11 @@ piece_refused inner exact elements shape payload cells error.Source fit some val
 piece_refused inner exact elements shape payload cells error.IncompatibleIndexer fit some valid given = elim given.1 [ ]
 piece_refused inner exact elements shape payload cells error.Unsupported fit some valid given = elim given.1 [ ]
 piece_refused inner exact elements shape payload cells (error.Other text) fit some valid given = elim given.1 [ ]
-piece_refused inner exact elements shape payload cells error.ExpectedFixedLengthBytes fit some valid given = let none = given.1 in let lists = valid.is.lists in cc
-piece_refused inner exact elements shape payload cells error.ExpectedVariableLengthBytes fit some valid given = let none = given.1 in let lists = valid.is.lists in cc
-piece_refused inner exact elements shape payload cells error.ExpectedOptionalBytes fit some valid given = let none = given.1 in let lists = valid.is.lists in cc
-piece_refused inner exact elements shape payload cells error.InvalidNumberOfElements fit some valid given = absurd (given.1 cells valid.is)
+piece_refused inner exact elements shape payload cells error.ExpectedFixedLengthBytes fit some valid given = let none = given.1.0 in let lists = valid.is.lists in cc
+piece_refused inner exact elements shape payload cells error.ExpectedVariableLengthBytes fit some valid given = let none = given.1.0 in let lists = valid.is.lists in cc
+piece_refused inner exact elements shape payload cells error.ExpectedOptionalBytes fit some valid given = let none = given.1.0 in let lists = valid.is.lists in cc
+piece_refused inner exact elements shape payload cells error.InvalidNumberOfElements fit some valid (fits_it, inl misformed) = let none = misformed.0 in let lists = valid.is.lists in cc
+piece_refused inner exact elements shape payload cells error.InvalidNumberOfElements fit some valid (fits_it, inr other) = absurd (other.2 (ap length (some_same (sym other.1 ∙ valid.is.lists)) ∙ valid.is.many))
 piece_refused inner exact elements shape payload cells error.CellOutOfRange fit some valid given =
     let same : given.1.0 ≡ cells = some_same (sym given.1.1.lists ∙ valid.is.lists) in
     let no = given.1.2 in

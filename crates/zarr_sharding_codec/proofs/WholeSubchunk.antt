@@ -1,16 +1,14 @@
 -- Places that are one whole subchunk, in its order.
-use Rattle.std.proofs.Common.{◌≡◌, ◌∙◌, ℕ, zero, suc, ◌+◌, ◌*◌, ◌<◌, ◌≤◌, List, [], ◌∷◌, ◌++◌, length, map, get_or, set, ap, sym, refl, subst, arith, Bool, true, Err, append_assoc, append-nil, length-append}
+use Rattle.std.proofs.Common.{◌≡◌, ◌∙◌, ℕ, zero, suc, ◌+◌, ◌<◌, ◌≤◌, List, [], ◌∷◌, ◌++◌, length, map, get_or, set, ap, sym, refl, subst, arith, Bool, true, Err, append_assoc, append-nil, length-append}
 use Rattle.std.specs.Prelude.{nat_lt}
 use Rattle.std.specs.List.{range_with_len}
 use Rattle.std.specs.List.Sorted.{IsNonDecreasingBy}
-use Rattle.std.proofs.Math.Nat.{mul-le-mul}
-use Rattle.std.proofs.lemmas.Bool.{and_parts, ltb-true}
+use Rattle.std.proofs.lemmas.Bool.{ltb-true}
 use Rattle.std.proofs.lemmas.List.{get_or-append-add}
 use Rattle.std.proofs.lemmas.List.FromFn.{get_or-map-range_with_len, length-map-range_with_len}
 use Rattle.std.proofs.lemmas.List.Sorted.{IsPermutation-refl}
 use Rattle.zarr_grids_boxes.specs.Boxes.{product}
 use Rattle.zarr_codecs_meaning.specs.Encoding.{absent_pair}
-use Rattle.zarr_codecs_meaning.specs.Fits.{can_cut}
 use Rattle.zarr_codecs_meaning.specs.Places.{Part, gather, parts_of}
 use Rattle.zarr_codecs_meaning.specs.Types.{Cell}
 use Rattle.zarr_codecs_meaning.proofs.Lists.{Each, each_passes}
@@ -31,6 +29,7 @@ use Rattle.zarr_sharding_codec.proofs.GivenSoFar.{given_refused, none_given}
 use Rattle.zarr_sharding_codec.proofs.GroupsRead.{AskedShard, IsAskable}
 use Rattle.zarr_sharding_codec.proofs.LocatedParts.{located_place}
 use Rattle.zarr_sharding_codec.proofs.SoFarWritten.{IsFront, IsWriting, front_asked, group_unwritten, nothing_cut, nothing_updated, number_of, put_as, stored_as, updated_all, updated_more}
+use Rattle.zarr_sharding_codec.proofs.WholeRead.{some_places}
 
 -- ---- lists
 
@@ -64,15 +63,6 @@ maps_back f g a zero law = refl
 maps_back f g a (suc count) law =
     ap (λ n. n ∷ map g (map f (range_with_len (a + 1) count))) (law a (omega arith) (omega arith)) ∙ ap (λ ns. a ∷ ns) (maps_back f g (a + 1) count (λ j low high. law j (omega (arith, low)) (omega (arith, high))))
 
-some_places : (shape subchunk : List ℕ) → can_cut shape subchunk ≡ true → 1 ≤ product subchunk
-some_places [] [] cuts = omega arith
-some_places [] (p ∷ ps) cuts = cc
-some_places (n ∷ ns) [] cuts = cc
-some_places (n ∷ ns) (p ∷ ps) cuts =
-    let both = and_parts (nat_lt 0 p) (can_cut ns ps) cuts in
-    let one : 1 ≤ p = let low = ltb-true 0 p both.0 in omega (arith, low) in
-    mul-le-mul one (some_places ns ps both.1)
-
 -- ---- the places of a subchunk
 
 -- the places that are asked of a shard, in their order
@@ -91,7 +81,7 @@ module _ (s : AskedShard) (k : ℕ) (can : IsAskable s) (whole : AreSubchunk s.s
       let size = each_at (λ (part : Part). part.shape ≡ s.subchunk) parts k no_part (whole_parts s.shape s.subchunk can.cuts can.even) whole.below in
       sym is ∙ (count ∙ ap product size)
 
-  located : (t : ℕ) → t < length s.numbers → (subchunk_of s.shape s.subchunk (get_or s.numbers t 0) ≡ k) × (inside_of s.shape s.subchunk (get_or s.numbers t 0) ≡ t)
+  pub located : (t : ℕ) → t < length s.numbers → (subchunk_of s.shape s.subchunk (get_or s.numbers t 0) ≡ k) × (inside_of s.shape s.subchunk (get_or s.numbers t 0) ≡ t)
   located t low =
       let n = get_or s.numbers t 0 in
       let below = ltb-true n (product s.shape) (each_at (λ m. nat_lt m (product s.shape) ≡ true) s.numbers t 0 (each_passes (λ m. nat_lt m (product s.shape)) s.numbers can.below) low) in

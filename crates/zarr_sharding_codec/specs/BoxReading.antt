@@ -1,7 +1,7 @@
 -- Boxes of an array that lie in one of its subchunks.
 use Rattle.std.specs.Prelude.{◌≡◌, ℕ, ◌<◌, List, length, get_or, true}
 use Rattle.zarr_codecs_meaning.specs.Places.{parts_of}
-use Rattle.zarr_codecs_traits.specs.Indexers.{lies_in, numbers_of}
+use Rattle.zarr_codecs_traits.specs.Indexers.{shape_has, numbers_of}
 use Rattle.zarr_grids_boxes.specs.Boxes.{Region, product}
 use Rattle.zarr_grids_boxes.specs.Subsets.{region_of}
 use Rattle.zarr_sharding_codec.specs.declared.box_reading.BoxCut.{BoxCut}
@@ -17,7 +17,7 @@ pub record LieInside (shape subchunk numbers insides : List ℕ) (k : ℕ) : Typ
 
 -- a box with places, which are these, is a box of one subchunk
 pub record IsBoxInside (shape subchunk numbers : List ℕ) (found : BoxInside) : Type 0 where
-  pub inside : lies_in subchunk (region_of found.region) ≡ true
+  pub inside : shape_has subchunk (region_of found.region) ≡ true
   pub some : 0 < product (region_of found.region).shape
   pub lie : LieInside shape subchunk numbers (numbers_of subchunk (region_of found.region)) found.number
 
@@ -27,7 +27,7 @@ pub record HasNumber (ns : List ℕ) (n : ℕ) : Type 0 where
   pub below : at_ < length ns
   pub is : get_or ns at_ 0 ≡ n
 
--- subchunks, in the order of their numbers, that the places with these numbers all lie in
+-- the numbers of subchunks, in rising order, where each place with one of the given numbers lies in one of them
 pub record AreMet (shape subchunk numbers met : List ℕ) : Type 0 where
   pub below : (i : ℕ) → i < length met → get_or met i 0 < length (parts_of shape subchunk)
   pub rising : (i j : ℕ) → i < j → j < length met → get_or met i 0 < get_or met j 0
@@ -44,6 +44,6 @@ pub record StandIn (shape subchunk numbers positions insides : List ℕ) (k : �
 -- what of a box lies in the subchunk with this number: a box with places, as it stands there, and as it stands in the whole one
 pub record IsCutOut (shape subchunk : List ℕ) (region : Region) (k : ℕ) (cut : BoxCut) : Type 0 where
   pub number : cut.inside.number ≡ k
-  pub inside : lies_in subchunk (region_of cut.inside.region) ≡ true
+  pub inside : shape_has subchunk (region_of cut.inside.region) ≡ true
   pub some : 0 < product (region_of cut.inside.region).shape
   pub stand : StandIn shape subchunk (numbers_of shape region) (numbers_of region.shape (region_of cut.target)) (numbers_of subchunk (region_of cut.inside.region)) k

@@ -1,10 +1,10 @@
 -- Shards as their configurations give them (Zarr sharding codec, "Configuration parameters").
-use Rattle.std.specs.Prelude.{◌≡◌, ◌⊎◌, List, Bool, true, false, Option, Some}
+use Rattle.std.specs.Prelude.{◌≡◌, ◌⊎◌, List, Bool, true, false, ◌||◌, Option, Some, MatchBool}
 use Rattle.zarr_grids_metadata.specs.ExtensionPoints.{ExtensionPoint}
 use Rattle.zarr_grids_metadata.specs.declared.error.PluginCreateError.{PluginCreateError}
 use Rattle.zarr_grids_metadata.specs.declared.error.PluginCreateError.TheVariants as plugin
 use Rattle.zarr_codecs_meaning.specs.Chains.{Chain}
-use Rattle.zarr_codecs_metadata.specs.Chains.{ReadsCodecs}
+use Rattle.zarr_codecs_metadata.specs.Chains.{ReadsCodecs, any_too_deep}
 use Rattle.zarr_codecs_chains.specs.Refusals.{RefusesChain}
 use Rattle.zarr_sharding_metadata.specs.Metadata.{ShardPoints}
 use Rattle.zarr_sharding_metadata.specs.Nesting.{shard_stands}
@@ -27,3 +27,11 @@ given_to_shard inner index codec = record { subchunk = subchunk_of codec; inner 
 -- why no shard is made of what it is configured by: the codecs of its subchunks are refused, or those of its index
 abbrev pub RefusesShard : ReadsCodecs → (List ExtensionPoint → Option Chain) → (List ExtensionPoint → PluginCreateError → Type 0) → ShardPoints → PluginCreateError → Type 0
 RefusesShard reads inner refuses given cause = refuses given.inner cause ⊎ ((chain : Chain) × (inner given.inner ≡ Some chain) × RefusesChain reads given.index cause)
+
+-- whether a codec that a shard is configured by, for its subchunks or its index, nests deeper than is read
+abbrev pub shard_too_deep : ShardPoints → Bool
+shard_too_deep given = any_too_deep given.inner || any_too_deep given.index
+
+-- why a caller's configuration of a shard is refused: a codec in it nests deeper than is read, which is tested first, or no shard is made of it
+abbrev pub RefusesReadShard : ReadsCodecs → (List ExtensionPoint → Option Chain) → (List ExtensionPoint → PluginCreateError → Type 0) → ShardPoints → PluginCreateError → Type 0
+RefusesReadShard reads inner refuses given cause = MatchBool (shard_too_deep given) (cause ≡ plugin.TooDeep) (RefusesShard reads inner refuses given cause)

@@ -1,5 +1,5 @@
 -- What the codec of `src/` stands for.
-use Rattle.std.specs.Prelude.{ℕ, List, Bool, true, false, ◌&&◌}
+use Rattle.std.specs.Prelude.{◌≡◌, ℕ, List, Bool, true, false, ◌&&◌}
 use Rattle.zarr_codecs_meaning.specs.Chains.{Chain, Location, sharded}
 use Rattle.zarr_codecs_options.specs.declared.subchunk_write_order.SubchunkWriteOrder.{SubchunkWriteOrder}
 use Rattle.zarr_codecs_options.specs.declared.subchunk_write_order.SubchunkWriteOrder.TheVariants.{C}
@@ -38,3 +38,7 @@ subchunk_of codec = codec.subchunk_shape
 -- where the index stands
 abbrev pub place_of_index : {I X : Type 0} → ShardingCodec I X → Location
 place_of_index codec = location_of codec.index_location
+
+-- a codec of shards is a copy: the codecs of its subchunks and of its index are, and its subchunks are written in the same order
+abbrev pub shard_copied : {I X : Type 0} → (I → I → Type 0) → (X → X → Type 0) → ShardingCodec I X → ShardingCodec I X → Type 0
+shard_copied inner index codec copy = inner (inner_of codec) (inner_of copy) × index (index_of codec) (index_of copy) × (order_of copy ≡ order_of codec)

@@ -23,11 +23,13 @@ impl<I: ArrayToBytesCodecTraits, X: IndexCodec> ArrayToBytesCodecTraits for Shar
     ghost use Rattle.zarr_codecs_meaning.specs.Types.{uint64};
     ghost use Rattle.zarr_codecs_traits.specs.Outcomes.{Encodes};
     ghost use Rattle.zarr_sharding_codec.specs.Gapless.{IsGapless};
-    ghost use Rattle.zarr_sharding_codec.specs.Views.{index_of, makes_a_function, order_of, place_of_index, shard_chain, subchunk_of};
+    ghost use Rattle.zarr_sharding_codec.specs.Views.{index_of, makes_a_function, order_of, place_of_index, shard_chain, shard_copied, subchunk_of};
 
     ghost meaning = { shard_chain I.meaning X.meaning };
 
     ghost is_function = { makes_a_function I.is_function X.is_function };
+
+    ghost copied = { shard_copied I.copied X.copied };
 
     fn encoding_is_function(&self) -> bool {
         matches!(self.subchunk_write_order, SubchunkWriteOrder::C)
@@ -196,6 +198,7 @@ impl<I: ArrayToBytesCodecTraits, X: IndexCodec> ArrayToBytesCodecTraits for Shar
             ≡ shard_chain I.meaning X.meaning self.now) }
         ensures function { IfOk result (λ copy. makes_a_function I.is_function X.is_function copy
             ≡ makes_a_function I.is_function X.is_function self.now) }
+        ensures copied { IfOk result (λ copy. shard_copied I.copied X.copied self.now copy) }
         ensures order { IfOk result (λ copy. order_of copy ≡ order_of self.now) }
     {
         let subchunk_shape = self.subchunk_shape.try_clone(alloc)?;

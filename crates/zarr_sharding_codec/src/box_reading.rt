@@ -1,11 +1,10 @@
 //! Boxes of an array, read from its shard.
-ghost use Rattle.std.specs.Prelude.{◌≡◌, ◌/◌, ◌++◌, OnOk};
+ghost use Rattle.std.specs.Prelude.{◌≡◌, ◌/◌, ◌%◌, ◌++◌, OnOk};
 ghost use Rattle.zarr_grids_boxes.specs.Boxes.{each2};
 
 use crate::codec::ShardingCodec;
 use crate::partial::{NumberedPlaces, OpenedShard, fill_elements};
-use crate::subchunks::subchunk_region;
-use crate::whole_subchunk::number_near;
+use crate::subchunks::{subchunk_number, subchunk_region};
 use std::alloc::{AllocError, Global};
 use zarr_codecs_arrays::{ArrayBytes, CodecError};
 use zarr_codecs_options::CodecOptions;
@@ -51,8 +50,8 @@ impl<I: ArrayToBytesCodecTraits, X: ArrayToBytesCodecTraits> ShardingCodec<I, X>
     ghost use Rattle.zarr_codecs_arrays.specs.Views.{elements_of};
     ghost use Rattle.zarr_codecs_meaning.specs.Encoding.{absent_pair};
     ghost use Rattle.zarr_codecs_meaning.specs.Fits.{can_cut, divides, fits};
-    ghost use Rattle.zarr_codecs_meaning.specs.Places.{parts_of};
-    ghost use Rattle.zarr_codecs_traits.specs.Indexers.{are_inside, asked_of, lies_in, numbers_asked, numbers_of};
+    ghost use Rattle.zarr_codecs_meaning.specs.Places.{parts_of, place_numbers};
+    ghost use Rattle.zarr_codecs_traits.specs.Indexers.{are_inside, asked_of, shape_has, numbers_asked, numbers_of};
     ghost use Rattle.zarr_codecs_traits.specs.Sources.{refused_after};
     ghost use Rattle.zarr_grids_boxes.specs.Boxes.{product};
     ghost use Rattle.zarr_grids_boxes.specs.Subsets.{region_of};
@@ -121,7 +120,7 @@ impl<I: ArrayToBytesCodecTraits, X: ArrayToBytesCodecTraits> ShardingCodec<I, X>
             (elements_of shard.elements.now).type asked.shape.now ≡ true }
         requires many { length (pairs_of shard.index.now)
             ≡ length (parts_of asked.shape.now (subchunk_of self.now)) }
-        requires inside { lies_in asked.shape.now (region_of asked.region.now) ≡ true }
+        requires inside { shape_has asked.shape.now (region_of asked.region.now) ≡ true }
         ensures part { IsTrue (D.is_honest source.old) → IsTotalOf (D.contents source.old)
             (pairs_of shard.entry.index.now) shard.entry.total
             → ListsRead (elements_of shard.entry.elements.now) asked.entry.shape.now
@@ -137,6 +136,9 @@ impl<I: ArrayToBytesCodecTraits, X: ArrayToBytesCodecTraits> ShardingCodec<I, X>
             (pairs_of shard.entry.index.now) }
         ensures follows { D.follows source.old source.new }
     {
+        if let Some(number) = self.subchunk_of_box(asked.shape, asked.region) {
+            return self.read_whole(alloc, source, shard, number, options);
+        }
         match self.subchunk_around(alloc, asked.shape, asked.region)? {
             Some(found) => self.read_inside(alloc, source, shard, &found, options),
             None => self.read_cuts(alloc, source, shard, asked, options),
@@ -156,7 +158,7 @@ impl<I: ArrayToBytesCodecTraits, X: ArrayToBytesCodecTraits> ShardingCodec<I, X>
             (elements_of shard.elements.now).type asked.shape.now ≡ true }
         requires many { length (pairs_of shard.index.now)
             ≡ length (parts_of asked.shape.now (subchunk_of self.now)) }
-        requires inside { lies_in asked.shape.now (region_of asked.region.now) ≡ true }
+        requires inside { shape_has asked.shape.now (region_of asked.region.now) ≡ true }
         ensures part { IsTrue (D.is_honest source.old) → IsTotalOf (D.contents source.old)
             (pairs_of shard.entry.index.now) shard.entry.total
             → ListsRead (elements_of shard.entry.elements.now) asked.entry.shape.now
@@ -207,7 +209,7 @@ impl<I: ArrayToBytesCodecTraits, X: ArrayToBytesCodecTraits> ShardingCodec<I, X>
         requires fit { fits (I.meaning (inner_of self.now)) (elements_of shard.elements.now).type
             (subchunk_of self.now) ≡ true }
         requires pair { found.now.number < length (pairs_of shard.index.now) }
-        requires inside { lies_in (subchunk_of self.now) (region_of found.now.region) ≡ true }
+        requires inside { shape_has (subchunk_of self.now) (region_of found.now.region) ≡ true }
         requires some { 0 < product (region_of found.now.region).shape }
         ensures part { IsTrue (D.is_honest source.old) → IsTotalOf (D.contents source.old)
             (pairs_of shard.entry.index.now) shard.entry.total
@@ -245,6 +247,47 @@ impl<I: ArrayToBytesCodecTraits, X: ArrayToBytesCodecTraits> ShardingCodec<I, X>
         }
     }
 
+    /// The elements of one subchunk of the shard that a source holds, all of them: fill values
+    /// where it is absent, else those of its slice.
+    fn read_whole<D: BytesPartialDecoderTraits>(
+        &self,
+        alloc: Global,
+        source: &mut D,
+        shard: OpenedShard<'_>,
+        number: u64,
+        options: &CodecOptions,
+    ) -> Result<ArrayBytes, CodecError>
+        requires fit { fits (I.meaning (inner_of self.now)) (elements_of shard.elements.now).type
+            (subchunk_of self.now) ≡ true }
+        requires pair { number < length (pairs_of shard.index.now) }
+        ensures part { IsTrue (D.is_honest source.old) → IsTotalOf (D.contents source.old)
+            (pairs_of shard.entry.index.now) shard.entry.total
+            → ListsRead (elements_of shard.entry.elements.now) (subchunk_of self.now)
+            (places_decoded (I.meaning (inner_of self.now)) (elements_of shard.entry.elements.now)
+            (unwrap_or (D.contents source.old) []) (subchunk_of self.now)
+            (get_or (pairs_of shard.entry.index.now) number absent_pair)
+            (place_numbers (subchunk_of self.now))) result }
+        ensures refused { D.refused_calls source.new ≡
+            refused_after (D.refused_calls source.old) result }
+        ensures given { IsTrue (D.is_honest source.old) → D.given_bytes source.new
+            ≤ D.given_bytes source.old
+            + slice_length (get_or (pairs_of shard.entry.index.now) number absent_pair) }
+        ensures follows { D.follows source.old source.new }
+    {
+        let edges = self.subchunk_shape.as_slice();
+        let pair = shard.index.get(number as usize);
+        if is_absent(pair) {
+            let Some(count) = count_places(edges) else {
+                return Err(CodecError::Memory);
+            };
+            return Ok(fill_elements(alloc, shard.elements, count as usize)?);
+        }
+        match fetch_slice(alloc, source, shard.total, pair) {
+            Ok(slice) => self.decode_slice(alloc, slice, shard.elements, options),
+            Err(error) => Err(error),
+        }
+    }
+
     /// The subchunk that all places of a box lie in, and the box there, or `None` where they lie in
     /// several, or the box has no place.
     fn subchunk_around(
@@ -255,7 +298,7 @@ impl<I: ArrayToBytesCodecTraits, X: ArrayToBytesCodecTraits> ShardingCodec<I, X>
     ) -> Result<Option<BoxInside>, AllocError>
         requires cuts { can_cut shape.now (subchunk_of self.now) ≡ true }
         requires even { divides shape.now (subchunk_of self.now) ≡ true }
-        requires rank { length shape.now ≡ length (subchunk_of self.now) }
+        requires inside { shape_has shape.now (region_of region.now) ≡ true }
         ensures { IfOk result (λ found. IfSome found (IsBoxInside shape.now (subchunk_of self.now)
             (numbers_of shape.now (region_of region.now)))) }
     {
@@ -263,30 +306,22 @@ impl<I: ArrayToBytesCodecTraits, X: ArrayToBytesCodecTraits> ShardingCodec<I, X>
             return Ok(None);
         }
         let edges = self.subchunk_shape.as_slice();
-        let grid = grid_of(alloc, shape, &self.subchunk_shape)?;
-        let Some(count) = count_places(grid.as_slice()) else {
+        let Some((number, _)) = subchunk_number(region.start(), shape, edges) else {
             return Ok(None);
         };
-        let number = number_near(region.start(), edges, grid.as_slice());
-        if number >= count {
-            return Ok(None);
-        }
-        let around = subchunk_region(alloc, edges, grid.as_slice(), count, number)?;
-        if !around.contains(region.start()) {
-            return Ok(None);
-        }
-        match region.relative_to(alloc, around.start()) {
-            Ok(moved) => if is_inside(edges, &moved) {
-                Ok(Some(BoxInside {
-                    number,
-                    region: moved,
-                }))
+        let mut start = Vec::with_capacity(alloc, edges.len())?;
+        push_remainders(region.start(), edges, &mut start)?;
+        let lengths = region.shape().to_vec(alloc)?;
+        match ArraySubset::new_with_start_shape(start, lengths) {
+            Ok(region) => if is_inside(edges, &region) {
+                Ok(Some(BoxInside { number, region }))
             } else {
                 Ok(None)
             },
             Err(_) => Ok(None),
         }
     }
+
     /// The numbers of the subchunks that the places of a box lie in, in order. `Err` only where an
     /// allocation failed, or there are 2^63 subchunks or more.
     fn subchunks_met(
@@ -297,7 +332,7 @@ impl<I: ArrayToBytesCodecTraits, X: ArrayToBytesCodecTraits> ShardingCodec<I, X>
     ) -> Result<Vec<u64>, AllocError>
         requires cuts { can_cut shape.now (subchunk_of self.now) ≡ true }
         requires rank { length shape.now ≡ length (subchunk_of self.now) }
-        requires inside { lies_in shape.now (region_of region.now) ≡ true }
+        requires inside { shape_has shape.now (region_of region.now) ≡ true }
         ensures { IfOk result (λ met. AreMet shape.now (subchunk_of self.now)
             (numbers_of shape.now (region_of region.now)) met.items) }
     {
@@ -330,7 +365,7 @@ impl<I: ArrayToBytesCodecTraits, X: ArrayToBytesCodecTraits> ShardingCodec<I, X>
         requires cuts { can_cut shape.now (subchunk_of self.now) ≡ true }
         requires even { divides shape.now (subchunk_of self.now) ≡ true }
         requires rank { length shape.now ≡ length (subchunk_of self.now) }
-        requires inside { lies_in shape.now (region_of region.now) ≡ true }
+        requires inside { shape_has shape.now (region_of region.now) ≡ true }
         requires below { number < length (parts_of shape.now (subchunk_of self.now)) }
         ensures { IfOk result (IsCutOut shape.now (subchunk_of self.now) (region_of region.now)
             number) }
@@ -380,4 +415,22 @@ fn push_quotients(start: &[u64], edges: &[u64], first: &mut Vec<u64>) -> Result<
     };
     first.push(quotient)?;
     push_quotients(places, edges, first)
+}
+
+/// Appends the remainders of the numbers of each dimension. `Err` also where one is divided by 0.
+fn push_remainders(start: &[u64], edges: &[u64], rests: &mut Vec<u64>) -> Result<(), AllocError>
+    ensures { OnOk result (rests.new.items
+        ≡ rests.old.items ++ each2 (λ x edge. x % edge) start.now edges.now) }
+{
+    let Some((place, places)) = start.split_first() else {
+        return Ok(());
+    };
+    let Some((edge, edges)) = edges.split_first() else {
+        return Ok(());
+    };
+    let Some(rest) = place.checked_rem(*edge) else {
+        return Err(AllocError);
+    };
+    rests.push(rest)?;
+    push_remainders(places, edges, rests)
 }

@@ -10,7 +10,7 @@ ghost use Rattle.zarr_sharding_metadata.specs.Metadata.{names_shard};
 
 use std::alloc::{AllocError, Global};
 use zarr_codecs_array_to_array::ArrayToArrayCodec;
-use zarr_codecs_chains::CodecChain;
+use zarr_codecs_chains::{CodecChain, read_allowed};
 use zarr_codecs_traits::{ArrayToBytesCodecTraits, BytesToBytesCodecTraits};
 use zarr_grids_metadata::{MetadataV3, PluginCreateError};
 
@@ -29,12 +29,13 @@ pub trait ChainOfMetadata: ArrayToBytesCodecTraits {
     /// The metadata of the codecs, in their order.
     ghost described: { Self → List ExtensionPoint };
 
-    /// The chain that the metadata of its codecs says, in their order, each codec under the name that
-    /// it has there. The first codec that is refused decides: `NameUnsupported` where its name is
-    /// that of none, `MetadataInvalid` where its configuration is not one of its name's, where no
-    /// array to bytes codec stands after the array to array codecs, or where an array to array codec
-    /// stands where none may; a caller's codec is refused as its `create` answers. `TooDeep` where a
-    /// shard stands where chains of this kind have none; `Memory` where an allocation failed.
+    /// The chain that the metadata of its codecs says, in their order, each codec under the name
+    /// that it has there, however deep it nests: who takes a caller's metadata tests the depth
+    /// first. The first codec that is refused decides: `NameUnsupported` where its name is that of
+    /// none, `MetadataInvalid` where its configuration is not one of its name's, where no array to
+    /// bytes codec stands after the array to array codecs, or where an array to array codec stands
+    /// where none may; a caller's codec is refused as its `create` answers. `TooDeep` where a shard
+    /// stands where chains of this kind have none; `Memory` where an allocation failed.
     fn read_metadata(alloc: Global, codecs: &[MetadataV3]) -> Result<Self, PluginCreateError>
         ensures ok { IfOk result
             (λ chain. reads (map point_of codecs.now) ≡ Some (Self.meaning chain)) }
@@ -76,7 +77,7 @@ impl<B: BytesToBytesCodecTraits> ChainOfMetadata for CodecChain<B> {
         if stands {
             return Err(PluginCreateError::TooDeep);
         }
-        CodecChain::from_metadata(alloc, codecs)
+        read_allowed(alloc, codecs)
     }
 
     fn codec_metadatas(&self, alloc: Global) -> Result<Vec<MetadataV3>, AllocError> {

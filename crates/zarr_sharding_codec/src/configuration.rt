@@ -1,15 +1,24 @@
 //! Shards as their configurations give them.
+ghost use Rattle.std.specs.Prelude.{◌≡◌, ◌≢◌, Some, None, IfOk, IfErr};
+ghost use Rattle.zarr_codecs_metadata.specs.Chains.{allowed_chain};
+ghost use Rattle.zarr_codecs_options.specs.declared.subchunk_write_order.SubchunkWriteOrder.TheVariants as order;
+ghost use Rattle.zarr_codecs_chains.specs.Names.{NamesChain};
+ghost use Rattle.zarr_codecs_chains.specs.Views.{meaning_of};
+ghost use Rattle.zarr_sharding_configurations.specs.Views.{shard_points};
+ghost use Rattle.zarr_sharding_metadata.specs.Metadata.{shard_of};
+ghost use Rattle.zarr_sharding_codec.specs.Configured.{RefusesShard, shard_too_deep};
+ghost use Rattle.zarr_sharding_codec.specs.Views.{index_of, inner_of, order_of, shard_chain};
 
 use crate::chain_metadata::ChainOfMetadata;
 use crate::codec::ShardingCodec;
 use std::alloc::{AllocError, Global};
-use zarr_codecs_chains::CodecChain;
+use zarr_codecs_chains::{CodecChain, any_too_deep, read_allowed};
 use zarr_codecs_traits::BytesToBytesCodecTraits;
 use zarr_grids_metadata::PluginCreateError;
 use zarr_sharding_configurations::ShardingCodecConfiguration;
 
 impl<I: ChainOfMetadata, B: BytesToBytesCodecTraits> ShardingCodec<I, CodecChain<B>> {
-    ghost use Rattle.std.specs.Prelude.{◌≡◌, ◌≢◌, Some, None, true, IfOk, IfErr};
+    ghost use Rattle.std.specs.Prelude.{◌≡◌, ◌≢◌, ◌⊎◌, Some, None, true, false, IfOk, IfErr};
     ghost use Rattle.zarr_codecs_metadata.specs.Allowed.{is_allowed};
     ghost use Rattle.zarr_codecs_metadata.specs.Chains.{allowed_chain};
     ghost use Rattle.zarr_codecs_options.specs.declared.subchunk_write_order.SubchunkWriteOrder.TheVariants as order;
@@ -17,12 +26,14 @@ impl<I: ChainOfMetadata, B: BytesToBytesCodecTraits> ShardingCodec<I, CodecChain
     ghost use Rattle.zarr_codecs_chains.specs.Views.{meaning_of, points_of};
     ghost use Rattle.zarr_sharding_configurations.specs.Views.{shard_points};
     ghost use Rattle.zarr_sharding_metadata.specs.Metadata.{shard_of};
-    ghost use Rattle.zarr_sharding_codec.specs.Configured.{RefusesShard, given_to_shard};
+    ghost use Rattle.zarr_sharding_codec.specs.Configured.{RefusesReadShard, given_to_shard, shard_too_deep};
     ghost use Rattle.zarr_sharding_codec.specs.Views.{index_of, inner_of, order_of, shard_chain};
 
-    /// The shard that a configuration gives, its subchunks written in any order, without gaps. The
-    /// codecs of its subchunks are refused as `I` refuses them, and then those of its index as
-    /// `CodecChain::from_metadata` does: no shard stands there. `Memory` where an allocation failed.
+    /// The shard that a configuration gives, its subchunks written in any order, without gaps.
+    /// `TooDeep`, before all else, where one of its codecs, for the subchunks or the index, nests
+    /// deeper than `CodecChain::from_metadata` reads. The codecs of its subchunks are refused as
+    /// `I` refuses them, and then those of its index as `CodecChain::from_metadata` does: no shard
+    /// stands there. `Memory` where an allocation failed.
     pub fn new_with_configuration(
         alloc: Global,
         configuration: &ShardingCodecConfiguration,
@@ -35,32 +46,23 @@ impl<I: ChainOfMetadata, B: BytesToBytesCodecTraits> ShardingCodec<I, CodecChain
             (λ codec. I.names (inner_of codec) (shard_points configuration.now).inner) }
         ensures index_names { IfOk result
             (λ codec. NamesChain (index_of codec) (shard_points configuration.now).index) }
+        ensures shallow { IfOk result
+            (λ _. shard_too_deep (shard_points configuration.now) ≡ false) }
         ensures err { IfErr result (λ e. e ≢ PluginCreateError.Memory →
-            shard_of I.reads (allowed_chain B.reads) (shard_points configuration.now) ≡ None) }
+            (shard_too_deep (shard_points configuration.now) ≡ true)
+            ⊎ (shard_of I.reads (allowed_chain B.reads) (shard_points configuration.now) ≡ None)) }
         ensures refused { IfErr result (λ e. e ≢ PluginCreateError.Memory →
-            RefusesShard B.reads I.reads I.refuses (shard_points configuration.now) e) }
+            RefusesReadShard B.reads I.reads I.refuses (shard_points configuration.now) e) }
     {
-        let inner = configuration.codecs.as_slice();
-        let inner_codecs = match I::read_metadata(alloc, inner) {
-            Ok(inner_codecs) => inner_codecs,
-            Err(error) => return Err(error),
-        };
-        let index = configuration.index_codecs.as_slice();
-        let index_codecs = match CodecChain::from_metadata(alloc, index) {
-            Ok(index_codecs) => index_codecs,
-            Err(error) => return Err(error),
-        };
-        let subchunk_shape = configuration.chunk_shape.try_clone(alloc)?;
-        Ok(ShardingCodec::new(
-            subchunk_shape,
-            inner_codecs,
-            index_codecs,
-            configuration.index_location,
-        ))
+        if shard_too_deep(configuration) {
+            return Err(PluginCreateError::TooDeep);
+        }
+        read_allowed_shard(alloc, configuration)
     }
 
-    /// What the codec is configured by, of which `new_with_configuration` makes an equal codec where
-    /// array to array codecs stand only where they may. `Err` only where an allocation failed.
+    /// What the codec is configured by, of which `new_with_configuration` makes an equal codec
+    /// where it nests no deeper than that reads, and array to array codecs stand only where they
+    /// may. `Err` only where an allocation failed.
     pub fn configuration(&self, alloc: Global) -> Result<ShardingCodecConfiguration, AllocError>
         ensures given { IfOk result (λ configuration. shard_points configuration
             ≡ given_to_shard I.described (points_of B.described) self.now) }
@@ -79,4 +81,51 @@ impl<I: ChainOfMetadata, B: BytesToBytesCodecTraits> ShardingCodec<I, CodecChain
             index_location: self.index_location,
         })
     }
+}
+
+/// Whether a codec that a shard is configured by nests deeper than is read.
+fn shard_too_deep(configuration: &ShardingCodecConfiguration) -> bool
+    ensures { result ≡ shard_too_deep (shard_points configuration.now) }
+{
+    let subchunks = configuration.codecs.as_slice();
+    let index_codecs = configuration.index_codecs.as_slice();
+    any_too_deep(subchunks) || any_too_deep(index_codecs)
+}
+
+/// The shard that a configuration gives, as `ShardingCodec::new_with_configuration` does, however
+/// deep its codecs nest: for a configuration of which that is known, as one in a document.
+pub fn read_allowed_shard<I: ChainOfMetadata, B: BytesToBytesCodecTraits>(
+    alloc: Global,
+    configuration: &ShardingCodecConfiguration,
+) -> Result<ShardingCodec<I, CodecChain<B>>, PluginCreateError>
+    ensures ok { IfOk result (λ codec.
+        shard_of I.reads (allowed_chain B.reads) (shard_points configuration.now)
+        ≡ Some (shard_chain I.meaning (meaning_of B.meaning) codec)) }
+    ensures order { IfOk result (λ codec. order_of codec ≡ order.Unordered) }
+    ensures inner_names { IfOk result
+        (λ codec. I.names (inner_of codec) (shard_points configuration.now).inner) }
+    ensures index_names { IfOk result
+        (λ codec. NamesChain (index_of codec) (shard_points configuration.now).index) }
+    ensures err { IfErr result (λ e. e ≢ PluginCreateError.Memory →
+        shard_of I.reads (allowed_chain B.reads) (shard_points configuration.now) ≡ None) }
+    ensures refused { IfErr result (λ e. e ≢ PluginCreateError.Memory →
+        RefusesShard B.reads I.reads I.refuses (shard_points configuration.now) e) }
+{
+    let inner = configuration.codecs.as_slice();
+    let inner_codecs = match I::read_metadata(alloc, inner) {
+        Ok(inner_codecs) => inner_codecs,
+        Err(error) => return Err(error),
+    };
+    let index = configuration.index_codecs.as_slice();
+    let index_codecs = match read_allowed(alloc, index) {
+        Ok(index_codecs) => index_codecs,
+        Err(error) => return Err(error),
+    };
+    let subchunk_shape = configuration.chunk_shape.try_clone(alloc)?;
+    Ok(ShardingCodec::new(
+        subchunk_shape,
+        inner_codecs,
+        index_codecs,
+        configuration.index_location,
+    ))
 }

@@ -3,12 +3,13 @@ ghost use Rattle.zarr_codecs_arrays.specs.Views.{elements_of};
 ghost use Rattle.zarr_sharding_codec.specs.Reading.{FillsPiece};
 
 use crate::codec::ShardingCodec;
-use crate::subchunks::subchunk_region;
+use crate::subchunks::{first_place, move_to_subchunk};
 use std::alloc::Global;
 use zarr_codecs_arrays::{ArrayBytes, CodecError, Elements};
 use zarr_codecs_options::CodecOptions;
 use zarr_codecs_traits::{ArrayToBytesCodecTraits, WholeArray};
 use zarr_codecs_types::DataType;
+use zarr_grids_boxes::ArraySubset;
 use zarr_grids_boxes::walk::count_places;
 use zarr_sharding_index::held::decode_index;
 use zarr_sharding_index::pair::{is_absent, slice_at};
@@ -113,18 +114,22 @@ impl<I: ArrayToBytesCodecTraits, X: ArrayToBytesCodecTraits> ShardingCodec<I, X>
         };
         let filled = BoxedElements::new_fill_value(alloc, total as usize, array.elements)?;
         let mut all = filled;
+        let first = first_place(alloc, grid.as_slice())?;
+        let first = first.as_slice();
+        let mut region = ArraySubset::new_with_shape(alloc, edges.to_vec(alloc)?)?;
         for n in 0..count {
-            let region = subchunk_region(alloc, edges, grid.as_slice(), count, n)?;
+            let moved = move_to_subchunk(region, first, grid.as_slice(), count, n)?;
             match self.decode_piece(alloc, shard, n as usize, array.elements, options) {
-                Ok(piece) => all = all.put(alloc, array, &region, &piece)?,
+                Ok(piece) => all = all.put(alloc, array, &moved, &piece)?,
                 Err(error) => return Err(error),
             }
+            region = moved;
         }
         Ok(all.into_bytes(alloc, array.elements)?)
     }
 
-    /// The elements of the subchunk with this number: fill values where it is absent. `Damage` where
-    /// its pair ends past the end of the value, or its slice is not one of the inner codecs'.
+    /// The elements of the subchunk with this number: fill values where it is absent. `Damage`
+    /// where its pair ends past the end of the value, or its slice is not one of the inner codecs'.
     fn decode_piece(
         &self,
         alloc: Global,

@@ -47,7 +47,7 @@ impl<I: ArrayToBytesCodecTraits, X: ArrayToBytesCodecTraits> ShardingCodec<I, X>
 }
 
 /// Whether each edge divides its size.
-fn divides(shape: &[u64], edges: &[u64]) -> bool
+pub(crate) fn divides(shape: &[u64], edges: &[u64]) -> bool
     requires { 0 < product edges.now }
     ensures { result ≡ divides shape.now edges.now }
 {

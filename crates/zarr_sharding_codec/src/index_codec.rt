@@ -6,8 +6,8 @@ use zarr_codecs_chains::CodecChain;
 use zarr_codecs_packbits::PackBitsCodec;
 use zarr_codecs_traits::{ArrayToBytesCodecTraits, BytesToBytesCodecTraits};
 
-/// A codec between arrays and bytes of which what it makes of elements depends on these alone, so that
-/// the bytes of a shard's index depend on its pairs alone.
+/// A codec between arrays and bytes of which what it makes of elements depends on these alone, so
+/// that the bytes of a shard's index depend on its pairs alone.
 pub trait IndexCodec: ArrayToBytesCodecTraits {
     ghost alike: { (codec : Self) → Self.is_function codec ≡ true };
 }

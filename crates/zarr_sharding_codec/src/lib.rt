@@ -1,5 +1,5 @@
-//! The codec `sharding_indexed`: the elements of an array as those of its subchunks, each encoded by
-//! itself, and an index of where each stands.
+//! The codec `sharding_indexed`: the elements of an array as those of its subchunks, each encoded
+//! by itself, and an index of where each stands.
 #![tactic(auto)]
 
 mod array_to_bytes;

@@ -10,21 +10,14 @@ use zarr_codecs_traits::{ArrayPart, ArrayToBytesCodecTraits, BytesPartialEncoder
 use zarr_grids_boxes::walk::count_places;
 use zarr_sharding_index::IndexLayout;
 use zarr_sharding_index::shapes::index_shape;
-use zarr_sharding_state::{KnownShard, SliceChange};
+use zarr_sharding_state::{KnownShard, ShardChanges};
 
-/// Elements that can be put at the places of an array that are asked for, one for each, and how many
-/// bytes the index of the array's shard has.
+/// Elements that can be put at the places of an array that are asked for, one for each, and how
+/// many bytes the index of the array's shard has.
 #[derive(Clone, Copy)]
 pub struct TestedPart<'a> {
     pub size: u64,
     pub bytes: &'a ArrayBytes,
-}
-
-/// What replaces the slices of some subchunks of a shard, and how its index is laid out.
-#[derive(Clone, Copy)]
-struct ShardChanges<'a> {
-    layout: IndexLayout<'a>,
-    changes: &'a [SliceChange],
 }
 
 impl<I: ArrayToBytesCodecTraits, X: ArrayToBytesCodecTraits> ShardingCodec<I, X> {
@@ -44,10 +37,11 @@ impl<I: ArrayToBytesCodecTraits, X: ArrayToBytesCodecTraits> ShardingCodec<I, X>
     ghost use Rattle.zarr_sharding_state.specs.States.{end_of, pairs_in};
     ghost use Rattle.zarr_sharding_state.specs.Views.{changes_of, is_below};
 
-    /// How many bytes the index of the array's shard has, where elements can be put at the places that
-    /// are asked for. `Fit` where the codec doesn't suit the array; `IncompatibleIndexer` where a place
-    /// isn't one of the array's; `InvalidNumberOfElements`, `Expected..` or `CellOutOfRange` where
-    /// these are not elements, one for each place; `Size` where the array has 2^63 places or more.
+    /// How many bytes the index of the array's shard has, where elements can be put at the places
+    /// that are asked for. `Fit` where the codec doesn't suit the array; `IncompatibleIndexer`
+    /// where a place isn't one of the array's; `InvalidNumberOfElements`, `Expected..` or
+    /// `CellOutOfRange` where these are not elements, one for each place; `Size` where the array
+    /// has 2^63 places or more.
     #[tactic(auto, using(zarr_codecs_regions::proofs::AskedPlaces::asked_places))]
     pub fn test_part(
         &self,
@@ -86,8 +80,8 @@ impl<I: ArrayToBytesCodecTraits, X: ArrayToBytesCodecTraits> ShardingCodec<I, X>
 
     /// Puts elements at places of the array of the shard that a source holds: the new slices of the
     /// subchunks that the places lie in are appended to the data part, and go out together with the
-    /// index in one writing call. `false`, with nothing written, where the shard would then have 2^63
-    /// bytes or more. Errors as those of `partial_encode`.
+    /// index in one writing call. `false`, with nothing written, where the shard would then have
+    /// 2^63 bytes or more. Errors as those of `partial_encode`.
     pub(crate) fn append_part<E: BytesPartialEncoderTraits>(
         &self,
         alloc: Global,
@@ -151,8 +145,8 @@ impl<I: ArrayToBytesCodecTraits, X: ArrayToBytesCodecTraits> ShardingCodec<I, X>
         }
     }
 
-    /// Replaces the slices of some subchunks of a shard, as `KnownShard::write_slices` does. `false`,
-    /// with nothing written, where the shard would then have 2^63 bytes or more.
+    /// Replaces the slices of some subchunks of a shard, as `KnownShard::write_slices` does.
+    /// `false`, with nothing written, where the shard would then have 2^63 bytes or more.
     fn append_changes<E: BytesPartialEncoderTraits>(
         &self,
         alloc: Global,
@@ -183,13 +177,11 @@ impl<I: ArrayToBytesCodecTraits, X: ArrayToBytesCodecTraits> ShardingCodec<I, X>
             accepted_by (E.accepted_writes source.old) result }
         ensures rewrites { E.rewrites source.old source.new }
     {
-        let layout = given.layout;
-        let changes = given.changes;
-        if !known.has_room(layout, changes) {
+        if !known.has_room(given) {
             return Ok(false);
         }
         let mut known = known;
-        match known.write_slices(alloc, source, &self.index_codecs, layout, changes, options) {
+        match known.write_slices(alloc, source, &self.index_codecs, given, options) {
             Ok(()) => Ok(true),
             Err(error) => Err(error),
         }

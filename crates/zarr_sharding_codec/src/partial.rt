@@ -1,17 +1,21 @@
 //! Parts of an array, read from parts of its shard.
-ghost use Rattle.std.specs.Prelude.{◌≡◌, List, length, map, replicate, Some, IfOk};
+ghost use Rattle.std.specs.Prelude.{◌≡◌, ◌<◌, List, length, map, replicate, Some, true, IfOk};
 ghost use Rattle.zarr_codecs_arrays.specs.Views.{elements_of, payload_of};
 ghost use Rattle.zarr_codecs_meaning.specs.Payloads.{cells_in};
+ghost use Rattle.zarr_codecs_meaning.specs.Places.{place_numbers};
 ghost use Rattle.zarr_codecs_meaning.specs.Types.{Cell};
 ghost use Rattle.zarr_codecs_regions.specs.Updates.{put};
+ghost use Rattle.zarr_codecs_traits.specs.Indexers.{are_inside, asked_of, numbers_asked};
+ghost use Rattle.zarr_grids_boxes.specs.Boxes.{product};
 ghost use Rattle.zarr_sharding_places.specs.Placed.{Shows};
 
 use crate::box_reading::IndexedPlaces;
 use crate::codec::ShardingCodec;
+use crate::whole_subchunk::are_equal;
 use std::alloc::{AllocError, Global};
 use zarr_codecs_arrays::{ArrayBytes, CodecError, Elements};
 use zarr_codecs_options::CodecOptions;
-use zarr_codecs_regions::numbers_asked;
+use zarr_codecs_regions::count_asked;
 use zarr_codecs_traits::{
     ArrayPart, ArrayToBytesCodecTraits, BytesPartialDecoderTraits, Indexer, MemorySource,
 };
@@ -47,7 +51,7 @@ impl<I: ArrayToBytesCodecTraits, X: ArrayToBytesCodecTraits> ShardingCodec<I, X>
     ghost use Rattle.zarr_codecs_arrays.specs.Views.{elements_of};
     ghost use Rattle.zarr_codecs_meaning.specs.Encoding.{absent_pair, index_size};
     ghost use Rattle.zarr_codecs_meaning.specs.Fits.{fits};
-    ghost use Rattle.zarr_codecs_meaning.specs.Places.{grid_of, index_shape, parts_of};
+    ghost use Rattle.zarr_codecs_meaning.specs.Places.{grid_of, index_shape, parts_of, place_numbers};
     ghost use Rattle.zarr_codecs_traits.specs.Indexers.{are_inside, asked_of, numbers_asked};
     ghost use Rattle.zarr_codecs_traits.specs.Outcomes.{DecodesPart};
     ghost use Rattle.zarr_codecs_traits.specs.Sources.{refused_after};
@@ -99,8 +103,10 @@ impl<I: ArrayToBytesCodecTraits, X: ArrayToBytesCodecTraits> ShardingCodec<I, X>
                 self.read_asked(alloc, source, shard, asked, options)
             }
             Ok(None) => {
-                let numbers = numbers_asked(alloc, part.shape, part.indexer)?;
-                Ok(fill_elements(alloc, part.elements, numbers.len())?)
+                let Some(count) = count_asked(part.shape, part.indexer) else {
+                    return Err(CodecError::Memory);
+                };
+                Ok(fill_elements(alloc, part.elements, count as usize)?)
             }
             Err(error) => Err(error),
         }
@@ -154,8 +160,8 @@ impl<I: ArrayToBytesCodecTraits, X: ArrayToBytesCodecTraits> ShardingCodec<I, X>
     }
 
     /// The elements at places of the array of the shard that a source holds: of it each slice that
-    /// they lie in is fetched, once, and nothing else. `Damage` where the pair of one of these ends past the end
-    /// of the value, or a place of it cannot be decoded.
+    /// they lie in is fetched, once, and nothing else. `Damage` where the pair of one of these ends
+    /// past the end of the value, or a place of it cannot be decoded.
     pub fn read_numbers<D: BytesPartialDecoderTraits>(
         &self,
         alloc: Global,
@@ -284,14 +290,53 @@ impl<I: ArrayToBytesCodecTraits, X: ArrayToBytesCodecTraits> ShardingCodec<I, X>
             (numbers_asked (subchunk_of self.now) (asked_of indexer.entry))) result }
         ensures no_source { (count : ℕ) → refused_after count result ≡ count }
     {
+        let shape = self.subchunk_shape.as_slice();
+        if asks_all(shape, indexer) {
+            return self.decode_slice(alloc, slice, elements, options);
+        }
         let mut source = MemorySource::new(Some(slice));
         let part = ArrayPart {
             elements,
-            shape: self.subchunk_shape.as_slice(),
+            shape,
             indexer,
         };
         self.inner_codecs
             .partial_decode(alloc, &mut source, part, options)
+    }
+
+    /// The elements of the subchunk that a slice holds, all of them. `Damage` where one of them
+    /// cannot be decoded.
+    pub(crate) fn decode_slice(
+        &self,
+        alloc: Global,
+        slice: Vec<u8>,
+        elements: &Elements,
+        options: &CodecOptions,
+    ) -> Result<ArrayBytes, CodecError>
+        requires { fits (I.meaning (inner_of self.now)) (elements_of elements.now).type
+            (subchunk_of self.now) ≡ true }
+        ensures part { Lists (elements_of elements.now) (subchunk_of self.now)
+            (slice_cells (I.meaning (inner_of self.now)) (elements_of elements.now)
+            (subchunk_of self.now) slice.items (place_numbers (subchunk_of self.now))) result }
+        ensures no_source { (count : ℕ) → refused_after count result ≡ count }
+    {
+        let shape = self.subchunk_shape.as_slice();
+        self.inner_codecs
+            .decode(alloc, slice, elements, shape, options)
+    }
+}
+
+/// Whether the places that are asked for, which are the array's, are told to be all of them, in
+/// their order. Of places that are listed it isn't told.
+fn asks_all(shape: &[u64], indexer: Indexer<'_>) -> bool
+    requires some { 0 < product shape.now }
+    requires inside { are_inside shape.now (asked_of indexer) ≡ true }
+    ensures { result ≡ true →
+        numbers_asked shape.now (asked_of indexer.entry) ≡ place_numbers shape.now }
+{
+    match indexer {
+        Indexer::Subset(region) => are_equal(region.shape(), shape),
+        Indexer::List(_numbers) => false,
     }
 }
 

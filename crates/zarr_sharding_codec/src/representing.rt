@@ -68,8 +68,8 @@ fn bound_of(size: BytesRepresentation) -> Option<u64>
     }
 }
 
-/// At most an index of so many bytes and so many slices of at most so many. `Size` where that is too
-/// large a number.
+/// At most an index of so many bytes and so many slices of at most so many. `Size` where that is
+/// too large a number.
 fn bounded(size: u64, count: u64, bound: u64) -> Result<BytesRepresentation, CodecError>
     ensures { Represents (at_most (sum_of_bounds (Some size ∷ replicate count (Some bound))))
         result }

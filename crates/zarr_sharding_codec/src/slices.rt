@@ -43,13 +43,14 @@ pub(crate) fn store_piece<I: ArrayToBytesCodecTraits>(
 }
 
 /// Adds what is stored of one subchunk more to the slices in a row and to the index of them, where
-/// the first begins at `base`.
+/// the first begins at `base`; gives back the memory of the slice.
 pub(crate) fn push_slice(
+    alloc: Global,
     base: u64,
     stored: Option<Vec<u8>>,
     data: &mut Vec<u8>,
     index: &mut ShardIndex,
-) -> Result<(), AllocError>
+) -> Result<Vec<u8>, AllocError>
     requires { base < 2 ^ 63 }
     ensures slice { OnOk result
         (data.new.items ≡ data.old.items ++ slice_bytes (slice_of stored)) }
@@ -63,9 +64,12 @@ pub(crate) fn push_slice(
                 length: slice.len() as u64,
             })?;
             data.extend_from_slice(slice.as_slice())?;
-            Ok(())
+            Ok(slice)
         }
-        None => index.push(ABSENT),
+        None => {
+            index.push(ABSENT)?;
+            Ok(Vec::new(alloc))
+        }
     }
 }
 

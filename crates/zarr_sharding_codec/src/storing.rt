@@ -2,7 +2,7 @@
 
 use crate::codec::ShardingCodec;
 use crate::slices::{push_slice, store_piece};
-use crate::subchunks::{move_to_subchunk, take_box};
+use crate::subchunks::{first_place, move_to_subchunk, take_box};
 use std::alloc::Global;
 use zarr_codecs_arrays::{ArrayBytes, CodecError};
 use zarr_codecs_options::CodecOptions;
@@ -25,8 +25,8 @@ impl<I: ArrayToBytesCodecTraits, X: ArrayToBytesCodecTraits> ShardingCodec<I, X>
     ghost use Rattle.zarr_sharding_codec.specs.Views.{inner_of, place_of_index, shard_chain, subchunk_of};
 
     /// What is stored of the subchunks of an array, row-major: of each one its slice, and nothing
-    /// where all its elements are the fill value. The slices stand in a row, and their index is that
-    /// of a shard whose index has so many bytes.
+    /// where all its elements are the fill value. The slices stand in a row, and their index is
+    /// that of a shard whose index has so many bytes.
     pub(crate) fn store_pieces(
         &self,
         alloc: Global,
@@ -54,13 +54,16 @@ impl<I: ArrayToBytesCodecTraits, X: ArrayToBytesCodecTraits> ShardingCodec<I, X>
         let base = self.index_location.base(size);
         let mut data = Vec::with_capacity(alloc, room_for(bytes, size))?;
         let mut index = ShardIndex::new(alloc);
+        let first = first_place(alloc, grid.as_slice())?;
+        let first = first.as_slice();
         let mut region = ArraySubset::new_with_shape(alloc, edges.to_vec(alloc)?)?;
+        let mut room = Vec::new(alloc);
         for n in 0..count {
-            let moved = move_to_subchunk(alloc, region, grid.as_slice(), count, n)?;
-            let piece = take_box(alloc, bytes, array, &moved)?;
+            let moved = move_to_subchunk(region, first, grid.as_slice(), count, n)?;
+            let piece = take_box(alloc, room, bytes, array, &moved)?;
             let inner = &self.inner_codecs;
             match store_piece(alloc, inner, piece, array.elements, edges, options) {
-                Ok(slice) => push_slice(base, slice, &mut data, &mut index)?,
+                Ok(slice) => room = push_slice(alloc, base, slice, &mut data, &mut index)?,
                 Err(error) => return Err(error),
             }
             region = moved;

@@ -1,13 +1,15 @@
 //! The subchunks of an array, and their elements.
-ghost use Rattle.std.specs.Prelude.{◌≡◌, ◌*◌, ◌<◌, List, length, replicate, true, Some, IfOk, IfSome, OnOk};
+ghost use Rattle.std.specs.Prelude.{◌≡◌, ◌*◌, ◌/◌, ◌<◌, List, length, replicate, true, Some, IfOk, IfSome, OnOk};
 ghost use Rattle.zarr_codecs_arrays.specs.Outcomes.{IsCounted};
 ghost use Rattle.zarr_codecs_arrays.specs.Views.{elements_of, payload_of};
-ghost use Rattle.zarr_codecs_meaning.specs.Payloads.{cells_in};
-ghost use Rattle.zarr_codecs_meaning.specs.Places.{gather};
+ghost use Rattle.zarr_codecs_meaning.specs.Fits.{divides};
+ghost use Rattle.zarr_codecs_meaning.specs.Payloads.{cells_in, fixed_cells};
+ghost use Rattle.zarr_codecs_meaning.specs.Places.{gather, grid_of};
 ghost use Rattle.zarr_codecs_meaning.specs.Types.{Cell, byte_width};
-ghost use Rattle.zarr_codecs_traits.specs.Indexers.{lies_in, numbers_of};
-ghost use Rattle.zarr_grids_boxes.specs.Boxes.{each2, place_at, product};
+ghost use Rattle.zarr_codecs_traits.specs.Indexers.{shape_has, numbers_of};
+ghost use Rattle.zarr_grids_boxes.specs.Boxes.{each2, place_at, product, ravel};
 ghost use Rattle.zarr_grids_boxes.specs.Subsets.{region_of};
+ghost use Rattle.zarr_grids_overlay.specs.Overlays.{IsOverlaid, extent_of};
 
 use std::alloc::{AllocError, Global};
 use zarr_codecs_arrays::ArrayBytes;
@@ -15,6 +17,7 @@ use zarr_codecs_regions::{extract_box, gather_elements, is_inside, numbers_asked
 use zarr_codecs_traits::{Indexer, WholeArray};
 use zarr_grids_boxes::ArraySubset;
 use zarr_grids_boxes::walk::{count_places, place_into};
+use zarr_grids_overlay::{Extent, overlay};
 
 /// The box of the subchunk with number `n`, row-major, in a grid of `count` subchunks.
 pub(crate) fn subchunk_region(
@@ -30,18 +33,29 @@ pub(crate) fn subchunk_region(
         (place_at (replicate (length grid.now) 0) grid.now n) edges.now) }
     ensures shape { IfOk result (λ region. region.shape.items ≡ edges.now) }
 {
+    let first = first_place(alloc, grid)?;
     let region = ArraySubset::new_with_shape(alloc, edges.to_vec(alloc)?)?;
-    move_to_subchunk(alloc, region, grid, count, n)
+    move_to_subchunk(region, first.as_slice(), grid, count, n)
 }
 
-/// A box of the shape of a subchunk, put where the one with number `n`, row-major, of `count` is.
+/// The first place of a grid.
+pub(crate) fn first_place(alloc: Global, grid: &[u64]) -> Result<Vec<u64>, AllocError>
+    ensures { IfOk result (λ place. place.items ≡ replicate (length grid.now) 0) }
+{
+    vec![in alloc; 0u64; grid.len()]
+}
+
+/// A box of the shape of a subchunk, put where the one with number `n`, row-major, of `count` is;
+/// of the grid this is the first place. `Err` where the box has not as many dimensions as the grid,
+/// or a number is too large.
 pub(crate) fn move_to_subchunk(
-    alloc: Global,
     region: ArraySubset,
+    first: &[u64],
     grid: &[u64],
     count: u64,
     n: u64,
 ) -> Result<ArraySubset, AllocError>
+    requires first { first.now ≡ replicate (length grid.now) 0 }
     requires count { count ≡ product grid.now }
     requires below { n < product grid.now }
     ensures start { IfOk result (λ moved. moved.start.items ≡ each2 (λ i edge. i * edge)
@@ -49,10 +63,11 @@ pub(crate) fn move_to_subchunk(
     ensures shape { IfOk result (λ moved. moved.shape.items ≡ region.shape.items) }
 {
     let shape = region.shape;
-    let mut start = place_of(alloc, grid, count, n)?;
-    if start.len() != shape.len() {
+    let mut start = region.start;
+    if start.len() != grid.len() || shape.len() != grid.len() {
         return Err(AllocError);
     }
+    place_into(first, grid, count, n, start.as_mut_slice());
     multiply(start.as_mut_slice(), shape.as_slice())?;
     match ArraySubset::new_with_start_shape(start, shape) {
         Ok(moved) => Ok(moved),
@@ -60,17 +75,29 @@ pub(crate) fn move_to_subchunk(
     }
 }
 
-/// The index with number `n`, row-major, of `count` in a grid.
-fn place_of(alloc: Global, grid: &[u64], count: u64, n: u64) -> Result<Vec<u64>, AllocError>
-    requires count { count ≡ product grid.now }
-    requires below { n < product grid.now }
-    ensures { IfOk result
-        (λ place. place.items ≡ place_at (replicate (length grid.now) 0) grid.now n) }
+/// The number, row-major, of the subchunk that a place of an array lies in, and how many subchunks
+/// there are, where the edges divide the shape. `None` where one of the two is too large, and where
+/// the place has fewer dimensions than the shape.
+#[tactic(auto, using(crate::proofs::NumberedSubchunks::even_count))]
+pub(crate) fn subchunk_number(place: &[u64], shape: &[u64], edges: &[u64]) -> Option<(u64, u64)>
+    requires { divides shape.now edges.now ≡ true }
+    ensures number { IfSome result (λ found. found.0
+        ≡ ravel (each2 (λ x edge. x / edge) place.now edges.now) (grid_of shape.now edges.now)) }
+    ensures count { IfSome result (λ found. found.1 ≡ product (grid_of shape.now edges.now)) }
 {
-    let zeros = vec![in alloc; 0u64; grid.len()]?;
-    let mut place = vec![in alloc; 0u64; grid.len()]?;
-    place_into(zeros.as_slice(), grid, count, n, place.as_mut_slice());
-    Ok(place)
+    let Some((along, place)) = place.split_first() else {
+        return if shape.is_empty() { Some((0, 1)) } else { None };
+    };
+    let Some((size, sizes)) = shape.split_first() else {
+        return None;
+    };
+    let Some((edge, edges)) = edges.split_first() else {
+        return None;
+    };
+    let (number, count) = subchunk_number(place, sizes, edges)?;
+    let before = along.checked_div(*edge)?.checked_mul(count)?;
+    let all = size.checked_div(*edge)?.checked_mul(count)?;
+    Some((before.checked_add(number)?, all))
 }
 
 /// Multiplies the number of each dimension by the one of an edge. `Err` where one is too large.
@@ -88,10 +115,11 @@ fn multiply(place: &mut [u64], edges: &[u64]) -> Result<(), AllocError>
 }
 
 /// The elements at the places of a box of an array, row-major: in runs where each element has the
-/// same number of bytes. `Err` where an allocation failed, and where these are no elements of the
-/// array, or the box doesn't lie in it.
+/// same number of bytes, over those in `room` where these are as many. `Err` where an allocation
+/// failed, and where these are no elements of the array, or the box doesn't lie in it.
 pub(crate) fn take_box(
     alloc: Global,
+    room: Vec<u8>,
     bytes: &ArrayBytes,
     array: WholeArray<'_>,
     region: &ArraySubset,
@@ -108,13 +136,73 @@ pub(crate) fn take_box(
     match bytes {
         ArrayBytes::Fixed(bytes) => match whole_width(bytes.len(), array) {
             Some(width) => {
-                let piece = extract_box(alloc, bytes.as_slice(), array.shape, region, width)?;
+                let piece = take_runs(alloc, room, bytes.as_slice(), array.shape, region, width)?;
                 Ok(ArrayBytes::Fixed(piece))
             }
             None => Err(AllocError),
         },
         _ => gather_box(alloc, bytes, array, region),
     }
+}
+
+/// The bytes at the places of a box of an array, row-major with `width` bytes to an element, over
+/// those in `room` where these are as many. `Err` only where an allocation failed.
+fn take_runs(
+    alloc: Global,
+    room: Vec<u8>,
+    bytes: &[u8],
+    shape: &[u64],
+    region: &ArraySubset,
+    width: usize,
+) -> Result<Vec<u8>, AllocError>
+    requires inside { shape_has shape.now (region_of region.now) ≡ true }
+    requires positive { 0 < width }
+    requires whole { length bytes.now ≡ product shape.now * width }
+    ensures elements { (other : Cell) → IfOk result (λ piece. fixed_cells width piece.items
+        ≡ gather other (fixed_cells width bytes.now)
+        (numbers_of shape.now (region_of region.now))) }
+    ensures length { IfOk result
+        (λ piece. length piece.items ≡ product region.now.shape.items * width) }
+{
+    if !is_full(room.len(), region.shape(), width) {
+        return extract_box(alloc, bytes, shape, region, width);
+    }
+    let start = first_place(alloc, shape)?;
+    let from = Extent {
+        start: start.as_slice(),
+        shape,
+    };
+    let into = Extent {
+        start: region.start(),
+        shape: region.shape(),
+    };
+    Ok(overlaid(room, into, bytes, from, width))
+}
+
+/// Whether so many bytes are those of all elements of a box of this shape.
+fn is_full(size: usize, shape: &[u64], width: usize) -> bool
+    ensures { result ≡ true → size ≡ product shape.now * width }
+{
+    let Some(count) = count_places(shape) else {
+        return false;
+    };
+    match count.checked_mul(width as u64) {
+        Some(total) => size as u64 == total,
+        None => false,
+    }
+}
+
+/// The bytes of a box after those of another were put over them.
+fn overlaid(mut before: Vec<u8>, into: Extent, given: &[u8], from: Extent, width: usize) -> Vec<u8>
+    requires rank { length from.start.now ≡ length into.start.now }
+    requires before { length before.items ≡ product into.shape.now * width }
+    requires given { length given.now ≡ product from.shape.now * width }
+    ensures over { IsOverlaid width (extent_of into.entry) (extent_of from.entry) before.items
+        given.now result.items }
+    ensures length { length result.items ≡ length before.items }
+{
+    overlay(&mut before, into, given, from, width);
+    before
 }
 
 /// The elements at the places of a box that lies in an array, row-major, one by one.
@@ -124,7 +212,7 @@ fn gather_box(
     array: WholeArray<'_>,
     region: &ArraySubset,
 ) -> Result<ArrayBytes, AllocError>
-    requires { lies_in array.shape.now (region_of region.now) ≡ true }
+    requires { shape_has array.shape.now (region_of region.now) ≡ true }
     ensures { (cells : List Cell) → IsCounted (elements_of array.entry.elements.now).type
         (payload_of bytes.now) (product array.entry.shape.now) cells
         → IfOk result (λ piece. cells_in (elements_of array.entry.elements.now).type

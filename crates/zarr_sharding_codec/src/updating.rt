@@ -21,8 +21,8 @@ use zarr_sharding_index::IndexLayout;
 use zarr_sharding_places::{AskedPlace, insides_of, leading_group, positions_of};
 use zarr_sharding_state::{KnownShard, SliceChange};
 
-/// What is known of the shard of an array in a source: its index and where that stands, and what its
-/// elements are.
+/// What is known of the shard of an array in a source: its index and where that stands, and what
+/// its elements are.
 #[derive(Clone, Copy)]
 pub struct ShardInSource<'a> {
     pub known: &'a KnownShard,
@@ -84,9 +84,9 @@ impl<I: ArrayToBytesCodecTraits, X: ArrayToBytesCodecTraits> ShardingCodec<I, X>
     ghost use Rattle.zarr_sharding_state.specs.States.{end_of, pairs_in, slice_length};
     ghost use Rattle.zarr_sharding_state.specs.Views.{is_below};
 
-    /// The new slices of the subchunks that the places lie in that are asked for, as `update_slices`
-    /// makes them. Where the places are one whole subchunk, its elements take the place of the old ones
-    /// as they are. Errors as those of `update_slices`.
+    /// The new slices of the subchunks that the places lie in that are asked for, as
+    /// `update_slices` makes them. Where the places are one whole subchunk, its elements take the
+    /// place of the old ones as they are. Errors as those of `update_slices`.
     pub fn update_asked<D: BytesPartialDecoderTraits>(
         &self,
         alloc: Global,
@@ -123,7 +123,7 @@ impl<I: ArrayToBytesCodecTraits, X: ArrayToBytesCodecTraits> ShardingCodec<I, X>
             (pairs_in shard.entry.known.now) }
         ensures follows { D.follows source.old source.new }
     {
-        match self.whole_subchunk(alloc, given.shape, given.indexer)? {
+        match self.whole_subchunk(given.shape, given.indexer) {
             Some(n) => {
                 let whole = SubchunkElements {
                     number: n as usize,
@@ -149,9 +149,9 @@ impl<I: ArrayToBytesCodecTraits, X: ArrayToBytesCodecTraits> ShardingCodec<I, X>
     /// The new slices of the subchunks that places lie in: each of these is decoded, the elements
     /// are put at the places in it, and it is encoded anew and whole; one that became all fill gets
     /// no slice. Nothing is written; each slice that the places lie in is fetched once, and nothing
-    /// else. `Damage` where the slice of one of them isn't decoded; `Codec` where the caller's codec
-    /// refuses; `Size` where an offset, a length or a subchunk is too large; `Source` where the source
-    /// refuses.
+    /// else. `Damage` where the slice of one of them isn't decoded; `Codec` where the caller's
+    /// codec refuses; `Size` where an offset, a length or a subchunk is too large; `Source` where
+    /// the source refuses.
     pub fn update_slices<D: BytesPartialDecoderTraits>(
         &self,
         alloc: Global,
@@ -310,8 +310,8 @@ impl<I: ArrayToBytesCodecTraits, X: ArrayToBytesCodecTraits> ShardingCodec<I, X>
         }
     }
 
-    /// The elements of the subchunk with this number: fill values where it is absent. `Damage` where
-    /// its slice is not one of the inner codecs', and `Source` where the source refuses.
+    /// The elements of the subchunk with this number: fill values where it is absent. `Damage`
+    /// where its slice is not one of the inner codecs', and `Source` where the source refuses.
     pub fn read_subchunk<D: BytesPartialDecoderTraits>(
         &self,
         alloc: Global,

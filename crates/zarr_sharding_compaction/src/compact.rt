@@ -67,8 +67,8 @@ pub fn compact_shard<X: ArrayToBytesCodecTraits>(
     }
 }
 
-/// The shard of the present slices row-major without gaps. `Damage` where a present pair lies outside
-/// the data part; `Codec` and `Size` as `write_index` answers them.
+/// The shard of the present slices row-major without gaps. `Damage` where a present pair lies
+/// outside the data part; `Codec` and `Size` as `write_index` answers them.
 fn write_slices<X: ArrayToBytesCodecTraits>(
     alloc: Global,
     codecs: &X,

@@ -8,8 +8,8 @@ use std::alloc::AllocError;
 use zarr_grids_boxes::ChunkShape;
 use zarr_sharding_index::ShardingIndexLocation;
 
-/// How a shard is laid out: the shape of its array and of its subchunks, where its index stands, and
-/// how many bytes that has.
+/// How a shard is laid out: the shape of its array and of its subchunks, where its index stands,
+/// and how many bytes that has.
 #[derive(Clone, Copy)]
 pub struct ShardLayout<'a> {
     pub shape: &'a [u64],

@@ -26,9 +26,10 @@ impl ShardingCodecConfiguration {
     ghost use Rattle.zarr_sharding_configurations.specs.Views.{shard_points};
 
     /// The configuration in metadata of `sharding_indexed`, of whatever name. `MetadataInvalid`
-    /// where it has another member than `chunk_shape`, which is a list of positive numbers, `codecs`
-    /// and `index_codecs`, which are lists of extension points, and perhaps `index_location`, which
-    /// is `start` or `end`, and `end` where it isn't there; `Memory` where an allocation failed.
+    /// where it has another member than `chunk_shape`, which is a list of positive numbers,
+    /// `codecs` and `index_codecs`, which are lists of extension points, and perhaps
+    /// `index_location`, which is `start` or `end`, and `end` where it isn't there; `Memory` where
+    /// an allocation failed.
     pub fn from_metadata(
         alloc: Global,
         metadata: &MetadataV3,

@@ -1,11 +1,11 @@
 -- What a part of a shard is read as depends on what it meets.
-use Rattle.std.proofs.Common.{◌≡◌, ◌∙◌, ℕ, ◌*◌, ◌<◌, suc, List, [], ◌∷◌, length, map, get_or, ap, sym, refl, arith, true, Option, Some, None, option_and_then, is_some, if◌then◌else◌, ◌==◌}
+use Rattle.std.proofs.Common.{◌≡◌, ◌∙◌, ℕ, ◌<◌, suc, List, [], ◌∷◌, length, map, get_or, ap, sym, refl, arith, true, Option, Some, None, option_and_then, is_some, if◌then◌else◌, ◌==◌}
 use Rattle.std.specs.Prelude.{nat_lt}
 use Rattle.std.specs.List.{list_all}
 use Rattle.std.proofs.lemmas.Bool.{eq-eqb, ltb-true}
 use Rattle.std.proofs.lemmas.List.Folds.{list_any_at}
 use Rattle.zarr_grids_boxes.specs.Boxes.{product}
-use Rattle.zarr_codecs_meaning.specs.Decoding.{all_there, cell_at, cell_of_part, is_absent, part_decoded, slice_at}
+use Rattle.zarr_codecs_meaning.specs.Decoding.{all_there, cell_at, cell_of_part, is_absent, part_decoded}
 use Rattle.zarr_codecs_meaning.specs.Encoding.{Pair, absent_pair}
 use Rattle.zarr_codecs_meaning.specs.Fits.{fits}
 use Rattle.zarr_codecs_meaning.specs.Places.{index_shape, parts_of}

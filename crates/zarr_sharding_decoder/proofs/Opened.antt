@@ -1,7 +1,6 @@
 -- What a decoder knows of the shard that its source holds.
-use Rattle.std.proofs.Common.{◌≡◌, ◌∙◌, ℕ, ◌*◌, List, length, ap, sym, refl, subst, Option, None, Some, option_map, option_and_then}
+use Rattle.std.proofs.Common.{◌≡◌, ◌∙◌, ℕ, List, length, ap, sym, refl, Option, None, Some, option_map, option_and_then}
 use Rattle.zarr_codecs_meaning.specs.Chains.{Chain, Location}
-use Rattle.zarr_codecs_meaning.specs.Encoding.{Pair}
 use Rattle.zarr_codecs_meaning.proofs.Lists.{some_same}
 use Rattle.zarr_sharding_codec.specs.Reading.{HasPairs}
 use Rattle.zarr_sharding_decoder.specs.Pairs.{counts, pairs_fetched, totals}

@@ -1,5 +1,5 @@
 -- The pairs and slices of a shard that a source holds.
-use Rattle.std.specs.Prelude.{◌≡◌, ℕ, ◌*◌, List, length, get_or, Option, None, Some, option_and_then, option_map, if◌then◌else◌, MatchOption, Result, Ok, Err, Vec, true, false}
+use Rattle.std.specs.Prelude.{◌≡◌, ℕ, List, length, get_or, Option, None, Some, option_and_then, option_map, if◌then◌else◌, MatchOption, Result, Ok, Err, Vec, true, false}
 use Rattle.std.specs.declared.alloc.Global.{Global}
 use Rattle.zarr_grids_boxes.specs.Boxes.{IsIndex, ravel}
 use Rattle.zarr_codecs_meaning.specs.Decoding.{is_absent, slice_at}

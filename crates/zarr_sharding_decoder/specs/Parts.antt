@@ -1,5 +1,5 @@
 -- Elements read from the shard that a source holds.
-use Rattle.std.specs.Prelude.{◌⊎◌, ℕ, List, Option, None, Some, Result, Ok, Err}
+use Rattle.std.specs.Prelude.{◌⊎◌, ℕ, List, Option, None, Some, Result, Err}
 use Rattle.zarr_codecs_meaning.specs.Encoding.{Pair}
 use Rattle.zarr_codecs_meaning.specs.Payloads.{Payload}
 use Rattle.zarr_codecs_arrays.specs.declared.array_bytes.ArrayBytes.{ArrayBytes}

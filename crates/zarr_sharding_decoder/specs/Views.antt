@@ -1,4 +1,5 @@
 -- What the decoder of `src/` stands for.
+use base.Fml.{GName}
 use Rattle.std.specs.Prelude.{ℕ, ◌*◌, List, Option}
 use Rattle.zarr_codecs_meaning.specs.Chains.{Chain}
 use Rattle.zarr_codecs_meaning.specs.Encoding.{Pair}
@@ -24,6 +25,10 @@ shard_of inner index decoder = shard_in inner index decoder.codec.now (elements_
 -- the source that it is read from
 abbrev pub source_of : {I X D : Type 0} {i : codec.Ghosts I} {x : codec.Ghosts X} {d : source.Ghosts D} → ShardingPartialDecoder I X D i x d → D
 source_of decoder = decoder.source.now
+
+-- the reference to that source that was lent
+abbrev pub reference_of : {I X D : Type 0} {i : codec.Ghosts I} {x : codec.Ghosts X} {d : source.Ghosts D} → ShardingPartialDecoder I X D i x d → GName
+reference_of decoder = decoder.source.ghost_name
 
 -- the pairs that are kept, if the source holds a value
 abbrev pub pairs_held : {I X D : Type 0} {i : codec.Ghosts I} {x : codec.Ghosts X} {d : source.Ghosts D} → ShardingPartialDecoder I X D i x d → Option (List Pair)

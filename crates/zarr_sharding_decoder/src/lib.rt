@@ -2,9 +2,12 @@
 #![tactic(auto)]
 
 pub mod laws;
-mod opening;
+pub mod opened_index;
+pub mod opening;
 pub mod partial_decoder;
 mod reading;
 mod slices;
 
+pub use opened_index::OpenedIndex;
+pub use opening::open_shard;
 pub use partial_decoder::ShardingPartialDecoder;

@@ -15,8 +15,8 @@ use zarr_sharding_codec::ShardingCodec;
 use zarr_sharding_index::FetchedIndex;
 
 /// The shard of an array that a lent source holds, or none. Its index is fetched once and kept; of
-/// all else the slices alone are fetched that a call needs. A pair that no call meets is no concern,
-/// wherever it points (Zarr sharding codec, "Binary shard format").
+/// all else the slices alone are fetched that a call needs. A pair that no call meets is no
+/// concern, wherever it points (Zarr sharding codec, "Binary shard format").
 #[derive(Drop)]
 pub struct ShardingPartialDecoder<
     'a,

@@ -3,7 +3,7 @@ use crate::partial_decoder::ShardingPartialDecoder;
 use std::alloc::Global;
 use zarr_codecs_arrays::{ArrayBytes, CodecError};
 use zarr_codecs_options::CodecOptions;
-use zarr_codecs_regions::{numbers_asked, test_asked};
+use zarr_codecs_regions::{count_asked, test_asked};
 use zarr_codecs_traits::{
     ArrayBytesDecodeIntoTarget, ArrayToBytesCodecTraits, BytesPartialDecoderTraits, Indexer,
 };
@@ -19,16 +19,16 @@ impl<
 > ShardingPartialDecoder<'a, I, X, D> {
     ghost use Rattle.std.specs.Prelude.{◌≡◌, ◌≤◌, ◌+◌, IfErr, IsTrue, OnErr, OnOk};
     ghost use Rattle.zarr_codecs_traits.specs.Indexers.{asked_of};
-    ghost use Rattle.zarr_codecs_traits.specs.Sources.{refused_after};
+    ghost use Rattle.zarr_codecs_traits.specs.Sources.{IsRefusedAfter, refused_after};
     ghost use Rattle.zarr_sharding_decoder.specs.Parts.{IsPartInto, NotPartInto, ReadsPart, slices_met};
-    ghost use Rattle.zarr_sharding_decoder.specs.Views.{pairs_held, shard_of, source_of};
+    ghost use Rattle.zarr_sharding_decoder.specs.Views.{pairs_held, reference_of, shard_of, source_of};
 
     /// The elements at the places that are asked for, in their order; each is the fill value where
     /// the source holds no value, or its subchunk is absent. Each slice that the places lie in is
-    /// fetched once, and nothing else. `IncompatibleIndexer` where a place isn't one of the array's;
-    /// `Damage` where the pair of a subchunk that is met ends past the end of the shard, or a place
-    /// that is asked for cannot be decoded; `Size` where the array has 2^63 elements or bytes or
-    /// more; `Source` where the source refuses.
+    /// fetched once, and nothing else. `IncompatibleIndexer` where a place isn't one of the
+    /// array's; `Damage` where the pair of a subchunk that is met ends past the end of the shard,
+    /// or a place that is asked for cannot be decoded; `Size` where the array has 2^63 elements or
+    /// bytes or more; `Source` where the source refuses.
     pub fn partial_decode(
         &mut self,
         alloc: Global,
@@ -45,7 +45,7 @@ impl<
             (shard_of I.meaning X.meaning self.old) (pairs_held self.old)
             (asked_of indexer.entry) }
         ensures follows { D.follows (source_of self.old) (source_of self.new) }
-        ensures same_reference { self.new.source.ghost_name ≡ self.old.source.ghost_name }
+        ensures same_reference { reference_of self.new ≡ reference_of self.old }
         ensures shard { shard_of I.meaning X.meaning self.new
             ≡ shard_of I.meaning X.meaning self.old }
         ensures pairs { pairs_held self.new ≡ pairs_held self.old }
@@ -57,8 +57,10 @@ impl<
             return Err(CodecError::Size);
         }
         let Some(fetched) = &self.held else {
-            let numbers = numbers_asked(alloc, self.shape, indexer)?;
-            return Ok(fill_elements(alloc, self.elements, numbers.len())?);
+            let Some(count) = count_asked(self.shape, indexer) else {
+                return Err(CodecError::Memory);
+            };
+            return Ok(fill_elements(alloc, self.elements, count as usize)?);
         };
         let shard = OpenedShard {
             index: &fetched.index,
@@ -73,8 +75,8 @@ impl<
             .read_asked(alloc, self.source, shard, asked, options)
     }
 
-    /// Reads as `partial_decode` does, and puts the elements over those of a target. A refusal leaves
-    /// the target as it was. Errors as those of `partial_decode`, and of the target's `put`.
+    /// Reads as `partial_decode` does, and puts the elements over those of a target. A refusal
+    /// leaves the target as it was. Errors as those of `partial_decode`, and of the target's `put`.
     pub fn partial_decode_into<T: ArrayBytesDecodeIntoTarget>(
         &mut self,
         alloc: Global,
@@ -89,12 +91,14 @@ impl<
         ensures cause { IsTrue (D.is_honest (source_of self.old)) → IfErr result (NotPartInto
             (shard_of I.meaning X.meaning self.old) (D.contents (source_of self.old))
             (asked_of indexer.entry) (T.misfits target.old)) }
+        ensures refused { IsRefusedAfter (T.misfits target.old)
+            (D.refused_calls (source_of self.old)) result (D.refused_calls (source_of self.new)) }
         ensures follows { D.follows (source_of self.old) (source_of self.new) }
         ensures given { IsTrue (D.is_honest (source_of self.old)) →
             D.given_bytes (source_of self.new) ≤ D.given_bytes (source_of self.old) + slices_met
             (shard_of I.meaning X.meaning self.old) (pairs_held self.old)
             (asked_of indexer.entry) }
-        ensures same_reference { self.new.source.ghost_name ≡ self.old.source.ghost_name }
+        ensures same_reference { reference_of self.new ≡ reference_of self.old }
         ensures shard { shard_of I.meaning X.meaning self.new
             ≡ shard_of I.meaning X.meaning self.old }
         ensures pairs { pairs_held self.new ≡ pairs_held self.old }

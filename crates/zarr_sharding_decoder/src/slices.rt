@@ -16,7 +16,7 @@ impl<
     ghost use Rattle.std.specs.Prelude.{◌≡◌, ◌≤◌, ◌+◌, ℕ, IsTrue};
     ghost use Rattle.zarr_codecs_traits.specs.Sources.{refused_after};
     ghost use Rattle.zarr_sharding_decoder.specs.Pairs.{FindsPair, RetrievesSlice, length_in, stored_pair};
-    ghost use Rattle.zarr_sharding_decoder.specs.Views.{pairs_held, shard_of, source_of};
+    ghost use Rattle.zarr_sharding_decoder.specs.Views.{pairs_held, reference_of, shard_of, source_of};
 
     /// Where the encoded bytes of the subchunk at these indices stand in the shard, or `None` where
     /// the subchunk is absent. Whether the range ends past the end of the shard isn't asked.
@@ -44,8 +44,8 @@ impl<
     }
 
     /// The encoded bytes of the subchunk at these indices, or `None` where the subchunk is absent.
-    /// Nothing else is fetched. `IncompatibleIndexer` where there is no such subchunk; `Damage` where
-    /// its pair ends past the end of the shard; `Source` where the source refuses.
+    /// Nothing else is fetched. `IncompatibleIndexer` where there is no such subchunk; `Damage`
+    /// where its pair ends past the end of the shard; `Source` where the source refuses.
     pub fn retrieve_subchunk_encoded(
         &mut self,
         alloc: Global,
@@ -61,7 +61,7 @@ impl<
             (stored_pair (shard_of I.meaning X.meaning self.old) (D.contents (source_of self.old))
             subchunk_indices.now) }
         ensures follows { D.follows (source_of self.old) (source_of self.new) }
-        ensures same_reference { self.new.source.ghost_name ≡ self.old.source.ghost_name }
+        ensures same_reference { reference_of self.new ≡ reference_of self.old }
         ensures shard { shard_of I.meaning X.meaning self.new
             ≡ shard_of I.meaning X.meaning self.old }
         ensures pairs { pairs_held self.new ≡ pairs_held self.old }

@@ -88,11 +88,12 @@ index_written index exact shape pairs payload (Err error.Source) lawful fit many
 index_written index exact shape pairs payload (Err error.IncompatibleIndexer) lawful fit many room lists given = elim given.1 [ ]
 index_written index exact shape pairs payload (Err error.Unsupported) lawful fit many room lists given = elim given.1 [ ]
 index_written index exact shape pairs payload (Err (error.Other text)) lawful fit many room lists given = elim given.1 [ ]
-index_written index exact shape pairs payload (Err error.ExpectedFixedLengthBytes) lawful fit many room lists given = let none = given.1 in cc
-index_written index exact shape pairs payload (Err error.ExpectedVariableLengthBytes) lawful fit many room lists given = let none = given.1 in cc
-index_written index exact shape pairs payload (Err error.ExpectedOptionalBytes) lawful fit many room lists given = let none = given.1 in cc
-index_written index exact shape pairs payload (Err error.InvalidNumberOfElements) lawful fit many room lists given =
-    absurd (given.1 (pair_cells pairs) (record { lists = lists; many = length-pair_cells pairs ∙ sym many }))
+index_written index exact shape pairs payload (Err error.ExpectedFixedLengthBytes) lawful fit many room lists given = let none = given.1.0 in cc
+index_written index exact shape pairs payload (Err error.ExpectedVariableLengthBytes) lawful fit many room lists given = let none = given.1.0 in cc
+index_written index exact shape pairs payload (Err error.ExpectedOptionalBytes) lawful fit many room lists given = let none = given.1.0 in cc
+index_written index exact shape pairs payload (Err error.InvalidNumberOfElements) lawful fit many room lists (fits_it, inl misformed) = let none = misformed.0 in cc
+index_written index exact shape pairs payload (Err error.InvalidNumberOfElements) lawful fit many room lists (fits_it, inr other) =
+    absurd (other.2 (ap length (some_same (sym other.1 ∙ lists)) ∙ (length-pair_cells pairs ∙ sym many)))
 index_written index exact shape pairs payload (Err error.CellOutOfRange) lawful fit many room lists given =
     let same : given.1.0 ≡ pair_cells pairs = some_same (sym given.1.1.lists ∙ lists) in
     let no = given.1.2 in

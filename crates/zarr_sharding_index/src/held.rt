@@ -58,7 +58,8 @@ pub fn decode_index<X: ArrayToBytesCodecTraits>(
 }
 
 /// The index of the shard that a source holds, of which nothing else is fetched, or `None` where it
-/// holds none: at most the index's bytes are taken from an honest source. Errors as those of `decode_index`, and `Source` where the source refuses.
+/// holds none: at most the index's bytes are taken from an honest source. Errors as those of
+/// `decode_index`, and `Source` where the source refuses.
 pub fn fetch_index<X: ArrayToBytesCodecTraits, D: BytesPartialDecoderTraits>(
     alloc: Global,
     codec: &X,
@@ -97,7 +98,8 @@ pub fn fetch_index<X: ArrayToBytesCodecTraits, D: BytesPartialDecoderTraits>(
 }
 
 /// The bytes of a pair of the value that a source holds, which has `total` bytes; an honest source
-/// gives no others. `Damage` where the pair ends past the end of the value, and `Source` where the source refuses.
+/// gives no others. `Damage` where the pair ends past the end of the value, and `Source` where the
+/// source refuses.
 pub fn fetch_slice<D: BytesPartialDecoderTraits>(
     alloc: Global,
     source: &mut D,

@@ -38,8 +38,8 @@ pub fn index_size<X: ArrayToBytesCodecTraits>(
     }
 }
 
-/// The bytes that a codec makes of an index of this shape. `Codec` where the caller's codec refuses;
-/// `Size` where an offset or a length of the index's own is too large.
+/// The bytes that a codec makes of an index of this shape. `Codec` where the caller's codec
+/// refuses; `Size` where an offset or a length of the index's own is too large.
 pub fn write_index<X: ArrayToBytesCodecTraits>(
     alloc: Global,
     codec: &X,

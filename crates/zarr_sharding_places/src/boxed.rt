@@ -1,19 +1,18 @@
 //! Elements of an array while those of boxes of it are put over them.
-ghost use Rattle.std.specs.Prelude.{◌≡◌, ◌*◌, ◌<◌, List, length, replicate, true, Some, IfOk, IfSome};
+ghost use Rattle.std.specs.Prelude.{◌≡◌, List, length, replicate, Some, IfOk};
 ghost use Rattle.zarr_codecs_arrays.specs.Views.{elements_of, payload_of};
-ghost use Rattle.zarr_codecs_meaning.specs.Payloads.{cells_in, fixed};
-ghost use Rattle.zarr_codecs_meaning.specs.Types.{Cell, byte_width};
+ghost use Rattle.zarr_codecs_meaning.specs.Payloads.{cells_in};
+ghost use Rattle.zarr_codecs_meaning.specs.Types.{Cell};
 ghost use Rattle.zarr_codecs_regions.specs.Updates.{put};
-ghost use Rattle.zarr_codecs_traits.specs.Indexers.{lies_in, numbers_of};
+ghost use Rattle.zarr_codecs_traits.specs.Indexers.{numbers_of};
 ghost use Rattle.zarr_grids_boxes.specs.Boxes.{product};
 ghost use Rattle.zarr_grids_boxes.specs.Subsets.{region_of};
 ghost use Rattle.zarr_sharding_places.specs.Boxed.{ShowsBoxes};
 
 use crate::placed::PlacedElements;
-use crate::runs::put_box;
 use std::alloc::{AllocError, Global};
 use zarr_codecs_arrays::{ArrayBytes, Elements};
-use zarr_codecs_regions::{is_inside, numbers_asked};
+use zarr_codecs_regions::{is_inside, numbers_asked, put_fixed};
 use zarr_codecs_traits::{Indexer, WholeArray};
 use zarr_grids_boxes::ArraySubset;
 use zarr_grids_boxes::walk::count_places;
@@ -70,7 +69,9 @@ impl BoxedElements {
         match self {
             BoxedElements::Fixed(bytes) => match given {
                 ArrayBytes::Fixed(given) => {
-                    put_fixed(alloc, bytes, array, region, given.as_slice())
+                    let (given, data_type) = (given.as_slice(), array.elements.data_type());
+                    let made = put_fixed(alloc, bytes, array.shape, given, region, data_type)?;
+                    Ok(BoxedElements::Fixed(made))
                 }
                 _ => Err(AllocError),
             },
@@ -93,44 +94,4 @@ impl BoxedElements {
             BoxedElements::Placed(all) => all.gather(alloc, elements),
         }
     }
-}
-
-/// Elements of one size of an array after those of a box of it were put over them. `Err` where an
-/// allocation failed, and where these are not as many bytes.
-fn put_fixed(
-    alloc: Global,
-    bytes: Vec<u8>,
-    array: WholeArray<'_>,
-    region: &ArraySubset,
-    given: &[u8],
-) -> Result<BoxedElements, AllocError>
-    requires { lies_in array.shape.now (region_of region.now) ≡ true }
-    ensures { (before others : List Cell)
-        → cells_in (elements_of array.entry.elements.now).type (fixed bytes.items) ≡ Some before
-        → cells_in (elements_of array.entry.elements.now).type (fixed given.now) ≡ Some others
-        → IfOk result (λ all. ShowsBoxes (elements_of array.entry.elements.now) all
-        (put (numbers_of array.entry.shape.now (region_of region.now)) others before)) }
-{
-    let Some(width) = whole_width(bytes.len(), array.elements, array.shape) else {
-        return Err(AllocError);
-    };
-    let Some(_) = whole_width(given.len(), array.elements, region.shape()) else {
-        return Err(AllocError);
-    };
-    let made = put_box(alloc, bytes, array.shape, given, region, width)?;
-    Ok(BoxedElements::Fixed(made))
-}
-
-/// How many bytes each element has, of which so many bytes are those of a box of this shape.
-fn whole_width(size: usize, elements: &Elements, shape: &[u64]) -> Option<usize>
-    ensures { IfSome result (λ width. (0 < width) × (size ≡ product shape.now * width)
-        × (byte_width (elements_of elements.now).type ≡ Some width)) }
-{
-    let width = elements.data_type().byte_width()?;
-    let count = count_places(shape)?;
-    let total = count.checked_mul(width as u64)?;
-    if width == 0 || size as u64 != total {
-        return None;
-    }
-    Some(width)
 }

@@ -5,7 +5,6 @@ pub mod boxed;
 pub mod groups;
 pub mod locating;
 pub mod placed;
-mod runs;
 
 pub use boxed::BoxedElements;
 pub use groups::{insides_of, leading_group, positions_of};

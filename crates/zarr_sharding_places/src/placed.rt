@@ -12,8 +12,8 @@ use zarr_codecs_arrays::{ArrayBytes, Elements, concat_elements};
 use zarr_codecs_regions::gather_elements;
 
 /// Elements of an array while those at some of its places are put over them: all that were put, in
-/// the order in which they came, and for each place the number of the one that is there now. What is
-/// put takes time by what it is alone, however large the array is.
+/// the order in which they came, and for each place the number of the one that is there now. What
+/// is put takes time by what it is alone, however large the array is.
 #[derive(Debug, Drop)]
 pub struct PlacedElements {
     came: ArrayBytes,

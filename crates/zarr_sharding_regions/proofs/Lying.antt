@@ -9,7 +9,7 @@ use Rattle.zarr_grids_boxes.proofs.Places.{in_box_below}
 use Rattle.zarr_grids_boxes.proofs.InBox.{place_at-number, length-places}
 use Rattle.zarr_grids_boxes.proofs.Walking.{get_or-places}
 use Rattle.zarr_codecs_meaning.proofs.Covers.{zeros, length-zeros}
-use Rattle.zarr_codecs_traits.specs.Indexers.{lies_in}
+use Rattle.zarr_codecs_traits.specs.Indexers.{shape_has}
 use Rattle.zarr_sharding_changes.specs.Regions.{IsInside}
 use Rattle.zarr_sharding_changes.proofs.Subchunks.{place_within}
 use Rattle.zarr_sharding_regions.proofs.Boxes.{within_box, box_within}
@@ -63,14 +63,14 @@ last_in_box ss es l some = within_box ss es (last_of ss es) l (length-last ss es
 
 -- ---- a box that lies in an array
 
-pub lies_dimensions : (shape : List ℕ) (region : Region) → lies_in shape region ≡ true → length region.start ≡ length shape
+pub lies_dimensions : (shape : List ℕ) (region : Region) → shape_has shape region ≡ true → length region.start ≡ length shape
 lies_dimensions shape region h = eqb-true (length region.start) (length shape) (and_parts (length region.start == length shape) (list_all (λ (place : List ℕ). is_in_box (zeros shape) shape place) (places region.start region.shape)) h).0
 
-lies_from : (shape : List ℕ) (region : Region) → length region.start ≡ length shape → list_all (λ (place : List ℕ). is_in_box (zeros shape) shape place) (places region.start region.shape) ≡ true → lies_in shape region ≡ true
+lies_from : (shape : List ℕ) (region : Region) → length region.start ≡ length shape → list_all (λ (place : List ℕ). is_in_box (zeros shape) shape place) (places region.start region.shape) ≡ true → shape_has shape region ≡ true
 lies_from shape region l all = ap (λ (b : Bool). b && list_all (λ (place : List ℕ). is_in_box (zeros shape) shape place) (places region.start region.shape)) (eq-eqb (length region.start) (length shape) l) ∙ all
 
 -- where it has a place, each of its ends is at most the array's
-pub lies_inside : (shape : List ℕ) (region : Region) → length region.shape ≡ length region.start → lies_in shape region ≡ true → 0 < product region.shape → IsInside region.start region.shape shape
+pub lies_inside : (shape : List ℕ) (region : Region) → length region.shape ≡ length region.start → shape_has shape region ≡ true → 0 < product region.shape → IsInside region.start region.shape shape
 lies_inside shape region dims lies some =
     let ss = region.start in
     let es = region.shape in
@@ -94,7 +94,7 @@ lies_inside shape region dims lies some =
           omega (arith, high, at_, wide, zeros_at shape k);
     }
 
-pub inside_lies : (shape : List ℕ) (region : Region) → IsInside region.start region.shape shape → lies_in shape region ≡ true
+pub inside_lies : (shape : List ℕ) (region : Region) → IsInside region.start region.shape shape → shape_has shape region ≡ true
 inside_lies shape region within =
     let ss = region.start in
     let es = region.shape in
@@ -110,6 +110,6 @@ inside_lies shape region within =
     })))
 
 -- a box with no place lies in each array of as many dimensions
-pub empty_lies : (shape : List ℕ) (region : Region) → length region.start ≡ length shape → length region.shape ≡ length region.start → product region.shape ≡ 0 → lies_in shape region ≡ true
+pub empty_lies : (shape : List ℕ) (region : Region) → length region.start ≡ length shape → length region.shape ≡ length region.start → product region.shape ≡ 0 → shape_has shape region ≡ true
 empty_lies shape region same dims none =
     lies_from shape region same (ap (list_all (λ (place : List ℕ). is_in_box (zeros shape) shape place)) (no_elements (places region.start region.shape) (length-places region.start region.shape (sym dims) ∙ none)))

@@ -3,8 +3,8 @@ ghost use Rattle.std.specs.Prelude.{◌^◌, ◌<◌};
 
 use crate::opening::open_fetched;
 use crate::writing::{
-    ShardBytes, SliceChange, appended_length, are_absent, changed_index, join_slices, put_changes,
-    slice_patches,
+    ShardBytes, ShardChanges, SliceChange, appended_length, are_absent, changed_index, join_slices,
+    put_changes, slice_patches,
 };
 use std::alloc::Global;
 use zarr_codecs_arrays::CodecError;
@@ -48,8 +48,8 @@ impl KnownShard {
     /// What is known of the shard in a source, whose index these codecs read, of which this is the
     /// shape and how many bytes it has. Where the source holds no value, each subchunk is absent.
     /// `Damage` where the value is shorter than the index, the index isn't decoded, or a present
-    /// pair lies outside the data part; `Size` where the value has 2^63 bytes or more; `Source` where
-    /// the source refuses. At most the bytes of the index are taken from an honest source.
+    /// pair lies outside the data part; `Size` where the value has 2^63 bytes or more; `Source`
+    /// where the source refuses. At most the bytes of the index are taken from an honest source.
     pub fn open<X: ArrayToBytesCodecTraits, D: BytesPartialDecoderTraits>(
         alloc: Global,
         source: &mut D,
@@ -179,20 +179,20 @@ impl KnownShard {
     }
 
     /// Whether the shard has fewer than 2^63 bytes after the slices of changes were appended.
-    pub fn has_room(&self, layout: IndexLayout<'_>, changes: &[SliceChange]) -> bool
-        ensures { result ≡ nat_lt (shard_length (location_of layout.entry.location)
-            layout.entry.size (end_of self.now + length (appended (changes_of changes.now))))
-            (2 ^ 63) }
+    pub fn has_room(&self, given: ShardChanges<'_>) -> bool
+        ensures { result ≡ nat_lt (shard_length (location_of given.entry.layout.location)
+            given.entry.layout.size
+            (end_of self.now + length (appended (changes_of given.entry.changes.now)))) (2 ^ 63) }
     {
-        let Some(slices) = appended_length(changes) else {
+        let Some(slices) = appended_length(given.changes) else {
             return false;
         };
         let Some(end) = self.end.checked_add(slices) else {
             return false;
         };
-        match layout.location {
+        match given.layout.location {
             ShardingIndexLocation::Start => end <= 0x7fff_ffff_ffff_ffff,
-            ShardingIndexLocation::End => match end.checked_add(layout.size) {
+            ShardingIndexLocation::End => match end.checked_add(given.layout.size) {
                 Some(total) => total <= 0x7fff_ffff_ffff_ffff,
                 None => false,
             },
@@ -201,45 +201,49 @@ impl KnownShard {
 
     /// Replaces the slices of some subchunks: the new ones are appended to the data part, and a
     /// subchunk that became all fill becomes absent. Slices and index go out in one writing call of
-    /// the source; where no subchunk is left, the shard is erased. An `Err` leaves the shard and what
-    /// is known of it as they were: `Codec` where a caller's codec refuses the new index, `Size` where
-    /// the shard would have 2^63 bytes or more, and `Source` where the source refuses.
+    /// the source; where no subchunk is left, the shard is erased. An `Err` leaves the shard and
+    /// what is known of it as they were: `Codec` where a caller's codec refuses the new index,
+    /// `Size` where the shard would have 2^63 bytes or more, and `Source` where the source refuses.
     pub fn write_slices<X: ArrayToBytesCodecTraits, E: BytesPartialEncoderTraits>(
         &mut self,
         alloc: Global,
         source: &mut E,
         codecs: &X,
-        layout: IndexLayout<'_>,
-        changes: &[SliceChange],
+        given: ShardChanges<'_>,
         options: &CodecOptions,
     ) -> Result<(), CodecError>
-        requires fit { index_fits (X.meaning codecs.now) layout.shape.now ≡ true }
-        requires size { layout.size ≡ index_size (X.meaning codecs.now) layout.shape.now }
-        requires many { product layout.shape.now ≡ 2 * length (pairs_in self.old) }
-        requires below { list_all (is_below (length (pairs_in self.old))) changes.now ≡ true }
-        ensures pairs { OnOk result (pairs_in self.new
-            ≡ pairs_after (end_of self.old) (changes_of changes.now) (pairs_in self.old)) }
-        ensures room { OnOk result
-            (end_of self.old + length (appended (changes_of changes.now)) < 2 ^ 63) }
+        requires fit { index_fits (X.meaning codecs.now) given.layout.shape.now ≡ true }
+        requires size { given.layout.size
+            ≡ index_size (X.meaning codecs.now) given.layout.shape.now }
+        requires many { product given.layout.shape.now ≡ 2 * length (pairs_in self.old) }
+        requires below { list_all (is_below (length (pairs_in self.old))) given.changes.now
+            ≡ true }
+        ensures pairs { OnOk result (pairs_in self.new ≡ pairs_after (end_of self.old)
+            (changes_of given.entry.changes.now) (pairs_in self.old)) }
+        ensures room { OnOk result (end_of self.old
+            + length (appended (changes_of given.entry.changes.now)) < 2 ^ 63) }
         ensures ok { IsTrue (E.is_honest source.old) → OnOk result
             (IsChanged (X.meaning codecs.now) (X.is_function codecs.now)
-            (location_of layout.entry.location) layout.entry.shape.now (changes_of changes.now)
-            (end_of self.old) (pairs_in self.new) (E.contents source.old)
-            (E.contents source.new) (end_of self.new)) }
+            (location_of given.entry.layout.location) given.entry.layout.shape.now
+            (changes_of given.entry.changes.now) (end_of self.old) (pairs_in self.new)
+            (E.contents source.old) (E.contents source.new) (end_of self.new)) }
         ensures err { IsTrue (E.is_honest source.old) →
             OnErr result (E.contents source.new ≡ E.contents source.old) }
         ensures same { OnErr result ((pairs_in self.new ≡ pairs_in self.old)
             × (end_of self.new ≡ end_of self.old)) }
         ensures cause { IsTrue (E.is_honest source.old) → ChangesRefused
-            (X.meaning codecs.now) (location_of layout.entry.location) layout.entry.shape.now
-            (changes_of changes.now) (end_of self.old)
-            (pairs_after (end_of self.old) (changes_of changes.now) (pairs_in self.old)) result }
+            (X.meaning codecs.now) (location_of given.entry.layout.location)
+            given.entry.layout.shape.now (changes_of given.entry.changes.now) (end_of self.old)
+            (pairs_after (end_of self.old) (changes_of given.entry.changes.now)
+            (pairs_in self.old)) result }
         ensures refused { E.refused_calls source.new ≡
             refused_after (E.refused_calls source.old) result }
         ensures accepted { E.accepted_writes source.new ≡
             accepted_after (E.accepted_writes source.old) result }
         ensures rewrites { E.rewrites source.old source.new }
     {
+        let layout = given.layout;
+        let changes = given.changes;
         let slices = join_slices(alloc, changes)?;
         if slices.len() as u64 > 0x7fff_ffff_ffff_ffff - self.end {
             return Err(CodecError::Size);
@@ -265,8 +269,8 @@ impl KnownShard {
         }
     }
 
-    /// Appends the slices of changes to the data part, and puts another index in the place of the one
-    /// that was there. An `Err` leaves the shard and what is known of it as they were.
+    /// Appends the slices of changes to the data part, and puts another index in the place of the
+    /// one that was there. An `Err` leaves the shard and what is known of it as they were.
     fn append<E: BytesPartialEncoderTraits>(
         &mut self,
         alloc: Global,

@@ -7,4 +7,4 @@ mod opening;
 mod writing;
 
 pub use known::KnownShard;
-pub use writing::SliceChange;
+pub use writing::{ShardChanges, SliceChange};

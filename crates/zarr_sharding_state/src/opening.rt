@@ -14,8 +14,8 @@ use zarr_sharding_index::held::IndexLayout;
 use zarr_sharding_index::pair::is_absent;
 use zarr_sharding_index::{FetchedIndex, ShardIndex, ShardingIndexLocation};
 
-/// The index of a shard and where its data part ends, where each present pair lies in that. `Damage`
-/// where one doesn't, and `Size` where the data part ends past 2^63 - 1 bytes.
+/// The index of a shard and where its data part ends, where each present pair lies in that.
+/// `Damage` where one doesn't, and `Size` where the data part ends past 2^63 - 1 bytes.
 pub(crate) fn open_fetched(
     alloc: Global,
     fetched: Option<FetchedIndex>,

@@ -11,7 +11,7 @@ ghost use Rattle.zarr_sharding_state.specs.Written.{with_slices};
 use std::alloc::{AllocError, Global};
 use zarr_codecs_traits::{ByteRange, ValuePatch};
 use zarr_sharding_index::pair::{ABSENT, is_absent};
-use zarr_sharding_index::{ShardIndex, ShardingIndexLocation};
+use zarr_sharding_index::{IndexLayout, ShardIndex, ShardingIndexLocation};
 
 /// The number of a subchunk and the slice that it is encoded as anew, or none where it became all
 /// fill.
@@ -19,6 +19,13 @@ use zarr_sharding_index::{ShardIndex, ShardingIndexLocation};
 pub struct SliceChange {
     pub number: usize,
     pub slice: Option<Vec<u8>>,
+}
+
+/// What replaces the slices of some subchunks of a shard, and how its index is laid out.
+#[derive(Clone, Copy)]
+pub struct ShardChanges<'a> {
+    pub layout: IndexLayout<'a>,
+    pub changes: &'a [SliceChange],
 }
 
 /// The bytes of an index, and slices in a row.

@@ -1,5 +1,5 @@
-//! Shards that a builder makes, and chains around them, with bytes typed in by hand. What shards of other parts are encoded to is in
-//! calls/sharding.calls.
+//! Shards that a builder makes, and chains around them, with bytes typed in by hand. What shards of
+//! other parts are encoded to is in calls/sharding.calls.
 use crate::samples::{NONE, ONE_OF_FOUR, Value, chunk_shape, makes};
 use std::alloc::{AllocError, Global};
 use zarr_codecs::{
@@ -91,7 +91,8 @@ fn a_builder_takes_each_part_that_it_is_told_of(rt: HostRuntime) {
     assert!(rt; matches!(is_as_told(rt.alloc()), Ok(true)));
 }
 
-/// Whether a chain of a transposition, a shard and a reversal makes a reversed shard of the transposed cells.
+/// Whether a chain of a transposition, a shard and a reversal makes a reversed shard of the
+/// transposed cells.
 fn is_made_of_its_parts(alloc: Global) -> Result<bool, CodecError> {
     let reversal = vec![in alloc; ReverseCodec]?;
     let chain = ShardedChain::new(transposition(alloc)?, builder(alloc)?.build(), reversal);

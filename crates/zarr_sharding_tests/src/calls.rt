@@ -28,8 +28,8 @@ pub(crate) enum End {
     Source,
 }
 
-/// Calls of a shard over a source that holds a value and refuses one of its own calls; and what the source holds after them, and how
-/// many calls wrote.
+/// Calls of a shard over a source that holds a value and refuses one of its own calls; and what the
+/// source holds after them, and how many calls wrote.
 #[derive(Clone, Copy)]
 pub(crate) struct Case<'x> {
     pub held: Option<Value<'x>>,
@@ -127,7 +127,8 @@ pub(crate) fn open<'a, I: ArrayToBytesCodecTraits>(
     }
 }
 
-/// The source of a case after its calls of the shard of an array. `Fit` where one of them ends otherwise.
+/// The source of a case after its calls of the shard of an array. `Fit` where one of them ends
+/// otherwise.
 fn ran<I: ArrayToBytesCodecTraits>(
     alloc: Global,
     codec: &ShardingCodec<I, BytesCodec>,
@@ -144,7 +145,8 @@ fn ran<I: ArrayToBytesCodecTraits>(
     }
 }
 
-/// How many bytes the source of a case gave, where its calls of a shard end so and leave what they should.
+/// How many bytes the source of a case gave, where its calls of a shard end so and leave what they
+/// should.
 fn given<I: ArrayToBytesCodecTraits>(
     alloc: Global,
     codec: &ShardingCodec<I, BytesCodec>,

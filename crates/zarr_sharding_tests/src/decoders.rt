@@ -40,8 +40,8 @@ fn source_of(alloc: Global, value: Value<'_>) -> Result<MemorySource, CodecError
     Ok(MemorySource::new(Some(bytes_of(alloc, value)?)))
 }
 
-/// What these numbers of four elements in subchunks of two are read as, of the bytes 1 and 2 with these pairs behind them; and how
-/// many bytes the source gave.
+/// What these numbers of four elements in subchunks of two are read as, of the bytes 1 and 2 with
+/// these pairs behind them; and how many bytes the source gave.
 fn read(alloc: Global, pairs: &[u64], numbers: &[u64]) -> Result<(ArrayBytes, u128), CodecError> {
     let value = Value {
         front: &[1, 2],
@@ -101,7 +101,8 @@ fn has_range(
     }
 }
 
-/// Whether of two subchunks the second alone is present, behind an index of 32 bytes; and there is no third.
+/// Whether of two subchunks the second alone is present, behind an index of 32 bytes; and there is
+/// no third.
 fn has_the_second(decoder: &Decoder<'_>) -> bool {
     let first = has_range(decoder, 0, None);
     let second = has_range(decoder, 1, Some((32, 2)));

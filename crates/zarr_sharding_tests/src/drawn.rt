@@ -41,7 +41,8 @@ fn put_drawn<I: ArrayToBytesCodecTraits>(
 /// The numbers of all places, from the last to the first.
 const BACKWARDS: [u64; 16] = [15, 14, 13, 12, 11, 10, 9, 8, 7, 6, 5, 4, 3, 2, 1, 0];
 
-/// Whether all cells of a shard, from the last to the first, and its two first ones, are those of a table.
+/// Whether all cells of a shard, from the last to the first, and its two first ones, are those of a
+/// table.
 fn is_as<I: ArrayToBytesCodecTraits>(
     alloc: Global,
     state: &mut State<'_, I>,
@@ -53,7 +54,8 @@ fn is_as<I: ArrayToBytesCodecTraits>(
     Ok(all && shows(alloc, state, &[0, 1], &table[0..2])?)
 }
 
-/// Makes a drawn call of a shard, of which one in eight takes it away. Whether it is as the table then.
+/// Makes a drawn call of a shard, of which one in eight takes it away. Whether it is as the table
+/// then.
 fn is_as_after<I: ArrayToBytesCodecTraits>(
     alloc: Global,
     state: &mut State<'_, I>,

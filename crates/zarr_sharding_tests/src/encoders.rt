@@ -26,7 +26,8 @@ fn shared<'a>(
     }
 }
 
-/// Whether the first, the third and the sixth place are read as 9, 5 and 0 once 9 is put at the first one.
+/// Whether the first, the third and the sixth place are read as 9, 5 and 0 once 9 is put at the
+/// first one.
 fn reads<R: Wait>(rt: &R, alloc: Global, encoder: &Encoder<'_>) -> Result<bool, CodecError> {
     let (given, options) = (
         ArrayBytes::Fixed([9].to_vec(alloc)?),
@@ -37,7 +38,8 @@ fn reads<R: Wait>(rt: &R, alloc: Global, encoder: &Encoder<'_>) -> Result<bool, 
     Ok(are(&read, &[9, 5, 0]))
 }
 
-/// Whether that is so of that shard, and its source then has the slice of the first subchunk behind the other one.
+/// Whether that is so of that shard, and its source then has the slice of the first subchunk behind
+/// the other one.
 fn is_put<R: Wait>(rt: &R, alloc: Global) -> Result<bool, CodecError> {
     let codec = shards(alloc, &[2, 2], ShardingIndexLocation::End)?;
     let elements = elements(alloc, 0)?;

@@ -1,5 +1,6 @@
-//! Tests of shards that need code: sources that refuse calls, shards that keep their index, builders and options. What shards are
-//! encoded and decoded to, read and compacted, is in calls/sharding.calls.
+//! Tests of shards that need code: sources that refuse calls, shards that keep their index,
+//! builders and options. What shards are encoded and decoded to, read and compacted, is in
+//! calls/sharding.calls.
 #![tactic(auto)]
 
 #[cfg(test)]
@@ -8,6 +9,8 @@ mod builders;
 mod calls;
 #[cfg(test)]
 mod decoders;
+#[cfg(test)]
+mod deep;
 #[cfg(test)]
 mod drawn;
 #[cfg(test)]

@@ -36,7 +36,8 @@ fn in_any_order(alloc: Global) -> Result<Nested, CodecError> {
     Ok(ShardingCodec::new(outer, shards, BytesCodec::little(), end))
 }
 
-/// Whether what the shards are encoded to depends on their cells alone once they have the options, and not before.
+/// Whether what the shards are encoded to depends on their cells alone once they have the options,
+/// and not before.
 fn is_then_exact(alloc: Global) -> Result<bool, CodecError> {
     let codec = in_any_order(alloc)?;
     let before = codec.encoding_is_function();
@@ -51,7 +52,8 @@ fn options_say_the_order_at_every_depth(rt: HostRuntime) {
 /// Cells of which two subchunks of the first shard aren't fill.
 const CELLS: [u8; 16] = [1, 2, 0, 0, 3, 4, 0, 0, 0, 0, 0, 0, 0, 0, 0, 0];
 
-/// Their shard, of which each subchunk has two bytes, row-major: the inner shard has the pairs (0, 2) and (2, 2).
+/// Their shard, of which each subchunk has two bytes, row-major: the inner shard has the pairs (0,
+/// 2) and (2, 2).
 const STORED: Value<'static> = Value {
     front: &[
         1, 2, 3, 4, 0, 0, 0, 0, 0, 0, 0, 0, 2, 0, 0, 0, 0, 0, 0, 0, 2, 0, 0, 0, 0, 0, 0, 0, 2, 0,

@@ -1,5 +1,5 @@
-//! Decoders and codecs over sources of which each call is refused in turn, with bytes typed in by hand. How a state bears refusals
-//! is in states.rt.
+//! Decoders and codecs over sources of which each call is refused in turn, with bytes typed in by
+//! hand. How a state bears refusals is in states.rt.
 use crate::samples::{ONE_OF_FOUR, Shards, THREE_PUT, Value, are, elements, is, shards};
 use crate::source::{TestSource, source_of};
 use std::alloc::Global;
@@ -70,7 +70,8 @@ fn put(alloc: Global, source: &mut TestSource) -> Result<(), CodecError> {
     codec.partial_encode(alloc, source, given, part, &CodecOptions::default())
 }
 
-/// How that ends over a source that refuses the call with this number, where the source holds this value then.
+/// How that ends over a source that refuses the call with this number, where the source holds this
+/// value then.
 fn put_unless(
     alloc: Global,
     refuses: u64,

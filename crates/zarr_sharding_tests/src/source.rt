@@ -8,7 +8,8 @@ use zarr_codecs::{
     ValuePatch,
 };
 
-/// A source in memory that counts its calls, and those among them that write. It refuses the call with a number, counted from 1.
+/// A source in memory that counts its calls, and those among them that write. It refuses the call
+/// with a number, counted from 1.
 #[derive(Drop)]
 pub(crate) struct TestSource {
     pub inner: MemorySource,
@@ -109,10 +110,12 @@ impl BytesPartialDecoderTraits for TestSource {
 }
 
 impl BytesPartialEncoderTraits for TestSource {
-    ghost use Rattle.std.specs.Prelude.{refl};
+    ghost use Rattle.std.specs.Prelude.{refl, true};
     ghost use Rattle.zarr_codecs_traits.specs.Sources.{source_accepted};
 
     ghost accepted_writes = { λ s. source_accepted s.inner };
+
+    ghost writes_ranges = { λ _. true };
 
     ghost rewrites = { λ _ _. Unit {0} };
 

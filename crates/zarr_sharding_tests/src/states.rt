@@ -190,7 +190,8 @@ const SEVERAL: Case<'static> = Case {
     writes: 3,
 };
 
-/// The index has 64 bytes, and each slice four: the second one is taken by two reads and a write, and the first by a read.
+/// The index has 64 bytes, and each slice four: the second one is taken by two reads and a write,
+/// and the first by a read.
 #[test]
 fn a_state_takes_its_index_once_and_the_slices_that_are_met(rt: HostRuntime) {
     assert!(rt; matches!(given_of_four(rt.alloc(), SEVERAL), Ok(Some(80))));
@@ -219,7 +220,8 @@ fn a_pair_outside_the_data_part_is_damage_at_once(rt: HostRuntime) {
     }
 }
 
-/// Whether a shard whose source refuses the call with this number is not opened, and the source comes back with its value.
+/// Whether a shard whose source refuses the call with this number is not opened, and the source
+/// comes back with its value.
 fn is_given_back(alloc: Global, refuses: u64) -> Result<bool, CodecError> {
     let (codec, elements) = (shards(alloc, &[2, 2], End)?, elements(alloc, 0)?);
     let source = source_of(alloc, Some(ONE_OF_FOUR), refuses)?;

@@ -1,8 +1,17 @@
-use Rattle.std.proofs.Common.{rules, ◌≡◌}
+use Rattle.std.proofs.Common.{rules, ◌≡◌, None, Err}
+use Rattle.zarr_codecs_meaning.specs.Chunks.{chunk_decoded}
+use Rattle.zarr_codecs_arrays.specs.Views.{elements_of, payload_of}
+use Rattle.zarr_codecs_traits.specs.Indexers.{asked_of}
+use Rattle.zarr_codecs_traits.proofs.Damage.{not_put}
 use Rattle.zarr_codecs_regions.proofs.whole.encode_whole.Goals as goal
 
 pub returns-in-Err-clause-cause : goal.returns-in-Err-clause-cause
-returns-in-Err-clause-cause g c = λ _. c.in-Err.ensures.cause (g.E.BytesPartialDecoderTraits.contents c.args.source.now)
+returns-in-Err-clause-cause g c = λ _.
+    let chain = g.C.WholeValues.meaning c.args.codec.now in
+    let elements = elements_of c.args.part.elements.now in
+    let shape = c.args.part.shape.now in
+    let stored = g.E.BytesPartialDecoderTraits.contents c.args.source.now in
+    not_put {A = Unit {0}} ⊥ (chunk_decoded chain elements shape stored ≡ None) chain elements shape (asked_of c.args.part.indexer) (payload_of c.args.bytes) stored (Err c.in-Err.error) (λ none. absurd none) (c.in-Err.ensures.cause stored)
 
 pub returns-in-Ok-Some-clause-rewrites : goal.returns-in-Ok-Some-clause-rewrites
 returns-in-Ok-Some-clause-rewrites g c =

@@ -1,5 +1,5 @@
 use Rattle.zarr_grids_boxes.specs.Subsets.{region_of}
-use Rattle.zarr_array_core.specs.Views.{document_of, path_of}
+use Rattle.zarr_array_core.specs.Views.{document_of, is_exact, path_of}
 use Rattle.zarr_run_commands.specs.Commands.{given}
 use Rattle.zarr_run_meaning.specs.Requests.{in_chunk}
 use Rattle.zarr_run_boxes.proofs.Boxes.{chunk_covered}
@@ -11,6 +11,6 @@ write_covered-requires g c = chunk_covered (document_of g.C.ArrayToBytesCodecTra
 
 pub returns-in-Ok-clause-err : goal.returns-in-Ok-clause-err
 returns-in-Ok-clause-err g c =
-    λ honest. refused_target (path_of c.args.array.now) (document_of g.C.ArrayToBytesCodecTraits.meaning c.args.array.now) (in_chunk c.args.chunk.now) (region_of c.in-Ok.region) (given c.args.cells.now) c.args.options.now
+    λ honest. refused_target (path_of c.args.array.now) (document_of g.C.ArrayToBytesCodecTraits.meaning c.args.array.now) (is_exact g.C.ArrayToBytesCodecTraits.is_function c.args.array.now) (in_chunk c.args.chunk.now) (region_of c.in-Ok.region) (given c.args.cells.now) c.args.options.now
     (g.S.ReadableStorageTraits.held c.args.store.now) (g.S.ReadableStorageTraits.held c.write_covered.new.store) c.write_covered.result
     c.in-Ok.ensures.ok (c.write_covered.ensures.err honest)

@@ -47,11 +47,11 @@ returns-clause-ok g c =
     let given = shard_points c.in-Ok.configuration in
     let chain = shard_chain g.I.ArrayToBytesCodecTraits.meaning (meaning_of b.meaning) in
     let named = ap names_shard (sym c.name.ensures) ∙ (sym c.names_shard.ensures ∙ c.if-not-names_shard.false) in
-    subst (λ o. IfOk c.new_with_configuration.result (λ codec. o ≡ Some (chain codec))) (sym (said_given b.reads inner point given named c.in-Ok.ensures.ok)) c.new_with_configuration.ensures.ok
+    subst (λ o. IfOk c.read_allowed_shard.result (λ codec. o ≡ Some (chain codec))) (sym (said_given b.reads inner point given named c.in-Ok.ensures.ok)) c.read_allowed_shard.ensures.ok
 
 pub returns-clause-names : goal.returns-clause-names
 returns-clause-names g c =
-    names_given g.I.ChainOfMetadata.names (point_of c.args.metadata.now) (shard_points c.in-Ok.configuration) c.new_with_configuration.result c.in-Ok.ensures.ok c.new_with_configuration.ensures.inner_names c.new_with_configuration.ensures.index_names
+    names_given g.I.ChainOfMetadata.names (point_of c.args.metadata.now) (shard_points c.in-Ok.configuration) c.read_allowed_shard.result c.in-Ok.ensures.ok c.read_allowed_shard.ensures.inner_names c.read_allowed_shard.ensures.index_names
 
 pub returns-clause-err : goal.returns-clause-err
 returns-clause-err g c =
@@ -60,7 +60,7 @@ returns-clause-err g c =
     let point = point_of c.args.metadata.now in
     let given = shard_points c.in-Ok.configuration in
     let named = ap names_shard (sym c.name.ensures) ∙ (sym c.names_shard.ensures ∙ c.if-not-names_shard.false) in
-    subst (λ o. IfErr c.new_with_configuration.result (λ e. e ≢ Memory → o ≡ None)) (sym (said_given b.reads inner point given named c.in-Ok.ensures.ok)) c.new_with_configuration.ensures.err
+    subst (λ o. IfErr c.read_allowed_shard.result (λ e. e ≢ Memory → o ≡ None)) (sym (said_given b.reads inner point given named c.in-Ok.ensures.ok)) c.read_allowed_shard.ensures.err
 
 pub returns-clause-refused : goal.returns-clause-refused
 returns-clause-refused g c = λ array.
@@ -69,5 +69,5 @@ returns-clause-refused g c = λ array.
     let point = point_of c.args.metadata.now in
     let given = shard_points c.in-Ok.configuration in
     let named = ap names_shard (sym c.name.ensures) ∙ (sym c.names_shard.ensures ∙ c.if-not-names_shard.false) in
-    IfErr-weaker c.new_with_configuration.result (λ e. e ≢ Memory → RefusesShard reads i.reads i.refuses given e) (λ e. e ≢ Memory → (points : List ExtensionPoint) → RefusesFirst reads i.reads i.refuses (point ∷ points) e)
-    (λ e refused. λ other points. inside_refused reads i.reads i.refuses point points given e named c.in-Ok.ensures.ok (refused other)) c.new_with_configuration.ensures.refused
+    IfErr-weaker c.read_allowed_shard.result (λ e. e ≢ Memory → RefusesShard reads i.reads i.refuses given e) (λ e. e ≢ Memory → (points : List ExtensionPoint) → RefusesFirst reads i.reads i.refuses (point ∷ points) e)
+    (λ e refused. λ other points. inside_refused reads i.reads i.refuses point points given e named c.in-Ok.ensures.ok (refused other)) c.read_allowed_shard.ensures.refused

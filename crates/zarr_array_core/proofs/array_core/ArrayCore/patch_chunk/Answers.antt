@@ -14,6 +14,7 @@ use Rattle.zarr_array_core.proofs.array_core.ArrayCore.patch_chunk.Goals as goal
 pub returns-clause-ok : goal.returns-clause-ok
 returns-clause-ok g c = λ honest done.
     let document = document_of g.C.ArrayToBytesCodecTraits.meaning c.args.self.now in
+    let exact = g.C.ArrayToBytesCodecTraits.is_function c.args.self.now.codecs in
     let width = c.in-Some.width in
     let region : Region = extent_of c.args.write.now.region in
     let box : Region = region_of c.args.own.now in
@@ -27,7 +28,7 @@ returns-clause-ok g c = λ honest done.
     let told : Some size ≡ option_map length (get held key) = let all = c.in_ok-size.ensures.size honest in search rules in
     let is : IsSized document width held key size = record { sized = c.in-Some.ensures; takes = takes; bytes = c.in_ok-size.ensures.bytes honest; told = told } in
     let right : size ≡ product box.shape * width = search rules in
-    let writes : PatchesChunk document region given empty box patches = search rules in
+    let writes : PatchesChunk document exact region given empty box patches = search rules in
     let still : IsTrue (g.S.ReadableStorageTraits.is_honest c.size_key.new.store) = subst IsTrue (sym c.in_ok-size.ensures.honest) honest in
-    let new = c.in_ok-set_partial.ensures.ok still ∙ (ap (λ m. insert m key (patched_at m key c.as_slice.result.now)) c.in_ok-size.ensures.held ∙ ap (λ ps. insert held key (patched_at held key ps)) c.as_slice.ensures.value) in
-    sized_part document width region box given empty patches held (g.S.ReadableStorageTraits.held c.set_partial.new.store) key size is right writes new
+    let new = c.in_ok-set_partial.ensures.ok still ∙ (ap (λ m. insert m key (patched_at m key c.as_slice-2.result.now)) c.in_ok-size.ensures.held ∙ ap (λ ps. insert held key (patched_at held key ps)) c.as_slice-2.ensures.value) in
+    sized_part document exact width region box given empty patches held (g.S.ReadableStorageTraits.held c.set_partial.new.store) key size is right writes new

@@ -3,7 +3,7 @@ use Rattle.zarr_codecs_arrays.specs.Views.{payload_of}
 use Rattle.zarr_grids_boxes.specs.Boxes.{Region, product, place_at}
 use Rattle.zarr_grids_boxes.specs.Subsets.{region_of}
 use Rattle.zarr_grids_overlay.specs.Overlays.{extent_of}
-use Rattle.zarr_array_core.specs.Views.{array_cells, document_of, path_of}
+use Rattle.zarr_array_core.specs.Views.{array_cells, document_of, is_exact, path_of}
 use Rattle.zarr_array_core.specs.declared.error.ChunkError.TheVariants as error
 use Rattle.zarr_array_core.proofs.BoxWalks.{walk_of}
 use Rattle.zarr_array_core.proofs.ChunksWritten.{wrote_none, wrote_next, wrote_all, write_stops}
@@ -15,6 +15,7 @@ returns-then-is_err-clause-err g c = λ honest.
     let array = c.args.self.now in
     let path = path_of array in
     let document = document_of g.C.ArrayToBytesCodecTraits.meaning array in
+    let exact = is_exact g.C.ArrayToBytesCodecTraits.is_function array in
     let region = extent_of c.args.write.now.region in
     let chunks : Region = region_of c.args.chunks.now in
     let bytes = c.args.write.now.bytes.now in
@@ -24,7 +25,7 @@ returns-then-is_err-clause-err g c = λ honest.
     let lists = c.requires.many.lists in
     let chunk = place_at chunks.start chunks.shape 0 in
     let here = met_here document.grid chunks 0 chunk walk.chunks_rank walk.intersecting.below c.requires.some refl in
-    write_stops path document region chunks (array_cells array bytes) (payload_of bytes) options 0 chunk here.0 error.Memory old old old walk lists c.requires.some refl here.1 tt refl (wrote_none path document region (array_cells array bytes) options old)
+    write_stops path document exact region chunks (array_cells array bytes) (payload_of bytes) options 0 chunk here.0 error.Memory old old old walk lists c.requires.some refl here.1 tt refl (wrote_none path document exact region (array_cells array bytes) options old)
 
 pub write_at-requires-clause-below : goal.write_at-requires-clause-below
 write_at-requires-clause-below g c =
@@ -47,6 +48,7 @@ returns-in-Err-clause-err g c = λ honest.
     let array = c.args.self.now in
     let path = path_of array in
     let document = document_of g.C.ArrayToBytesCodecTraits.meaning array in
+    let exact = is_exact g.C.ArrayToBytesCodecTraits.is_function array in
     let region = extent_of c.args.write.now.region in
     let chunks : Region = region_of c.args.chunks.now in
     let bytes = c.args.write.now.bytes.now in
@@ -61,13 +63,14 @@ returns-in-Err-clause-err g c = λ honest.
     let below : c.loop-n.n < product chunks.shape = omega (arith, c.loop-n-test.true) in
     let still : IsTrue (g.S.ReadableStorageTraits.is_honest c.loop-n.store) = rw c.loop-n.invariant.honest honest in
     let stops = c.in-Err.ensures.err still in
-    write_stops path document region chunks (array_cells array bytes) (payload_of bytes) options c.loop-n.n c.place_into.new.place stops.0 c.in-Err.error old mid new walk lists below at_place stops.1 stops.2 (c.in-Err.ensures.kept still) (c.loop-n.invariant.wrote honest)
+    write_stops path document exact region chunks (array_cells array bytes) (payload_of bytes) options c.loop-n.n c.place_into.new.place stops.0 c.in-Err.error old mid new walk lists below at_place stops.1 stops.2 (c.in-Err.ensures.kept still) (c.loop-n.invariant.wrote honest)
 
 pub loop-n-preserved : goal.loop-n-preserved
 loop-n-preserved g c =
     let array = c.args.self.now in
     let path = path_of array in
     let document = document_of g.C.ArrayToBytesCodecTraits.meaning array in
+    let exact = is_exact g.C.ArrayToBytesCodecTraits.is_function array in
     let region = extent_of c.args.write.now.region in
     let chunks : Region = region_of c.args.chunks.now in
     let bytes = c.args.write.now.bytes.now in
@@ -84,7 +87,7 @@ loop-n-preserved g c =
     record {
       wrote = λ honest.
           let made = step.ok (rw kept.honest honest) in
-          wrote_next path document region chunks (array_cells array bytes) options c.loop-n.n c.place_into.new.place made.0 made.1 old mid new walk below at_place made.2 made.3 made.4 (kept.wrote honest);
+          wrote_next path document exact region chunks (array_cells array bytes) options c.loop-n.n c.place_into.new.place made.0 made.1 old mid new walk below at_place made.2 made.3 made.4 (kept.wrote honest);
       honest = step.honest ∙ kept.honest;
       refused = step.refused ∙ kept.refused;
       counts = (omega (arith, step.counts.0, kept.counts.0), omega (arith, step.counts.1, kept.counts.1));
@@ -95,6 +98,7 @@ returns-clause-ok g c = λ honest.
     let array = c.args.self.now in
     let path = path_of array in
     let document = document_of g.C.ArrayToBytesCodecTraits.meaning array in
+    let exact = is_exact g.C.ArrayToBytesCodecTraits.is_function array in
     let region = extent_of c.args.write.now.region in
     let chunks : Region = region_of c.args.chunks.now in
     let bytes = c.args.write.now.bytes.now in
@@ -102,4 +106,4 @@ returns-clause-ok g c = λ honest.
     let old = g.S.ReadableStorageTraits.held c.args.store.now in
     let walk = walk_of g.C.ArrayToBytesCodecTraits.meaning g.met.C.ArrayToBytesCodecTraits.lawful array region chunks (array_cells array bytes) (sym c.args.write.now.region.same) (sym c.args.chunks.now.same) c.requires.rank c.requires.intersecting c.requires.values in
     let total : c.unwrap-count.result ≡ product chunks.shape = search rules in
-    wrote_all path document region chunks (array_cells array bytes) options c.loop-n.n old (g.S.ReadableStorageTraits.held c.loop-n.store) walk (omega arith) (c.loop-n.invariant.wrote honest)
+    wrote_all path document exact region chunks (array_cells array bytes) options c.loop-n.n old (g.S.ReadableStorageTraits.held c.loop-n.store) walk (omega arith) (c.loop-n.invariant.wrote honest)

@@ -55,8 +55,8 @@ invariant_of-self g c =
     let shape_is : pairs_shape ≡ index_shape s.shape s.subchunk = c.as_slice.ensures.value ∙ self.cut in
     let new : Held = held_as (contents c.write_slices.new.source) (pairs_in c.write_slices.new.self) (end_of c.write_slices.new.self) in
     let changes = changes_of c.in-Ok.changes.items in
-    let lent = changes_of c.deref.result.now in
-    let are = ap changes_of c.deref.ensures.value in
+    let lent = changes_of c.as_slice-changes.result.now in
+    let are = ap changes_of c.as_slice-changes.ensures.value in
     let laws = g.met.E.BytesPartialDecoderTraits in
     let follows = c.in-Ok.ensures.follows in
     let later = contents c.update_asked.new.source in
@@ -67,7 +67,7 @@ invariant_of-self g c =
       pairs = subst (λ cs. OnOk result (new.pairs ≡ pairs_after old.end cs old.pairs)) are c.write_slices.ensures.pairs;
       room = subst (λ cs. OnOk result (old.end + length (appended cs) < 2 ^ 63)) are c.write_slices.ensures.room;
       written = changed_as result s.index one s.location (location_of c.index_location.result) (index_shape s.shape s.subchunk) pairs_shape changes lent old.end new.end new.pairs old.contents later new.contents c.index_location.ensures shape_is are same
-          (subst (λ x. OnOk result (IsChanged (g.X.ArrayToBytesCodecTraits.meaning x) (g.X.ArrayToBytesCodecTraits.is_function x) (location_of c.index_location.result) pairs_shape lent old.end new.pairs later new.contents new.end)) c.index_codecs.ensures (c.write_slices.ensures.ok still));
+          (subst (λ x. OnOk result (IsChanged (g.X.ArrayToBytesCodecTraits.meaning x) (g.X.ArrayToBytesCodecTraits.is_function x) (location_of c.index_location.result) pairs_shape lent old.end new.pairs later new.contents new.end)) c.index_codecs-codecs.ensures (c.write_slices.ensures.ok still));
       same = c.write_slices.ensures.same;
       err = subst (λ (o : Option (List ℕ)). OnErr result (new.contents ≡ o)) (sym same) (c.write_slices.ensures.err still);
     } in
@@ -102,8 +102,8 @@ returns-in-Ok-clause-ok g c = λ honest told cells valid.
     let shape_is : pairs_shape ≡ index_shape s.shape s.subchunk = c.as_slice.ensures.value ∙ self.cut in
     let new : Held = held_as (contents c.write_slices.new.source) (pairs_in c.write_slices.new.self) (end_of c.write_slices.new.self) in
     let changes = changes_of c.in-Ok.changes.items in
-    let lent = changes_of c.deref.result.now in
-    let are = ap changes_of c.deref.ensures.value in
+    let lent = changes_of c.as_slice-changes.result.now in
+    let are = ap changes_of c.as_slice-changes.ensures.value in
     let laws = g.met.E.BytesPartialDecoderTraits in
     let follows = c.in-Ok.ensures.follows in
     let later = contents c.update_asked.new.source in
@@ -114,7 +114,7 @@ returns-in-Ok-clause-ok g c = λ honest told cells valid.
       pairs = subst (λ cs. OnOk result (new.pairs ≡ pairs_after old.end cs old.pairs)) are c.write_slices.ensures.pairs;
       room = subst (λ cs. OnOk result (old.end + length (appended cs) < 2 ^ 63)) are c.write_slices.ensures.room;
       written = changed_as result s.index one s.location (location_of c.index_location.result) (index_shape s.shape s.subchunk) pairs_shape changes lent old.end new.end new.pairs old.contents later new.contents c.index_location.ensures shape_is are same
-          (subst (λ x. OnOk result (IsChanged (g.X.ArrayToBytesCodecTraits.meaning x) (g.X.ArrayToBytesCodecTraits.is_function x) (location_of c.index_location.result) pairs_shape lent old.end new.pairs later new.contents new.end)) c.index_codecs.ensures (c.write_slices.ensures.ok still));
+          (subst (λ x. OnOk result (IsChanged (g.X.ArrayToBytesCodecTraits.meaning x) (g.X.ArrayToBytesCodecTraits.is_function x) (location_of c.index_location.result) pairs_shape lent old.end new.pairs later new.contents new.end)) c.index_codecs-codecs.ensures (c.write_slices.ensures.ok still));
       same = c.write_slices.ensures.same;
       err = subst (λ (o : Option (List ℕ)). OnErr result (new.contents ≡ o)) (sym same) (c.write_slices.ensures.err still);
     } in
@@ -143,8 +143,8 @@ returns-in-Ok-clause-cause g c = λ honest told cells valid.
     let shape_is : pairs_shape ≡ index_shape s.shape s.subchunk = c.as_slice.ensures.value ∙ self.cut in
     let new : Held = held_as (contents c.write_slices.new.source) (pairs_in c.write_slices.new.self) (end_of c.write_slices.new.self) in
     let changes = changes_of c.in-Ok.changes.items in
-    let lent = changes_of c.deref.result.now in
-    let are = ap changes_of c.deref.ensures.value in
+    let lent = changes_of c.as_slice-changes.result.now in
+    let are = ap changes_of c.as_slice-changes.ensures.value in
     let laws = g.met.E.BytesPartialDecoderTraits in
     let follows = c.in-Ok.ensures.follows in
     let later = contents c.update_asked.new.source in
@@ -155,7 +155,7 @@ returns-in-Ok-clause-cause g c = λ honest told cells valid.
       pairs = subst (λ cs. OnOk result (new.pairs ≡ pairs_after old.end cs old.pairs)) are c.write_slices.ensures.pairs;
       room = subst (λ cs. OnOk result (old.end + length (appended cs) < 2 ^ 63)) are c.write_slices.ensures.room;
       written = changed_as result s.index one s.location (location_of c.index_location.result) (index_shape s.shape s.subchunk) pairs_shape changes lent old.end new.end new.pairs old.contents later new.contents c.index_location.ensures shape_is are same
-          (subst (λ x. OnOk result (IsChanged (g.X.ArrayToBytesCodecTraits.meaning x) (g.X.ArrayToBytesCodecTraits.is_function x) (location_of c.index_location.result) pairs_shape lent old.end new.pairs later new.contents new.end)) c.index_codecs.ensures (c.write_slices.ensures.ok still));
+          (subst (λ x. OnOk result (IsChanged (g.X.ArrayToBytesCodecTraits.meaning x) (g.X.ArrayToBytesCodecTraits.is_function x) (location_of c.index_location.result) pairs_shape lent old.end new.pairs later new.contents new.end)) c.index_codecs-codecs.ensures (c.write_slices.ensures.ok still));
       same = c.write_slices.ensures.same;
       err = subst (λ (o : Option (List ℕ)). OnErr result (new.contents ≡ o)) (sym same) (c.write_slices.ensures.err still);
     } in
@@ -166,7 +166,7 @@ returns-in-Ok-clause-cause g c = λ honest told cells valid.
     let still = subst IsTrue (laws.honest _ _ follows) honest in
     after_refused result s exact (put_at s.shape s.subchunk (numbers_asked s.shape (asked_of c.args.indexer)) cells) changes old (c.in-Ok.ensures.changes honest of cells valid)
     (refused_as result s.index s.location (location_of c.index_location.result) (index_shape s.shape s.subchunk) pairs_shape changes lent old.end old.pairs c.index_location.ensures shape_is are
-    (subst (λ x. ChangesRefused (g.X.ArrayToBytesCodecTraits.meaning x) (location_of c.index_location.result) pairs_shape lent old.end (pairs_after old.end lent old.pairs) result) c.index_codecs.ensures (c.write_slices.ensures.cause still)))
+    (subst (λ x. ChangesRefused (g.X.ArrayToBytesCodecTraits.meaning x) (location_of c.index_location.result) pairs_shape lent old.end (pairs_after old.end lent old.pairs) result) c.index_codecs-codecs.ensures (c.write_slices.ensures.cause still)))
 
 pub returns-in-Err-clause-cause : goal.returns-in-Err-clause-cause
 returns-in-Err-clause-cause g c = λ honest told cells valid.
@@ -192,9 +192,9 @@ pub returns-in-Ok-clause-given : goal.returns-in-Ok-clause-given
 returns-in-Ok-clause-given g c = λ honest.
     let still = subst IsTrue (g.met.E.BytesPartialDecoderTraits.honest _ _ c.in-Ok.ensures.follows) honest in
     let self = c.args.self.now in
-    let lent = changes_of c.deref.result.now in
+    let lent = changes_of c.as_slice-changes.result.now in
     let end = end_of self.known in
-    written_after _ _ (g.X.ArrayToBytesCodecTraits.meaning c.index_codecs.result.now) (location_of c.index_location.result) c.as_slice.result.now lent end (pairs_after end lent (pairs_in self.known)) c.write_slices.result (c.write_slices.ensures.cause still)
+    written_after _ _ (g.X.ArrayToBytesCodecTraits.meaning c.index_codecs-codecs.result.now) (location_of c.index_location.result) c.as_slice.result.now lent end (pairs_after end lent (pairs_in self.known)) c.write_slices.result (c.write_slices.ensures.cause still)
 
 pub returns-in-Err-clause-given : goal.returns-in-Err-clause-given
 returns-in-Err-clause-given g c = λ honest first. c.in-Err.ensures.given honest

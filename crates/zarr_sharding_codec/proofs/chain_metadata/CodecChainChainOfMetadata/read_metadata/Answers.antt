@@ -20,4 +20,4 @@ returns-clause-refused g c =
     let reads = g.B.BytesToBytesCodecTraits.reads in
     let points = map point_of c.args.codecs.now in
     let none = sym c.in_ok-stands.ensures ∙ c.if-stands.false in
-    IfErr-weaker c.from_metadata.result (λ e. e ≢ Memory → RefusesChain reads points e) (λ e. e ≢ Memory → RefusesPlain reads points e) (λ e refused. λ other. as_plain reads points e none (refused other)) c.from_metadata.ensures.refused
+    IfErr-weaker c.read_allowed.result (λ e. e ≢ Memory → RefusesChain reads points e) (λ e. e ≢ Memory → RefusesPlain reads points e) (λ e refused. λ other. as_plain reads points e none (refused other)) c.read_allowed.ensures.refused

@@ -4,7 +4,7 @@ use Rattle.zarr_grids_boxes.specs.Cuts.{overlapped, relative}
 use Rattle.zarr_grids_boxes.specs.Subsets.{region_of}
 use Rattle.zarr_codecs_meaning.specs.Places.{grid_of}
 use Rattle.zarr_codecs_meaning.proofs.Parts.{length-parts}
-use Rattle.zarr_codecs_traits.specs.Indexers.{lies_in}
+use Rattle.zarr_codecs_traits.specs.Indexers.{shape_has}
 use Rattle.zarr_sharding_codec.proofs.BoxCuts.{IsPiece, overlap_is, piece_stands}
 use Rattle.zarr_sharding_codec.proofs.BoxInSubchunk.{is_around, some_place}
 use Rattle.zarr_sharding_codec.proofs.codec.ShardingCodec.cut_at.Goals as goal
@@ -48,7 +48,7 @@ returns g c =
       overlap = c.in-Ok.ensures.made ∙ ap (overlapped region) (overlap_is shape subchunk c.as_slice-2.result.now c.as_slice-edges.result.now around.start.items around.shape.items n grid edges c.in_ok-around.ensures.start c.in_ok-around.ensures.shape);
       target_is = c.in-Ok-relative_to-2.ensures.made ∙ ap (relative (region_of cut)) c.start-3.ensures;
       target_long = target.same;
-      target_in = ap (λ s. lies_in s (region_of target)) (sym c.shape.ensures) ∙ (sym c.is_inside-else-not-is_inside.ensures ∙ c.if-not-is_inside-2.false);
+      target_in = ap (λ s. shape_has s (region_of target)) (sym c.shape.ensures) ∙ (sym c.is_inside-else-not-is_inside.ensures ∙ c.if-not-is_inside-2.false);
     } in
     let size = ap product here.shape_is in
     record { number = refl; inside = here.inside; some = omega (arith, some, size); stand = piece_stands shape subchunk region (region_of cut) (region_of inside) (region_of target) n is }

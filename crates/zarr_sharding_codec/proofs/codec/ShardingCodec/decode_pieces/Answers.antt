@@ -49,20 +49,21 @@ loop-n-preserved g c =
     let inner = g.I.ArrayToBytesCodecTraits.meaning self.inner_codecs in
     let elements = elements_of c.args.array.elements.now in
     let shape = c.args.array.shape.now in
-    let edges = c.as_slice-edges.result.now in
-    let same = c.as_slice-edges.ensures.edges in
     let grid = c.as_slice-in-loop-n.ensures.value ∙ c.in_ok-grid.ensures in
     let n = c.loop-n.n in
     let count : c.in-Some.count ≡ product (grid_of shape subchunk) = c.in-Some.ensures.1 ∙ ap product (c.as_slice.ensures.value ∙ c.in_ok-grid.ensures) in
     let is = is_subchunk subchunk inner (g.X.ArrayToBytesCodecTraits.meaning self.index_codecs) (location_of self.index_location) elements shape n c.requires.fit (omega (arith, c.loop-n-test.true, count)) in
-    let are = region_numbers shape subchunk c.as_slice-in-loop-n.result.now edges c.in_ok-region.region.start.items c.in_ok-region.region.shape.items n is.cuts is.even is.below grid same c.in_ok-region.ensures.start c.in_ok-region.ensures.shape in
-    let before = c.loop-n.invariant in
+    let are = region_numbers shape subchunk c.as_slice-in-loop-n.result.now c.loop-n.region.shape.items c.in_ok-moved.moved.start.items c.in_ok-moved.moved.shape.items n is.cuts is.even is.below grid c.loop-n.invariant.whole c.in_ok-moved.ensures.start c.in_ok-moved.ensures.shape in
+    let before = c.loop-n.invariant.shown in
     let piece = c.in-Ok.ensures in
-    let region = region_of c.in_ok-region.region in
+    let region = region_of c.in_ok-moved.moved in
     let numbers = numbers_of shape region in
     let step = decode_step inner elements shape subchunk c.args.shard.value.now (pairs_of c.args.shard.index.now) n numbers before.0 piece.cells is are piece.is before.2 before.3 in
-    let many = step.many ∙ length-numbers shape region (sym c.in_ok-region.region.same) in
-    (put numbers piece.cells before.0, c.in_ok-all-in-Ok.ensures before.0 piece.cells before.1 piece.lists many, step.whole, step.shows)
+    let many = step.many ∙ length-numbers shape region (sym c.in_ok-moved.moved.same) in
+    record {
+      whole = c.in_ok-moved.ensures.shape ∙ c.loop-n.invariant.whole;
+      shown = (put numbers piece.cells before.0, c.in_ok-all-in-Ok.ensures before.0 piece.cells before.1 piece.lists many, step.whole, step.shows);
+    }
 
 pub returns : goal.returns
 returns g c =
@@ -75,7 +76,7 @@ returns g c =
     let parts = length-parts shape subchunk in
     let past = c.loop-n-test.false in
     let all : length (parts_of shape subchunk) ≤ c.loop-n.n = omega (arith, count, parts, past) in
-    let last = c.loop-n.invariant in
+    let last = c.loop-n.invariant.shown in
     record {
       cells = last.0;
       is = shown_all inner elements shape subchunk c.args.shard.value.now (pairs_of c.args.shard.index.now) last.0 c.loop-n.n

@@ -1,4 +1,4 @@
-use Rattle.std.proofs.Common.{◌≡◌, ◌∙◌, ap, sym, refl, subst, arith, rules, length, IsTrue, Option, Some, List, ℕ, replicate}
+use Rattle.std.proofs.Common.{◌≡◌, ◌∙◌, ap, sym, refl, subst, IsTrue, Option, Some, List, ℕ, replicate}
 use Rattle.zarr_codecs_arrays.specs.Views.{elements_of}
 use Rattle.zarr_codecs_meaning.specs.Chains.{sharded}
 use Rattle.zarr_codecs_meaning.specs.Places.{grid_of, index_shape}
@@ -59,10 +59,9 @@ returns-in_ok-fill_elements-in-Ok-None-clause-part g c = λ honest.
     let index = g.X.ArrayToBytesCodecTraits.meaning self.index_codecs in
     let location = location_of self.index_location in
     let shape = c.args.part.shape.now in
+    let asked = asked_of c.args.part.indexer in
     let contents = g.D.BytesPartialDecoderTraits.contents c.args.source.now in
-    let ok = c.in_ok-numbers-in-Ok-None.numbers.ok in
-    let many : c.in_ok-numbers-in-Ok-None.numbers.len ≡ length c.in_ok-numbers-in-Ok-None.numbers.items = first_of (omega (arith, ok), search rules, cc) in
     let none = fetched_nothing index location (index_shape shape self.subchunk_shape) contents c.in-Ok-None.field-0 c.in-Ok-None.field-0-is (c.in-Ok-None.ensures.index honest) in
-    part_filled (sharded self.subchunk_shape inner index location) (elements_of c.args.part.elements.now) shape contents c.in_ok-numbers-in-Ok-None.numbers.items (asked_of c.args.part.indexer) c.in_ok-fill_elements-in-Ok-None.field-0
-    c.requires.fit c.requires.inside c.in_ok-numbers-in-Ok-None.ensures.numbers none
-    (c.in_ok-fill_elements-in-Ok-None.ensures ∙ ap (λ k. Some (replicate k (elements_of c.args.part.elements.now).fill)) (c.len.ensures ∙ many))
+    part_filled (sharded self.subchunk_shape inner index location) (elements_of c.args.part.elements.now) shape contents (numbers_asked shape asked) asked c.in_ok-fill_elements-in-Ok-None.field-0
+    c.requires.fit c.requires.inside refl none
+    (c.in_ok-fill_elements-in-Ok-None.ensures ∙ ap (λ k. Some (replicate k (elements_of c.args.part.elements.now).fill)) c.in-Some.ensures.some)

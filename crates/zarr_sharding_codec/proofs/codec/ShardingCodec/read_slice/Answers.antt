@@ -13,7 +13,7 @@ returns g c =
     let subchunk = c.args.self.now.subchunk_shape in
     let asked = asked_of c.args.indexer in
     let r = c.partial_decode.result in
-    let held = subst (λ (stored : Option (List ℕ)). DecodesPart inner elements c.as_slice.result.now stored asked r) c.new-source.ensures.contents (c.partial_decode.ensures.part refl) in
-    let part = subst (λ (s : List ℕ). DecodesPart inner elements s (Some c.args.slice.items) asked r) c.as_slice.ensures.edges held in
+    let held = subst (λ (stored : Option (List ℕ)). DecodesPart inner elements c.as_slice-shape.result.now stored asked r) c.new-source.ensures.contents (c.partial_decode.ensures.part refl) in
+    let part = subst (λ (s : List ℕ). DecodesPart inner elements s (Some c.args.slice.items) asked r) c.as_slice-shape.ensures.edges held in
     let lists = slice_read inner elements subchunk c.args.slice.items asked r c.requires.fit c.requires.some c.requires.inside c.partial_decode.ensures.refused part in
     record { part = lists; no_source = λ count. lists_unrefused elements subchunk (slice_cells inner elements subchunk c.args.slice.items (numbers_asked subchunk asked)) r count lists }

@@ -74,8 +74,8 @@ loop-n-preserved g c = record {
       let taken = c.in_ok-piece.ensures cells valid.is in
       let whole = piece_valid elements shape subchunk edges numbers n cells (payload_of c.args.bytes.now) (payload_of c.in_ok-piece.piece) c.args.array.elements.now.fills is valid same are taken in
       let one = c.in-Ok.ensures.stored (gather elements.fill cells (part_at shape subchunk n).places) whole in
-      let pair = c.in_ok-push_slice-in-Ok.ensures.pair ∙ ap (λ b. pairs_of c.loop-n.index ++ pair_at (b + length c.loop-n.data.items) (slice_of c.in-Ok.slice) ∷ []) c.base-base.ensures in
-      stored_step inner exact elements shape subchunk edges n (base_of (location_of self.index_location) c.args.size) cells c.loop-n.data.items _ (pairs_of c.loop-n.index) _ (slice_of c.in-Ok.slice) is same (c.loop-n.invariant.laid cells valid) one c.in_ok-push_slice-in-Ok.ensures.slice pair;
+      let pair = c.in_ok-room-in-Ok.ensures.pair ∙ ap (λ b. pairs_of c.loop-n.index ++ pair_at (b + length c.loop-n.data.items) (slice_of c.in-Ok.slice) ∷ []) c.base-base.ensures in
+      stored_step inner exact elements shape subchunk edges n (base_of (location_of self.index_location) c.args.size) cells c.loop-n.data.items _ (pairs_of c.loop-n.index) _ (slice_of c.in-Ok.slice) is same (c.loop-n.invariant.laid cells valid) one c.in_ok-room-in-Ok.ensures.slice pair;
 }
 
 pub returns : goal.returns

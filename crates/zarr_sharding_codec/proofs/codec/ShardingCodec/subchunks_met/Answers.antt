@@ -5,7 +5,7 @@ use Rattle.zarr_grids_boxes.specs.Subsets.{region_of}
 use Rattle.zarr_codecs_meaning.specs.Places.{grid_of}
 use Rattle.zarr_codecs_meaning.proofs.Parts.{block}
 use Rattle.zarr_codecs_regions.proofs.InsideArray.{inside_rank}
-use Rattle.zarr_codecs_traits.specs.Indexers.{lies_in, numbers_of}
+use Rattle.zarr_codecs_traits.specs.Indexers.{shape_has, numbers_of}
 use Rattle.zarr_sharding_codec.specs.BoxReading.{AreMet}
 use Rattle.zarr_sharding_codec.proofs.BoxCuts.{IsMetBox, box_met}
 use Rattle.zarr_sharding_codec.proofs.codec.ShardingCodec.subchunks_met.Goals as goal
@@ -33,6 +33,6 @@ returns g c =
       shape_is = ap (λ (r : Region). r.shape) c.in-Ok.ensures.made
           ∙ (ap (λ (s : List ℕ). each2 (λ s e. e - s) s c.in_ok-past.past.items) first ∙ ap (each2 (λ s e. e - s) (block region.start subchunk)) past);
       long = c.in-Ok.met.same;
-      within = ap (λ (g : List ℕ). lies_in g met) (sym counts) ∙ (sym c.is_inside.ensures ∙ c.if-not-is_inside.false);
+      within = ap (λ (g : List ℕ). shape_has g met) (sym counts) ∙ (sym c.is_inside.ensures ∙ c.if-not-is_inside.false);
     } in
     subst (λ (ns : List ℕ). AreMet shape subchunk (numbers_of shape region) ns) (sym (c.in_ok-numbers_asked.ensures.numbers ∙ ap (λ (g : List ℕ). numbers_of g met) counts)) (box_met shape subchunk region met is)

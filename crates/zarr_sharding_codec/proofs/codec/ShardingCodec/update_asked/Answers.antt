@@ -18,7 +18,7 @@ use Rattle.zarr_sharding_codec.proofs.GroupsRead.{AskedShard}
 use Rattle.zarr_sharding_codec.proofs.ShardSizes.{divides_fit}
 use Rattle.zarr_sharding_codec.proofs.SoFarRead.{askable}
 use Rattle.zarr_sharding_codec.proofs.SoFarWritten.{below_more, put_as, stored_as}
-use Rattle.zarr_sharding_codec.proofs.StoredLoop.{inner_fit, rank_fits}
+use Rattle.zarr_sharding_codec.proofs.StoredLoop.{inner_fit}
 use Rattle.zarr_sharding_codec.proofs.WholeSubchunk.{whole_count, whole_given, whole_puts, whole_unwritten, whole_updated}
 use Rattle.zarr_sharding_codec.proofs.codec.ShardingCodec.update_asked.Goals as goal
 
@@ -32,11 +32,6 @@ whole_subchunk-requires-clause-even g c =
     let self = c.args.self.now in
     divides_fit self.subchunk_shape (g.I.ArrayToBytesCodecTraits.meaning self.inner_codecs) (g.X.ArrayToBytesCodecTraits.meaning self.index_codecs) (location_of self.index_location) (elements_of c.args.shard.elements.now).type c.args.given.shape.now c.requires.fit
 
-pub whole_subchunk-requires-clause-rank : goal.whole_subchunk-requires-clause-rank
-whole_subchunk-requires-clause-rank g c =
-    let self = c.args.self.now in
-    rank_fits self.subchunk_shape (g.I.ArrayToBytesCodecTraits.meaning self.inner_codecs) (g.X.ArrayToBytesCodecTraits.meaning self.index_codecs) (location_of self.index_location) (elements_of c.args.shard.elements.now) c.args.given.shape.now c.requires.fit
-
 pub replace_subchunk-requires-clause-fit : goal.replace_subchunk-requires-clause-fit
 replace_subchunk-requires-clause-fit g c =
     let self = c.args.self.now in
@@ -48,7 +43,7 @@ replace_subchunk-requires-clause-pair g c =
     let shape = c.args.given.shape.now in
     let numbers = numbers_asked shape (asked_of c.args.given.indexer) in
     let n = c.in-Some.n in
-    let is = subst (λ (o : Option ℕ). IfSome o (AreSubchunk shape self.subchunk_shape numbers)) c.in-Some.is c.in_ok-n.ensures in
+    let is = subst (λ (o : Option ℕ). IfSome o (AreSubchunk shape self.subchunk_shape numbers)) c.in-Some.is c.whole_subchunk.ensures in
     let below = is.below in
     let many = c.requires.many in
     omega (arith, below, many)
@@ -62,7 +57,7 @@ returns-in_err-one_change-in-Ok-clause-given g c = λ honest.
     let shape = c.args.given.shape.now in
     let numbers = numbers_asked shape (asked_of c.args.given.indexer) in
     let n = c.in-Some.n in
-    let is = subst (λ (o : Option ℕ). IfSome o (AreSubchunk shape self.subchunk_shape numbers)) c.in-Some.is c.in_ok-n.ensures in
+    let is = subst (λ (o : Option ℕ). IfSome o (AreSubchunk shape self.subchunk_shape numbers)) c.in-Some.is c.whole_subchunk.ensures in
     let s : AskedShard = record {
       inner = g.I.ArrayToBytesCodecTraits.meaning self.inner_codecs;
       elements = elements_of c.args.shard.elements.now;
@@ -82,7 +77,7 @@ returns-in_ok-one_change-in-Ok-clause-given g c = λ honest.
     let shape = c.args.given.shape.now in
     let numbers = numbers_asked shape (asked_of c.args.given.indexer) in
     let n = c.in-Some.n in
-    let is = subst (λ (o : Option ℕ). IfSome o (AreSubchunk shape self.subchunk_shape numbers)) c.in-Some.is c.in_ok-n.ensures in
+    let is = subst (λ (o : Option ℕ). IfSome o (AreSubchunk shape self.subchunk_shape numbers)) c.in-Some.is c.whole_subchunk.ensures in
     let s : AskedShard = record {
       inner = g.I.ArrayToBytesCodecTraits.meaning self.inner_codecs;
       elements = elements_of c.args.shard.elements.now;
@@ -102,7 +97,7 @@ returns-in-Err-clause-given g c = λ honest.
     let shape = c.args.given.shape.now in
     let numbers = numbers_asked shape (asked_of c.args.given.indexer) in
     let n = c.in-Some.n in
-    let is = subst (λ (o : Option ℕ). IfSome o (AreSubchunk shape self.subchunk_shape numbers)) c.in-Some.is c.in_ok-n.ensures in
+    let is = subst (λ (o : Option ℕ). IfSome o (AreSubchunk shape self.subchunk_shape numbers)) c.in-Some.is c.whole_subchunk.ensures in
     let s : AskedShard = record {
       inner = g.I.ArrayToBytesCodecTraits.meaning self.inner_codecs;
       elements = elements_of c.args.shard.elements.now;
@@ -122,7 +117,7 @@ returns-in_ok-one_change-in-Ok-clause-below g c =
     let shape = c.args.given.shape.now in
     let numbers = numbers_asked shape (asked_of c.args.given.indexer) in
     let n = c.in-Some.n in
-    let is = subst (λ (o : Option ℕ). IfSome o (AreSubchunk shape self.subchunk_shape numbers)) c.in-Some.is c.in_ok-n.ensures in
+    let is = subst (λ (o : Option ℕ). IfSome o (AreSubchunk shape self.subchunk_shape numbers)) c.in-Some.is c.whole_subchunk.ensures in
     let below = is.below in
     let many = c.requires.many in
     let number = c.in-Ok.ensures.number in
@@ -135,7 +130,7 @@ returns-in_ok-one_change-in-Ok-clause-changes g c = λ honest of cells valid.
     let shape = c.args.given.shape.now in
     let numbers = numbers_asked shape (asked_of c.args.given.indexer) in
     let n = c.in-Some.n in
-    let is = subst (λ (o : Option ℕ). IfSome o (AreSubchunk shape self.subchunk_shape numbers)) c.in-Some.is c.in_ok-n.ensures in
+    let is = subst (λ (o : Option ℕ). IfSome o (AreSubchunk shape self.subchunk_shape numbers)) c.in-Some.is c.whole_subchunk.ensures in
     let s : AskedShard = record {
       inner = g.I.ArrayToBytesCodecTraits.meaning self.inner_codecs;
       elements = elements_of c.args.shard.elements.now;
@@ -158,7 +153,7 @@ returns-in-Err-clause-changes g c = λ honest of cells valid.
     let shape = c.args.given.shape.now in
     let numbers = numbers_asked shape (asked_of c.args.given.indexer) in
     let n = c.in-Some.n in
-    let is = subst (λ (o : Option ℕ). IfSome o (AreSubchunk shape self.subchunk_shape numbers)) c.in-Some.is c.in_ok-n.ensures in
+    let is = subst (λ (o : Option ℕ). IfSome o (AreSubchunk shape self.subchunk_shape numbers)) c.in-Some.is c.whole_subchunk.ensures in
     let s : AskedShard = record {
       inner = g.I.ArrayToBytesCodecTraits.meaning self.inner_codecs;
       elements = elements_of c.args.shard.elements.now;

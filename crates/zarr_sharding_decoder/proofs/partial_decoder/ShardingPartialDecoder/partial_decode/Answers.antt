@@ -1,4 +1,4 @@
-use Rattle.std.proofs.Common.{◌≡◌, ◌∙◌, ◌*◌, ap, sym, refl, subst, arith, rules, length, Option, Some, List, ℕ, replicate}
+use Rattle.std.proofs.Common.{◌≡◌, ◌∙◌, ◌*◌, ap, sym, refl, subst, length, Option, Some, List, ℕ, replicate}
 use Rattle.zarr_codecs_arrays.specs.Views.{elements_of}
 use Rattle.zarr_codecs_meaning.specs.Chains.{sharded}
 use Rattle.zarr_codecs_meaning.specs.Places.{grid_of, index_shape, parts_of}
@@ -20,13 +20,13 @@ returns-in_default-held-clause-part g c = λ honest.
     let index = g.X.ArrayToBytesCodecTraits.meaning codec.index_codecs in
     let location = location_of codec.index_location in
     let elements = elements_of self.elements.now in
+    let shape = self.shape.now in
+    let asked = asked_of c.args.indexer in
     let contents = g.D.BytesPartialDecoderTraits.contents self.source.now in
-    let ok = c.in_ok-numbers.numbers.ok in
-    let many : c.in_ok-numbers.numbers.len ≡ length c.in_ok-numbers.numbers.items = first_of (omega (arith, ok), search rules, cc) in
     let none = held_nothing contents self.held c.in_default-held.is (self.told honest) in
-    part_filled (sharded codec.subchunk_shape inner index location) elements self.shape.now contents c.in_ok-numbers.numbers.items (asked_of c.args.indexer) c.in_ok-fill_elements.field-0
-    self.fit c.in_default.ensures c.in_ok-numbers.ensures.numbers none
-    (c.in_ok-fill_elements.ensures ∙ ap (λ k. Some (replicate k elements.fill)) (c.len.ensures ∙ many))
+    part_filled (sharded codec.subchunk_shape inner index location) elements shape contents (numbers_asked shape asked) asked c.in_ok-fill_elements.field-0
+    self.fit c.in_default.ensures refl none
+    (c.in_ok-fill_elements.ensures ∙ ap (λ k. Some (replicate k elements.fill)) c.in-Some-count_asked.ensures.some)
 
 pub read_asked-requires-clause-many : goal.read_asked-requires-clause-many
 read_asked-requires-clause-many g c =

@@ -1,4 +1,4 @@
-use Rattle.std.proofs.Common.{◌≡◌, ◌∙◌, ap, sym, subst, arith, length, List, ℕ, ◌<◌, ◌^◌}
+use Rattle.std.proofs.Common.{◌≡◌, ◌∙◌, ap, sym, subst, arith, List, ℕ, ◌<◌, ◌^◌}
 use Rattle.zarr_codecs_meaning.specs.Places.{grid_of}
 use Rattle.zarr_grids_boxes.specs.Boxes.{IsIndex, product, ravel}
 use Rattle.zarr_grids_boxes.proofs.Dimensions.{ravel_below}

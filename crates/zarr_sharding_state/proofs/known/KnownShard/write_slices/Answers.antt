@@ -8,5 +8,5 @@ use Rattle.zarr_sharding_state.proofs.known.KnownShard.write_slices.Goals as goa
 pub write_index-requires-clause-many : goal.write_index-requires-clause-many
 write_index-requires-clause-many g c =
     let self = c.args.self.now in
-    let many = ap (λ (l : List Pair). length l) c.in_ok-index.ensures ∙ changed_count (end_of self) (changes_of c.args.changes.now) (pairs_in self) in
+    let many = ap (λ (l : List Pair). length l) c.in_ok-index.ensures ∙ changed_count (end_of self) (changes_of c.args.given.changes.now) (pairs_in self) in
     c.requires.many ∙ ap (λ n. 2 * n) (sym many)

@@ -1,0 +1,210 @@
+//! A part of a chunk put into its value, of which other elements aren't decoded.
+ghost use Rattle.std.specs.Prelude.{◌≡◌};
+ghost use Rattle.zarr_array_core.specs.ChunkValues.{IsPutRefusal, put_refusal_of};
+
+use crate::array_core::ArrayCore;
+use crate::chunk_value::BoxWrite;
+use crate::error::ChunkError;
+use crate::moving::{overlap_in, seen_from};
+use crate::rooms::ChunkRooms;
+use crate::store_calls::{get, set};
+use zarr_array_storage::WritableStorageTraits;
+use zarr_codecs_arrays::{ArrayBytes, CodecError};
+use zarr_codecs_traits::{ArrayPart, ArrayToBytesCodecTraits, Indexer, MemorySource};
+use zarr_grids_boxes::ArraySubset;
+use zarr_grids_boxes::walk::count_places;
+use zarr_grids_keys::StoreKey;
+
+/// Why elements are not put into a chunk's value where its codecs refuse.
+fn of_putting(error: CodecError) -> ChunkError
+    requires { IsPutRefusal error }
+    ensures { result ≡ put_refusal_of error }
+{
+    match error {
+        CodecError::Damage => ChunkError::Damage,
+        CodecError::Memory => ChunkError::Memory,
+        _ => unreachable!(),
+    }
+}
+
+impl<C: ArrayToBytesCodecTraits> ArrayCore<C> {
+    ghost use Rattle.std.specs.Prelude.{◌≡◌, ◌*◌, ℕ, List, Option, Some, None, true, false, length, IsTrue, IfOk, OnOk, OnErr, IfErr};
+    ghost use Rattle.std.specs.FinMap as map;
+    ghost use Rattle.std.specs.List.{list_all};
+    ghost use Rattle.zarr_array_core.specs.ChunkValues.{ChangesValue, ChangeStops, PutsCells, PutStops, with_value};
+    ghost use Rattle.zarr_array_core.specs.Outcomes.{CountsUpTo, refused_after};
+    ghost use Rattle.zarr_array_core.specs.Views.{array_cells, AreSoMany, document_of, is_exact};
+    ghost use Rattle.zarr_array_meaning.specs.Chunks.{holds_box};
+    ghost use Rattle.zarr_array_meaning.specs.Writing.{is_in_part};
+    ghost use Rattle.zarr_array_storage.specs.Stores.{value_bytes};
+    ghost use Rattle.zarr_codecs_arrays.specs.Views.{payload_of};
+    ghost use Rattle.zarr_codecs_meaning.specs.Chunks.{chunk_decoded};
+    ghost use Rattle.zarr_codecs_meaning.specs.Fits.{fits};
+    ghost use Rattle.zarr_codecs_meaning.specs.Types.{Cell, is_value, IsTooLarge};
+    ghost use Rattle.zarr_codecs_traits.specs.Indexers.{in_box};
+    ghost use Rattle.zarr_codecs_traits.specs.PartWriting.{IsEncodedInto, NotEncodedInto};
+    ghost use Rattle.zarr_codecs_traits.specs.Sources.{refused_after as refused_calls, source_contents};
+    ghost use Rattle.zarr_grids_boxes.specs.Boxes.{product, share_place};
+    ghost use Rattle.zarr_grids_boxes.specs.Subsets.{region_of};
+    ghost use Rattle.zarr_grids_overlay.specs.Overlays.{extent_of};
+
+    /// Puts elements in the place of those of a box of a chunk of this shape, in the value that a
+    /// source holds.
+    fn encode_into<'x>(
+        &'x self,
+        source: &mut MemorySource,
+        write: &BoxWrite,
+        given: ArrayBytes,
+        shape: &'x [u64],
+        part: &'x ArraySubset,
+    ) -> Result<(), CodecError>
+        ensures ok { OnOk result ((cells : List Cell)
+            × IsEncodedInto (document_of C.meaning self.now).chain
+            (C.is_function self.now.codecs) (document_of C.meaning self.now).elements shape.now
+            (in_box (region_of part.now)) (payload_of given) cells (source_contents source.old)
+            (source_contents source.new)) }
+        ensures cause { NotEncodedInto (document_of C.meaning self.now).chain
+            (document_of C.meaning self.now).elements shape.now (in_box (region_of part.now))
+            (payload_of given) (source_contents source.old) result }
+        ensures refused { refused_calls 0 result ≡ 0 }
+    {
+        let elements = &self.elements;
+        let indexer = Indexer::Subset(part);
+        let asked = ArrayPart {
+            elements,
+            shape,
+            indexer,
+        };
+        self.codecs
+            .partial_encode(write.alloc, source, given, asked, write.options)
+    }
+
+    /// Puts the elements of a box that lie in a chunk into the value that a source holds for it.
+    fn put_into(
+        &self,
+        rooms: &mut ChunkRooms,
+        source: &mut MemorySource,
+        write: &BoxWrite,
+        own: &ArraySubset,
+    ) -> Result<(), ChunkError>
+        requires small { ¬ IsTooLarge (document_of C.meaning self.now).elements.type
+            (product own.now.shape.items) }
+        requires fit { fits (document_of C.meaning self.now).chain
+            (document_of C.meaning self.now).elements.type own.now.shape.items ≡ true }
+        requires shares { share_place own.now.start.items own.now.shape.items
+            write.now.region.start.now write.now.region.shape.now ≡ true }
+        requires rank { length write.now.region.start.now ≡ length own.now.start.items }
+        requires many { AreSoMany self.now write.now.bytes.now
+            (product write.now.region.shape.now) }
+        requires values { list_all (is_value (document_of C.meaning self.now).elements.type)
+            (array_cells self.now write.now.bytes.now) ≡ true }
+        requires in_part { is_in_part (document_of C.meaning self.now) write.now.options.now
+            (extent_of write.now.region) (region_of own.now) ≡ true }
+        ensures ok { OnOk result (PutsCells (document_of C.meaning self.now)
+            (extent_of write.now.region) (array_cells self.now write.now.bytes.now)
+            (region_of own.now) (source_contents source.old) (source_contents source.new)) }
+        ensures err { IfErr result (PutStops (document_of C.meaning self.now)
+            (region_of own.now) (source_contents source.old)) }
+    {
+        let shared = overlap_in(rooms.take_shared(), write.subset, own)?;
+        let bytes = self.whole_cells(write, &shared)?;
+        let part = seen_from(shared, own.start());
+        match self.encode_into(source, write, bytes, own.shape(), &part) {
+            Ok(()) => Ok(()),
+            Err(error) => Err(of_putting(error)),
+        }
+    }
+
+    /// What is stored for a chunk after the elements of a box that lie in it were put there. Where
+    /// the codecs leave no value, it is the fill value encoded.
+    fn value_with_part(
+        &self,
+        rooms: &mut ChunkRooms,
+        write: &BoxWrite,
+        own: &ArraySubset,
+        stored: Option<Vec<u8>>,
+    ) -> Result<Vec<u8>, ChunkError>
+        requires small { ¬ IsTooLarge (document_of C.meaning self.now).elements.type
+            (product own.now.shape.items) }
+        requires fit { fits (document_of C.meaning self.now).chain
+            (document_of C.meaning self.now).elements.type own.now.shape.items ≡ true }
+        requires shares { share_place own.now.start.items own.now.shape.items
+            write.now.region.start.now write.now.region.shape.now ≡ true }
+        requires rank { length write.now.region.start.now ≡ length own.now.start.items }
+        requires many { AreSoMany self.now write.now.bytes.now
+            (product write.now.region.shape.now) }
+        requires values { list_all (is_value (document_of C.meaning self.now).elements.type)
+            (array_cells self.now write.now.bytes.now) ≡ true }
+        requires in_part { is_in_part (document_of C.meaning self.now) write.now.options.now
+            (extent_of write.now.region) (region_of own.now) ≡ true }
+        ensures ok { IfOk result (λ value. PutsCells (document_of C.meaning self.now)
+            (extent_of write.now.region) (array_cells self.now write.now.bytes.now)
+            (region_of own.now) (value_bytes stored) (Some value.items)) }
+        ensures err { IfErr result (PutStops (document_of C.meaning self.now)
+            (region_of own.now) (value_bytes stored)) }
+    {
+        let mut source = MemorySource::new(stored);
+        self.put_into(rooms, &mut source, write, own)?;
+        match source.into_value() {
+            Some(value) => Ok(value),
+            None => {
+                let count = count_places(own.shape()).unwrap();
+                let fill = self.fill_elements(write.alloc, count)?;
+                self.encode_value(write, own.shape(), fill)
+            }
+        }
+    }
+
+    /// Puts the elements of a box that lie in a chunk into what is stored for the chunk, which isn't
+    /// decoded, if the chunk is written in part.
+    pub(crate) fn put_part<S: WritableStorageTraits>(
+        &self,
+        rooms: &mut ChunkRooms,
+        store: &mut S,
+        key: &StoreKey,
+        write: &BoxWrite,
+        own: &ArraySubset,
+    ) -> Result<(), ChunkError>
+        requires small { ¬ IsTooLarge (document_of C.meaning self.now).elements.type
+            (product own.now.shape.items) }
+        requires fit { fits (document_of C.meaning self.now).chain
+            (document_of C.meaning self.now).elements.type own.now.shape.items ≡ true }
+        requires shares { share_place own.now.start.items own.now.shape.items
+            write.now.region.start.now write.now.region.shape.now ≡ true }
+        requires rank { length write.now.region.start.now ≡ length own.now.start.items }
+        requires many { AreSoMany self.now write.now.bytes.now
+            (product write.now.region.shape.now) }
+        requires values { list_all (is_value (document_of C.meaning self.now).elements.type)
+            (array_cells self.now write.now.bytes.now) ≡ true }
+        requires part { IsTrue (S.is_honest store.old) →
+            holds_box (extent_of write.now.region) (region_of own.now) ≡ false }
+        requires lost { IsTrue (S.is_honest store.old) →
+            chunk_decoded (document_of C.meaning self.now).chain
+            (document_of C.meaning self.now).elements own.now.shape.items
+            (map.get (S.held store.old) key.now) ≡ None }
+        ensures ok { IsTrue (S.is_honest store.old) → OnOk result ((made : Option (List ℕ))
+            × ChangesValue (document_of C.meaning self.now)
+            (is_exact C.is_function self.now) (extent_of write.now.region)
+            (array_cells self.now write.now.bytes.now) write.now.options.now
+            (region_of own.now) (map.get (S.held store.old) key.now) made
+            × (S.held store.new ≡ with_value (S.held store.old) key.now made)) }
+        ensures err { IsTrue (S.is_honest store.old) → IfErr result
+            (ChangeStops (document_of C.meaning self.now) (extent_of write.now.region)
+            (array_cells self.now write.now.bytes.now) write.now.options.now
+            (region_of own.now) (map.get (S.held store.old) key.now)) }
+        ensures kept { IsTrue (S.is_honest store.old) →
+            OnErr result (S.held store.new ≡ S.held store.old) }
+        ensures honest { S.is_honest store.new ≡ S.is_honest store.old }
+        ensures refused { S.refused_calls store.new ≡
+            refused_after (S.refused_calls store.old) result }
+        ensures counts { CountsUpTo 1 (S.accepted_writes store.old)
+            (S.accepted_writes store.new) }
+    {
+        if !self.is_in_part(write, own)? {
+            return Err(ChunkError::Damage);
+        }
+        let stored = get(store, key)?;
+        let value = self.value_with_part(rooms, write, own, stored)?;
+        set(store, key, value.as_slice())
+    }
+}

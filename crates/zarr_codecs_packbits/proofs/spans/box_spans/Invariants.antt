@@ -1,0 +1,10 @@
+use Rattle.std.proofs.Common.{◌≤◌, ◌+◌, ◌^◌, IfSome}
+use Rattle.zarr_codecs_packbits.specs.Spans.{IsOpen}
+use Rattle.zarr_codecs_packbits.specs.declared.spans.Span.{Span}
+use Rattle.zarr_codecs_packbits.proofs.spans.box_spans.Given as goal
+
+abbrev pub invariant-loop-number : goal.invariant-loop-number
+invariant-loop-number l = record {
+  small : IfSome l.open (λ (span : Span). span.start + span.count ≤ 2 ^ 63);
+  so_far : IsOpen l.yielded l.spans.items l.open;
+}
