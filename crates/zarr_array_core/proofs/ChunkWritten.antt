@@ -6,7 +6,7 @@ use Rattle.std.specs.FinMap.{get, get-insert, get-remove}
 use Rattle.std.proofs.Math.Bool.{and-true, and-false}
 use Rattle.std.proofs.lemmas.Bool.{false≢true, lt-ltb}
 use Rattle.std.proofs.lemmas.Cmp.{nat_list_cmp_total}
-use Rattle.std.proofs.lemmas.List.{ext_get_or, get_or-replicate, length-replicate}
+use Rattle.std.proofs.lemmas.List.{ext_get_or, length-replicate}
 use Rattle.std.proofs.lemmas.List.FromFn.{get_or-map-range_with_len, length-map-range_with_len}
 use Rattle.std.proofs.lemmas.Map.Text.{is_eq-slice_cmp}
 use Rattle.std.proofs.lemmas.Option.{none-some}
@@ -21,18 +21,16 @@ use Rattle.zarr_grids_chunks.proofs.Partition.{lies_here}
 use Rattle.zarr_grids_cover.proofs.ChunkBoxes.{chunk_box-rank}
 use Rattle.zarr_grids_cover.proofs.ChunkLaws.{chunks_apart}
 use Rattle.zarr_grids_keys.specs.Keys.{chunk_key}
-use Rattle.zarr_codecs_meaning.specs.Chains.{Chain}
 use Rattle.zarr_codecs_meaning.specs.Chunks.{chunk_decoded, chunk_part, IsStored}
-use Rattle.zarr_codecs_meaning.specs.Fits.{fits}
 use Rattle.zarr_codecs_meaning.specs.Laws.{AreCells}
 use Rattle.zarr_codecs_meaning.specs.Standing.{Stands, ChunkStands}
-use Rattle.zarr_codecs_meaning.specs.Types.{Cell, of_bytes, absent, present, is_value, is_fill, same_cell, Elements}
+use Rattle.zarr_codecs_meaning.specs.Types.{Cell, of_bytes, absent, present, is_value, is_fill, same_cell}
 use Rattle.zarr_codecs_meaning.proofs.Chunks.{stored_decoded, stored_part, stored_once}
 use Rattle.zarr_codecs_meaning.proofs.DecodedElements.{all_filled}
 use Rattle.zarr_codecs_meaning.proofs.Lists.{some_same}
 use Rattle.zarr_codecs_options.specs.declared.codec_options.CodecOptions.{CodecOptions}
 use Rattle.zarr_array_meaning.specs.Boxes.{cell_of_box, with_chunks}
-use Rattle.zarr_array_meaning.specs.Chunks.{number_in, stored_at, fits_box, decoded_at, part_at, ReadsCell, holds_box, is_listed}
+use Rattle.zarr_array_meaning.specs.Chunks.{number_in, stored_at, fits_box, part_at, ReadsCell, holds_box, is_listed}
 use Rattle.zarr_array_meaning.specs.Documents.{Document}
 use Rattle.zarr_array_meaning.specs.Standing.{ChunkStandsAt, IsLossless, IsGood, AreValues}
 use Rattle.zarr_array_meaning.specs.StoreMaps.{StoreMap}

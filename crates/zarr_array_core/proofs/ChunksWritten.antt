@@ -29,7 +29,7 @@ use Rattle.zarr_array_core.specs.declared.error.ChunkError.TheVariants as error
 use Rattle.zarr_array_core.proofs.ChunkCells.{cell_value}
 use Rattle.zarr_array_core.proofs.ChunkWritten.{AreApart, becomes_at, wrote_changed}
 use Rattle.zarr_array_core.proofs.Listed.{list_any-append, listed_one, one_listed, listed_more, before_listed, last_listed, listed_number}
-use Rattle.zarr_array_core.proofs.MetChunks.{first_chunks, first_chunks-more, first_chunks-all, first_chunks-take, first_chunks-below, met_number, length-intersecting}
+use Rattle.zarr_array_core.proofs.NthChunks.{first_chunks, first_chunks-more, first_chunks-all, first_chunks-take, first_chunks-below, nth_number, length-intersecting}
 
 -- ---- cells of several chunks
 
@@ -247,7 +247,7 @@ write_stops path document exact region chunks given payload options n chunk box 
       lists = lists;
       chunk = chunk;
       box = box;
-      met = met_number document.grid region chunks n chunk box walk.chunks_rank walk.intersecting below at here;
+      nth = nth_number document.grid region chunks n chunk box walk.chunks_rank walk.intersecting below at here;
       stops = chunk_stops path document region given options chunk box old e (subst (λ (o : Option (List ℕ)). ChangeStops document region given options box o e) before stops);
       wrote = subst (λ (cs : List (List ℕ)). WroteChunks path document exact region given options cs old new) (first_chunks-take document.grid region chunks n walk.chunks_rank walk.intersecting (omega arith))
           (subst (λ (m : StoreMap). WroteChunks path document exact region given options (first_chunks chunks n) old m) (sym same) wrote);

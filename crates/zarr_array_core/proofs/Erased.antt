@@ -14,7 +14,7 @@ use Rattle.zarr_array_meaning.specs.Writing.{ErasedChunks}
 use Rattle.zarr_array_core.specs.Outcomes.{EraseStops, IsErasureStop}
 use Rattle.zarr_array_core.specs.declared.error.ChunkError.{ChunkError}
 use Rattle.zarr_array_core.proofs.Listed.{listed_more, before_listed, last_listed}
-use Rattle.zarr_array_core.proofs.MetChunks.{first_chunks, first_chunks-more, first_chunks-places, first_chunks-taken}
+use Rattle.zarr_array_core.proofs.NthChunks.{first_chunks, first_chunks-more, first_chunks-places, first_chunks-taken}
 
 -- ---- one key taken out
 get-removed : (m : StoreMap) (k q : List ℕ) → get (remove m k) q ≡ cond (bytes_eq q k) None (get m q)

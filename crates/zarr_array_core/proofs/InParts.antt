@@ -1,5 +1,5 @@
 -- Chains that are written in part and make no shard: `bytes`, alone or after array codecs. Their values have one size, nothing refuses their cells, and only a value that doesn't open is damaged.
-use Rattle.std.proofs.Common.{◌≡◌, ◌∙◌, ℕ, ◌*◌, ◌^◌, ◌<◌, ◌≤◌, ◌⊎◌, Bool, true, false, ◌&&◌, if◌then◌else◌, List, [], ◌∷◌, length, map, get_or, refl, sym, ap, subst, arith, Option, Some, None, Result, Ok, Err, IsTrue, inl, inr}
+use Rattle.std.proofs.Common.{◌≡◌, ◌∙◌, ℕ, ◌*◌, ◌^◌, ◌≤◌, ◌⊎◌, Bool, true, false, ◌&&◌, if◌then◌else◌, List, ◌∷◌, length, map, get_or, refl, sym, ap, subst, arith, Option, Some, None, Result, Ok, Err, IsTrue, inl, inr}
 use Rattle.std.specs.Prelude.{not, IfErr, MatchOption}
 use Rattle.std.specs.List.{range_with_len}
 use Rattle.std.proofs.lemmas.Bool.{and_parts, false≢true, leb-true}
@@ -12,7 +12,7 @@ use Rattle.zarr_codecs_meaning.specs.Chains.ArrayCodec.{transpose, reshape, sque
 use Rattle.zarr_codecs_meaning.specs.Chains.BytesRepresentation.{fixed_size, bounded_size, unbounded_size}
 use Rattle.zarr_codecs_meaning.specs.Chains.Chain.{bytes, packbits, vlen, optional, after_array_codec, then_bytes, sharded}
 use Rattle.zarr_codecs_meaning.specs.Decoding.{opens}
-use Rattle.zarr_codecs_meaning.specs.Fits.{array_codec_fits, at_most, bound_of, fits, is_plain, order_fits, representation_of, sum_of_bounds}
+use Rattle.zarr_codecs_meaning.specs.Fits.{array_codec_fits, at_most, bound_of, fits, is_lossless, is_plain, order_fits, representation_of, sum_of_bounds}
 use Rattle.zarr_codecs_meaning.specs.Partial.{encodes_in_part}
 use Rattle.zarr_codecs_meaning.specs.Places.{Part, encoded_shape, gather, index_shape, parts_of, position_of, source_places, undone_places}
 use Rattle.zarr_codecs_meaning.specs.Refusals.{CodecRefuses, PassesIndex}
@@ -22,13 +22,16 @@ use Rattle.zarr_codecs_meaning.proofs.Covers.{array_codec_covers}
 use Rattle.zarr_codecs_meaning.proofs.Once.{array_codec_once, covering_long}
 use Rattle.zarr_codecs_meaning.proofs.Positions.{among_at}
 use Rattle.zarr_codecs_options.specs.declared.codec_options.CodecOptions.{CodecOptions}
-use Rattle.zarr_codecs_traits.specs.PartWriting.{IsDamaged, PassesLength}
+use Rattle.zarr_codecs_traits.specs.PartWriting.{MeetsLost, PassesLength, StopsWrite}
+use Rattle.zarr_codecs_traits.specs.Indexers.{Asked, numbers_asked}
+use Rattle.zarr_codecs_traits.proofs.Damage.{plain_placed, stops_part}
+use Rattle.zarr_codecs_meaning.specs.Payloads.{Payload}
 use Rattle.zarr_codecs_traits.specs.Representations.{IsRepresented, tells_too_long}
 use Rattle.zarr_codecs_traits.specs.declared.bytes_representation.BytesRepresentation.{BytesRepresentation}
 use Rattle.zarr_codecs_traits.specs.declared.bytes_representation.BytesRepresentation.TheVariants.{FixedSize, BoundedSize, UnboundedSize}
 use Rattle.zarr_array_meaning.specs.Chunks.{fits_box, holds_box}
 use Rattle.zarr_array_meaning.specs.Documents.{Document}
-use Rattle.zarr_array_meaning.specs.Writing.{is_in_part, may_be_in_part, opens_in}
+use Rattle.zarr_array_meaning.specs.Writing.{is_in_part, may_be_in_part}
 use Rattle.zarr_array_core.specs.ChunkValues.{EncodeRefuses, OnDamage, PutStops}
 use Rattle.zarr_array_core.specs.Outcomes.{IsErasureStop}
 use Rattle.zarr_array_core.specs.PartWrites.{tells_size}
@@ -92,16 +95,34 @@ none_long (sharded subchunk within index location) elements shape stored cells i
 abbrev Opens : Chain → Elements → List ℕ → Option (List ℕ) → Bool
 Opens chain elements shape stored = elim stored [ None ↦ true | Some value ↦ opens chain elements shape value ]
 
-pub damaged_closed : (chain : Chain) (elements : Elements) (shape : List ℕ) (stored : Option (List ℕ)) → IsInPart chain → IsDamaged chain elements shape stored → Opens chain elements shape stored ≡ false
-damaged_closed (bytes order) elements shape None is h = absurd h
-damaged_closed (bytes order) elements shape (Some value) is h = h
-damaged_closed (packbits padding first last) elements shape stored is h = absurd (false≢true is.partly)
-damaged_closed (vlen index «data» width location) elements shape stored is h = absurd (false≢true is.partly)
-damaged_closed (optional mask values) elements shape stored is h = absurd (false≢true is.partly)
-damaged_closed (after_array_codec codec chain) elements shape None is h = damaged_closed chain elements (encoded_shape codec shape) None (inner codec chain is) h
-damaged_closed (after_array_codec codec chain) elements shape (Some value) is h = damaged_closed chain elements (encoded_shape codec shape) (Some value) (inner codec chain is) h
-damaged_closed (then_bytes chain codec) elements shape stored is h = absurd (false≢true is.partly)
-damaged_closed (sharded subchunk within index location) elements shape stored is h = absurd (false≢true is.plain)
+-- no subchunk is met
+none_met : (chain : Chain) (elements : Elements) (shape value numbers : List ℕ) → IsInPart chain → MeetsLost chain elements shape value numbers → ⊥
+none_met (bytes order) elements shape value numbers is h = h
+none_met (packbits padding first last) elements shape value numbers is h = h
+none_met (vlen index «data» width location) elements shape value numbers is h = h
+none_met (optional mask values) elements shape value numbers is h = h
+none_met (after_array_codec codec chain) elements shape value numbers is h = none_met chain elements (encoded_shape codec shape) value (map (λ n. position_of n (source_places codec shape)) numbers) (inner codec chain is) h
+none_met (then_bytes chain codec) elements shape value numbers is h = absurd (false≢true is.partly)
+none_met (sharded subchunk within index location) elements shape value numbers is h = absurd (false≢true is.plain)
+
+-- each bit is kept
+keeps_bits : (chain : Chain) (type : DataType) → IsInPart chain → is_lossless chain type ≡ true
+keeps_bits (bytes order) type is = refl
+keeps_bits (packbits padding first last) type is = absurd (false≢true is.partly)
+keeps_bits (vlen index «data» width location) type is = absurd (false≢true is.partly)
+keeps_bits (optional mask values) type is = absurd (false≢true is.partly)
+keeps_bits (after_array_codec codec chain) type is = keeps_bits chain type (inner codec chain is)
+keeps_bits (then_bytes chain codec) type is = absurd (false≢true is.partly)
+keeps_bits (sharded subchunk within index location) type is = absurd (false≢true is.plain)
+
+pub stopped_closed : (chain : Chain) (elements : Elements) (shape : List ℕ) (asked : Asked) (payload : Payload) (stored : Option (List ℕ)) → IsInPart chain → StopsWrite chain elements shape asked payload stored → Opens chain elements shape stored ≡ false
+stopped_closed chain elements shape asked payload stored is (inr h) = (let why = h.1 (keeps_bits chain elements.type is) in absurd (none_long chain elements shape stored _ is why.is))
+stopped_closed chain elements shape asked payload None is (inl h) = absurd h
+stopped_closed chain elements shape asked payload (Some value) is (inl h) = elim (stops_part chain elements shape value (numbers_asked shape asked) is.partly h) [
+  | inl closed ↦ closed
+  | inr (inl lost) ↦ absurd (none_met chain elements shape value (numbers_asked shape asked) is lost)
+  | inr (inr outside) ↦ absurd (plain_placed chain shape (Some value) is.plain is.partly outside)
+]
 
 -- the fill value is encoded
 pub fill_stops : (document : Document) (box : Region) (stored : Option (List ℕ)) (cells : List Cell) (e : ChunkError) → IsInPart document.chain → EncodeRefuses document box.shape cells e → PutStops document box stored e

@@ -1,6 +1,6 @@
 pub mod Listed
 pub mod ChunkBoxes
-pub mod MetChunks
+pub mod NthChunks
 pub mod Erased
 pub mod Selected
 pub mod Placed

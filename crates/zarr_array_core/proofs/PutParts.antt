@@ -1,5 +1,5 @@
 -- The elements of a box put into what a chunk's value holds, whatever its other elements are.
-use Rattle.std.proofs.Common.{◌≡◌, ◌∙◌, ℕ, zero, suc, ◌<◌, ◌&&◌, ◌⊎◌, Bool, true, false, List, [], ◌∷◌, length, map, get_or, set, replicate, refl, sym, ap, subst, arith, Option, Some, None, Err, inl, inr}
+use Rattle.std.proofs.Common.{◌≡◌, ◌∙◌, ℕ, zero, suc, ◌<◌, ◌&&◌, Bool, true, false, List, [], ◌∷◌, length, map, get_or, set, replicate, refl, sym, ap, subst, arith, Option, Some, None, Err, inl, inr}
 use Rattle.std.specs.Prelude.{MatchBool, MatchOption}
 use Rattle.std.specs.List.{list_all}
 use Rattle.std.proofs.lemmas.Bool.{false≢true}
@@ -10,18 +10,18 @@ use Rattle.zarr_grids_boxes.specs.Boxes.{Region, product, place_at, is_in_box, s
 use Rattle.zarr_grids_boxes.specs.Cuts.{overlapped, relative}
 use Rattle.zarr_grids_boxes.proofs.InBox.{in_box-place_at, place_at-number, ravel-place_at}
 use Rattle.zarr_grids_boxes.proofs.Places.{both}
-use Rattle.zarr_codecs_meaning.specs.Chunks.{chunk_decoded, chunk_part, IsStored}
+use Rattle.zarr_codecs_meaning.specs.Chunks.{chunk_part, IsStored}
 use Rattle.zarr_codecs_meaning.specs.Decoding.{opens}
 use Rattle.zarr_codecs_meaning.specs.Fits.{is_lossless}
 use Rattle.zarr_codecs_meaning.specs.Laws.{AreCells, IsLawfulChain}
-use Rattle.zarr_codecs_meaning.specs.Payloads.{Payload, cells_in}
+use Rattle.zarr_codecs_meaning.specs.Payloads.{Payload}
 use Rattle.zarr_codecs_meaning.specs.Standing.{Stands}
 use Rattle.zarr_codecs_meaning.specs.Types.{Cell, is_fill, is_value, IsTooLarge}
 use Rattle.zarr_codecs_meaning.proofs.Chunks.{stored_decoded}
 use Rattle.zarr_codecs_meaning.proofs.DecodedElements.{all_filled}
 use Rattle.zarr_codecs_meaning.proofs.Lists.{some_same}
 use Rattle.zarr_codecs_options.specs.declared.codec_options.CodecOptions.{CodecOptions}
-use Rattle.zarr_codecs_arrays.specs.Outcomes.{IsCounted, IsInvalid, IsMisformed, IsOtherCount}
+use Rattle.zarr_codecs_arrays.specs.Outcomes.{IsCounted}
 use Rattle.zarr_codecs_arrays.specs.declared.error.CodecError.{CodecError}
 use Rattle.zarr_codecs_arrays.specs.declared.error.CodecError.TheVariants as codec_error
 use Rattle.zarr_codecs_traits.specs.Indexers.{in_box, numbers_of, put}
@@ -34,7 +34,7 @@ use Rattle.zarr_array_meaning.specs.Writing.{is_in_part, opens_in}
 use Rattle.zarr_array_meaning.proofs.TakenParts.{part_of_decoded}
 use Rattle.zarr_array_core.specs.ChunkValues.{CellsBecome, IsPutRefusal, PutsCells, PutStops, put_refusal_of}
 use Rattle.zarr_array_core.proofs.ChunkPayloads.{AreArrayElements, listed_none, not_counted}
-use Rattle.zarr_array_core.proofs.InParts.{IsInPart, parts_of_write, damaged_closed, no_codec_refuses, none_long, none_passes}
+use Rattle.zarr_array_core.proofs.InParts.{IsInPart, parts_of_write, stopped_closed, no_codec_refuses, none_long, none_passes}
 use Rattle.zarr_array_elements.proofs.ByNumber.{AreDistinct}
 use Rattle.zarr_array_elements.proofs.FixedCells.{number_below}
 use Rattle.zarr_array_elements.proofs.Meeting.{IsMeeting, meeting}
@@ -225,7 +225,7 @@ counted_asked document region box given payload sub are =
 why_not_put : (A : Type 0) (document : Document) (region box : Region) (given : List Cell) (payload : Payload) (sub : List Cell) (stored : Option (List ℕ)) (e : CodecError) → ArePut document region box given payload sub → ¬ IsTooLarge document.elements.type (product box.shape)
     → NotEncodedInto {A = A} document.chain document.elements box.shape (in_box (part_of region box)) payload stored (Err e) → IsPutStop document box stored e
 why_not_put A document region box given payload sub stored codec_error.Fit are small h = false≢true (sym h ∙ are.fit)
-why_not_put A document region box given payload sub stored codec_error.Damage are small h = damaged_closed document.chain document.elements box.shape stored are.chain h.1
+why_not_put A document region box given payload sub stored codec_error.Damage are small h = stopped_closed document.chain document.elements box.shape _ payload stored are.chain h.1
 why_not_put A document region box given payload sub stored codec_error.Codec are small h = no_codec_refuses document.chain document.elements box.shape _ are.chain h.is
 why_not_put A document region box given payload sub stored codec_error.Source are small h = tt
 why_not_put A document region box given payload sub stored codec_error.Size are small (inl large) = small large

@@ -25,7 +25,7 @@ use Rattle.zarr_array_core.specs.Parts.{GivesChunk, PartStops}
 use Rattle.zarr_array_core.specs.declared.error.ChunkError.{ChunkError}
 use Rattle.zarr_array_core.specs.declared.error.ChunkError.TheVariants as error
 use Rattle.zarr_array_core.proofs.Listed.{list_any-append, listed_more, intersecting_listed}
-use Rattle.zarr_array_core.proofs.MetChunks.{first_chunks, first_chunks-more, first_chunks-all, shares_here, met_number, met_before}
+use Rattle.zarr_array_core.proofs.NthChunks.{first_chunks, first_chunks-more, first_chunks-all, shares_here, nth_number, nth_before}
 use Rattle.zarr_array_core.proofs.Placed.{same_box}
 
 -- ---- the chunks that were read so far: their places show what is read of them, and the other places are fill values
@@ -164,9 +164,9 @@ read_before : (path : List ℕ) (document : Document) (store : StoreMap) (region
     → chunk ≡ place_at chunks.start chunks.shape n → IsInGrid document.grid chunk box → ReadSoFar path document store region (first_chunks chunks n) cells → AreReadBefore path document store region chunk box
 read_before path document store region chunks n chunk box cells l are below at here read = record {
   number = n;
-  met = met_number document.grid region chunks n chunk box l are below at here;
+  nth = nth_number document.grid region chunks n chunk box l are below at here;
   each = λ m earlier other less met.
-      let there = met_before document.grid region chunks n m earlier other l are (omega arith) less met in
+      let there = nth_before document.grid region chunks n m earlier other l are (omega arith) less met in
       record {
         fit = read.fit earlier other there.1 there.0;
         whole = λ place of_region of_chunk. ap is_some (read.each earlier other place (record { below = there.1; of_region = of_region; of_chunk = of_chunk }) there.0);

@@ -6,7 +6,7 @@ use Rattle.zarr_codecs_meaning.specs.Payloads.{Payload, cells_in}
 use Rattle.zarr_codecs_meaning.specs.Types.{Cell, IsTooLarge}
 use Rattle.zarr_codecs_options.specs.declared.codec_options.CodecOptions.{CodecOptions}
 use Rattle.zarr_array_meaning.specs.Boxes.{IsRead, IsDamagedIn, IsUnfitIn}
-use Rattle.zarr_array_meaning.specs.Chunks.{IsMet, fits_box}
+use Rattle.zarr_array_meaning.specs.Chunks.{IsNthIntersecting, fits_box}
 use Rattle.zarr_array_meaning.specs.Documents.{Document}
 use Rattle.zarr_array_meaning.specs.StoreMaps.{StoreMap, counted}
 use Rattle.zarr_array_meaning.specs.Writing.{IsPartDamaged, IsCodecRefused, IsOversized, WroteChunks, ErasedChunks}
@@ -69,7 +69,7 @@ pub record WriteStops (path : List ℕ) (document : Document) (exact : Bool) (re
   pub lists : cells_in document.elements.type payload ≡ Some cells
   pub chunk : List ℕ
   pub box : Region
-  pub met : IsMet document.grid region stopped.applied chunk box
+  pub nth : IsNthIntersecting document.grid region stopped.applied chunk box
   pub stops : ChunkStops path document old region cells options chunk box stopped.error
   pub wrote : WroteChunks path document exact region cells options (take stopped.applied (intersecting document.grid region)) old new
 
@@ -77,7 +77,7 @@ pub record WriteStops (path : List ℕ) (document : Document) (exact : Bool) (re
 abbrev pub CountsUpTo : ℕ → ℕ → ℕ → Type 0
 CountsUpTo n old new = (counted old 0 ≤ new) × (new ≤ old + n)
 
--- at most one writing call of the store for each chunk that a box intersects
+-- in all, no more writing calls are accepted than a box intersects chunks
 abbrev pub CountsWrites : Document → Region → ℕ → ℕ → Type 0
 CountsWrites document region old new = CountsUpTo (length (intersecting document.grid region)) old new
 
@@ -93,6 +93,6 @@ pub record EraseStops (path : List ℕ) (document : Document) (chunks : Region) 
   pub stops : IsErasureStop stopped.error
   pub erased : ErasedChunks path document (take stopped.applied (places chunks.start chunks.shape)) old new
 
--- at most one writing call of the store for each of these chunks
+-- in all, no more writing calls are accepted than there are chunks
 abbrev pub CountsErasures : Region → ℕ → ℕ → Type 0
 CountsErasures chunks old new = CountsUpTo (product chunks.shape) old new

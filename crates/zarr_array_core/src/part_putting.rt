@@ -28,7 +28,7 @@ fn of_putting(error: CodecError) -> ChunkError
 }
 
 impl<C: ArrayToBytesCodecTraits> ArrayCore<C> {
-    ghost use Rattle.std.specs.Prelude.{◌≡◌, ◌*◌, ℕ, List, Option, Some, None, true, false, length, IsTrue, IfOk, OnOk, OnErr, IfErr};
+    ghost use Rattle.std.specs.Prelude.{◌≡◌, ℕ, List, Option, Some, None, true, false, length, IsTrue, IfOk, OnOk, OnErr, IfErr};
     ghost use Rattle.std.specs.FinMap as map;
     ghost use Rattle.std.specs.List.{list_all};
     ghost use Rattle.zarr_array_core.specs.ChunkValues.{ChangesValue, ChangeStops, PutsCells, PutStops, with_value};
@@ -155,8 +155,8 @@ impl<C: ArrayToBytesCodecTraits> ArrayCore<C> {
         }
     }
 
-    /// Puts the elements of a box that lie in a chunk into what is stored for the chunk, which isn't
-    /// decoded, if the chunk is written in part.
+    /// Puts the elements of a box that lie in a chunk into what is stored for the chunk, which
+    /// isn't decoded, if the chunk is written in part.
     pub(crate) fn put_part<S: WritableStorageTraits>(
         &self,
         rooms: &mut ChunkRooms,

@@ -32,15 +32,15 @@ impl<C: ArrayToBytesCodecTraits> ArrayCore<C> {
 
     /// Writes the elements of a region that is not empty, row-major, chunk by chunk: `bytes` are as
     /// many values of the array's data type as the region has places. A chunk that becomes all fill
-    /// loses its key, unless empty chunks are stored. Each chunk takes at most one writing call of
-    /// the store. A chunk that lies in the region is written whatever is stored for it, and nothing
+    /// loses its key, unless empty chunks are stored. In all, the store accepts no more writing calls
+    /// than the region intersects chunks. A chunk that lies in the region is written whatever is stored for it, and nothing
     /// is fetched for it.
     ///
     /// `Fit` where a chunk does not fit its codecs, `Damage` where a part of a chunk is to stay and
-    /// what is stored cannot be decoded, or, if the chunk is written in part, has another length than
-    /// the chunk's elements, `Codec` where a codec refuses to encode, `Size` where an
-    /// offset or a length is too large for where it is written, `Storage` where the store refuses.
-    /// The chunks before the one that stopped stay written.
+    /// what is stored cannot be decoded, or, if the chunk is written in part, has another length
+    /// than the chunk's elements, `Codec` where a codec refuses to encode, `Size` where an offset
+    /// or a length is too large for where it is written, `Storage` where the store refuses. The
+    /// chunks before the one that stopped stay written.
     pub fn write_region<S: WritableStorageTraits>(
         &self,
         rooms: &mut ChunkRooms,

@@ -14,7 +14,7 @@ use Rattle.zarr_codecs_meaning.specs.Types.{Cell, is_fill}
 use Rattle.zarr_codecs_meaning.proofs.Lists.{some_same}
 use Rattle.zarr_codecs_options.specs.declared.codec_options.CodecOptions.{CodecOptions}
 use Rattle.zarr_array_meaning.specs.Boxes.{cell_of_box, IsDamagedIn, IsUnfitIn, ReadsOneWay}
-use Rattle.zarr_array_meaning.specs.Chunks.{stored_at, decoded_at, fits_box, holds_box, IsMet}
+use Rattle.zarr_array_meaning.specs.Chunks.{stored_at, fits_box, holds_box, IsNthIntersecting}
 use Rattle.zarr_array_meaning.specs.Documents.{Document}
 use Rattle.zarr_array_meaning.specs.StoreMaps.{StoreMap}
 use Rattle.zarr_array_meaning.specs.Writing.{cell_read, ChunkBecomes, DecodesAlikeOutside, stores_fill, WrittenUndamaged, WrittenKeysAlike, RewrittenAlike}
@@ -23,23 +23,23 @@ use Rattle.zarr_array_meaning.proofs.TakenParts.{read_of_decoded}
 
 -- ---- reads
 
--- one chunk is met at each number
-met_once : (grid : Grid) (region : Region) (n m : ℕ) (chunk other : List ℕ) (box over : Region) → IsMet grid region n chunk box → IsMet grid region m other over → n ≡ m → box ≡ over
-met_once grid region n m chunk other box over a b e =
+-- one chunk stands at each number
+nth_once : (grid : Grid) (region : Region) (n m : ℕ) (chunk other : List ℕ) (box over : Region) → IsNthIntersecting grid region n chunk box → IsNthIntersecting grid region m other over → n ≡ m → box ≡ over
+nth_once grid region n m chunk other box over a b e =
     let same : chunk ≡ other = some_same (sym a.listed ∙ (ap (slice_get (intersecting grid region)) e ∙ b.listed)) in
     some_same (sym a.has_box ∙ (ap (chunk_box grid) same ∙ b.has_box))
 
 damaged_or_unfit : (path : List ℕ) (document : Document) (store : StoreMap) (region : Region) → IsDamagedIn path document store region → IsUnfitIn path document store region → ⊥
 damaged_or_unfit path document store region d u = ⊎_elim
     (λ e.
-    let same = met_once document.grid region d.first.number u.first.number d.chunk u.chunk d.box u.box d.first.met u.first.met e in
+    let same = nth_once document.grid region d.first.number u.first.number d.chunk u.chunk d.box u.box d.first.nth u.first.nth e in
     false≢true (sym u.fit ∙ (ap (fits_box document) (sym same) ∙ d.fit)))
     (λ apart. ⊎_elim
     (λ less.
-    let read = u.first.each d.first.number d.chunk d.box less d.first.met in
+    let read = u.first.each d.first.number d.chunk d.box less d.first.nth in
     false≢true (sym (ap is_some d.lost) ∙ read.whole d.place d.is.of_region d.is.of_chunk))
     (λ more.
-    let read = d.first.each u.first.number u.chunk u.box more u.first.met in
+    let read = d.first.each u.first.number u.chunk u.box more u.first.nth in
     false≢true (sym u.fit ∙ read.fit u.stored))
     apart)
     (cases_order d.first.number u.first.number)

@@ -4,7 +4,7 @@ use Rattle.std.specs.List.{list_any}
 use Rattle.zarr_grids_boxes.specs.Boxes.{Region, product, is_in_box}
 use Rattle.zarr_grids_chunks.specs.Grids.{Grid, IsInGrid, intersects, lies_in_chunk}
 use Rattle.zarr_codecs_meaning.specs.Types.{Cell}
-use Rattle.zarr_array_meaning.specs.Chunks.{number_in, stored_at, fits_box, part_at, ReadsCell, IsMet}
+use Rattle.zarr_array_meaning.specs.Chunks.{number_in, stored_at, fits_box, part_at, ReadsCell, IsNthIntersecting}
 use Rattle.zarr_array_meaning.specs.Documents.{Document}
 use Rattle.zarr_array_meaning.specs.StoreMaps.{StoreMap}
 
@@ -36,8 +36,8 @@ pub record IsPartRead (path : List ℕ) (document : Document) (store : StoreMap)
 -- a chunk is one that a box intersects, and each one before it is read: those are taken row-major
 pub record AreReadBefore (path : List ℕ) (document : Document) (store : StoreMap) (region : Region) (chunk : List ℕ) (box : Region) : Type 0 where
   pub number : ℕ
-  pub met : IsMet document.grid region number chunk box
-  pub each : (n : ℕ) (earlier : List ℕ) (other : Region) → n < number → IsMet document.grid region n earlier other → IsPartRead path document store region earlier other
+  pub nth : IsNthIntersecting document.grid region number chunk box
+  pub each : (n : ℕ) (earlier : List ℕ) (other : Region) → n < number → IsNthIntersecting document.grid region n earlier other → IsPartRead path document store region earlier other
 
 -- the first chunk that a box intersects and that isn't read fits the chain, and a place of both is damaged
 pub record IsDamagedIn (path : List ℕ) (document : Document) (store : StoreMap) (region : Region) : Type 0 where

@@ -36,7 +36,7 @@ abbrev pub ReadsCell : List ℕ → Document → StoreMap → List ℕ → Regio
 ReadsCell path document store chunk box place cell = part_at path document store chunk box place ≡ Some (cell ∷ [])
 
 -- the chunk at a place among those that a box intersects, and its box
-pub record IsMet (grid : Grid) (region : Region) (n : ℕ) (chunk : List ℕ) (box : Region) : Type 0 where
+pub record IsNthIntersecting (grid : Grid) (region : Region) (n : ℕ) (chunk : List ℕ) (box : Region) : Type 0 where
   pub listed : slice_get (intersecting grid region) n ≡ Some chunk
   pub has_box : chunk_box grid chunk ≡ Some box
 

@@ -72,7 +72,7 @@ pub record IsOversized (path : List ℕ) (document : Document) (store : StoreMap
   pub called : stores_fill document options region box ≡ false → is_fill document.elements.fill cells ≡ false
   pub passes : PassesIndex document.chain document.elements box.shape cells ⊎ ((value : List ℕ) × (encoded document.chain document.elements box.shape cells ≡ Some value) × (2 ^ 63 ≤ length value))
 
--- a chunk that was written has its new cells, and a key exactly where these are not all fill or such a chunk is stored, whatever the chain keeps of them; its value is what encoding makes of these cells, where that depends on them alone (`exact`), as without shards, and each cell that is to stay was decoded
+-- a chunk that was written has its new cells, and a key exactly where these are not all fill or such a chunk is stored, whatever the chain keeps of them; its value is what encoding makes of these cells, where that depends on them alone (`exact`), as without shards, and the box holds the whole chunk or the chunk was decoded before
 pub record IsKeyed (path : List ℕ) (document : Document) (exact : Bool) (region : Region) (values : List Cell) (options : CodecOptions) (old new : StoreMap) (chunk : List ℕ) (box : Region) : Type 0 where
   pub cells : List Cell
   pub becomes : ChunkBecomes path document old region values options chunk box cells
@@ -94,7 +94,7 @@ ShowsWritten path document region values chunks old new = (chunk : List ℕ) (bo
     (part_at path document new chunk box place ≡ part_at path document old chunk box place)
 
 -- the cells of a box are given to some of the chunks that it intersects. Where the chain keeps every bit, each chunk is read so afterwards; one that stood for its cells stands for its new ones;
--- and one that lies in the box stands for the given cells, whatever was stored. Whatever the chain keeps, each chunk fits, one of which a part is to stay was not damaged, each has a key exactly where its new cells call for one, and only those chunks' keys changed; and where what encoding makes of cells depends on these alone (`exact`), each value is the encoding of its chunk's new cells, if each cell that is to stay was decoded
+-- and one that lies in the box stands for the given cells, whatever was stored. Whatever the chain keeps, each chunk fits, one of which a part is to stay was not damaged, each has a key exactly where its new cells call for one, and only those chunks' keys changed; and where what encoding makes of cells depends on these alone (`exact`), each value is the encoding of its chunk's new cells, if the box holds the whole chunk or the chunk was decoded before
 pub record WroteChunks (path : List ℕ) (document : Document) (exact : Bool) (region : Region) (values : List Cell) (options : CodecOptions) (chunks : List (List ℕ)) (old new : StoreMap) : Type 0 where
   pub fit : (chunk : List ℕ) (box : Region) → IsInGrid document.grid chunk box → is_listed chunks chunk ≡ true → fits_box document box ≡ true
   pub undamaged : (chunk : List ℕ) (box : Region) → IsInGrid document.grid chunk box → is_listed chunks chunk ≡ true → holds_box region box ≡ false
@@ -132,7 +132,7 @@ DecodesAlikeOutside path document region old before chunk box = (a : List Cell) 
     × ((place : List ℕ) → is_in_box region.start region.shape place ≡ false → is_in_box box.start box.shape place ≡ true
     → cell_of_box box a document.elements.fill place ≡ cell_of_box box b document.elements.fill place)
 
--- two writes of the same cells with the same options leave the same value of a chunk, or none, whatever was stored before: where a part of the chunk is to stay, that part has to be decoded alike. So a rewrite leaves what a first write leaves
+-- two writes of the same cells with the same options leave the same value of a chunk, or none, whatever was stored before: where a part of the chunk is to stay, the chunk has to be decoded before both, and that part alike. So a second write leaves the value of a first one, where the chunk is decoded before both, and what stays alike
 abbrev pub RewrittenAlike : Type 0
 RewrittenAlike = (path : List ℕ) (document : Document) (region : Region) (values : List Cell) (options : CodecOptions) (chunks others : List (List ℕ)) (old new before after : StoreMap) (chunk : List ℕ) (box : Region)
     → WroteChunks path document true region values options chunks old new → WroteChunks path document true region values options others before after

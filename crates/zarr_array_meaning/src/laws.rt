@@ -1,5 +1,5 @@
-//! Laws of written documents, of the cells that a store shows, and of what reads and writes of boxes
-//! may leave. Each function does nothing: its contract is the law.
+//! Laws of written documents, of the cells that a store shows, and of what reads and writes of
+//! boxes may leave. Each function does nothing: its contract is the law.
 ghost use Rattle.zarr_array_meaning.specs.Laws.{MetadataReadsBack, DocumentReadsBack, WrittenOnce};
 ghost use Rattle.zarr_array_meaning.specs.Boxes.{ReadsOneWay};
 ghost use Rattle.zarr_array_meaning.specs.Standing.{StandingShows, NothingStoredShows, ShowingSomething, ReadsValues};
@@ -41,8 +41,8 @@ pub fn reads_values()
     ensures { ReadsValues }
 {}
 
-/// A box is read, or the first chunk of it that isn't read is damaged, or that chunk doesn't fit: over
-/// the same store no two of these hold.
+/// A box is read, or the first chunk of it that isn't read is damaged, or that chunk doesn't fit:
+/// over the same store no two of these hold.
 pub fn reads_one_way()
     ensures { ReadsOneWay }
 {}
@@ -52,14 +52,15 @@ pub fn written_undamaged()
     ensures { WrittenUndamaged }
 {}
 
-/// Writes of the same cells over the same store leave keys to the same chunks, whatever the chain keeps
-/// of the cells.
+/// Writes of the same cells over the same store leave keys to the same chunks, whatever the chain
+/// keeps of the cells.
 pub fn written_keys_alike()
     ensures { WrittenKeysAlike }
 {}
 
-/// Where what the codecs make of cells depends on these alone, as without shards, a rewrite leaves no
-/// trace of what was stored: writes of the same cells leave the same value of a chunk.
+/// Where what the codecs make of cells depends on these alone, as without shards, a second write of
+/// the same cells leaves the value of a first one, where the chunk is decoded before both, and what
+/// stays alike.
 pub fn rewritten_alike()
     ensures { RewrittenAlike }
 {}

@@ -1,4 +1,5 @@
-//! What array documents say, what a store holds, and which cells of an array it stands for: definitions and their laws.
+//! What array documents say, what a store holds, and which cells of an array it stands for:
+//! definitions and their laws.
 #![tactic(auto)]
 
 pub mod error;

@@ -102,7 +102,8 @@ impl ValueMap {
     }
 
     /// Writes ranges into the value at a key where each of them ends within it, and copies nothing
-    /// else. `false` where there is no value or one of them ends past its end; then none is written.
+    /// else. `false` where there is no value or one of them ends past its end; then none is
+    /// written.
     fn set_within(&mut self, key: &str, patches: &[ValuePatch]) -> bool
         ensures written { result ≡ true → self.new
             ≡ map.insert self.old key.now (patched_at self.old key.now patches.now) }
@@ -118,8 +119,8 @@ impl ValueMap {
         true
     }
 
-    /// Writes ranges into the value at a key, one after another; no value counts as empty, and zeros
-    /// come where a range begins past the end. An `Err` leaves all as it was.
+    /// Writes ranges into the value at a key, one after another; no value counts as empty, and
+    /// zeros come where a range begins past the end. An `Err` leaves all as it was.
     pub(crate) fn set_partial(
         &mut self,
         key: &str,

@@ -56,7 +56,7 @@ larger_before codec type shape fit large = subst (IsTooLarge type) (array_codec_
 
 -- ---- elements that are moved are elements still
 
-not_invalid : (type : DataType) (payload : Payload) (count : ℕ) (cells : List Cell) (e : CodecError) → IsCounted type payload count cells → list_all (is_value type) cells ≡ true → IsInvalid type payload count e → ⊥
+pub not_invalid : (type : DataType) (payload : Payload) (count : ℕ) (cells : List Cell) (e : CodecError) → IsCounted type payload count cells → list_all (is_value type) cells ≡ true → IsInvalid type payload count e → ⊥
 not_invalid type payload count cells error.ExpectedFixedLengthBytes counted values h = let e = sym counted.lists ∙ h.0 in cc
 not_invalid type payload count cells error.ExpectedVariableLengthBytes counted values h = let e = sym counted.lists ∙ h.0 in cc
 not_invalid type payload count cells error.ExpectedOptionalBytes counted values h = let e = sym counted.lists ∙ h.0 in cc

@@ -8,3 +8,7 @@ pub mod Taken
 pub mod WritingAfter
 pub mod Compacting
 pub mod Copied
+pub mod Picked
+pub mod BoxParts
+pub mod BoxWrites
+pub mod Kept

@@ -9,11 +9,13 @@ use Rattle.std.proofs.lemmas.Map.Views.{exact_unsigned_eq}
 use Rattle.std.proofs.lemmas.Slice.Eq.{bytes_eq-Decides}
 use Rattle.zarr_grids_boxes.specs.Boxes.{product}
 use Rattle.zarr_codecs_meaning.specs.Chains.{ArrayCodec, Chain}
+use Rattle.zarr_codecs_meaning.specs.Chains.ArrayCodec.{transpose, reshape, squeeze}
 use Rattle.zarr_codecs_meaning.specs.Chains.Chain.{after_array_codec}
 use Rattle.zarr_codecs_meaning.specs.Chunks.{chunk_decoded, chunk_part}
 use Rattle.zarr_codecs_meaning.specs.Decoding.{decoded}
 use Rattle.zarr_codecs_meaning.specs.Encoding.{encoded}
-use Rattle.zarr_codecs_meaning.specs.Fits.{array_codec_fits}
+use Rattle.zarr_codecs_meaning.specs.Fits.{array_codec_fits, is_plain}
+use Rattle.zarr_codecs_meaning.specs.Partial.{encodes_in_part}
 use Rattle.zarr_codecs_meaning.specs.Payloads.{Payload}
 use Rattle.zarr_codecs_meaning.specs.Places.{encoded_shape, gather, position_of, source_places, undone_places}
 use Rattle.zarr_codecs_meaning.specs.Refusals.{CodecRefuses, PassesIndex}
@@ -32,7 +34,9 @@ use Rattle.zarr_codecs_arrays.specs.declared.error.CodecError.{CodecError}
 use Rattle.zarr_codecs_arrays.specs.declared.error.CodecError.TheVariants as error
 use Rattle.zarr_codecs_array_to_array.specs.Moving.{are_places, moved_numbers}
 use Rattle.zarr_codecs_traits.specs.Indexers.{Asked, are_inside, listed, numbers_asked, put}
-use Rattle.zarr_codecs_traits.specs.PartWriting.{ChunkTight, IsEncodedInto, IsRefusedInto, NotEncodedInto, PassesLength, cells_after, cells_shown, only_cell}
+use Rattle.zarr_codecs_traits.specs.PartWriting.{ChunkTight, IsEncodedInto, IsRefusedInto, NotEncodedInto, PassesLength, StopsWrite, cells_after, cells_shown, only_cell}
+use Rattle.zarr_codecs_traits.proofs.Damage.{damaged_before}
+use Rattle.zarr_codecs_around.specs.Views.{plain_before, with_array_codecs}
 use Rattle.zarr_codecs_around.proofs.ArrayCodecs.{fit_after, larger_before, same_part, unfit_after}
 use Rattle.zarr_codecs_around.proofs.PartChains.{asked_places}
 
@@ -49,7 +53,7 @@ equal_or_not i j = by_test (i == j) refl where
   by_test false e = inr (λ same. (let yes : true ≡ false = sym (eq-eqb i j same) ∙ e in cc))
 
 -- lists of as many elements, each the same
-same_lists : {X : Type 0} (other : X) (xs ys : List X) (count : ℕ) → length xs ≡ count → length ys ≡ count → ((i : ℕ) → i < count → get_or xs i other ≡ get_or ys i other) → xs ≡ ys
+pub same_lists : {X : Type 0} (other : X) (xs ys : List X) (count : ℕ) → length xs ≡ count → length ys ≡ count → ((i : ℕ) → i < count → get_or xs i other ≡ get_or ys i other) → xs ≡ ys
 same_lists other xs ys count first second law =
     fill_by_all (λ i. get_or ys i other) xs count other first law ∙ sym (fill_by_all (λ i. get_or ys i other) ys count other second (λ i below. refl))
 
@@ -93,7 +97,7 @@ length-put (n ∷ ns) (x ∷ given) xs = length-put ns given (set xs n x) ∙ le
 -- ---- the places of an array codec
 
 -- moved numbers are those of places
-are_moved : (codec : ArrayCodec) (shape numbers : List ℕ) → array_codec_fits codec shape ≡ true → are_places shape numbers ≡ true → are_places (encoded_shape codec shape) (moved_numbers codec shape numbers) ≡ true
+pub are_moved : (codec : ArrayCodec) (shape numbers : List ℕ) → array_codec_fits codec shape ≡ true → are_places shape numbers ≡ true → are_places (encoded_shape codec shape) (moved_numbers codec shape numbers) ≡ true
 are_moved codec shape [] fit inside = refl
 are_moved codec shape (n ∷ ns) fit inside =
     let places = source_places codec shape in
@@ -103,7 +107,7 @@ are_moved codec shape (n ∷ ns) fit inside =
     (lt-ltb (position_of n places) (product (encoded_shape codec shape)) (omega (arith, found, array_codec_count codec shape fit))) (are_moved codec shape ns fit both.1)
 
 -- the places after the codec of the places before it stand once
-undone_once : (codec : ArrayCodec) (shape : List ℕ) → array_codec_fits codec shape ≡ true → IsOnce (product (encoded_shape codec shape)) (undone_places codec shape)
+pub undone_once : (codec : ArrayCodec) (shape : List ℕ) → array_codec_fits codec shape ≡ true → IsOnce (product (encoded_shape codec shape)) (undone_places codec shape)
 undone_once codec shape fit =
     let places = source_places codec shape in
     let count = product shape in
@@ -268,7 +272,7 @@ written_after codec chain exact elements shape numbers payload cells old new fit
 
 -- ---- what is refused
 
-mapped_at : {X Y : Type 0} (f : X → Y) (xs : List X) (n : ℕ) (other : X) → get_or (map f xs) n (f other) ≡ f (get_or xs n other)
+pub mapped_at : {X Y : Type 0} (f : X → Y) (xs : List X) (n : ℕ) (other : X) → get_or (map f xs) n (f other) ≡ f (get_or xs n other)
 mapped_at f [] n other = refl
 mapped_at f (x ∷ xs) zero other = refl
 mapped_at f (x ∷ xs) (suc n) other = mapped_at f xs n other
@@ -308,20 +312,34 @@ refused_into codec chain elements shape numbers payload stored inner outer fit i
   is = law (cells_after (after_array_codec codec chain) elements shape stored numbers h.cells) (subst inner (sym (after_moved codec chain elements shape numbers stored h.cells fit inside)) h.is);
 }
 
+-- what is stored is not decoded, where what the codec moved isn't
+undecoded_after : (codec : ArrayCodec) (chain : Chain) (elements : Elements) (shape : List ℕ) (stored : Option (List ℕ)) → chunk_decoded chain elements (encoded_shape codec shape) stored ≡ None → chunk_decoded (after_array_codec codec chain) elements shape stored ≡ None
+undecoded_after codec chain elements shape None none = absurd (cc)
+undecoded_after codec chain elements shape (Some value) none = ap (option_map (λ cells. gather elements.fill cells (undone_places codec shape))) none
+
+stopped_after : (codec : ArrayCodec) (chain : Chain) (elements : Elements) (shape numbers : List ℕ) (payload : Payload) (stored : Option (List ℕ)) → array_codec_fits codec shape ≡ true → are_places shape numbers ≡ true
+    → encodes_in_part (after_array_codec codec chain) ≡ encodes_in_part chain → StopsWrite chain elements (encoded_shape codec shape) (listed (moved_numbers codec shape numbers)) payload stored → StopsWrite (after_array_codec codec chain) elements shape (listed numbers) payload stored
+stopped_after codec chain elements shape numbers payload stored fit inside partly (inl damage) = inl (damaged_before codec chain elements shape stored numbers partly damage)
+stopped_after codec chain elements shape numbers payload stored fit inside partly (inr full) = inr (
+  undecoded_after codec chain elements shape stored full.0,
+  λ lossless. refused_into codec chain elements shape numbers payload stored (PassesLength chain elements (encoded_shape codec shape) stored) (PassesLength (after_array_codec codec chain) elements shape stored) fit inside (λ after why. why) (full.1 lossless),
+)
+
 pub unwritten_after : {A : Type 0} (codec : ArrayCodec) (chain : Chain) (elements : Elements) (shape numbers : List ℕ) (payload : Payload) (stored : Option (List ℕ)) (r : Result A CodecError) → array_codec_fits codec shape ≡ true → are_places shape numbers ≡ true
-    → NotEncodedInto chain elements (encoded_shape codec shape) (listed (moved_numbers codec shape numbers)) payload stored r → NotEncodedInto (after_array_codec codec chain) elements shape (listed numbers) payload stored r
-unwritten_after codec chain elements shape numbers payload stored (Ok value) fit inside h = tt
-unwritten_after codec chain elements shape numbers payload stored (Err error.Fit) fit inside h = unfit_after codec chain elements.type shape h
-unwritten_after codec chain elements shape numbers payload stored (Err error.IncompatibleIndexer) fit inside h = absurd (let e = sym (are_moved codec shape numbers fit inside) ∙ h in cc)
-unwritten_after codec chain elements shape numbers payload stored (Err error.Size) fit inside (inl large) = inl (larger_before codec elements.type shape fit large)
-unwritten_after codec chain elements shape numbers payload stored (Err error.Size) fit inside (inr h) =
+    → encodes_in_part (after_array_codec codec chain) ≡ encodes_in_part chain → NotEncodedInto chain elements (encoded_shape codec shape) (listed (moved_numbers codec shape numbers)) payload stored r → NotEncodedInto (after_array_codec codec chain) elements shape (listed numbers) payload stored r
+unwritten_after codec chain elements shape numbers payload stored (Ok value) fit inside partly h = tt
+unwritten_after codec chain elements shape numbers payload stored (Err error.Fit) fit inside partly h = unfit_after codec chain elements.type shape h
+unwritten_after codec chain elements shape numbers payload stored (Err error.IncompatibleIndexer) fit inside partly h = absurd (let e = sym (are_moved codec shape numbers fit inside) ∙ h in cc)
+unwritten_after codec chain elements shape numbers payload stored (Err error.Size) fit inside partly (inl large) = inl (larger_before codec elements.type shape fit large)
+unwritten_after codec chain elements shape numbers payload stored (Err error.Size) fit inside partly (inr h) =
     inr (refused_into codec chain elements shape numbers payload stored _ (λ after. PassesIndex (after_array_codec codec chain) elements shape after ⊎ PassesLength (after_array_codec codec chain) elements shape stored after) fit inside (λ after why. why) h)
-unwritten_after codec chain elements shape numbers payload stored (Err error.Codec) fit inside h =
+unwritten_after codec chain elements shape numbers payload stored (Err error.Codec) fit inside partly h =
     refused_into codec chain elements shape numbers payload stored (CodecRefuses chain elements (encoded_shape codec shape)) (CodecRefuses (after_array_codec codec chain) elements shape) fit inside (λ after why. why) h
-unwritten_after codec chain elements shape numbers payload stored (Err error.Damage) fit inside h = (fit_after codec chain elements.type shape fit h.0, h.1)
-unwritten_after codec chain elements shape numbers payload stored (Err error.Source) fit inside h = tt
-unwritten_after codec chain elements shape numbers payload stored (Err error.Memory) fit inside h = tt
-unwritten_after codec chain elements shape numbers payload stored (Err e) fit inside h =
+unwritten_after codec chain elements shape numbers payload stored (Err error.Damage) fit inside partly h =
+    (fit_after codec chain elements.type shape fit h.0, stopped_after codec chain elements shape numbers payload stored fit inside partly h.1)
+unwritten_after codec chain elements shape numbers payload stored (Err error.Source) fit inside partly h = tt
+unwritten_after codec chain elements shape numbers payload stored (Err error.Memory) fit inside partly h = tt
+unwritten_after codec chain elements shape numbers payload stored (Err e) fit inside partly h =
     (fit_after codec chain elements.type shape fit h.0, subst (λ n. IsInvalid elements.type payload n e) (moved_count codec shape numbers) h.1)
 
 -- ---- boxes by the numbers of their places
@@ -335,6 +353,11 @@ listed_refused : (chain : Chain) (elements : Elements) (shape : List ℕ) (asked
     → IsRefusedInto chain elements shape (listed (numbers_asked shape asked)) payload stored refuses → IsRefusedInto chain elements shape asked payload stored refuses
 listed_refused chain elements shape asked payload stored refuses inside h = record { cells = h.cells; valid = h.valid; fit = h.fit; inside = inside; is = h.is }
 
+stopped_by_numbers : (chain : Chain) (elements : Elements) (shape : List ℕ) (asked : Asked) (payload : Payload) (stored : Option (List ℕ)) → are_inside shape asked ≡ true → StopsWrite chain elements shape (listed (numbers_asked shape asked)) payload stored
+    → StopsWrite chain elements shape asked payload stored
+stopped_by_numbers chain elements shape asked payload stored inside (inl damage) = inl damage
+stopped_by_numbers chain elements shape asked payload stored inside (inr full) = inr (full.0, λ lossless. listed_refused chain elements shape asked payload stored (PassesLength chain elements shape stored) inside (full.1 lossless))
+
 pub unwritten_by_numbers : {A : Type 0} (chain : Chain) (elements : Elements) (shape : List ℕ) (asked : Asked) (payload : Payload) (stored : Option (List ℕ)) (r : Result A CodecError) → are_inside shape asked ≡ true
     → NotEncodedInto chain elements shape (listed (numbers_asked shape asked)) payload stored r → NotEncodedInto chain elements shape asked payload stored r
 unwritten_by_numbers chain elements shape asked payload stored (Ok value) inside h = tt
@@ -343,7 +366,7 @@ unwritten_by_numbers chain elements shape asked payload stored (Err error.Incomp
 unwritten_by_numbers chain elements shape asked payload stored (Err error.Size) inside (inl large) = inl large
 unwritten_by_numbers chain elements shape asked payload stored (Err error.Size) inside (inr h) = inr (listed_refused chain elements shape asked payload stored _ inside h)
 unwritten_by_numbers chain elements shape asked payload stored (Err error.Codec) inside h = listed_refused chain elements shape asked payload stored (CodecRefuses chain elements shape) inside h
-unwritten_by_numbers chain elements shape asked payload stored (Err error.Damage) inside h = h
+unwritten_by_numbers chain elements shape asked payload stored (Err error.Damage) inside h = (h.0, stopped_by_numbers chain elements shape asked payload stored inside h.1)
 unwritten_by_numbers chain elements shape asked payload stored (Err error.Source) inside h = tt
 unwritten_by_numbers chain elements shape asked payload stored (Err error.Memory) inside h = tt
 unwritten_by_numbers chain elements shape asked payload stored (Err e) inside h = h
@@ -354,3 +377,39 @@ unwritten_by_numbers chain elements shape asked payload stored (Err e) inside h 
 pub on_written : {A : Type 0} (r : Result A CodecError) (inner outer : Type 0) → (inner → outer) → OnOk r inner → OnOk r outer
 on_written (Ok value) inner outer law h = law h
 on_written (Err e) inner outer law h = tt
+
+pub any_answer : {A : Type 0} (r : Result A CodecError) (fact : Type 0) → fact → OnOk r fact
+any_answer (Ok value) fact h = h
+any_answer (Err e) fact h = tt
+
+-- ---- what is encoded in part
+
+partly_inside : (codec : ArrayCodec) (chain : Chain) → encodes_in_part (after_array_codec codec chain) ≡ true → encodes_in_part chain ≡ true
+partly_inside (transpose order) chain partly = partly
+partly_inside (reshape entries) chain partly = (and_parts (is_plain chain) (encodes_in_part chain) partly).1
+partly_inside squeeze chain partly = partly
+
+-- what codecs leave encoded in part, each of them does
+pub partly_all : (codecs : List ArrayCodec) (chain : Chain) → encodes_in_part (with_array_codecs codecs chain) ≡ true → encodes_in_part chain ≡ true
+partly_all [] chain partly = partly
+partly_all (codec ∷ codecs) chain partly = partly_all codecs chain (partly_inside codec (with_array_codecs codecs chain) partly)
+
+tests_alike : (outer middle inner : Bool) → (outer ≡ true → middle ≡ true) → (middle ≡ true → inner ≡ true) → outer ≡ inner → (outer ≡ middle) × (middle ≡ inner)
+tests_alike true middle inner first second same = (sym (first refl), first refl ∙ same)
+tests_alike false true inner first second same = absurd (let e = same ∙ second refl in cc)
+tests_alike false false inner first second same = (refl, same)
+
+pub partly_each : (codec : ArrayCodec) (codecs : List ArrayCodec) (chain : Chain) → encodes_in_part (with_array_codecs (codec ∷ codecs) chain) ≡ encodes_in_part chain
+    → (encodes_in_part (with_array_codecs (codec ∷ codecs) chain) ≡ encodes_in_part (with_array_codecs codecs chain)) × (encodes_in_part (with_array_codecs codecs chain) ≡ encodes_in_part chain)
+partly_each codec codecs chain =
+    tests_alike (encodes_in_part (with_array_codecs (codec ∷ codecs) chain)) (encodes_in_part (with_array_codecs codecs chain)) (encodes_in_part chain) (partly_inside codec (with_array_codecs codecs chain)) (partly_all codecs chain)
+
+-- without shards all codecs do
+partly_plain : (codec : ArrayCodec) (chain : Chain) → is_plain chain ≡ true → encodes_in_part (after_array_codec codec chain) ≡ encodes_in_part chain
+partly_plain (transpose order) chain plain = refl
+partly_plain (reshape entries) chain plain = ap (λ (b : Bool). b && encodes_in_part chain) plain
+partly_plain squeeze chain plain = refl
+
+pub plain_partly : (codecs : List ArrayCodec) (chain : Chain) → is_plain chain ≡ true → encodes_in_part (with_array_codecs codecs chain) ≡ encodes_in_part chain
+plain_partly [] chain plain = refl
+plain_partly (codec ∷ codecs) chain plain = partly_plain codec (with_array_codecs codecs chain) (plain_before codecs chain ∙ plain) ∙ plain_partly codecs chain plain

@@ -1,5 +1,5 @@
 -- Array codecs that metadata begins with.
-use Rattle.std.specs.Prelude.{List, [], ◌∷◌, Bool, false, Option, Some, None}
+use Rattle.std.specs.Prelude.{List, [], ◌∷◌, Bool, false, Some, None}
 use Rattle.zarr_grids_metadata.specs.ExtensionPoints.{ExtensionPoint}
 use Rattle.zarr_codecs_meaning.specs.Chains.{ArrayCodec}
 use Rattle.zarr_codecs_metadata.specs.ArrayCodecs.{array_codec_in}

@@ -4,3 +4,4 @@ pub mod ArrayCodecs
 pub mod ThenBytes
 pub mod ArrayMetadata
 pub mod Copies
+pub mod Boxes

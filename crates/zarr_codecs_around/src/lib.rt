@@ -4,6 +4,7 @@
 
 pub mod array_codecs;
 pub mod array_metadata;
+mod boxes;
 pub mod byte_codecs;
 pub mod byte_metadata;
 pub mod inner_codec;

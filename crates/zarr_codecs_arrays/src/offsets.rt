@@ -37,8 +37,8 @@ impl ArrayBytesOffsets {
 
     /// These offsets, and after them those of further elements, whose bytes begin at `start`, put
     /// behind as many bytes as `base` says. `Err` only where an allocation failed, or where these
-    /// are no such offsets: the last one isn't `base`, one is less than the one before it, or one is
-    /// too large.
+    /// are no such offsets: the last one isn't `base`, one is less than the one before it, or one
+    /// is too large.
     pub(crate) fn followed(
         self,
         base: u64,

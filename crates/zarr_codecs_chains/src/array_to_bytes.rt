@@ -54,10 +54,10 @@ impl<B: BytesToBytesCodecTraits> ArrayToBytesCodec<B> {
     /// The codec that metadata describes, with all chains inside of it, each codec under the name
     /// that it has there. `TooDeep`, before all else, where it nests deeper than
     /// `CodecChain::from_metadata` reads; `NameUnsupported` where its name is that of none;
-    /// `MetadataInvalid` where its configuration is not one of the name's, or where an array to array
-    /// codec stands in it where none may: in the data chain of `vlen` or `optional`, or in any chain
-    /// inside that of `optional` (this project's profile). Codecs inside of it are refused as they
-    /// are elsewhere. `Memory` where an allocation failed.
+    /// `MetadataInvalid` where its configuration is not one of the name's, or where an array to
+    /// array codec stands in it where none may: in the data chain of `vlen` or `optional`, or in
+    /// any chain inside that of `optional` (this project's profile). Codecs inside of it are
+    /// refused as they are elsewhere. `Memory` where an allocation failed.
     pub fn from_metadata(
         alloc: Global,
         metadata: &MetadataV3,
@@ -81,8 +81,9 @@ impl<B: BytesToBytesCodecTraits> ArrayToBytesCodec<B> {
     }
 
     /// The codec's metadata under the names that its codecs keep, of which `from_metadata` makes an
-    /// equal codec where it nests no deeper than that reads, and array to array codecs stand only
-    /// where they may. `Err` only where an allocation failed.
+    /// equal codec where array to array codecs stand only where they may. An equal codec is read
+    /// again only if it nests no deeper than 127 levels as it is written. `Err` only where an
+    /// allocation failed.
     pub fn metadata(&self, alloc: Global) -> Result<MetadataV3, AllocError>
         ensures written { IfOk result
             (λ metadata. point_of metadata ≡ codec_point B.described self.now) }

@@ -98,14 +98,14 @@ impl<B: BytesToBytesCodecTraits> CodecChain<B> {
 
     /// The chain that the metadata of its codecs names and describes, in their order, with all
     /// chains inside of them, each codec under the name that it has there. `TooDeep`, before all
-    /// else, where one of them nests deeper than 127 levels, as no document does: the object that
-    /// it is counts as one, and its configuration as one. Else the first codec that is refused
-    /// decides: `NameUnsupported` where its name is that of none, as that of a shard is here;
-    /// `MetadataInvalid` where its configuration is not one of its name's, or where no array to
-    /// bytes codec stands after the array to array codecs; a caller's codec is refused as its
-    /// `create` answers. `MetadataInvalid` also where an array to array codec stands where none
-    /// may: in the data chain of `vlen` or `optional`, or in any chain inside that of `optional`
-    /// (this project's profile). `Memory` where an allocation failed.
+    /// else, where one of them nests deeper than 127 levels: the object that it is counts as one,
+    /// and its configuration as one. No codec in a document nests so deep. Else the first codec
+    /// that is refused decides: `NameUnsupported` where its name is that of none, as that of a
+    /// shard is here; `MetadataInvalid` where its configuration is not one of its name's, or where
+    /// no array to bytes codec stands after the array to array codecs; a caller's codec is refused
+    /// as its `create` answers. `MetadataInvalid` also where an array to array codec stands where
+    /// none may: in the data chain of `vlen` or `optional`, or in any chain inside that of
+    /// `optional` (this project's profile). `Memory` where an allocation failed.
     pub fn from_metadata(
         alloc: Global,
         codecs: &[MetadataV3],
@@ -127,9 +127,10 @@ impl<B: BytesToBytesCodecTraits> CodecChain<B> {
     }
 
     /// The metadata of the codecs under the names that they keep, of which `from_metadata` makes an
-    /// equal chain where it nests no deeper than that reads, and array to array codecs stand only
-    /// where they may: in any chain that it made, and in any that is made by `new` with codecs that
-    /// it or their own `new` made. `Err` only where an allocation failed.
+    /// equal chain where array to array codecs stand only where they may: in any chain that it
+    /// made, and in any that is made by `new` with codecs that it or their own `new` made. An equal
+    /// chain is read again only if it nests no deeper than 127 levels as it is written. `Err` only
+    /// where an allocation failed.
     pub fn create_metadatas(&self, alloc: Global) -> Result<Vec<MetadataV3>, AllocError>
         ensures written { IfOk result
             (λ codecs. map point_of codecs.items ≡ points_of B.described self.now) }

@@ -30,8 +30,9 @@ use zarr_codecs_packbits::PackBitsCodec;
 use zarr_codecs_traits::BytesToBytesCodecTraits;
 use zarr_grids_metadata::{MetadataV3, PluginCreateError};
 
-/// The chain that metadata says, as `CodecChain::from_metadata` does, however deep it nests: for
-/// metadata of which that is known, as that of a document.
+/// The chain that metadata says, for metadata whose depth was tested, as a document's is. It
+/// refuses as `CodecChain::from_metadata` does, except for the `TooDeep` that comes there before
+/// all else.
 pub fn read_allowed<B: BytesToBytesCodecTraits>(
     alloc: Global,
     codecs: &[MetadataV3],

@@ -4,7 +4,7 @@ ghost use Rattle.zarr_grids_boxes.specs.Boxes.{product};
 ghost use Rattle.zarr_codecs_meaning.specs.Chains.{Chain};
 ghost use Rattle.zarr_codecs_meaning.specs.Fits.{fits};
 ghost use Rattle.zarr_codecs_arrays.specs.Views.{elements_of};
-ghost use Rattle.zarr_codecs_traits.specs.Indexers.{are_inside, asked_of, numbers_asked};
+ghost use Rattle.zarr_codecs_traits.specs.Indexers.{are_inside, asked_of};
 ghost use Rattle.zarr_codecs_traits.specs.Outcomes.{DecodesPart};
 ghost use Rattle.zarr_codecs_traits.specs.ReadBytes.{most_read};
 ghost use Rattle.zarr_codecs_traits.specs.Sources.{refused_after};
@@ -17,7 +17,7 @@ use crate::fitting::fits_codec;
 use std::alloc::Global;
 use zarr_codecs_arrays::{ArrayBytes, CodecError};
 use zarr_codecs_options::CodecOptions;
-use zarr_codecs_regions::{gather_elements, numbers_asked, test_asked};
+use zarr_codecs_regions::{count_asked, take_asked, test_asked};
 use zarr_codecs_traits::{
     ArrayPart, BytesPartialDecoderTraits, BytesToBytesCodecTraits, WholeArray, read_value,
 };
@@ -82,29 +82,25 @@ fn read_asked<B: BytesToBytesCodecTraits, D: BytesPartialDecoderTraits>(
         (asked_of part.entry.indexer) }
     ensures follows { D.follows source.old source.new }
 {
-    let numbers = numbers_asked(alloc, part.shape, part.indexer)?;
     match read_value(alloc, source) {
-        Ok(Some(value)) => {
-            decode_numbers(codec, alloc, value, part, numbers.as_slice(), options)
-        }
-        Ok(None) => fill_numbers(alloc, part, numbers.as_slice()),
+        Ok(Some(value)) => decode_part(codec, alloc, value, part, options),
+        Ok(None) => fill_asked(alloc, part),
         Err(error) => Err(error),
     }
 }
 
-/// The elements with these numbers, of a value, which is decoded whole. Errors as those of
-/// `decode_codec`.
-fn decode_numbers<B: BytesToBytesCodecTraits>(
+/// The elements at the places that are asked for, of a value, which is decoded whole. Errors as
+/// those of `decode_codec`.
+fn decode_part<B: BytesToBytesCodecTraits>(
     codec: &ArrayToBytesCodec<B>,
     alloc: Global,
     value: Vec<u8>,
     part: ArrayPart<'_>,
-    numbers: &[u64],
     options: &CodecOptions,
 ) -> Result<ArrayBytes, CodecError>
     requires whole { reads_whole (codec_chain B.meaning codec.now) ≡ true }
     requires inside { are_inside part.shape.now (asked_of part.indexer) ≡ true }
-    requires numbers { numbers.now ≡ numbers_asked part.shape.now (asked_of part.indexer) }
+    requires small { product part.shape.now < 2 ^ 63 }
     ensures part { DecodesPart (codec_chain B.meaning codec.now)
         (elements_of part.entry.elements.now) part.entry.shape.now (Some value.items)
         (asked_of part.entry.indexer) result }
@@ -114,28 +110,27 @@ fn decode_numbers<B: BytesToBytesCodecTraits>(
         elements: part.elements,
         shape: part.shape,
     };
+    let data_type = part.elements.data_type();
     match decode_codec(codec, alloc, value, array, options) {
-        Ok(bytes) => Ok(gather_elements(alloc, &bytes, part.elements, numbers)?),
+        Ok(bytes) => Ok(take_asked(alloc, &bytes, part.shape, part.indexer, data_type)?),
         Err(error) => Err(error),
     }
 }
 
-/// As many fill values as there are numbers, where nothing is stored. So many that no memory holds
-/// them are answered `Memory`.
-fn fill_numbers(
-    alloc: Global,
-    part: ArrayPart<'_>,
-    numbers: &[u64],
-) -> Result<ArrayBytes, CodecError>
+/// As many fill values as places are asked for, where nothing is stored. `Size` where the array has
+/// 2^63 places or more; values that would have 2^63 bytes or more are answered `Memory`.
+fn fill_asked(alloc: Global, part: ArrayPart<'_>) -> Result<ArrayBytes, CodecError>
     requires inside { are_inside part.shape.now (asked_of part.indexer) ≡ true }
-    requires numbers { numbers.now ≡ numbers_asked part.shape.now (asked_of part.indexer) }
     ensures part { (chain : Chain)
         → fits chain (elements_of part.entry.elements.now).type part.entry.shape.now ≡ true
         → DecodesPart chain (elements_of part.entry.elements.now) part.entry.shape.now None
         (asked_of part.entry.indexer) result }
     ensures no_source { (count : ℕ) → refused_after count result ≡ count }
 {
-    match ArrayBytes::new_fill_value(alloc, part.elements, numbers.len() as u64) {
+    let Some(count) = count_asked(part.shape, part.indexer) else {
+        return Err(CodecError::Size);
+    };
+    match ArrayBytes::new_fill_value(alloc, part.elements, count) {
         Ok(bytes) => Ok(bytes),
         Err(_) => Err(CodecError::Memory),
     }

@@ -122,8 +122,9 @@ impl<B: BytesToBytesCodecTraits> VlenCodec<B> {
     }
 
     /// What the codec is configured by, of which `new_with_configuration` makes an equal codec
-    /// under the default name, where it nests no deeper than that reads, and array to array codecs
-    /// stand only where they may. `Err` only where an allocation failed.
+    /// under the default name, where array to array codecs stand only where they may. An equal
+    /// codec is made again only if those inside of it nest no deeper than 127 levels as they are
+    /// written. `Err` only where an allocation failed.
     pub fn configuration(&self, alloc: Global) -> Result<VlenCodecConfiguration, AllocError>
         ensures given { IfOk result (λ configuration.
             vlen_points configuration ≡ given_to_vlen B.described self.now) }

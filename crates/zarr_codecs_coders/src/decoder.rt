@@ -4,7 +4,7 @@ ghost use Rattle.zarr_codecs_meaning.specs.Fits.{is_plain};
 ghost use Rattle.zarr_codecs_arrays.specs.Views.{elements_of};
 ghost use Rattle.zarr_codecs_traits.specs.Capabilities.{decodes_parts};
 ghost use Rattle.zarr_codecs_traits.specs.Indexers.{asked_of};
-ghost use Rattle.zarr_codecs_traits.specs.Outcomes.{DecodesPart};
+ghost use Rattle.zarr_codecs_traits.specs.Outcomes.{DecodesPart, IsPart};
 ghost use Rattle.zarr_codecs_traits.specs.ReadBytes.{most_read};
 ghost use Rattle.zarr_codecs_traits.specs.Sources.{IsRefusedAfter, ReadRefused, refused_after};
 ghost use Rattle.zarr_codecs_coders.specs.Coders.{IsPartNotPut, IsPartPut};
@@ -128,8 +128,11 @@ impl<'a, C: ArrayToBytesCodecTraits, D: BytesPartialDecoderTraits> CodecPartialD
             (C.meaning (codec_of self.old)) (elements_of (array_of self.old).elements.now)
             (array_of self.old).shape.now (D.contents (source_of self.old)) (asked_of indexer.entry)
             (T.misfits target.old)) }
-        ensures refused { IsRefusedAfter (T.misfits target.old)
-            (D.refused_calls (source_of self.old)) result (D.refused_calls (source_of self.new)) }
+        ensures refused { IsRefusedAfter (λ payload. IsTrue (D.is_honest (source_of self.old)) →
+            IsPart (C.meaning (codec_of self.old)) (elements_of (array_of self.old).elements.now)
+            (array_of self.old).shape.now (D.contents (source_of self.old)) (asked_of indexer.entry)
+            payload) (T.misfits target.old) (D.refused_calls (source_of self.old)) result
+            (D.refused_calls (source_of self.new)) }
         ensures given { is_plain (C.meaning (codec_of self.old)) ≡ true →
             IsTrue (D.is_honest (source_of self.old)) → D.given_bytes (source_of self.new)
             ≤ D.given_bytes (source_of self.old) + most_read (C.meaning (codec_of self.old))

@@ -6,7 +6,7 @@ ghost use Rattle.zarr_codecs_meaning.specs.Types.{Cell};
 ghost use Rattle.zarr_codecs_arrays.specs.Views.{elements_of, payload_of};
 ghost use Rattle.zarr_codecs_traits.specs.Indexers.{asked_of};
 ghost use Rattle.zarr_codecs_traits.specs.Outcomes.{DecodesPart};
-ghost use Rattle.zarr_codecs_traits.specs.PartWriting.{IsEncodedInto, NotEncodedInto, WritesOnce};
+ghost use Rattle.zarr_codecs_traits.specs.PartWriting.{IsEncodedInto, IsPlaced, NotEncodedInto, WritesOnce};
 ghost use Rattle.zarr_codecs_traits.specs.ReadBytes.{most_read};
 ghost use Rattle.zarr_codecs_traits.specs.Sources.{ReadRefused, refused_after};
 ghost use Rattle.zarr_codecs_traits.specs.Writes.{WriteRefused, accepted_after};
@@ -125,6 +125,9 @@ impl<'a, C: ArrayToBytesCodecTraits, E: BytesPartialEncoderTraits> CodecPartialE
             (elements_of (array_of self.old).elements.now) (array_of self.old).shape.now
             (asked_of indexer.entry) (payload_of bytes) cells (E.contents (source_of self.old))
             (E.contents (source_of self.new))) }
+        ensures placed { IsTrue (E.is_honest (source_of self.old)) → OnOk result
+            (IsPlaced (C.meaning (codec_of self.old)) (array_of self.old).shape.now
+            (E.contents (source_of self.old))) }
         ensures err { IsTrue (E.is_honest (source_of self.old)) →
             OnErr result (E.contents (source_of self.new) ≡ E.contents (source_of self.old)) }
         ensures cause { IsTrue (E.is_honest (source_of self.old)) → NotEncodedInto

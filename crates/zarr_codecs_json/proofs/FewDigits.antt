@@ -1,5 +1,5 @@
 -- Numbers of few digits.
-use Rattle.std.proofs.Common.{◌≡◌, ℕ, ◌+◌, ◌/◌, ◌%◌, ◌<◌, ◌≤◌, List, [], ◌∷◌, ◌++◌, ap, sym, ◌∙◌, decimal, arith}
+use Rattle.std.proofs.Common.{◌≡◌, ℕ, ◌+◌, ◌/◌, ◌%◌, ◌<◌, ◌≤◌, List, [], ◌∷◌, ◌++◌, refl, ap, sym, ◌∙◌, append_assoc, decimal, arith}
 use Rattle.std.proofs.lemmas.Fmt.{decimal_digit, decimal_step}
 
 -- the last digit of a number
@@ -26,3 +26,12 @@ four_digits n a b c d e f g h low high = more n d (a ∷ b ∷ c ∷ []) h (omeg
 
 pub five_digits : (n a b c d x : ℕ) → a ≡ digit (n / 10 / 10 / 10 / 10) → b ≡ digit (n / 10 / 10 / 10) → c ≡ digit (n / 10 / 10) → d ≡ digit (n / 10) → x ≡ digit n → 10000 ≤ n → n < 100000 → a ∷ b ∷ c ∷ d ∷ x ∷ [] ≡ decimal n
 five_digits n a b c d x e f g h i low high = more n x (a ∷ b ∷ c ∷ d ∷ []) i (omega (arith, low)) high (four_digits (n / 10) a b c d e f g h (omega (arith, low)) (omega (arith, high)))
+
+-- ---- digits put after a text
+
+pub only_digit : (n a : ℕ) (before text : List ℕ) → a ≡ digit n → n < 10 → text ≡ before ++ a ∷ [] → text ≡ before ++ decimal n
+only_digit n a before text is low grew = grew ∙ ap (λ ds. before ++ ds) (one_digit n a is low)
+
+pub last_digit : (n a : ℕ) (before front text : List ℕ) → a ≡ digit n → 10 ≤ n → n < 100000 → front ≡ before ++ decimal (n / 10) → text ≡ front ++ a ∷ [] → text ≡ before ++ decimal n
+last_digit n a before front text is low high begun grew =
+    grew ∙ (ap (λ ds. ds ++ a ∷ []) begun ∙ (append_assoc before (decimal (n / 10)) (a ∷ []) ∙ ap (λ ds. before ++ ds) (more n a (decimal (n / 10)) is low high refl)))

@@ -5,3 +5,4 @@ pub mod PrintedCells
 pub mod NumberLists
 pub mod WholeNumbers
 pub mod FewDigits
+pub mod ShortNumbers

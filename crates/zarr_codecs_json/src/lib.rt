@@ -7,6 +7,7 @@ mod naturals;
 mod numbers;
 pub mod printing;
 pub mod reading;
+mod short_numbers;
 mod strings;
 pub mod whole_numbers;
 

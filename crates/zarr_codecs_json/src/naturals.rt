@@ -45,7 +45,7 @@ fn push_short(text: &mut Vec<u8>, word: u32) -> Result<(), AllocError>
 
 /// The last digit of a number.
 #[inline(always)]
-fn digit(number: u32) -> u8
+pub(crate) fn digit(number: u32) -> u8
     ensures { result ≡ 48 + number % 10 }
 {
     b'0' + (number % 10) as u8

@@ -8,6 +8,7 @@ ghost use Rattle.zarr_codecs_json.specs.Texts.{Begins, single_width, kind_type, 
 ghost use Rattle.zarr_codecs_json.specs.declared.numbers.Kind.TheVariants as kind;
 
 use crate::naturals::push_natural;
+use crate::short_numbers::push_short_numbers;
 use std::alloc::AllocError;
 use zarr_codecs_types::DataType;
 
@@ -55,10 +56,10 @@ pub(crate) fn push_list(
         DataType::Int16 => push_numbers(text, Kind::Signed, 16, bytes),
         DataType::Int32 => push_numbers(text, Kind::Signed, 32, bytes),
         DataType::Int64 => push_numbers(text, Kind::Signed, 64, bytes),
-        DataType::UInt2 => push_numbers(text, Kind::Unsigned, 2, bytes),
-        DataType::UInt4 => push_numbers(text, Kind::Unsigned, 4, bytes),
-        DataType::UInt8 => push_numbers(text, Kind::Unsigned, 8, bytes),
-        DataType::UInt16 => push_numbers(text, Kind::Unsigned, 16, bytes),
+        DataType::UInt2 => push_short_numbers(text, 2, bytes),
+        DataType::UInt4 => push_short_numbers(text, 4, bytes),
+        DataType::UInt8 => push_short_numbers(text, 8, bytes),
+        DataType::UInt16 => push_short_numbers(text, 16, bytes),
         DataType::UInt32 => push_numbers(text, Kind::Unsigned, 32, bytes),
         DataType::UInt64 => push_numbers(text, Kind::Unsigned, 64, bytes),
         _ => Ok(()),

@@ -31,7 +31,7 @@ IsLong made = (section : List ℕ) × (made ≡ Some section) × (is_short secti
 abbrev pub IsMade : Chain → Elements → List ℕ → List Cell → List ℕ → Type 0
 IsMade chain elements shape cells made = (encoded chain elements shape cells ≡ Some made) ⊎ Stands chain elements shape made cells
 
--- a caller's codec refuses bytes that encoding the cells calls for; the index of a shard may be that of any pairs, since where slices stand hangs on what was written before
+-- a caller's codec refuses bytes that encoding the cells calls for; the index of a shard may be that of any pairs, since where slices stand depends on what was written before
 abbrev pub CodecRefuses : Chain → Elements → List ℕ → List Cell → Type 0
 CodecRefuses (bytes order) elements shape cells = ⊥
 CodecRefuses (packbits padding first last) elements shape cells = ⊥

@@ -47,7 +47,8 @@ pub fn shard_size()
     ensures { ShardSize }
 {}
 
-/// What a chain refuses to encode, a caller's codec refuses, or an offset or a length is too large for where it is written.
+/// What a chain refuses to encode, a caller's codec refuses, or an offset or a length is too large
+/// for where it is written.
 pub fn encoding_refused()
     ensures { EncodingRefused }
 {}

@@ -1,7 +1,6 @@
 -- The elements at the places that are asked for, of what is decoded.
-use Rattle.std.proofs.Common.{◌≡◌, ℕ, List, [], ◌∷◌, length, map, replicate, ap, ◌∙◌, sym, refl, Some, None, true, Option, ◌+◌, ◌≤◌}
-use Rattle.std.specs.Prelude.{nat_lt, unwrap_or}
-use Rattle.std.specs.List.{list_all}
+use Rattle.std.proofs.Common.{◌≡◌, ℕ, List, [], ◌∷◌, length, map, replicate, ap, ◌∙◌, sym, subst, refl, Some, None, true, Option, ◌+◌, ◌≤◌}
+use Rattle.std.specs.Prelude.{unwrap_or}
 use Rattle.zarr_grids_boxes.specs.Boxes.{product}
 use Rattle.zarr_codecs_meaning.specs.Types.{Cell, DataType, Elements}
 use Rattle.zarr_codecs_meaning.specs.Chains.{Chain}
@@ -11,6 +10,7 @@ use Rattle.zarr_codecs_meaning.specs.Fits.{fits}
 use Rattle.zarr_codecs_meaning.specs.Payloads.{Payload, cells_in}
 use Rattle.zarr_codecs_meaning.proofs.Counts.{decoded_count}
 use Rattle.zarr_codecs_meaning.proofs.PartReading.{part_read}
+use Rattle.zarr_codecs_arrays.specs.Outcomes.{IsCounted}
 use Rattle.zarr_codecs_traits.specs.Indexers.{Asked, are_inside, numbers_asked}
 use Rattle.zarr_codecs_traits.specs.Outcomes.{IsDecoded, IsPart}
 use Rattle.zarr_codecs_traits.specs.ReadBytes.{bytes_of_numbers, most_read}
@@ -23,30 +23,27 @@ use Rattle.zarr_codecs_regions.proofs.AskedPlaces.{asked_places}
 
 -- ---- of a value
 
-pub gathers_part : (chain : Chain) (elements : Elements) (shape value ns : List ℕ) (asked : Asked) (payload made : Payload) → are_inside shape asked ≡ true → ns ≡ numbers_asked shape asked → IsDecoded chain elements shape value payload
-    → ((cells : List Cell) → cells_in elements.type payload ≡ Some cells → list_all (λ n. nat_lt n (length cells)) ns ≡ true → cells_in elements.type made ≡ Some (gather elements.fill cells ns)) → IsPart chain elements shape (Some value) asked made
-gathers_part chain elements shape value ns asked payload made inside are d law =
-    let below = asked_places shape asked inside in
-    let many = decoded_count chain elements shape value d.cells d.is in
-    let each : list_all (λ n. nat_lt n (length d.cells)) ns ≡ true = ap (λ k. list_all (λ n. nat_lt n k) ns) many ∙ (ap (list_all (λ n. nat_lt n (product shape))) are ∙ below) in
-    record {
-      cells = gather elements.fill d.cells (numbers_asked shape asked);
-      fit = d.fit;
-      inside = inside;
-      lists = law d.cells d.lists each ∙ ap (λ ms. Some (gather elements.fill d.cells ms)) are;
-      is = part_read chain elements shape value d.cells (numbers_asked shape asked) d.fit d.is below;
-    }
+pub takes_part : (chain : Chain) (elements : Elements) (shape value : List ℕ) (asked : Asked) (type : DataType) (payload made : Payload) → are_inside shape asked ≡ true → type ≡ elements.type → IsDecoded chain elements shape value payload
+    → ((cells : List Cell) → IsCounted type payload (product shape) cells → cells_in type made ≡ Some (gather elements.fill cells (numbers_asked shape asked))) → IsPart chain elements shape (Some value) asked made
+takes_part chain elements shape value asked type payload made inside same d law = record {
+  cells = gather elements.fill d.cells (numbers_asked shape asked);
+  fit = d.fit;
+  inside = inside;
+  lists = subst (λ (t : DataType). cells_in t made ≡ Some (gather elements.fill d.cells (numbers_asked shape asked))) same
+      (law d.cells (record { lists = ap (λ (t : DataType). cells_in t payload) same ∙ d.lists; many = decoded_count chain elements shape value d.cells d.is }));
+  is = part_read chain elements shape value d.cells (numbers_asked shape asked) d.fit d.is (asked_places shape asked inside);
+}
 
 -- ---- where nothing is stored
 
-pub fills_numbers : (chain : Chain) (elements : Elements) (shape ns : List ℕ) (asked : Asked) (payload : Payload) → are_inside shape asked ≡ true → ns ≡ numbers_asked shape asked → fits chain elements.type shape ≡ true
-    → cells_in elements.type payload ≡ Some (replicate (length ns) elements.fill) → IsPart chain elements shape None asked payload
-fills_numbers chain elements shape ns asked payload inside are fit lists = record {
-  cells = replicate (length ns) elements.fill;
+pub fills_asked : (chain : Chain) (elements : Elements) (shape : List ℕ) (asked : Asked) (count : ℕ) (payload : Payload) → are_inside shape asked ≡ true → count ≡ length (numbers_asked shape asked) → fits chain elements.type shape ≡ true
+    → cells_in elements.type payload ≡ Some (replicate count elements.fill) → IsPart chain elements shape None asked payload
+fills_asked chain elements shape asked count payload inside many fit lists = record {
+  cells = replicate count elements.fill;
   fit = fit;
   inside = inside;
   lists = lists;
-  is = ap Some (sym (each ns ∙ ap (map (λ n. elements.fill)) are));
+  is = ap Some (sym (ap (λ n. replicate n elements.fill) many ∙ each (numbers_asked shape asked)));
 } where
   each : (ms : List ℕ) → replicate (length ms) elements.fill ≡ map (λ n. elements.fill) ms
   each [] = refl

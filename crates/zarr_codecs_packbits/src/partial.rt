@@ -3,19 +3,17 @@ ghost use Rattle.std.specs.Prelude.{◌≡◌, ◌≤◌, ◌+◌, ℕ, None, So
 ghost use Rattle.zarr_codecs_meaning.specs.Chains.{Chain};
 ghost use Rattle.zarr_codecs_meaning.specs.Fits.{fits};
 ghost use Rattle.zarr_codecs_arrays.specs.Views.{elements_of};
-ghost use Rattle.zarr_codecs_traits.specs.Indexers.{are_inside, asked_of, numbers_asked};
+ghost use Rattle.zarr_codecs_traits.specs.Indexers.{are_inside, asked_of};
 ghost use Rattle.zarr_codecs_traits.specs.Outcomes.{DecodesPart};
 ghost use Rattle.zarr_codecs_traits.specs.Sources.{refused_after, value_length};
 ghost use Rattle.zarr_codecs_packbits.specs.Parts.{GivesPacked, most_of_packed};
-ghost use Rattle.zarr_codecs_packbits.specs.Views.{packbits_chain};
 
-use crate::codec::{PackBitsCodec, PackBitsPaddingEncoding};
+use crate::codec::PackBitsPaddingEncoding;
 use crate::part::PackedPart;
 use crate::reading::read_ranges;
 use std::alloc::Global;
 use zarr_codecs_arrays::{ArrayBytes, CodecError};
-use zarr_codecs_options::CodecOptions;
-use zarr_codecs_regions::{gather_elements, numbers_asked};
+use zarr_codecs_regions::{count_asked, take_asked};
 use zarr_codecs_traits::{
     ArrayPart, ArrayToBytesCodecTraits, BytesPartialDecoderTraits, read_value,
 };
@@ -59,20 +57,9 @@ pub(crate) fn read_whole<D: BytesPartialDecoderTraits>(
         ≤ D.given_bytes source.old + value_length (D.contents source.old) }
     ensures follows { D.follows source.old source.new }
 {
-    let (part, options) = (packed.part, packed.options);
-    let numbers = numbers_asked(alloc, part.shape, part.indexer)?;
     match read_value(alloc, source) {
-        Ok(Some(value)) => {
-            decode_numbers(
-                alloc,
-                packed.codec,
-                value,
-                part,
-                numbers.as_slice(),
-                options,
-            )
-        }
-        Ok(None) => fill_numbers(alloc, part, numbers.as_slice()),
+        Ok(Some(value)) => decode_packed(alloc, packed, value),
+        Ok(None) => fill_packed(alloc, packed),
         Err(error) => Err(error),
     }
 }
@@ -82,48 +69,41 @@ pub(crate) fn fill_packed(alloc: Global, packed: PackedPart) -> Result<ArrayByte
     ensures part { GivesPacked None packed.entry result }
     ensures no_source { (count : ℕ) → refused_after count result ≡ count }
 {
-    let numbers = numbers_asked(alloc, packed.part.shape, packed.part.indexer)?;
-    fill_numbers(alloc, packed.part, numbers.as_slice())
+    fill_asked(alloc, packed.part)
 }
 
-/// The elements with these numbers, of a value, which is decoded whole. Errors as those of
-/// `decode`.
-fn decode_numbers(
+/// The elements at the places that are asked for, of a value, which is decoded whole. Errors as
+/// those of `decode`.
+fn decode_packed(
     alloc: Global,
-    codec: PackBitsCodec,
+    packed: PackedPart,
     value: Vec<u8>,
-    part: ArrayPart<'_>,
-    numbers: &[u64],
-    options: &CodecOptions,
 ) -> Result<ArrayBytes, CodecError>
-    requires inside { are_inside part.shape.now (asked_of part.indexer) ≡ true }
-    requires numbers { numbers.now ≡ numbers_asked part.shape.now (asked_of part.indexer) }
-    ensures part { DecodesPart (packbits_chain codec) (elements_of part.entry.elements.now)
-        part.entry.shape.now (Some value.items) (asked_of part.entry.indexer) result }
+    ensures part { GivesPacked (Some value.items) packed.entry result }
     ensures no_source { (count : ℕ) → refused_after count result ≡ count }
 {
-    match codec.decode(alloc, value, part.elements, part.shape, options) {
-        Ok(bytes) => Ok(gather_elements(alloc, &bytes, part.elements, numbers)?),
+    let (part, codec) = (packed.part, packed.codec);
+    let data_type = part.elements.data_type();
+    match codec.decode(alloc, value, part.elements, part.shape, packed.options) {
+        Ok(bytes) => Ok(take_asked(alloc, &bytes, part.shape, part.indexer, data_type)?),
         Err(error) => Err(error),
     }
 }
 
-/// The elements with these numbers where nothing is stored: fill values. `Size` where they would
-/// have 2^63 bytes or more.
-fn fill_numbers(
-    alloc: Global,
-    part: ArrayPart<'_>,
-    numbers: &[u64],
-) -> Result<ArrayBytes, CodecError>
+/// As many fill values as places are asked for. `Size` where the array has 2^63 places or more;
+/// values that would have 2^63 bytes or more are answered `Memory`.
+fn fill_asked(alloc: Global, part: ArrayPart<'_>) -> Result<ArrayBytes, CodecError>
     requires inside { are_inside part.shape.now (asked_of part.indexer) ≡ true }
-    requires numbers { numbers.now ≡ numbers_asked part.shape.now (asked_of part.indexer) }
     ensures part { (chain : Chain)
         → fits chain (elements_of part.entry.elements.now).type part.entry.shape.now ≡ true
         → DecodesPart chain (elements_of part.entry.elements.now) part.entry.shape.now None
         (asked_of part.entry.indexer) result }
     ensures no_source { (count : ℕ) → refused_after count result ≡ count }
 {
-    match ArrayBytes::new_fill_value(alloc, part.elements, numbers.len() as u64) {
+    let Some(count) = count_asked(part.shape, part.indexer) else {
+        return Err(CodecError::Size);
+    };
+    match ArrayBytes::new_fill_value(alloc, part.elements, count) {
         Ok(bytes) => Ok(bytes),
         Err(_) => Err(CodecError::Memory),
     }

@@ -126,7 +126,8 @@ pub(crate) fn span_ranges(
     spans: &[Span],
     bits: u128,
 ) -> Result<Vec<ByteRange>, AllocError>
-    requires { list_all (λ span. nat_le ((span.start + span.count) * bits) (2 ^ 66)) spans.now ≡ true }
+    requires { list_all (λ span. nat_le ((span.start + span.count) * bits) (2 ^ 66)) spans.now
+        ≡ true }
     ensures { IfOk result (λ ranges. ranges.items ≡ span_ranges bits spans.now) }
 {
     let mut ranges = Vec::with_capacity(alloc, spans.len())?;

@@ -5,9 +5,10 @@ use Rattle.std.proofs.lemmas.List.{map-append}
 use Rattle.std.proofs.lemmas.Grind.{flat_map-append}
 use Rattle.zarr_grids_boxes.specs.Boxes.{Region, EndsFit, each2, places, product, ravel}
 use Rattle.zarr_grids_boxes.specs.Cuts.{IsAtMost}
+use Rattle.zarr_grids_boxes.proofs.InBox.{length-places}
 use Rattle.zarr_grids_boxes.proofs.Places.{range_with_len-append}
 use Rattle.zarr_codecs_traits.specs.Indexers.{numbers_of}
-use Rattle.zarr_codecs_regions.specs.BoxLines.{first_places, with_first_alone}
+use Rattle.zarr_codecs_regions.specs.BoxLines.{first_places, line_length, line_numbers, with_first_alone}
 
 -- ---- the shape of the first places
 
@@ -64,12 +65,6 @@ sum_length (s ∷ ss) (e ∷ es) l = ap (λ n. suc n) (sum_length ss es (omega (
 -- those from a number on, so many
 abbrev line : ℕ → ℕ → List ℕ
 line length n = range_with_len n length
-
--- how long the lines are
-abbrev pub line_length : List ℕ → ℕ
-line_length [] = 1
-line_length (e ∷ []) = e
-line_length (e ∷ f ∷ es) = line_length (f ∷ es)
 
 and_none : (ns : List ℕ) → ns ≡ ns ++ []
 and_none [] = refl
@@ -165,3 +160,15 @@ firsts_at_most ss es ns l some most =
           let least = alone_least es k some in
           omega (arith, here, one, two, least);
     }
+
+-- a box without a place has no number
+pub no_numbers : (shape : List ℕ) (region : Region) → length region.shape ≡ length region.start → product region.shape ≡ 0 → [] ≡ numbers_of shape region
+no_numbers shape region l none = ap (map (λ place. ravel place shape)) (no_elements (places region.start region.shape) (length-places region.start region.shape (sym l) ∙ none)) where
+  no_elements : (ps : List (List ℕ)) → length ps ≡ 0 → [] ≡ ps
+  no_elements [] h = refl
+  no_elements (p ∷ ps) h = absurd (omega arith)
+
+-- the places of a box's lines are the box's
+pub lines_are : (shape : List ℕ) (region firsts : Region) (long : ℕ) → length region.shape ≡ length region.start → length shape ≡ length region.start → firsts ≡ first_places region → long ≡ line_length region.shape → line_numbers long (numbers_of shape firsts) ≡ numbers_of shape region
+lines_are shape region firsts long l m f n =
+    ap (λ r. line_numbers long (numbers_of shape r)) f ∙ (ap (λ k. line_numbers k (numbers_of shape (first_places region))) n ∙ sym (numbers_by_lines shape region l m))

@@ -183,10 +183,10 @@ module _ (width : ℕ) (shape : List ℕ) (region : Region) (start ss es before 
 
 -- ---- as elements of a type
 
-pub runs_put : (type : DataType) (width : ℕ) (shape : List ℕ) (region : Region) (before given after : List ℕ) (olds others : List Cell) → byte_width type ≡ Some width → 0 < width → length before ≡ product shape * width → length after ≡ length before
+pub stretches_put : (type : DataType) (width : ℕ) (shape : List ℕ) (region : Region) (before given after : List ℕ) (olds others : List Cell) → byte_width type ≡ Some width → 0 < width → length before ≡ product shape * width → length after ≡ length before
     → fixed_cells width after ≡ put (numbers_of shape region) (fixed_cells width given) (fixed_cells width before)
     → cells_in type (fixed before) ≡ Some olds → cells_in type (fixed given) ≡ Some others → cells_in type (fixed after) ≡ Some (put (numbers_of shape region) others olds)
-runs_put type width shape region before given after olds others told some whole same is b g =
+stretches_put type width shape region before given after olds others told some whole same is b g =
     let of_type : (bytes : List ℕ) → cells_in type (fixed bytes) ≡ fixed_in width bytes = λ bytes. ap (option_and_then (λ n. fixed_in n bytes)) told in
     let olds_are = fixed_in-whole width before olds (sym (of_type before) ∙ b) in
     let new_are = fixed_in-whole width given others (sym (of_type given) ∙ g) in

@@ -1,6 +1,6 @@
 -- The elements of a box, as what an overlay gives and as what places gather.
-use Rattle.std.proofs.Common.{◌≡◌, ◌∙◌, ℕ, zero, suc, ◌+◌, ◌-◌, ◌*◌, ◌/◌, ◌%◌, ◌<◌, ◌≤◌, Bool, true, false, ◌&&◌, nat_le, nat_lt, cond, if◌then◌else◌, List, [], ◌∷◌, ◌++◌, length, map, get_or, take, drop, replicate, refl, sym, ap, arith, length-append, length-drop, length-take}
-use Rattle.std.specs.List.{range_with_len, flat_map, list_all}
+use Rattle.std.proofs.Common.{◌≡◌, ◌∙◌, ℕ, zero, suc, ◌+◌, ◌-◌, ◌*◌, ◌/◌, ◌%◌, ◌<◌, ◌≤◌, Bool, true, ◌&&◌, nat_le, nat_lt, cond, List, [], ◌∷◌, ◌++◌, length, map, get_or, take, drop, refl, sym, ap, arith, length-append, length-drop}
+use Rattle.std.specs.List.{range_with_len, flat_map}
 use Rattle.std.proofs.Math.Nat.{mul-mod_left, mul-div_left}
 use Rattle.std.proofs.Math.Seq.{take-append_seam}
 use Rattle.std.proofs.lemmas.Bool.{and_parts}
@@ -22,7 +22,7 @@ use Rattle.zarr_codecs_meaning.proofs.Covers.{zeros, length-zeros, ravel_place}
 use Rattle.zarr_codecs_meaning.proofs.Lists.{Each, each_passes, zero_list}
 use Rattle.zarr_codecs_arrays.proofs.FixedCells.{fixed_cells-nil, fixed_cells-cons, get_or-fixed_cells, flat_map-fixed_cells}
 use Rattle.zarr_codecs_traits.specs.Indexers.{shape_has, numbers_of}
-use Rattle.zarr_codecs_regions.proofs.InsideArray.{inside_rank, inside_places}
+use Rattle.zarr_codecs_regions.proofs.InsideArray.{inside_places}
 
 -- ---- the bytes of one element
 

@@ -1,18 +1,18 @@
 -- Elements that are gathered by their numbers.
-use Rattle.std.proofs.Common.{◌≡◌, ℕ, zero, suc, ◌+◌, ◌-◌, ◌*◌, ◌/◌, ◌%◌, ◌<◌, ◌≤◌, List, [], ◌∷◌, ◌++◌, length, map, get_or, slice_index, take, drop, flat_map, ap, ◌∙◌, sym, refl, arith, Option, Some, None, option_and_then, option_map, Bool, true, ◌&&◌, length-append, length-drop, length-take}
+use Rattle.std.proofs.Common.{◌≡◌, ℕ, zero, suc, ◌+◌, ◌-◌, ◌*◌, ◌/◌, ◌%◌, ◌<◌, ◌≤◌, List, [], ◌∷◌, length, map, get_or, slice_index, take, drop, flat_map, ap, ◌∙◌, sym, refl, arith, Some, option_and_then, option_map, Bool, true, length-append, length-drop}
 use Rattle.std.specs.Prelude.{nat_lt}
 use Rattle.std.specs.List.{list_all}
 use Rattle.std.proofs.Math.Nat.{mul-mod_left}
 use Rattle.std.proofs.lemmas.Bool.{and_parts, ltb-true}
 use Rattle.std.proofs.lemmas.List.{length-take-le}
-use Rattle.zarr_codecs_meaning.specs.Types.{DataType, byte_width, optional_of, Cell, of_bytes}
+use Rattle.zarr_codecs_meaning.specs.Types.{DataType, byte_width, optional_of, Cell}
 use Rattle.zarr_codecs_meaning.specs.Payloads.{fixed_cells, fixed_in, masked, masked_in, cells_in, Payload, fixed, optional}
 use Rattle.zarr_codecs_meaning.specs.Places.{gather}
 use Rattle.zarr_codecs_meaning.proofs.Lists.{some_same, bind_some, map_some}
-use Rattle.zarr_codecs_arrays.proofs.FixedCells.{fixed_cells-nil, fixed_cells-cons, get_or-fixed_cells, length-fixed_cells, whole_length, fixed_in-some, IsWhole, fixed_in-whole}
+use Rattle.zarr_codecs_arrays.proofs.FixedCells.{fixed_cells-nil, fixed_cells-cons, get_or-fixed_cells, length-fixed_cells, whole_length, fixed_in-some, fixed_in-whole}
 use Rattle.zarr_codecs_types.specs.Parts.{word_sized}
 use Rattle.zarr_codecs_arrays.proofs.Counts.{known_width}
-use Rattle.zarr_codecs_arrays.proofs.Masks.{IsMasked, masked_parts, masked_lengths}
+use Rattle.zarr_codecs_arrays.proofs.Masks.{masked_parts, masked_lengths}
 
 -- the bytes of the element with a number
 abbrev pub bytes_at : ℕ → List ℕ → ℕ → List ℕ

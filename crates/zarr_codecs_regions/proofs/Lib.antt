@@ -10,6 +10,10 @@ pub mod CountAsked
 pub mod Shown
 pub mod WholeWrites
 pub mod BoxLines
-mod Stretches
+mod GatheredStretches
 pub mod PutPlaces
 pub mod BoxPuts
+mod PieceStretches
+mod Merges
+mod PiecesPut
+mod MaskNumbers

@@ -1,5 +1,5 @@
 -- Elements by their numbers, one after another.
-use Rattle.std.proofs.Common.{◌≡◌, ◌∙◌, ℕ, zero, suc, ◌+◌, ◌*◌, ◌/◌, ◌<◌, ◌≤◌, Bool, true, nat_lt, List, [], ◌∷◌, ◌++◌, length, map, get_or, take, drop, flat_map, refl, sym, ap, arith, length-append, length-drop}
+use Rattle.std.proofs.Common.{◌≡◌, ◌∙◌, ℕ, zero, suc, ◌+◌, ◌*◌, ◌/◌, ◌<◌, ◌≤◌, true, nat_lt, List, [], ◌∷◌, length, get_or, take, drop, flat_map, sym, ap, arith, length-append, length-drop}
 use Rattle.std.specs.List.{list_all}
 use Rattle.std.proofs.Math.Nat.{mul-le-mul_right, div-mul-le_self, zero-mul}
 use Rattle.std.proofs.lemmas.Bool.{and_parts, ltb-true}
@@ -7,7 +7,6 @@ use Rattle.std.proofs.lemmas.List.{length-take-le}
 use Rattle.zarr_codecs_meaning.specs.Types.{Cell, of_bytes}
 use Rattle.zarr_codecs_meaning.specs.Payloads.{fixed_cells}
 use Rattle.zarr_codecs_meaning.specs.Places.{gather}
-use Rattle.zarr_codecs_meaning.proofs.Lists.{Each, each_get, each_passes}
 use Rattle.zarr_codecs_arrays.proofs.FixedCells.{fixed_cells-nil, fixed_cells-cons, get_or-fixed_cells}
 
 -- the bytes of the elements with these numbers

@@ -26,7 +26,7 @@ cut_parts start end ends bytes pieces h =
     record { others = found.0; rest = found.1; are = found.2 }
 
 -- one element more
-cut_more : (start end : ℕ) (ends bytes piece : List ℕ) (pieces : List (List ℕ)) → start ≤ end → take (end - start) (drop start bytes) ≡ piece → bytes_between end ends bytes ≡ Some pieces → bytes_between start (end ∷ ends) bytes ≡ Some (piece ∷ pieces)
+pub cut_more : (start end : ℕ) (ends bytes piece : List ℕ) (pieces : List (List ℕ)) → start ≤ end → take (end - start) (drop start bytes) ≡ piece → bytes_between end ends bytes ≡ Some pieces → bytes_between start (end ∷ ends) bytes ≡ Some (piece ∷ pieces)
 cut_more start end ends bytes piece pieces more is rest =
     ap (λ (b : Bool). if b then option_map (λ rest. take (end - start) (drop start bytes) ∷ rest) (bytes_between end ends bytes) else None) (le-leb start end more)
     ∙ (ap (option_map (λ rest. take (end - start) (drop start bytes) ∷ rest)) rest ∙ ap (λ p. Some (p ∷ pieces)) is)
@@ -75,7 +75,7 @@ pieces_cut f front start (n ∷ numbers) is =
     ∙ pieces_cut f (front ++ f n) (start + length (f n)) numbers (omega (arith, is, length-append front (f n))) in
     cut_more start (start + length (f n)) (ends_of (start + length (f n)) (map f numbers)) (front ++ (f n ++ rest)) (f n) (map f numbers) (omega arith) same others
 
-pieces_gathered : (offsets bytes : List ℕ) (cells : List Cell) (other : Cell) (numbers : List ℕ) → variable_in offsets bytes ≡ Some cells → are_below (length cells) numbers ≡ true
+pub pieces_gathered : (offsets bytes : List ℕ) (cells : List Cell) (other : Cell) (numbers : List ℕ) → variable_in offsets bytes ≡ Some cells → are_below (length cells) numbers ≡ true
     → map of_bytes (map (piece_of offsets bytes) numbers) ≡ gather other cells numbers
 pieces_gathered offsets bytes cells other [] h all = refl
 pieces_gathered offsets bytes cells other (n ∷ numbers) h all =

@@ -1,7 +1,7 @@
 -- Elements that are put at some places of an array.
 use Rattle.std.proofs.Common.{◌≡◌, ◌∙◌, ℕ, zero, suc, ◌+◌, ◌-◌, ◌<◌, ◌≤◌, Bool, true, ◌&&◌, List, [], ◌∷◌, ◌++◌, length, map, get_or, set, drop, refl, sym, ap, arith, length-append}
 use Rattle.std.specs.Prelude.{nat_lt}
-use Rattle.std.specs.List.{list_all, range_with_len}
+use Rattle.std.specs.List.{range_with_len}
 use Rattle.std.proofs.Math.ListN.{get_or-append}
 use Rattle.std.proofs.lemmas.Bool.{and_parts, ltb-true, lt-ltb}
 use Rattle.std.proofs.lemmas.List.{drop_more, map-set, get_or-append-add}
@@ -26,7 +26,7 @@ number_below count [] i all less = absurd (omega (arith, less))
 number_below count (n ∷ numbers) zero all less = ltb-true n count (and_parts (nat_lt n count) (are_below count numbers) all).0
 number_below count (n ∷ numbers) (suc i) all less = number_below count numbers i (and_parts (nat_lt n count) (are_below count numbers) all).1 (omega (arith, less))
 
-range_below : (count a n : ℕ) → a + n ≤ count → are_below count (range_with_len a n) ≡ true
+pub range_below : (count a n : ℕ) → a + n ≤ count → are_below count (range_with_len a n) ≡ true
 range_below count a zero most = refl
 range_below count a (suc n) most =
     ap (λ (b : Bool). b && are_below count (range_with_len (a + 1) n)) (lt-ltb a count (omega (arith, most))) ∙ range_below count (a + 1) n (omega (arith, most))
@@ -48,12 +48,12 @@ put_below count (n ∷ ns) (x ∷ xs) ys new old =
 
 -- ---- the elements with these numbers
 
-map_put : {X Y : Type 0} (f : X → Y) (ns : List ℕ) (xs ys : List X) → map f (put ns xs ys) ≡ put ns (map f xs) (map f ys)
+pub map_put : {X Y : Type 0} (f : X → Y) (ns : List ℕ) (xs ys : List X) → map f (put ns xs ys) ≡ put ns (map f xs) (map f ys)
 map_put f [] xs ys = refl
 map_put f (n ∷ ns) [] ys = refl
 map_put f (n ∷ ns) (x ∷ xs) ys = map_put f ns xs (set ys n x) ∙ ap (put ns (map f xs)) (map-set f ys n x)
 
-read_part : (whole part : List Cell) (other : Cell) (a : ℕ) → ((i : ℕ) → i < length part → get_or whole (a + i) other ≡ get_or part i other) → gather other whole (range_with_len a (length part)) ≡ part
+pub read_part : (whole part : List Cell) (other : Cell) (a : ℕ) → ((i : ℕ) → i < length part → get_or whole (a + i) other ≡ get_or part i other) → gather other whole (range_with_len a (length part)) ≡ part
 read_part whole [] other a law = refl
 read_part whole (c ∷ part) other a law =
     let first : a ≡ a + 0 = omega arith in

@@ -1,13 +1,13 @@
 -- The cells of what is stored, each read by itself, and after others were put in their place.
-use Rattle.std.proofs.Common.{◌≡◌, ◌∙◌, ℕ, zero, suc, ◌+◌, ◌<◌, List, [], ◌∷◌, map, length, get_or, set, replicate, refl, sym, ap, subst, arith, Option, Some, None, Bool, true, ◌&&◌}
-use Rattle.std.specs.Prelude.{MatchBool, MatchOption, nat_lt, unwrap_or}
+use Rattle.std.proofs.Common.{◌≡◌, ◌∙◌, ℕ, zero, suc, ◌+◌, ◌<◌, List, [], ◌∷◌, map, length, get_or, set, replicate, refl, sym, ap, subst, arith, Option, Some, None, Bool, true}
+use Rattle.std.specs.Prelude.{MatchBool, MatchOption, nat_lt}
 use Rattle.std.specs.List.{list_all, range_with_len}
 use Rattle.std.proofs.lemmas.Bool.{and_from, and_parts, lt-ltb}
 use Rattle.std.proofs.lemmas.List.{get_or-replicate, length-replicate, length-set, map-set}
 use Rattle.zarr_grids_boxes.specs.Boxes.{product}
 use Rattle.zarr_codecs_meaning.specs.Chains.{Chain}
-use Rattle.zarr_codecs_meaning.specs.Chunks.{chunk_decoded, chunk_part, IsStored}
-use Rattle.zarr_codecs_meaning.specs.Decoding.{all_there, cell_at, decoded, opens, part_decoded}
+use Rattle.zarr_codecs_meaning.specs.Chunks.{chunk_decoded, chunk_part}
+use Rattle.zarr_codecs_meaning.specs.Decoding.{all_there, cell_at, opens}
 use Rattle.zarr_codecs_meaning.specs.Fits.{fits, is_lossless}
 use Rattle.zarr_codecs_meaning.specs.Laws.{AreCells, IsLawfulChain}
 use Rattle.zarr_codecs_meaning.specs.Standing.{ChunkStands}

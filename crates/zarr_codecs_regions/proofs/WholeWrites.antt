@@ -1,32 +1,31 @@
 -- What is stored after a value was written whole, and why it isn't written.
-use Rattle.std.proofs.Common.{◌≡◌, ◌∙◌, ◌⊎◌, ◌≤◌, ◌^◌, ℕ, List, [], ◌∷◌, length, map, refl, sym, ap, subst, inl, inr, Option, Some, None, Bool, true, false, replicate, Result, Ok, Err, Vec, Global}
-use Rattle.std.specs.Prelude.{IfOk, IsTrue, MatchOption, option_map, unwrap_or}
+use Rattle.std.proofs.Common.{◌≡◌, ◌∙◌, ℕ, List, [], ◌∷◌, length, map, refl, sym, ap, subst, inl, inr, Option, Some, None, Bool, true, false, replicate, Result, Ok, Err, Vec, Global}
+use Rattle.std.specs.Prelude.{IfOk, MatchOption, option_map, unwrap_or}
 use Rattle.std.specs.List.{list_all}
 use Rattle.zarr_grids_boxes.specs.Boxes.{product}
 use Rattle.zarr_codecs_meaning.specs.Chains.{Chain}
 use Rattle.zarr_codecs_meaning.specs.Chunks.{chunk_decoded}
 use Rattle.zarr_codecs_meaning.specs.Encoding.{encoded}
-use Rattle.zarr_codecs_meaning.specs.Fits.{fits, is_lossless, is_plain}
-use Rattle.zarr_codecs_meaning.specs.Laws.{AreCells, IsLawfulChain}
+use Rattle.zarr_codecs_meaning.specs.Fits.{fits, is_plain}
+use Rattle.zarr_codecs_meaning.specs.Laws.{IsLawfulChain}
 use Rattle.zarr_codecs_meaning.specs.Payloads.{Payload, cells_in}
 use Rattle.zarr_codecs_meaning.specs.Refusals.{CodecRefuses, PassesIndex}
-use Rattle.zarr_codecs_meaning.specs.Standing.{ChunkStands, Stands, Tight}
-use Rattle.zarr_codecs_meaning.specs.Types.{Cell, DataType, Elements, is_fill, is_value, IsTooLarge}
+use Rattle.zarr_codecs_meaning.specs.Standing.{Stands, Tight}
+use Rattle.zarr_codecs_meaning.specs.Types.{Cell, DataType, Elements, is_fill, is_value}
 use Rattle.zarr_codecs_meaning.proofs.Lists.{some_same}
 use Rattle.zarr_codecs_meaning.proofs.Meaning.{stands_decoded}
 use Rattle.zarr_codecs_meaning.proofs.Shards.{fill_is_replicate}
 use Rattle.zarr_codecs_meaning.proofs.Tight.{encoded_tight}
 use Rattle.zarr_codecs_arrays.specs.Outcomes.{IsCounted, IsInvalid, IsMiscounted, IsValid}
-use Rattle.zarr_codecs_arrays.specs.Views.{payload_of}
 use Rattle.zarr_codecs_arrays.specs.declared.error.CodecError.{CodecError}
 use Rattle.zarr_codecs_arrays.specs.declared.error.CodecError.TheVariants as error
 use Rattle.zarr_codecs_traits.specs.Indexers.{Asked, are_inside, numbers_asked, put}
-use Rattle.zarr_codecs_traits.specs.Outcomes.{Encodes, IsEncoded, IsRefused}
-use Rattle.zarr_codecs_traits.specs.PartWriting.{IsEncodedInto, IsRefusedInto, MeetsLost, NotEncodedWhole, PassesLength, cells_after}
-use Rattle.zarr_codecs_traits.specs.Sources.{ReadRefused, value_bytes}
+use Rattle.zarr_codecs_traits.specs.Outcomes.{IsEncoded, IsRefused}
+use Rattle.zarr_codecs_traits.specs.PartWriting.{IsEncodedInto, IsRefusedInto, MeetsLost, NotEncodedWhole}
+use Rattle.zarr_codecs_traits.specs.Sources.{value_bytes}
 use Rattle.zarr_codecs_traits.proofs.Damage.{decoded_intact}
 use Rattle.zarr_codecs_regions.specs.Updates.{IsUpdated, Updates}
-use Rattle.zarr_codecs_regions.specs.Whole.{CanBePut, EncodesOrDrops, GivesStored, IsStoredAs}
+use Rattle.zarr_codecs_regions.specs.Whole.{CanBePut, EncodesOrDrops, IsStoredAs}
 use Rattle.zarr_codecs_regions.proofs.Shown.{after_decoded, map_put, put_cells, shown_cells, standing_decoded, stored_cells, stored_opens, tight_standing}
 
 -- what is decoded has lost nothing

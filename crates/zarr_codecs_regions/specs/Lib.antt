@@ -4,3 +4,4 @@ pub mod Updates
 pub mod Filling
 pub mod Whole
 pub mod BoxLines
+pub mod Taken

@@ -5,9 +5,10 @@ ghost use Rattle.zarr_grids_boxes.specs.Boxes.{product};
 ghost use Rattle.zarr_grids_boxes.specs.Subsets.{region_of};
 ghost use Rattle.zarr_codecs_traits.specs.Indexers.{are_inside, asked_of, shape_has, numbers_of, numbers_asked};
 ghost use Rattle.zarr_codecs_regions.specs.Asking.{TestsAsked};
-ghost use Rattle.zarr_codecs_regions.specs.BoxLines.{first_places, with_first_alone};
+ghost use Rattle.zarr_codecs_regions.specs.BoxLines.{first_places};
 
 use crate::inside::is_inside;
+use crate::lines::first_places;
 use crate::list::are_below;
 use std::alloc::{AllocError, Global};
 use zarr_codecs_arrays::CodecError;
@@ -84,29 +85,6 @@ fn first_numbers(alloc: Global, shape: &[u64], region: &ArraySubset) -> Result<V
         Ok(numbers) => numbers.collect(alloc),
         Err(_) => unreachable!(),
     }
-}
-
-/// The first places of a box's lines.
-fn first_places(alloc: Global, region: &ArraySubset) -> Result<ArraySubset, AllocError>
-    requires { 0 < product region.now.shape.items }
-    ensures { IfOk result (λ firsts. region_of firsts ≡ first_places (region_of region.now)) }
-{
-    let start = region.start().to_vec(alloc)?;
-    let shape = with_first_alone(region.shape().to_vec(alloc)?);
-    Ok(ArraySubset { start, shape })
-}
-
-/// A shape with 1 as its last length.
-#[tactic(auto, using(crate::proofs::BoxLines::alone_none, crate::proofs::BoxLines::alone_set))]
-fn with_first_alone(mut shape: Vec<u64>) -> Vec<u64>
-    ensures { result.items ≡ with_first_alone shape.items }
-{
-    let count = shape.len();
-    if count == 0 {
-        return shape;
-    }
-    shape[count - 1] = 1;
-    shape
 }
 
 /// The numbers of the places of lines, of so many places each, that begin at these numbers. `Err`

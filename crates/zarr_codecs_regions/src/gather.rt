@@ -67,7 +67,11 @@ pub(crate) fn gather(
 }
 
 /// Elements with a mask.
-fn masked(alloc: Global, inner: ArrayBytes, mask: Vec<u8>) -> Result<ArrayBytes, AllocError>
+pub(crate) fn masked(
+    alloc: Global,
+    inner: ArrayBytes,
+    mask: Vec<u8>,
+) -> Result<ArrayBytes, AllocError>
     ensures { IfOk result (λ a. payload_of a ≡ optional (payload_of inner) mask.items) }
 {
     Ok(ArrayBytes::Optional(Box::new(alloc, inner)?, mask))

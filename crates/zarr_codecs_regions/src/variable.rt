@@ -82,7 +82,7 @@ fn gather_pieces(
 }
 
 /// The bytes of the element with this number, where there is one.
-fn piece_of<'a>(bytes: &'a [u8], offsets: &[u64], number: u64) -> Option<&'a [u8]>
+pub(crate) fn piece_of<'a>(bytes: &'a [u8], offsets: &[u64], number: u64) -> Option<&'a [u8]>
     ensures { IfSome result (λ piece. piece.now ≡ piece_of offsets.now bytes.now number) }
 {
     let (start, end) = bounds_of(bytes, offsets, number)?;

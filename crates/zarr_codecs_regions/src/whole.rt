@@ -20,7 +20,9 @@ use zarr_grids_boxes::walk::count_places;
 
 /// Puts elements in the place of those at the places that are asked for, as
 /// `ArrayToBytesCodecTraits::partial_encode` says, for any codec: the value that the source holds
-/// is read whole, and one call replaces it, or takes it away.
+/// is read whole, and one call replaces it, or takes it away. `Damage` where that value isn't
+/// decoded, whatever the codec: also one of `bytes`. A shard with a pair outside its data is written
+/// anew if it is decoded.
 pub fn encode_whole<C: WholeValues, E: BytesPartialEncoderTraits>(
     codec: &C,
     alloc: Global,

@@ -10,7 +10,7 @@ use Rattle.std.proofs.lemmas.List.Folds.{flat_map-map}
 use Rattle.std.proofs.lemmas.List.FromFn.{fill_by_all}
 use Rattle.std.proofs.lemmas.Grind.{flat_map-append}
 use Rattle.zarr_grids_boxes.proofs.Places.{range_with_len-append}
-use Rattle.zarr_codecs_strides.specs.Strides.{strided, reach, run_at, element_at, walked, element_in, column_of}
+use Rattle.zarr_codecs_strides.specs.Strides.{strided, reach, stretch_at, element_at, walked, element_in, column_of}
 use Rattle.zarr_codecs_strides.proofs.Walks.{flat_same, reach_step, within, number_small}
 
 -- ---- no number of a walk lies past its last one
@@ -100,10 +100,10 @@ column_fits : (c edge w : ℕ) → c < edge → c * w + w ≤ edge * w
 column_fits c edge w l = let k = mul-le-mul_right {m = c + 1} {n = edge} w (omega (arith, l)) in let sum : (c + 1) * w ≡ c * w + w = grind arith in omega (arith, k, sum)
 
 element_is : (w edge c r b : ℕ) (bytes ms : List ℕ) → c < edge → r < length ms → bounded b ms → (b + edge) * w ≤ length bytes
-    → element_in w (flat_map (run_at w (edge * w) bytes) ms) edge c r ≡ element_at w bytes (get_or ms r 0 + c)
+    → element_in w (flat_map (stretch_at w (edge * w) bytes) ms) edge c r ≡ element_at w bytes (get_or ms r 0 + c)
 element_is w edge c r b bytes ms l less h inside =
     let s = edge * w in
-    let line = run_at w (edge * w) bytes in
+    let line = stretch_at w (edge * w) bytes in
     let all = flat_map line ms in
     let m = get_or ms r 0 in
     let fits = column_fits c edge w l in
@@ -117,7 +117,7 @@ element_is w edge c r b bytes ms l less h inside =
     ∙ (part_of w (c * w) s (drop (m * w) bytes) fits
     ∙ (ap (take w) (drop_drop (c * w) (m * w) bytes)
     ∙ ap (λ n. take w (drop n bytes)) (sym at')))))) where
-      line_whole : (w edge b : ℕ) (bytes : List ℕ) (k : ℕ) → (b + edge) * w ≤ length bytes → k ≤ b → length (run_at w (edge * w) bytes k) ≡ edge * w
+      line_whole : (w edge b : ℕ) (bytes : List ℕ) (k : ℕ) → (b + edge) * w ≤ length bytes → k ≤ b → length (stretch_at w (edge * w) bytes k) ≡ edge * w
       line_whole w edge b bytes k inside below =
           let most = mul-le-mul_right {m = k + edge} {n = b + edge} w (omega (arith, below)) in
           let sum : (k + edge) * w ≡ k * w + edge * w = grind arith in
@@ -135,7 +135,7 @@ by_number xs = sym (fill_by_all (λ k. get_or xs k 0) xs (length xs) 0 refl (λ 
 
 -- the lines of a panel
 abbrev pub panel_of : ℕ → ℕ → List ℕ → List ℕ → List ℕ
-panel_of w edge bytes ms = flat_map (run_at w (edge * w) bytes) ms
+panel_of w edge bytes ms = flat_map (stretch_at w (edge * w) bytes) ms
 
 column_is : (w edge c b : ℕ) (bytes ms : List ℕ) → c < edge → bounded b ms → (b + edge) * w ≤ length bytes
     → column_of w (panel_of w edge bytes ms) edge (length ms) c ≡ flat_map (λ m. element_at w bytes (m + c)) ms
@@ -145,7 +145,7 @@ column_is w edge c b bytes ms l h inside =
     ∙ (sym (flat_map-map g (λ r. get_or ms r 0) (range_with_len 0 (length ms))) ∙ ap (flat_map g) (by_number ms))
 
 -- a panel's columns are the elements that walks come by
-pub panel_columns : (w edge base count : ℕ) (bytes panel sizes strides : List ℕ) → panel ≡ flat_map (run_at w (edge * w) bytes) (strided base sizes strides) → (base + edge + reach sizes strides) * w ≤ length bytes → count ≡ length (strided base sizes strides)
+pub panel_columns : (w edge base count : ℕ) (bytes panel sizes strides : List ℕ) → panel ≡ flat_map (stretch_at w (edge * w) bytes) (strided base sizes strides) → (base + edge + reach sizes strides) * w ≤ length bytes → count ≡ length (strided base sizes strides)
     → flat_map (column_of w panel edge count) (range_with_len 0 edge) ≡ flat_map (λ c. walked w bytes (base + c) sizes strides) (range_with_len 0 edge)
 panel_columns w edge base count bytes panel sizes strides e inside many =
     let ms = strided base sizes strides in
@@ -157,9 +157,9 @@ panel_columns w edge base count bytes panel sizes strides e inside many =
     ∙ (column_is w edge c b bytes ms (omega (arith, l)) (strided_bounded base sizes strides) inside' ∙ shifted w base c bytes sizes strides)))
 
 -- how many lines a panel has
-pub panel_lines : (w edge base : ℕ) (bytes panel sizes strides : List ℕ) → panel ≡ flat_map (run_at w (edge * w) bytes) (strided base sizes strides) → (base + edge + reach sizes strides) * w ≤ length bytes → length panel ≡ length (strided base sizes strides) * (edge * w)
+pub panel_lines : (w edge base : ℕ) (bytes panel sizes strides : List ℕ) → panel ≡ flat_map (stretch_at w (edge * w) bytes) (strided base sizes strides) → (base + edge + reach sizes strides) * w ≤ length bytes → length panel ≡ length (strided base sizes strides) * (edge * w)
 panel_lines w edge base bytes panel sizes strides e inside =
-    ap length e ∙ line_long (edge * w) (run_at w (edge * w) bytes) (base + reach sizes strides) (strided base sizes strides) (strided_bounded base sizes strides)
+    ap length e ∙ line_long (edge * w) (stretch_at w (edge * w) bytes) (base + reach sizes strides) (strided base sizes strides) (strided_bounded base sizes strides)
     (λ k below.
     let most = mul-le-mul_right {m = k + edge} {n = base + edge + reach sizes strides} w (omega (arith, below)) in
     let sum : (k + edge) * w ≡ k * w + edge * w = grind arith in
@@ -226,8 +226,8 @@ line_written w base n bytes old new inside e =
     e ∙ ap (λ vs. old ++ vs) (ap (λ k. take k (drop (base * w) bytes)) long ∙ line_is w base n bytes inside)
 
 -- all elements of walks from places side by side are there
-pub side_inside : (base count rest w run long : ℕ) → 0 < count → run ≡ w → (base + ((count - 1) * 1 + rest)) * w + run ≤ long → (base + count + rest) * w ≤ long
-side_inside base count rest w run long some is inside =
+pub side_inside : (base count rest w stretch long : ℕ) → 0 < count → stretch ≡ w → (base + ((count - 1) * 1 + rest)) * w + stretch ≤ long → (base + count + rest) * w ≤ long
+side_inside base count rest w stretch long some is inside =
     let k = base + ((count - 1) * 1 + rest) in
     let e : base + count + rest ≡ k + 1 = omega (arith, some) in
     let sum : (k + 1) * w ≡ k * w + w = grind arith in

@@ -8,7 +8,7 @@ use Rattle.std.proofs.lemmas.List.{append-nil}
 use Rattle.std.proofs.lemmas.Grind.{flat_map-append}
 use Rattle.zarr_grids_boxes.specs.Boxes.{product}
 use Rattle.zarr_grids_boxes.proofs.Places.{range_with_len-append}
-use Rattle.zarr_codecs_strides.specs.Strides.{strided, reach, run_at, walked}
+use Rattle.zarr_codecs_strides.specs.Strides.{strided, reach, stretch_at, walked}
 
 -- a product that is not zero has no factor that is
 pub first_some : (a b : ℕ) → 0 < a * b → 0 < a
@@ -19,12 +19,12 @@ pub second_some : (a b : ℕ) → 0 < a * b → 0 < b
 second_some a zero h = let z : a * 0 ≡ 0 = omega arith in absurd (omega (arith, h, z))
 second_some a (suc b) h = omega arith
 
--- a run stays within the bytes where it is not past another one that does
-pub within : (m n width run long : ℕ) → m ≤ n → n * width + run ≤ long → m * width + run ≤ long
-within m n width run long l h = let k = mul-le-mul_right {m = m} {n = n} width l in omega (arith, k, h)
+-- a stretch stays within the bytes where it is not past another one that does
+pub within : (m n width stretch long : ℕ) → m ≤ n → n * width + stretch ≤ long → m * width + stretch ≤ long
+within m n width stretch long l h = let k = mul-le-mul_right {m = m} {n = n} width l in omega (arith, k, h)
 
-pub number_small : (n width run long : ℕ) → 0 < width → n * width + run ≤ long → n ≤ long
-number_small n width run long w h = let k = mul-le-mul_left {m = 1} {n = width} n w in let o : n * 1 ≡ n = omega arith in omega (arith, k, h, o)
+pub number_small : (n width stretch long : ℕ) → 0 < width → n * width + stretch ≤ long → n ≤ long
+number_small n width stretch long w h = let k = mul-le-mul_left {m = 1} {n = width} n w in let o : n * 1 ≡ n = omega arith in omega (arith, k, h, o)
 
 -- one number more of the first dimension
 pub reach_step : (base size stride rest i : ℕ) → i < size → base + i * stride + rest ≤ base + ((size - 1) * stride + rest)
@@ -47,28 +47,28 @@ flat_same f g [] h = refl
 flat_same f g (x ∷ xs) h = ap (λ ys. ys ++ flat_map f xs) (h x) ∙ ap (λ ys. g x ++ ys) (flat_same f g xs h)
 
 -- what a call on the other dimensions is given
-pub record Inner (sizes strides : List ℕ) (base width run long size stride i : ℕ) (inner_sizes inner_strides : List ℕ) : Type 0 where
+pub record Inner (sizes strides : List ℕ) (base width stretch long size stride i : ℕ) (inner_sizes inner_strides : List ℕ) : Type 0 where
   pub steps : i * stride ≤ long
   pub place : base + i * stride ≤ long
   pub shorter : length inner_sizes < length sizes
   pub ranks : length inner_strides ≡ length inner_sizes
   pub some : 0 < product inner_sizes * width
-  pub inside : (base + i * stride + reach inner_sizes inner_strides) * width + run ≤ long
+  pub inside : (base + i * stride + reach inner_sizes inner_strides) * width + stretch ≤ long
 
 -- the first dimension, and what is said of the others
-pub record Front (sizes strides : List ℕ) (base width run long size stride : ℕ) (inner_sizes inner_strides : List ℕ) : Type 0 where
+pub record Front (sizes strides : List ℕ) (base width stretch long size stride : ℕ) (inner_sizes inner_strides : List ℕ) : Type 0 where
   pub sided : 0 < size
   pub wide : 0 < width
   pub rest : 0 < product inner_sizes
-  pub inside : (base + ((size - 1) * stride + reach inner_sizes inner_strides)) * width + run ≤ long
+  pub inside : (base + ((size - 1) * stride + reach inner_sizes inner_strides)) * width + stretch ≤ long
   pub ranks : length inner_strides ≡ length inner_sizes
   pub shorter : length inner_sizes < length sizes
 
-pub front : (sizes strides : List ℕ) (base width run long size stride : ℕ) (inner_sizes inner_strides : List ℕ) → sizes ≡ size ∷ inner_sizes → strides ≡ stride ∷ inner_strides → length strides ≡ length sizes → 0 < product sizes * width
-    → (base + reach sizes strides) * width + run ≤ long → Front sizes strides base width run long size stride inner_sizes inner_strides
-front sizes strides base width run long size stride inner_sizes inner_strides e f l some inside =
+pub front : (sizes strides : List ℕ) (base width stretch long size stride : ℕ) (inner_sizes inner_strides : List ℕ) → sizes ≡ size ∷ inner_sizes → strides ≡ stride ∷ inner_strides → length strides ≡ length sizes → 0 < product sizes * width
+    → (base + reach sizes strides) * width + stretch ≤ long → Front sizes strides base width stretch long size stride inner_sizes inner_strides
+front sizes strides base width stretch long size stride inner_sizes inner_strides e f l some inside =
     let some' : 0 < size * product inner_sizes * width = subst (λ (v : List ℕ). 0 < product v * width) e some in
-    let inside' : (base + ((size - 1) * stride + reach inner_sizes inner_strides)) * width + run ≤ long = subst (λ (v : List ℕ). (base + reach (size ∷ inner_sizes) v) * width + run ≤ long) f (subst (λ (v : List ℕ). (base + reach v strides) * width + run ≤ long) e inside) in
+    let inside' : (base + ((size - 1) * stride + reach inner_sizes inner_strides)) * width + stretch ≤ long = subst (λ (v : List ℕ). (base + reach (size ∷ inner_sizes) v) * width + stretch ≤ long) f (subst (λ (v : List ℕ). (base + reach v strides) * width + stretch ≤ long) e inside) in
     let le = ap length e in
     let lf = ap length f in
     record {
@@ -80,13 +80,13 @@ front sizes strides base width run long size stride inner_sizes inner_strides e 
       shorter = omega (arith, le);
     }
 
-pub inner_walk : (sizes strides : List ℕ) (base width run long size stride i : ℕ) (inner_sizes inner_strides : List ℕ) → sizes ≡ size ∷ inner_sizes → strides ≡ stride ∷ inner_strides → length strides ≡ length sizes → 0 < product sizes * width
-    → (base + reach sizes strides) * width + run ≤ long → i < size → Inner sizes strides base width run long size stride i inner_sizes inner_strides
-inner_walk sizes strides base width run long size stride i inner_sizes inner_strides e f l some inside h =
-    let one = front sizes strides base width run long size stride inner_sizes inner_strides e f l some inside in
+pub inner_walk : (sizes strides : List ℕ) (base width stretch long size stride i : ℕ) (inner_sizes inner_strides : List ℕ) → sizes ≡ size ∷ inner_sizes → strides ≡ stride ∷ inner_strides → length strides ≡ length sizes → 0 < product sizes * width
+    → (base + reach sizes strides) * width + stretch ≤ long → i < size → Inner sizes strides base width stretch long size stride i inner_sizes inner_strides
+inner_walk sizes strides base width stretch long size stride i inner_sizes inner_strides e f l some inside h =
+    let one = front sizes strides base width stretch long size stride inner_sizes inner_strides e f l some inside in
     let step = reach_step base size stride (reach inner_sizes inner_strides) i h in
-    let in_reach = within _ _ width run long step one.inside in
-    let small = number_small _ width run long one.wide in_reach in
+    let in_reach = within _ _ width stretch long step one.inside in
+    let small = number_small _ width stretch long one.wide in_reach in
     record {
       steps = omega (arith, small);
       place = omega (arith, small);
@@ -96,15 +96,15 @@ inner_walk sizes strides base width run long size stride i inner_sizes inner_str
       inside = in_reach;
     }
 
--- the walk's runs, when the first dimension has been gone through
-pub runs_walked : (width run base size stride : ℕ) (bytes inner_sizes inner_strides : List ℕ) → flat_map (λ k. flat_map (run_at width run bytes) (strided (base + k * stride) inner_sizes inner_strides)) (range_with_len 0 size) ≡ flat_map (run_at width run bytes) (strided base (size ∷ inner_sizes) (stride ∷ inner_strides))
-runs_walked width run base size stride bytes inner_sizes inner_strides = sym (flat_flat (run_at width run bytes) (λ k. strided (base + k * stride) inner_sizes inner_strides) (range_with_len 0 size))
+-- the walk's stretches, when the first dimension has been gone through
+pub stretches_walked : (width stretch base size stride : ℕ) (bytes inner_sizes inner_strides : List ℕ) → flat_map (λ k. flat_map (stretch_at width stretch bytes) (strided (base + k * stride) inner_sizes inner_strides)) (range_with_len 0 size) ≡ flat_map (stretch_at width stretch bytes) (strided base (size ∷ inner_sizes) (stride ∷ inner_strides))
+stretches_walked width stretch base size stride bytes inner_sizes inner_strides = sym (flat_flat (stretch_at width stretch bytes) (λ k. strided (base + k * stride) inner_sizes inner_strides) (range_with_len 0 size))
 
 -- elements that stand side by side, each with those of a walk from it on
 pub side_walked : (width base size : ℕ) (bytes inner_sizes inner_strides : List ℕ) → flat_map (λ c. walked width bytes (base + c) inner_sizes inner_strides) (range_with_len 0 size) ≡ walked width bytes base (size ∷ inner_sizes) (1 ∷ inner_strides)
 side_walked width base size bytes inner_sizes inner_strides =
     flat_same (λ c. walked width bytes (base + c) inner_sizes inner_strides) (λ c. walked width bytes (base + c * 1) inner_sizes inner_strides) (range_with_len 0 size) (λ c. ap (λ n. walked width bytes n inner_sizes inner_strides) (let e : base + c ≡ base + c * 1 = omega arith in e))
-    ∙ runs_walked width width base size 1 bytes inner_sizes inner_strides
+    ∙ stretches_walked width width base size 1 bytes inner_sizes inner_strides
 
 -- a walk with no step in some dimension comes by nothing
 pub nothing_walked : (width base : ℕ) (bytes sizes strides : List ℕ) → length strides ≡ length sizes → product sizes ≡ 0 → [] ≡ walked width bytes base sizes strides
@@ -114,7 +114,7 @@ nothing_walked width base bytes (zero ∷ es) (s ∷ ss) l z = refl
 nothing_walked width base bytes (suc e ∷ es) (s ∷ ss) l z =
     let rest : product es ≡ 0 = let k = mul-le-mul_right {m = 1} {n = suc e} (product es) (omega arith) in omega (arith, k, z) in
     none (λ k. walked width bytes (base + k * s) es ss) (range_with_len 0 (suc e)) (λ k. nothing_walked width (base + k * s) bytes es ss (omega (arith, l)) rest)
-    ∙ runs_walked width width base (suc e) s bytes es ss where
+    ∙ stretches_walked width width base (suc e) s bytes es ss where
       none : (f : ℕ → List ℕ) (ks : List ℕ) → ((k : ℕ) → [] ≡ f k) → [] ≡ flat_map f ks
       none f [] h = refl
       none f (k ∷ ks) h = none f ks h ∙ ap (λ ys. ys ++ flat_map f ks) (h k)

@@ -15,12 +15,12 @@ reach (size ∷ sizes) [] = 0
 reach (size ∷ sizes) (stride ∷ strides) = (size - 1) * stride + reach sizes strides
 
 -- so many bytes from the element with a number on, where each element has a width
-abbrev pub run_at : ℕ → ℕ → List ℕ → ℕ → List ℕ
-run_at width count bytes n = take count (drop (n * width) bytes)
+abbrev pub stretch_at : ℕ → ℕ → List ℕ → ℕ → List ℕ
+stretch_at width count bytes n = take count (drop (n * width) bytes)
 
 -- the bytes of the element with a number
 abbrev pub element_at : ℕ → List ℕ → ℕ → List ℕ
-element_at width bytes n = run_at width width bytes n
+element_at width bytes n = stretch_at width width bytes n
 
 -- the elements that a walk from a place on comes by
 abbrev pub walked : ℕ → List ℕ → ℕ → List ℕ → List ℕ → List ℕ

@@ -5,51 +5,51 @@ ghost use Rattle.zarr_grids_boxes.specs.Boxes.{product};
 ghost use Rattle.zarr_codecs_strides.specs.Strides.{reach, walked};
 
 use crate::panels::{Side, push_panel};
-use crate::runs::Runs;
+use crate::stretches::Stretches;
 use crate::walk::Walk;
 use std::alloc::{AllocError, Global};
 
 /// How many bytes of a line are moved together: two lines of the processor's caches.
 const LANE: u64 = 128;
 
-/// Appends the elements that a walk comes by whose first step goes on to the next element. The run
-/// is the width.
+/// Appends the elements that a walk comes by whose first step goes on to the next element. The
+/// stretch is the width.
 pub(crate) fn push_side(
     alloc: Global,
     out: &mut Vec<u8>,
-    runs: Runs<'_>,
+    stretches: Stretches<'_>,
     side: Side,
     walk: Walk<'_>,
 ) -> Result<(), AllocError>
     requires ranks { length walk.strides.now ≡ length walk.sizes.now }
     requires sided { 0 < side.count }
-    requires some { 0 < product walk.sizes.now * runs.width }
-    requires run { runs.run ≡ runs.width }
+    requires some { 0 < product walk.sizes.now * stretches.width }
+    requires stretch { stretches.stretch ≡ stretches.width }
     requires inside { (side.base + ((side.count - 1) * 1 + reach walk.sizes.now walk.strides.now))
-        * runs.width + runs.run ≤ length runs.bytes.now }
-    ensures { OnOk result (out.new.items ≡ out.old.items ++ walked runs.entry.width
-        runs.entry.bytes.now side.base (side.count ∷ walk.entry.sizes.now)
+        * stretches.width + stretches.stretch ≤ length stretches.bytes.now }
+    ensures { OnOk result (out.new.items ≡ out.old.items ++ walked stretches.entry.width
+        stretches.entry.bytes.now side.base (side.count ∷ walk.entry.sizes.now)
         (1 ∷ walk.entry.strides.now)) }
 {
     if walk.sizes.is_empty() {
-        return push_line(out, runs, side);
+        return push_line(out, stretches, side);
     }
-    push_panels(alloc, out, runs, side, walk)
+    push_panels(alloc, out, stretches, side, walk)
 }
 
 /// Appends elements that stand side by side.
-fn push_line(out: &mut Vec<u8>, runs: Runs<'_>, side: Side) -> Result<(), AllocError>
-    requires run { runs.run ≡ runs.width }
+fn push_line(out: &mut Vec<u8>, stretches: Stretches<'_>, side: Side) -> Result<(), AllocError>
+    requires stretch { stretches.stretch ≡ stretches.width }
     requires sided { 0 < side.count }
-    requires some { 0 < runs.width }
-    requires inside { (side.base + side.count) * runs.width ≤ length runs.bytes.now }
+    requires some { 0 < stretches.width }
+    requires inside { (side.base + side.count) * stretches.width ≤ length stretches.bytes.now }
     ensures { OnOk result (out.new.items ≡ out.old.items ++ flat_map
-        (λ c. walked runs.entry.width runs.entry.bytes.now (side.base + c) [] [])
+        (λ c. walked stretches.entry.width stretches.entry.bytes.now (side.base + c) [] [])
         (range_with_len 0 side.count)) }
 {
-    let start = side.base as usize * runs.width;
-    let end = (side.base + side.count) as usize * runs.width;
-    out.extend_from_slice(&runs.bytes[start..end])?;
+    let start = side.base as usize * stretches.width;
+    let end = (side.base + side.count) as usize * stretches.width;
+    out.extend_from_slice(&stretches.bytes[start..end])?;
     Ok(())
 }
 
@@ -58,19 +58,19 @@ fn push_line(out: &mut Vec<u8>, runs: Runs<'_>, side: Side) -> Result<(), AllocE
 fn push_panels(
     alloc: Global,
     out: &mut Vec<u8>,
-    runs: Runs<'_>,
+    stretches: Stretches<'_>,
     side: Side,
     walk: Walk<'_>,
 ) -> Result<(), AllocError>
     requires ranks { length walk.strides.now ≡ length walk.sizes.now }
-    requires some { 0 < product walk.sizes.now * runs.width }
+    requires some { 0 < product walk.sizes.now * stretches.width }
     requires inside { (side.base + side.count + reach walk.sizes.now walk.strides.now)
-        * runs.width ≤ length runs.bytes.now }
+        * stretches.width ≤ length stretches.bytes.now }
     ensures { OnOk result (out.new.items ≡ out.old.items ++ flat_map
-        (λ c. walked runs.entry.width runs.entry.bytes.now (side.base + c)
+        (λ c. walked stretches.entry.width stretches.entry.bytes.now (side.base + c)
         walk.entry.sizes.now walk.entry.strides.now) (range_with_len 0 side.count)) }
 {
-    let most = (LANE / runs.width as u64).max(1);
+    let most = (LANE / stretches.width as u64).max(1);
     let mut panel = Vec::new(alloc);
     let mut done: u64 = 0;
     while done < side.count {
@@ -79,7 +79,7 @@ fn push_panels(
             base: side.base + done,
             count,
         };
-        push_panel(out, &mut panel, runs, part, walk)?;
+        push_panel(out, &mut panel, stretches, part, walk)?;
         done += count;
     }
     Ok(())

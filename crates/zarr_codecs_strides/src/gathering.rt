@@ -5,7 +5,7 @@ ghost use Rattle.zarr_codecs_strides.specs.Strides.{reach, walked};
 
 use crate::columns::push_side;
 use crate::panels::Side;
-use crate::runs::Runs;
+use crate::stretches::Stretches;
 use crate::walk::{Walk, reach};
 use std::alloc::{AllocError, Global};
 use zarr_grids_boxes::walk::count_places;
@@ -37,13 +37,13 @@ pub fn gather_walk(
     if !lies_within(bytes, width, walk) {
         return Err(AllocError);
     }
-    let runs = Runs {
+    let stretches = Stretches {
         bytes,
         width,
-        run: width,
+        stretch: width,
     };
     let mut out = Vec::with_capacity(alloc, total)?;
-    push_walk(alloc, &mut out, runs, 0, walk)?;
+    push_walk(alloc, &mut out, stretches, 0, walk)?;
     Ok(out)
 }
 
@@ -65,34 +65,34 @@ fn lies_within(bytes: &[u8], width: usize, walk: Walk<'_>) -> bool
     }
 }
 
-/// Appends the elements that a walk from a place on comes by. The run is the width.
+/// Appends the elements that a walk from a place on comes by. The stretch is the width.
 fn push_walk(
     alloc: Global,
     out: &mut Vec<u8>,
-    runs: Runs<'_>,
+    stretches: Stretches<'_>,
     base: u64,
     walk: Walk<'_>,
 ) -> Result<(), AllocError>
     requires ranks { length walk.strides.now ≡ length walk.sizes.now }
-    requires some { 0 < product walk.sizes.now * runs.width }
-    requires run { runs.run ≡ runs.width }
-    requires inside { (base + reach walk.sizes.now walk.strides.now) * runs.width + runs.run
-        ≤ length runs.bytes.now }
+    requires some { 0 < product walk.sizes.now * stretches.width }
+    requires stretch { stretches.stretch ≡ stretches.width }
+    requires inside { (base + reach walk.sizes.now walk.strides.now) * stretches.width
+        + stretches.stretch ≤ length stretches.bytes.now }
     ensures { OnOk result (out.new.items ≡ out.old.items
-        ++ walked runs.entry.width runs.entry.bytes.now base walk.entry.sizes.now
+        ++ walked stretches.entry.width stretches.entry.bytes.now base walk.entry.sizes.now
         walk.entry.strides.now) }
 {
     match (walk.sizes.split_first(), walk.strides.split_first()) {
         (Some((size, sizes)), Some((stride, strides))) => {
             if *stride == 1 {
                 let side = Side { base, count: *size };
-                return push_side(alloc, out, runs, side, Walk { sizes, strides });
+                return push_side(alloc, out, stretches, side, Walk { sizes, strides });
             }
             for i in 0..*size {
                 push_walk(
                     alloc,
                     out,
-                    runs,
+                    stretches,
                     base + i * *stride,
                     Walk { sizes, strides },
                 )?;
@@ -100,8 +100,8 @@ fn push_walk(
             Ok(())
         }
         _ => {
-            let start = base as usize * runs.width;
-            out.extend_from_slice(&runs.bytes[start..start + runs.run])
+            let start = base as usize * stretches.width;
+            out.extend_from_slice(&stretches.bytes[start..start + stretches.stretch])
         }
     }
 }

@@ -5,7 +5,7 @@ mod columns;
 pub mod gathering;
 mod lines;
 mod panels;
-mod runs;
+mod stretches;
 pub mod walk;
 
 pub use gathering::gather_walk;

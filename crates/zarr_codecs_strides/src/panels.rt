@@ -5,7 +5,7 @@ ghost use Rattle.zarr_grids_boxes.specs.Boxes.{product};
 ghost use Rattle.zarr_codecs_strides.specs.Strides.{reach, walked};
 
 use crate::lines::{Lines, push_columns};
-use crate::runs::{Runs, push_runs};
+use crate::stretches::{Stretches, push_stretches};
 use crate::walk::Walk;
 use std::alloc::AllocError;
 
@@ -22,32 +22,32 @@ pub(crate) struct Side {
 pub(crate) fn push_panel(
     out: &mut Vec<u8>,
     panel: &mut Vec<u8>,
-    runs: Runs<'_>,
+    stretches: Stretches<'_>,
     side: Side,
     walk: Walk<'_>,
 ) -> Result<(), AllocError>
     requires ranks { length walk.strides.now ≡ length walk.sizes.now }
-    requires some { 0 < product walk.sizes.now * runs.width }
+    requires some { 0 < product walk.sizes.now * stretches.width }
     requires sided { 0 < side.count }
     requires inside { (side.base + side.count + reach walk.sizes.now walk.strides.now)
-        * runs.width ≤ length runs.bytes.now }
+        * stretches.width ≤ length stretches.bytes.now }
     ensures { OnOk result (out.new.items ≡ out.old.items ++ flat_map
-        (λ c. walked runs.entry.width runs.entry.bytes.now (side.base + c)
+        (λ c. walked stretches.entry.width stretches.entry.bytes.now (side.base + c)
         walk.entry.sizes.now walk.entry.strides.now) (range_with_len 0 side.count)) }
 {
     panel.clear();
     let edge = side.count as usize;
-    let parts = Runs {
-        bytes: runs.bytes,
-        width: runs.width,
-        run: edge * runs.width,
+    let parts = Stretches {
+        bytes: stretches.bytes,
+        width: stretches.width,
+        stretch: edge * stretches.width,
     };
-    push_runs(panel, parts, side.base, walk)?;
+    push_stretches(panel, parts, side.base, walk)?;
     let lines = Lines {
         bytes: panel.as_slice(),
-        width: runs.width,
+        width: stretches.width,
         edge,
-        count: panel.len() / parts.run,
+        count: panel.len() / parts.stretch,
     };
     push_columns(out, lines)
 }

@@ -1,5 +1,6 @@
 -- What is stored, where it is decoded whole.
-use Rattle.std.proofs.Common.{◌≡◌, ◌∙◌, ◌⊎◌, ℕ, List, [], ◌∷◌, ap, refl, sym, subst, inl, inr, map, Option, None, Some, replicate, option_map, option_and_then, Bool, true, false, ◌&&◌, if◌then◌else◌, Result, Ok, Err}
+use Rattle.std.proofs.Common.{◌≡◌, ◌∙◌, ℕ, List, [], ◌∷◌, ap, sym, subst, inl, inr, map, Option, None, Some, replicate, option_map, option_and_then, Bool, true, false, if◌then◌else◌, MatchBool, Result, Ok, Err}
+use Rattle.std.proofs.lemmas.Bool.{and_parts}
 use Rattle.zarr_grids_boxes.specs.Boxes.{product}
 use Rattle.zarr_codecs_meaning.specs.Chains.{ArrayCodec, Chain}
 use Rattle.zarr_codecs_meaning.specs.Chains.ArrayCodec.{transpose, reshape, squeeze}
@@ -17,7 +18,8 @@ use Rattle.zarr_codecs_meaning.proofs.Lists.{bind_some, map_some, some_same}
 use Rattle.zarr_codecs_arrays.specs.declared.error.CodecError.{CodecError}
 use Rattle.zarr_codecs_arrays.specs.declared.error.CodecError.TheVariants as error
 use Rattle.zarr_codecs_traits.specs.Indexers.{Asked}
-use Rattle.zarr_codecs_traits.specs.PartWriting.{IsDamaged, IsLostAmong, MeetsLost, NotPut}
+use Rattle.zarr_codecs_traits.specs.PartWriting.{IsDamaged, IsLostAmong, IsPlaced, MeetsLost, NotPut, StopsPart}
+use Rattle.zarr_sharding_changes.specs.Compactions.{compaction, damaged, nothing_to_gain, undone_compaction}
 
 -- ---- a value that is decoded has lost nothing
 
@@ -53,43 +55,63 @@ decoded_intact (sharded subchunk inner index location) elements shape value numb
     let same : lost.0 ≡ found.0 = some_same (sym lost.1 ∙ found.1) in
     pieces_intact (decoded inner elements) elements.fill value numbers parts found.0 pieces.0 pieces.1 (subst (λ pairs. IsLostAmong (decoded inner elements) value numbers parts pairs) same lost.2)
 
--- ---- a value that isn't decoded is damaged, where it isn't `bytes` that writes it in part
+-- ---- chains that are not encoded in part, and those that are
 
-none_mapped : {X Y : Type 0} (f : X → Y) (o : Option X) → option_map f o ≡ None → o ≡ None
-none_mapped f None is = refl
-none_mapped f (Some x) is = absurd (cc)
+pub whole_damaged : (chain : Chain) (elements : Elements) (shape : List ℕ) (stored : Option (List ℕ)) (numbers : List ℕ) → encodes_in_part chain ≡ false → chunk_decoded chain elements shape stored ≡ None → IsDamaged chain elements shape stored numbers
+whole_damaged chain elements shape None numbers whole is = absurd (cc)
+whole_damaged chain elements shape (Some value) numbers whole is =
+    subst (λ (b : Bool). MatchBool b (StopsPart chain elements shape value numbers) (decoded chain elements shape value ≡ None)) (sym whole) is
 
-undecoded_inside : (codec : ArrayCodec) (chain : Chain) (elements : Elements) (shape : List ℕ) (stored : Option (List ℕ)) → chunk_decoded (after_array_codec codec chain) elements shape stored ≡ None → chunk_decoded chain elements (encoded_shape codec shape) stored ≡ None
-undecoded_inside codec chain elements shape None is = absurd (cc)
-undecoded_inside codec chain elements shape (Some value) is = none_mapped (λ cells. gather elements.fill cells (undone_places codec shape)) (decoded chain elements (encoded_shape codec shape) value) is
+pub part_damaged : (chain : Chain) (elements : Elements) (shape value numbers : List ℕ) → encodes_in_part chain ≡ true → StopsPart chain elements shape value numbers → IsDamaged chain elements shape (Some value) numbers
+part_damaged chain elements shape value numbers partly is = subst (λ (b : Bool). MatchBool b (StopsPart chain elements shape value numbers) (decoded chain elements shape value ≡ None)) (sym partly) is
 
-pub shard_damaged : (chain : Chain) (elements : Elements) (shape : List ℕ) (stored : Option (List ℕ)) → is_plain chain ≡ false → chunk_decoded chain elements shape stored ≡ None → IsDamaged chain elements shape stored
-shard_damaged (bytes order) elements shape stored shards is = absurd (cc)
-shard_damaged (packbits padding first last) elements shape stored shards is = is
-shard_damaged (vlen index «data» width location) elements shape stored shards is = is
-shard_damaged (optional mask values) elements shape stored shards is = is
-shard_damaged (after_array_codec codec chain) elements shape stored shards is = shard_damaged chain elements (encoded_shape codec shape) stored shards (undecoded_inside codec chain elements shape stored is)
-shard_damaged (then_bytes chain codec) elements shape stored shards is = is
-shard_damaged (sharded subchunk inner index location) elements shape stored shards is = inl is
+-- what stops a write in part
+pub stops_part : (chain : Chain) (elements : Elements) (shape value numbers : List ℕ) → encodes_in_part chain ≡ true → IsDamaged chain elements shape (Some value) numbers → StopsPart chain elements shape value numbers
+stops_part chain elements shape value numbers partly is = subst (λ (b : Bool). MatchBool b (StopsPart chain elements shape value numbers) (decoded chain elements shape value ≡ None)) partly is
 
-pub whole_damaged : (chain : Chain) (elements : Elements) (shape : List ℕ) (stored : Option (List ℕ)) → encodes_in_part chain ≡ false → chunk_decoded chain elements shape stored ≡ None → IsDamaged chain elements shape stored
-whole_damaged (bytes order) elements shape stored whole is = absurd (cc)
-whole_damaged (packbits padding first last) elements shape stored whole is = is
-whole_damaged (vlen index «data» width location) elements shape stored whole is = is
-whole_damaged (optional mask values) elements shape stored whole is = is
-whole_damaged (after_array_codec (transpose order) chain) elements shape stored whole is =
-    whole_damaged chain elements (encoded_shape (transpose order) shape) stored whole (undecoded_inside (transpose order) chain elements shape stored is)
-whole_damaged (after_array_codec (reshape entries) chain) elements shape stored whole is = at (whole_damaged chain elements (encoded_shape (reshape entries) shape) stored) (is_plain chain) refl whole where
-  inside : chunk_decoded chain elements (encoded_shape (reshape entries) shape) stored ≡ None
-  inside = undecoded_inside (reshape entries) chain elements shape stored is
+-- what is damaged behind an array codec is damaged before it
+pub damaged_before : (codec : ArrayCodec) (chain : Chain) (elements : Elements) (shape : List ℕ) (stored : Option (List ℕ)) (numbers : List ℕ) → encodes_in_part (after_array_codec codec chain) ≡ encodes_in_part chain
+    → IsDamaged chain elements (encoded_shape codec shape) stored (map (λ n. position_of n (source_places codec shape)) numbers) → IsDamaged (after_array_codec codec chain) elements shape stored numbers
+damaged_before codec chain elements shape None numbers same is = is
+damaged_before codec chain elements shape (Some value) numbers same is =
+    let moved = map (λ n. position_of n (source_places codec shape)) numbers in
+    let undone = λ (cells : List Cell). gather elements.fill cells (undone_places codec shape) in
+    subst (λ (b : Bool). MatchBool b (StopsPart (after_array_codec codec chain) elements shape value numbers) (decoded (after_array_codec codec chain) elements shape value ≡ None)) (sym same)
+    (by (encodes_in_part chain) moved undone is) where
+      by : (b : Bool) (moved : List ℕ) (undone : List Cell → List Cell) → MatchBool b (StopsPart chain elements (encoded_shape codec shape) value moved) (decoded chain elements (encoded_shape codec shape) value ≡ None)
+          → MatchBool b (StopsPart chain elements (encoded_shape codec shape) value moved) (option_map undone (decoded chain elements (encoded_shape codec shape) value) ≡ None)
+      by true moved undone h = h
+      by false moved undone h = ap (option_map undone) h
 
-  at : (encodes_in_part chain ≡ false → chunk_decoded chain elements (encoded_shape (reshape entries) shape) stored ≡ None → IsDamaged chain elements (encoded_shape (reshape entries) shape) stored)
-      → (plain : Bool) → is_plain chain ≡ plain → (plain && encodes_in_part chain) ≡ false → IsDamaged chain elements (encoded_shape (reshape entries) shape) stored
-  at again true plain h = again h inside
-  at again false plain h = shard_damaged chain elements (encoded_shape (reshape entries) shape) stored plain inside
-whole_damaged (after_array_codec squeeze chain) elements shape stored whole is = whole_damaged chain elements (encoded_shape squeeze shape) stored whole (undecoded_inside squeeze chain elements shape stored is)
-whole_damaged (then_bytes chain codec) elements shape stored whole is = is
-whole_damaged (sharded subchunk inner index location) elements shape stored whole is = absurd (cc)
+-- ---- slices in the data part
+
+-- a chain without shards has none
+no_shard_damaged : (chain : Chain) (shape value : List ℕ) → is_plain chain ≡ true → compaction chain shape value ≡ damaged → ⊥
+no_shard_damaged (bytes order) shape value plain is = cc
+no_shard_damaged (packbits padding first last) shape value plain is = cc
+no_shard_damaged (vlen index «data» width location) shape value plain is = cc
+no_shard_damaged (optional mask values) shape value plain is = cc
+no_shard_damaged (after_array_codec codec chain) shape value plain is = no_shard_damaged chain (encoded_shape codec shape) value plain is
+no_shard_damaged (then_bytes chain codec) shape value plain is =
+    let e : nothing_to_gain ≡ damaged = sym (ap (λ (b : Bool). if b then nothing_to_gain else undone_compaction codec (compaction chain shape) value) plain) ∙ is in cc
+no_shard_damaged (sharded subchunk inner index location) shape value plain is = cc
+
+pub plain_placed : (chain : Chain) (shape : List ℕ) (stored : Option (List ℕ)) → is_plain chain ≡ true → IsPlaced chain shape stored
+plain_placed chain shape None plain = tt
+plain_placed chain shape (Some value) plain = λ partly is. no_shard_damaged chain shape value plain is
+
+pub whole_placed : (chain : Chain) (shape : List ℕ) (stored : Option (List ℕ)) → encodes_in_part chain ≡ false → IsPlaced chain shape stored
+whole_placed chain shape None whole = tt
+whole_placed chain shape (Some value) whole = λ partly is. (let e : true ≡ false = sym partly ∙ whole in cc)
+
+partly_inside : (codec : ArrayCodec) (chain : Chain) → encodes_in_part (after_array_codec codec chain) ≡ true → encodes_in_part chain ≡ true
+partly_inside (transpose order) chain partly = partly
+partly_inside (reshape entries) chain partly = (and_parts (is_plain chain) (encodes_in_part chain) partly).1
+partly_inside squeeze chain partly = partly
+
+pub placed_before : (codec : ArrayCodec) (chain : Chain) (shape : List ℕ) (stored : Option (List ℕ)) → IsPlaced chain (encoded_shape codec shape) stored → IsPlaced (after_array_codec codec chain) shape stored
+placed_before codec chain shape None is = tt
+placed_before codec chain shape (Some value) is = λ partly lost. is (partly_inside codec chain partly) lost
 
 -- ---- elements that are not taken are not put, whatever counts as damage
 

@@ -7,11 +7,12 @@ use Rattle.zarr_codecs_arrays.specs.declared.error.CodecError.TheVariants as err
 use Rattle.zarr_codecs_traits.specs.Sources.{IsRefusedAfter, refused_after}
 
 -- nothing was read
-pub unread_refused : (A B : Type 0) (misfits : Payload → CodecError → Type 0) (count after : ℕ) (e : CodecError) → after ≡ refused_after {A = A} count (Err e) → IsRefusedAfter {A = B} misfits count (Err e) after
-unread_refused A B misfits count after error.Source h = inl h
-unread_refused A B misfits count after e h = inl h
+pub unread_refused : (A B : Type 0) (reads : Payload → Type 0) (misfits : Payload → CodecError → Type 0) (count after : ℕ) (e : CodecError) → after ≡ refused_after {A = A} count (Err e) → IsRefusedAfter {A = B} reads misfits count (Err e) after
+unread_refused A B reads misfits count after error.Source h = inl h
+unread_refused A B reads misfits count after e h = inl h
 
 -- elements were read, and the target took them or not
-pub put_refused : {A : Type 0} (misfits : Payload → CodecError → Type 0) (count after : ℕ) (payload : Payload) (result : Result A CodecError) → after ≡ count → IfErr result (misfits payload) → IsRefusedAfter misfits count result after
-put_refused misfits count after payload (Ok value) still why = inl still
-put_refused misfits count after payload (Err e) still why = inr (still, (payload, why))
+pub put_refused : {A : Type 0} (reads : Payload → Type 0) (misfits : Payload → CodecError → Type 0) (count after : ℕ) (payload : Payload) (result : Result A CodecError) → after ≡ count → reads payload → IfErr result (misfits payload)
+    → IsRefusedAfter reads misfits count result after
+put_refused reads misfits count after payload (Ok value) still read why = inl still
+put_refused reads misfits count after payload (Err e) still read why = inr (still, (payload, read, why))

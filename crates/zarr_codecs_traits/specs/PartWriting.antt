@@ -1,14 +1,15 @@
 -- What is stored for an array after some of its elements were replaced.
-use Rattle.std.specs.Prelude.{◌≡◌, ◌⊎◌, ℕ, ◌+◌, ◌^◌, ◌≤◌, List, [], ◌∷◌, map, length, get_or, Option, Some, None, unwrap_or, option_map, option_and_then, Result, Ok, Err, Bool, true, false, nat_lt, IsTrue, MatchOption}
+use Rattle.std.specs.Prelude.{◌≡◌, ◌⊎◌, ℕ, ◌+◌, ◌^◌, ◌≤◌, List, [], ◌∷◌, map, length, get_or, Option, Some, None, unwrap_or, option_and_then, Result, Ok, Err, Bool, true, false, nat_lt, IsTrue, MatchBool, MatchOption}
 use Rattle.std.specs.List.{list_any}
 use Rattle.std.specs.Option.{option_map_or}
 use Rattle.zarr_grids_boxes.specs.Boxes.{product}
 use Rattle.zarr_codecs_meaning.specs.Chains.{Chain}
 use Rattle.zarr_codecs_meaning.specs.Chains.Chain.{bytes, packbits, vlen, optional, after_array_codec, then_bytes, sharded}
 use Rattle.zarr_codecs_meaning.specs.Chunks.{chunk_decoded, chunk_part}
-use Rattle.zarr_codecs_meaning.specs.Decoding.{decoded, is_absent, is_whole, opens, pairs_in, slice_at}
+use Rattle.zarr_codecs_meaning.specs.Decoding.{decoded, is_absent, opens, pairs_in, slice_at}
 use Rattle.zarr_codecs_meaning.specs.Encoding.{Pair, Piece, encoded, index_size, joined_slices, pieces_of}
 use Rattle.zarr_codecs_meaning.specs.Fits.{fits, is_lossless, is_plain}
+use Rattle.zarr_codecs_meaning.specs.Partial.{encodes_in_part}
 use Rattle.zarr_codecs_meaning.specs.Laws.{AreCells}
 use Rattle.zarr_codecs_meaning.specs.Payloads.{Payload}
 use Rattle.zarr_codecs_meaning.specs.Places.{Part, encoded_shape, gather, index_shape, parts_of, place_numbers, position_of, source_places}
@@ -55,7 +56,7 @@ IsLostAmong inner value numbers (part ∷ parts) [] = ⊥
 IsLostAmong inner value numbers (part ∷ parts) (pair ∷ pairs) =
     ((is_met numbers part ≡ true) × (is_absent pair ≡ false) × (option_and_then (inner part.shape) (slice_at value pair) ≡ None)) ⊎ IsLostAmong inner value numbers parts pairs
 
--- a write at these places meets what can't be decoded: in a shard a subchunk that one of the places lies in, even where all of it is overwritten; before bytes codecs the whole value. Other values have no such parts: they open whole, or not at all
+-- a write at these places meets what can't be decoded: in a shard a subchunk that one of the places lies in, even where all of it is overwritten; if bytes codecs follow, anything in the value. Other values have no such parts: they open whole, or not at all
 abbrev pub MeetsLost : Chain → Elements → List ℕ → List ℕ → List ℕ → Type 0
 MeetsLost (bytes order) elements shape value numbers = ⊥
 MeetsLost (packbits padding first last) elements shape value numbers = ⊥
@@ -67,6 +68,10 @@ MeetsLost (sharded subchunk inner index location) elements shape value numbers =
     let pairs_shape = index_shape shape subchunk in
     (pairs : List Pair) × (pairs_in (decoded index (zero_filled uint64) pairs_shape) location (index_size index pairs_shape) value ≡ Some pairs)
     × IsLostAmong (decoded inner elements) value numbers (parts_of shape subchunk) pairs
+
+-- no present slice of a shard lies outside the shard's data part, where the chain is encoded in part
+abbrev pub IsPlaced : Chain → List ℕ → Option (List ℕ) → Type 0
+IsPlaced chain shape stored = MatchOption stored (Unit {0}) (λ value. encodes_in_part chain ≡ true → compaction chain shape value ≡ damaged → ⊥)
 
 -- new cells were put at the places that are asked for: what is stored for the array changed so, whatever was stored
 pub record IsEncodedInto (chain : Chain) (exact : Bool) (elements : Elements) (shape : List ℕ) (asked : Asked) (payload : Payload) (cells : List Cell) (old new : Option (List ℕ)) : Type 0 where
@@ -117,16 +122,18 @@ pub record IsRefusedInto (chain : Chain) (elements : Elements) (shape : List ℕ
   pub inside : are_inside shape asked ≡ true
   pub is : refuses (cells_after chain elements shape stored (numbers_asked shape asked) cells)
 
--- what is stored is damaged, so that nothing is written over it. Through `bytes` it is a value of another length, and no stored element is tested. Any other value can't be decoded, or is a shard with a present slice outside its data part
-abbrev pub IsDamaged : Chain → Elements → List ℕ → Option (List ℕ) → Type 0
-IsDamaged (bytes order) elements shape stored = MatchOption stored ⊥ (λ value. is_whole elements.type shape value ≡ false)
-IsDamaged (packbits padding first last) elements shape stored = chunk_decoded (packbits padding first last) elements shape stored ≡ None
-IsDamaged (vlen index «data» width location) elements shape stored = chunk_decoded (vlen index «data» width location) elements shape stored ≡ None
-IsDamaged (optional mask values) elements shape stored = chunk_decoded (optional mask values) elements shape stored ≡ None
-IsDamaged (after_array_codec codec chain) elements shape stored = IsDamaged chain elements (encoded_shape codec shape) stored
-IsDamaged (then_bytes chain codec) elements shape stored = chunk_decoded (then_bytes chain codec) elements shape stored ≡ None
-IsDamaged (sharded subchunk inner index location) elements shape stored =
-    (chunk_decoded (sharded subchunk inner index location) elements shape stored ≡ None) ⊎ MatchOption stored ⊥ (λ value. compaction (sharded subchunk inner index location) shape value ≡ damaged)
+-- a value that can be written in part isn't, at the places with these numbers: it can't be read at all, or the write meets in it what can't be decoded, or a present slice of a shard lies outside the shard's data part
+abbrev pub StopsPart : Chain → Elements → List ℕ → List ℕ → List ℕ → Type 0
+StopsPart chain elements shape value numbers = (opens chain elements shape value ≡ false) ⊎ (MeetsLost chain elements shape value numbers ⊎ (compaction chain shape value ≡ damaged))
+
+-- what is stored is damaged for a write at the places with these numbers. Where the chain is encoded in part, the parts that the write doesn't meet don't matter; else the value can't be decoded
+abbrev pub IsDamaged : Chain → Elements → List ℕ → Option (List ℕ) → List ℕ → Type 0
+IsDamaged chain elements shape stored numbers = MatchOption stored ⊥ (λ value. MatchBool (encodes_in_part chain) (StopsPart chain elements shape value numbers) (decoded chain elements shape value ≡ None))
+
+-- what is stored can't be decoded, and, if the chain keeps every bit, would have to be: put behind it, the new slices of its shard would make 2^63 bytes or more
+abbrev pub HasNoRoom : Chain → Elements → List ℕ → Asked → Payload → Option (List ℕ) → Type 0
+HasNoRoom chain elements shape asked payload stored =
+    (chunk_decoded chain elements shape stored ≡ None) × (is_lossless chain elements.type ≡ true → IsRefusedInto chain elements shape asked payload stored (PassesLength chain elements shape stored))
 
 -- why new elements are not put at the places that are asked for, with this for damage
 abbrev pub NotPut : {A : Type 0} → Type 0 → Chain → Elements → List ℕ → Asked → Payload → Option (List ℕ) → Result A CodecError → Type 0
@@ -141,9 +148,13 @@ NotPut damage chain elements shape asked payload stored (Err error.Source) = Uni
 NotPut damage chain elements shape asked payload stored (Err error.Memory) = Unit {0}
 NotPut damage chain elements shape asked payload stored (Err e) = (fits chain elements.type shape ≡ true) × IsInvalid elements.type payload (length (numbers_asked shape asked)) e
 
+-- what is stored stops a write of these elements
+abbrev pub StopsWrite : Chain → Elements → List ℕ → Asked → Payload → Option (List ℕ) → Type 0
+StopsWrite chain elements shape asked payload stored = IsDamaged chain elements shape stored (numbers_asked shape asked) ⊎ HasNoRoom chain elements shape asked payload stored
+
 -- why new elements are not put at the places that are asked for
 abbrev pub NotEncodedInto : {A : Type 0} → Chain → Elements → List ℕ → Asked → Payload → Option (List ℕ) → Result A CodecError → Type 0
-NotEncodedInto chain elements shape asked payload stored result = NotPut (IsDamaged chain elements shape stored) chain elements shape asked payload stored result
+NotEncodedInto chain elements shape asked payload stored result = NotPut (StopsWrite chain elements shape asked payload stored) chain elements shape asked payload stored result
 
 -- the same where the value is decoded whole and written anew: it is damaged where it isn't decoded
 abbrev pub NotEncodedWhole : {A : Type 0} → Chain → Elements → List ℕ → Asked → Payload → Option (List ℕ) → Result A CodecError → Type 0

@@ -49,9 +49,9 @@ refused_after count (Ok value) = count
 refused_after count (Err error.Source) = min (count + 1) (2 ^ 128 - 1)
 refused_after count (Err e) = count
 
--- whether the second is the count of refused calls after elements were to be read and put into a target: as the answer tells, so that it rose where the source refused; or as it was, where the target doesn't take the elements
-abbrev pub IsRefusedAfter : {A : Type 0} → (Payload → CodecError → Type 0) → ℕ → Result A CodecError → ℕ → Type 0
-IsRefusedAfter misfits count result after = (after ≡ refused_after count result) ⊎ ((after ≡ count) × IfErr result (λ e. (payload : Payload) × misfits payload e))
+-- whether the second is the count of refused calls after elements were to be read and put into a target: as the answer tells, so that it rose where the source refused; or as it was, where elements were read that the target doesn't take
+abbrev pub IsRefusedAfter : {A : Type 0} → (Payload → Type 0) → (Payload → CodecError → Type 0) → ℕ → Result A CodecError → ℕ → Type 0
+IsRefusedAfter reads misfits count result after = (after ≡ refused_after count result) ⊎ ((after ≡ count) × IfErr result (λ e. (payload : Payload) × reads payload × misfits payload e))
 
 -- how many bytes the parts have together that were given, or 0 where there are none
 abbrev pub parts_length : Option (Vec (Vec ℕ Global) Global) → ℕ

@@ -12,7 +12,7 @@ ghost use Rattle.zarr_codecs_traits.specs.Compactions.{Compacts};
 ghost use Rattle.zarr_codecs_traits.specs.Indexers.{asked_of};
 ghost use Rattle.zarr_codecs_traits.specs.Outcomes.{Encodes, Decodes, DecodesPart};
 ghost use Rattle.zarr_codecs_traits.specs.PartEncoding.{EncodesAsked, takes_patches};
-ghost use Rattle.zarr_codecs_traits.specs.PartWriting.{IsEncodedInto, NotEncodedInto, WritesOnce};
+ghost use Rattle.zarr_codecs_traits.specs.PartWriting.{IsEncodedInto, IsPlaced, NotEncodedInto, WritesOnce};
 ghost use Rattle.zarr_codecs_traits.specs.ReadBytes.{most_read};
 ghost use Rattle.zarr_codecs_traits.specs.Representations.{RepresentsArray};
 ghost use Rattle.zarr_codecs_traits.specs.Sources.{refused_after};
@@ -84,8 +84,8 @@ pub trait ArrayToBytesCodecTraits: Sized + Drop {
             result };
 
     /// Decodes a value as `decode` does, and puts the elements over those of a target. A refusal
-    /// leaves the target as it was. Errors as those of `decode`; `InvalidNumberOfElements` where the
-    /// target has more or fewer elements than the array, and the errors of the target's `put`.
+    /// leaves the target as it was. Errors as those of `decode`; `InvalidNumberOfElements` where
+    /// the target has more or fewer elements than the array, and the errors of the target's `put`.
     fn decode_into<T: ArrayBytesDecodeIntoTarget>(
         &self,
         alloc: Global,
@@ -108,9 +108,9 @@ pub trait ArrayToBytesCodecTraits: Sized + Drop {
         }
     }
 
-    /// What the data type and the shape of an array tell of the size of the value that it is encoded
-    /// to. `Fit` where the codec doesn't suit the array; `Size` only where the array has 2^63
-    /// elements or bytes or more, or one of the codecs tells a size of 2^63 or more.
+    /// What the data type and the shape of an array tell of the size of the value that it is
+    /// encoded to. `Fit` where the codec doesn't suit the array; `Size` only where the array has
+    /// 2^63 elements or bytes or more, or one of the codecs tells a size of 2^63 or more.
     fn encoded_representation(
         &self,
         alloc: Global,
@@ -124,14 +124,14 @@ pub trait ArrayToBytesCodecTraits: Sized + Drop {
     fn partial_decoder_capability(&self) -> bool
         ensures { result ≡ decodes_parts (meaning self.now) };
 
-    /// Whether a part of an array can be encoded as a part of its value (this project's profile). The
-    /// values of other codecs are written whole.
+    /// Whether a part of an array can be encoded as a part of its value (this project's profile).
+    /// The values of other codecs are written whole.
     fn partial_encoder_capability(&self) -> bool
         ensures { result ≡ encodes_in_part (meaning self.now) };
 
-    /// The shape of the parts of an array that `partial_decode` decodes one by one: that of a shard's
-    /// subchunks, where no array codec precedes the shard, else that of the array. `Err` only where
-    /// an allocation failed.
+    /// The shape of the parts of an array that `partial_decode` decodes one by one: that of a
+    /// shard's subchunks, where no array codec precedes the shard, else that of the array. `Err`
+    /// only where an allocation failed.
     fn partial_decode_granularity(
         &self,
         alloc: Global,
@@ -145,8 +145,8 @@ pub trait ArrayToBytesCodecTraits: Sized + Drop {
     /// that is asked for cannot be decoded; `Size` where the array has 2^63 elements or bytes or
     /// more; `Source` where the source refuses. Of an honest source a codec without shards takes at
     /// most as many bytes as the value has. A chain that ends in `bytes` takes no more than those
-    /// elements have, and one that ends in `packbits` without a padding byte no more than their bits
-    /// touch, elements with consecutive numbers together.
+    /// elements have, and one that ends in `packbits` without a padding byte no more than their
+    /// bits touch, elements with consecutive numbers together.
     fn partial_decode<D: BytesPartialDecoderTraits>(
         &self,
         alloc: Global,
@@ -173,9 +173,10 @@ pub trait ArrayToBytesCodecTraits: Sized + Drop {
     /// The ranges to be written into a value of an array, so that the elements at the places of a
     /// box are replaced by others, row-major. `None` exactly where the codec tells no such ranges:
     /// where it isn't `bytes` alone, or the places are asked for by their numbers. Then write the
-    /// value whole. `Fit` where the codec doesn't suit the array; `IncompatibleIndexer` where the box
-    /// doesn't lie in the shape; `InvalidNumberOfElements`, `Expected..` or `CellOutOfRange` where
-    /// these are not elements of the box; `Size` where the array has 2^63 elements or bytes or more.
+    /// value whole. `Fit` where the codec doesn't suit the array; `IncompatibleIndexer` where the
+    /// box doesn't lie in the shape; `InvalidNumberOfElements`, `Expected..` or `CellOutOfRange`
+    /// where these are not elements of the box; `Size` where the array has 2^63 elements or bytes
+    /// or more.
     fn encode_patches(
         &self,
         alloc: Global,
@@ -188,17 +189,21 @@ pub trait ArrayToBytesCodecTraits: Sized + Drop {
             (asked_of part.entry.indexer) (payload_of bytes) result };
 
     /// Puts elements in the place of those at the places that are asked for, in their order, in the
-    /// value that a source holds, by at most one writing call; of a place that is asked for twice the
-    /// last element stays. Where the source holds no value, the rest of the array is the fill value.
-    /// Where all of a shard is the fill value then, its value is taken away; other codecs keep theirs.
-    /// A refusal leaves the source as it was.
-    /// `Fit` where the codec doesn't suit the array; `IncompatibleIndexer` where a place isn't one of
-    /// the array's; `InvalidNumberOfElements`, `Expected..` or `CellOutOfRange` where these are not
-    /// elements, one for each place; `Damage` where the value that was there can't be decoded, or a
-    /// subchunk of it that a place lies in, even one that is overwritten whole: through `bytes`,
-    /// which tests no element that is there, where it has another length; `Codec` where the
-    /// caller's codec refuses; `Size` where an offset, a length, the new value or the array is too
-    /// large; `Source` where the source refuses.
+    /// value that a source holds, by at most one writing call; of a place that is asked for twice
+    /// the last element stays. Where the source holds no value, the rest of the array is the fill
+    /// value. Where all of a shard is the fill value then, its value is taken away; other codecs
+    /// keep theirs. A refusal leaves the source as it was. `Fit` where the codec doesn't suit the
+    /// array; `IncompatibleIndexer` where a place isn't one of the array's;
+    /// `InvalidNumberOfElements`, `Expected..` or `CellOutOfRange` where these are not elements,
+    /// one for each place; `Codec` where the caller's codec refuses; `Size` where an offset, a
+    /// length, the new value or the array is too large; `Source` where the source refuses. `Damage`
+    /// where the value that was there stops the write: through `bytes`, which tests no element that
+    /// is there, if it has another length; a shard, if its index can't be read, if a present pair
+    /// lies outside its data, or if a subchunk that a place lies in can't be decoded, even one that
+    /// is overwritten whole; a value of a codec that can't be encoded in part
+    /// (`partial_encoder_capability`), if it can't be decoded. If the chain keeps every bit, the other
+    /// subchunks of a shard need not be decoded, unless it would have 2^63 bytes or more with the new
+    /// slices put behind it.
     fn partial_encode<E: BytesPartialEncoderTraits>(
         &self,
         alloc: Global,
@@ -212,6 +217,8 @@ pub trait ArrayToBytesCodecTraits: Sized + Drop {
             (elements_of part.entry.elements.now) part.entry.shape.now
             (asked_of part.entry.indexer) (payload_of bytes) cells (E.contents source.old)
             (E.contents source.new)) }
+        ensures placed { IsTrue (E.is_honest source.old) → OnOk result
+            (IsPlaced (meaning self.now) part.entry.shape.now (E.contents source.old)) }
         ensures err { IsTrue (E.is_honest source.old) →
             OnErr result (E.contents source.new ≡ E.contents source.old) }
         ensures cause { IsTrue (E.is_honest source.old) → NotEncodedInto (meaning self.now)
@@ -224,11 +231,11 @@ pub trait ArrayToBytesCodecTraits: Sized + Drop {
         ensures rewrites { E.rewrites source.old source.new };
 
     /// The value with what it holds of shards written anew: their present slices row-major without
-    /// gaps. `None` where nothing is gained, as for each value of a codec that makes no shard. `Fit`
-    /// where the codec doesn't suit the array; `Damage` where the value isn't one of shards whose
-    /// present slices lie in their data parts; `Codec` where a caller's codec refuses the new index
-    /// or the new value; `Size` where the shard would have 2^63 bytes or more, or its new index
-    /// passes an index inside of it.
+    /// gaps. `None` where nothing is gained, as for each value of a codec that makes no shard.
+    /// `Fit` where the codec doesn't suit the array; `Damage` where the value isn't one of shards
+    /// whose present slices lie in their data parts; `Codec` where a caller's codec refuses the new
+    /// index or the new value; `Size` where the shard would have 2^63 bytes or more, or its new
+    /// index passes an index inside of it.
     fn compact(
         &self,
         alloc: Global,
@@ -240,8 +247,9 @@ pub trait ArrayToBytesCodecTraits: Sized + Drop {
         ensures { Compacts (meaning self.now) (elements_of elements.now).type shape.now value.now
             result };
 
-    /// An equal codec, whose codecs keep their names and whose shards their orders. `Err` only where
-    /// an allocation failed.
+    /// An equal codec, whose codecs keep their names and whose shards their orders. A caller's codec
+    /// keeps its name only if codecs with the same meaning are written alike. `Err` only where an
+    /// allocation failed.
     fn try_clone(&self, alloc: Global) -> Result<Self, AllocError>
         ensures meaning { IfOk result (λ copy. meaning copy ≡ meaning self.now) }
         ensures function { IfOk result (λ copy. is_function copy ≡ is_function self.now) }

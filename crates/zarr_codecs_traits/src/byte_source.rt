@@ -18,8 +18,8 @@ pub trait BytesPartialDecoderTraits {
     /// How many calls were refused by what stands behind it.
     ghost refused_calls: { Self → ℕ };
 
-    /// How many bytes of its value it gave: by `partial_decode` and `partial_decode_concat`, and to
-    /// write ranges that are not taken as they are. At 2^128 - 1 each count stands still.
+    /// How many bytes of its value it gave: by `partial_decode` and `partial_decode_concat`, and
+    /// when it has to read the value to write ranges. At 2^128 - 1 each count stands still.
     ghost given_bytes: { Self → ℕ };
 
     /// Whether the second is the first after calls: a source of the same value, with all else that
@@ -57,8 +57,8 @@ pub trait BytesPartialDecoderTraits {
         ensures follows { follows self.old self.new };
 
     /// The bytes of the value in each range, one after another, or `None` where there is no value.
-    /// `Source` where the source refuses, and `Damage` where a range ends past the end of the value.
-    /// Where memory runs out, bytes may have been given before.
+    /// `Source` where the source refuses, and `Damage` where a range ends past the end of the
+    /// value. Where memory runs out, bytes may have been given before.
     fn partial_decode_concat(
         &mut self,
         alloc: Global,
@@ -94,7 +94,8 @@ pub trait BytesPartialDecoderTraits {
         Ok(self.size()?.is_some())
     }
 
-    /// How many bytes it keeps in memory of its own. Those of a value that stands elsewhere are none.
+    /// How many bytes it keeps in memory of its own. Those of a value that stands elsewhere are
+    /// none.
     fn size_held(&self) -> usize
         ensures { result ≡ held_bytes self.now };
 

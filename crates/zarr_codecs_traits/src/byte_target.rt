@@ -24,8 +24,8 @@ pub trait BytesPartialEncoderTraits: BytesPartialDecoderTraits {
 
     /// Writes several ranges into the value, in their order, by one call: all, or none where it is
     /// refused. No value counts as empty, and zeros come where a range begins past the end. `Size`
-    /// where a range ends past 2^63 - 1 bytes; `Source` where the source refuses. No byte is given to
-    /// do so, but where the source takes no ranges: then the value is given once, and set anew.
+    /// where a range ends past 2^63 - 1 bytes; `Source` where the source refuses. No byte is given
+    /// to do so, but where the source takes no ranges: then the value is given once, and set anew.
     fn partial_encode(&mut self, alloc: Global, patches: Vec<ValuePatch>) -> Result<(), CodecError>
         ensures ok { IsTrue (Self.is_honest self.old) → OnOk result (Self.contents self.new
             ≡ Some (patched_contents (Self.contents self.old) patches.items)) }

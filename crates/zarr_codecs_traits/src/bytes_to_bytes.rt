@@ -33,8 +33,8 @@ pub trait BytesToBytesCodecTraits: Sized + Drop {
         ensures { UndoesBytes (meaning self.now).decode bytes.now result };
 
     /// What is known of the size of what the codec makes of bytes, by what is known of the size of
-    /// these. It is true of all that `encode` makes, and no larger for fewer bytes. `Size` only where
-    /// it is 2^63 or more.
+    /// these. It is true of all that `encode` makes, and no larger for fewer bytes. `Size` only
+    /// where it is 2^63 or more.
     fn encoded_representation(
         &self,
         decoded: BytesRepresentation,

@@ -7,8 +7,8 @@ use crate::byte_source::BytesPartialDecoderTraits;
 use std::alloc::Global;
 use zarr_codecs_arrays::CodecError;
 
-/// The value that a source holds, or `None` where it holds none, by one reading call. `Source` where
-/// the source refuses.
+/// The value that a source holds, or `None` where it holds none, by one reading call. `Source`
+/// where the source refuses.
 pub fn read_value<D: BytesPartialDecoderTraits>(
     alloc: Global,
     source: &mut D,

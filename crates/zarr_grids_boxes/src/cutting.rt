@@ -9,7 +9,8 @@ use crate::subset::{ArraySubset, ArraySubsetError};
 use std::alloc::{AllocError, Global};
 
 impl ArraySubset {
-    /// The box of the places in both boxes. Its length is 0 in a dimension where the two have no number in common.
+    /// The box of the places in both boxes. Its length is 0 in a dimension where the two have no
+    /// number in common.
     pub fn overlap(
         &self,
         alloc: Global,
@@ -43,7 +44,8 @@ impl ArraySubset {
         Ok(bound_same(alloc, self, end)?)
     }
 
-    /// The same box with its start given from `offset` on. The error is an offset after the start in some dimension.
+    /// The same box with its start given from `offset` on. The error is an offset after the start
+    /// in some dimension.
     pub fn relative_to(
         &self,
         alloc: Global,

@@ -52,8 +52,8 @@ impl ArraySubset {
         true
     }
 
-    /// Whether the box ends inside an array of this shape in each dimension. An array of another dimensionality does
-    /// not hold it.
+    /// Whether the box ends inside an array of this shape in each dimension. An array of another
+    /// dimensionality does not hold it.
     pub fn inbounds_shape(&self, array_shape: &[u64]) -> bool
         ensures inside { IsTrue result ↔ IsAtMost (ends (region_of self.now)) array_shape.now }
         ensures dimensionality { IsTrue result

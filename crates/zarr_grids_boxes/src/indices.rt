@@ -6,8 +6,8 @@ ghost use Rattle.zarr_grids_boxes.specs.Boxes.{product, places, is_in_box, ravel
 use crate::subset::ArraySubset;
 use std::alloc::{AllocError, Global};
 
-/// A walk over the places of a box, row-major: what it has left. Each item is allocated; where memory runs out, the item
-/// is the error, and the walk goes on with the next place.
+/// A walk over the places of a box, row-major: what it has left. Each item is allocated; where
+/// memory runs out, the item is the error, and the walk goes on with the next place.
 #[derive(Drop)]
 pub struct Indices<'a> {
     subset: &'a ArraySubset,
@@ -71,8 +71,8 @@ impl<'a> Indices<'a> {
     }
 }
 
-/// Changes a place of a box to the next one, row-major. From the last place it goes back to the first, and answers
-/// `false`.
+/// Changes a place of a box to the next one, row-major. From the last place it goes back to the
+/// first, and answers `false`.
 pub fn step(start: &[u64], shape: &[u64], place: &mut Vec<u64>) -> bool
     requires fit { EndsFit start.now shape.now }
     requires within { is_in_box start.now shape.now place.old.items ≡ true }

@@ -31,8 +31,8 @@ pub fn empty_has_no_place()
     ensures { EmptyHasNoPlace }
 {}
 
-/// The walk `indices` goes over `places`, which has each place of the box once, row-major: the n-th is the place whose
-/// number is n.
+/// The walk `indices` goes over `places`, which has each place of the box once, row-major: the n-th
+/// is the place whose number is n.
 pub fn places_by_number()
     ensures { PlacesByNumber }
 {}

@@ -8,7 +8,8 @@ ghost use Rattle.zarr_grids_boxes.specs.Subsets.{region_of};
 use crate::shapes::count_elements;
 use crate::subset::{ArraySubset, ArraySubsetError};
 
-/// A walk over the numbers, in an array, of the places of a box, row-major: what it has left. It allocates nothing.
+/// A walk over the numbers, in an array, of the places of a box, row-major: what it has left. It
+/// allocates nothing.
 #[derive(Drop)]
 pub struct LinearisedIndices<'a> {
     subset: &'a ArraySubset,

@@ -9,7 +9,8 @@ use std::alloc::{AllocError, Global};
 use std::ops::Range;
 
 impl ArraySubset {
-    /// The box of the numbers in these ranges, one for each dimension. A range that ends before its start has no number.
+    /// The box of the numbers in these ranges, one for each dimension. A range that ends before its
+    /// start has no number.
     pub fn new_with_ranges(alloc: Global, ranges: &[Range<u64>]) -> Result<ArraySubset, AllocError>
         ensures { IfOk result (λ subset. region_of subset
             ≡ between (map (λ r. r.start) ranges.now) (map (λ r. r.end) ranges.now)) }
@@ -51,8 +52,8 @@ impl ArraySubset {
         Ok(box_between(start, end))
     }
 
-    /// The box of this dimensionality that has no place: its start and its shape are 0. With no dimension it has one
-    /// place, as every box of no dimension.
+    /// The box of this dimensionality that has no place: its start and its shape are 0. With no
+    /// dimension it has one place, as every box of no dimension.
     pub fn new_empty(alloc: Global, dimensionality: usize) -> Result<ArraySubset, AllocError>
         ensures start { IfOk result (λ subset. subset.start.items ≡ replicate dimensionality 0) }
         ensures shape { IfOk result (λ subset. subset.shape.items ≡ replicate dimensionality 0) }
@@ -86,7 +87,8 @@ pub(crate) fn box_between(start: Vec<u64>, end: Vec<u64>) -> ArraySubset
     ArraySubset { start, shape }
 }
 
-/// The length from the start to the end in each dimension, which is 0 where the end is not after the start.
+/// The length from the start to the end in each dimension, which is 0 where the end is not after
+/// the start.
 fn subtract_start(start: &[u64], mut end: Vec<u64>) -> Vec<u64>
     requires { length end.items ≡ length start.now }
     ensures items { result.items ≡ each2 (λ s e. e - s) start.now end.items }

@@ -8,8 +8,8 @@ use crate::shapes::ArrayIndices;
 use crate::walk::has_no_place;
 use std::alloc::{AllocError, Global};
 
-/// The number of an index in an array of this shape, row-major. `None` where the index is outside the array, or the
-/// number is 2^64 or more.
+/// The number of an index in an array of this shape, row-major. `None` where the index is outside
+/// the array, or the number is 2^64 or more.
 pub fn ravel_indices(indices: &[u64], shape: &[u64]) -> Option<u64>
     ensures { SomeIff result
         (IsIndex indices.now shape.now × (ravel indices.now shape.now < 2 ^ 64))
@@ -61,7 +61,8 @@ fn with_digit(number: u64, size: u64, digit: u64) -> Option<u64>
     }
 }
 
-/// The index that has this number in an array of this shape, row-major. `None` where the array has no such number.
+/// The index that has this number in an array of this shape, row-major. `None` where the array has
+/// no such number.
 pub fn unravel_index(
     alloc: Global,
     index: u64,

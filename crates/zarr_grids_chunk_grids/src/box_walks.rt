@@ -53,8 +53,8 @@ fn find_box(
     None
 }
 
-/// The boxes of the chunks in the grid that a walk has left, row-major. A chunk whose end passes 2^64 - 1 has no box, and
-/// is passed over.
+/// The boxes of the chunks in the grid that a walk has left, row-major. A chunk whose end passes
+/// 2^64 - 1 has no box, and is passed over.
 #[derive(Drop)]
 pub struct ChunkSubsets<'a> {
     grid: &'a [Dimension],
@@ -99,8 +99,8 @@ impl<'a> Iterator for ChunkSubsets<'a> {
     }
 }
 
-/// The chunks in the grid that a walk has left, row-major, each with its box. A chunk whose end passes 2^64 - 1 has no
-/// box, and is passed over.
+/// The chunks in the grid that a walk has left, row-major, each with its box. A chunk whose end
+/// passes 2^64 - 1 has no box, and is passed over.
 #[derive(Drop)]
 pub struct ChunkIndicesAndSubsets<'a> {
     grid: &'a [Dimension],

@@ -25,8 +25,9 @@ pub enum ChunkGrid {
 }
 
 impl ChunkGrid {
-    /// The grid of an array's shape that an extension point names and configures. `NameUnsupported` where no chunk grid has
-    /// the name, `MetadataInvalid` where its configuration is not one or does not suit the shape.
+    /// The grid of an array's shape that an extension point names and configures. `NameUnsupported`
+    /// where no chunk grid has the name, `MetadataInvalid` where its configuration is not one or
+    /// does not suit the shape.
     pub fn from_metadata(
         alloc: Global,
         metadata: &MetadataV3,

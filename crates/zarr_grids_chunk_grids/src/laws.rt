@@ -16,13 +16,14 @@ pub fn grid_of_configuration()
     ensures { GridOfConfiguration }
 {}
 
-/// Two chunk grids of any kind, of equal array shapes and equal edges, are equal, so that each lookup answers alike.
+/// Two chunk grids of any kind, of equal array shapes and equal edges, are equal, so that each
+/// lookup answers alike.
 pub fn equal_edges_equal_grids()
     ensures { EqualEdgesEqualGrids }
 {}
 
-/// Two `rectilinear` grids compare as equal exactly where they have equal array shapes and equal edges along each dimension,
-/// whether a repeat gives the edges or each is given by itself.
+/// Two `rectilinear` grids compare as equal exactly where they have equal array shapes and equal
+/// edges along each dimension, whether a repeat gives the edges or each is given by itself.
 pub fn rectilinear_by_edges()
     ensures { RectilinearByEdges }
 {}

@@ -56,8 +56,8 @@ impl From<RectangularChunkGridCreateError> for GridError {
     }
 }
 
-/// A grid of chunks of one edge or of listed edges along each dimension. Listed edges have the array's size as sum (this
-/// project's profile).
+/// A grid of chunks of one edge or of listed edges along each dimension. Listed edges have the
+/// array's size as sum (this project's profile).
 #[derive(Drop)]
 #[derive_where(PartialEq, Eq, Debug)]
 pub struct RectangularChunkGrid {
@@ -73,8 +73,9 @@ impl RectangularChunkGrid {
     ghost use Rattle.zarr_grids_chunk_grids.specs.Errors.{RefusesRectangular};
     ghost use Rattle.zarr_grids_chunk_grids.specs.Grids.{array_shape_of_rectangular, edges_of_rectangular};
 
-    /// The grid of an array's shape and the edges along each dimension. Give positive edges for each dimension of the shape,
-    /// and lists whose sum is its size there; else the error says what fails.
+    /// The grid of an array's shape and the edges along each dimension. Give positive edges for
+    /// each dimension of the shape, and lists whose sum is its size there; else the error says what
+    /// fails.
     pub fn new(
         alloc: Global,
         array_shape: ArrayShape,
@@ -103,8 +104,9 @@ impl RectangularChunkGrid {
         }
     }
 
-    /// The grid of an array's shape and the configuration that an extension point gives, whatever its name. `MetadataInvalid`
-    /// where that is no configuration of `rectangular` or does not suit the shape.
+    /// The grid of an array's shape and the configuration that an extension point gives, whatever
+    /// its name. `MetadataInvalid` where that is no configuration of `rectangular` or does not suit
+    /// the shape.
     pub fn create(
         alloc: Global,
         metadata: &MetadataV3,
@@ -130,8 +132,8 @@ impl RectangularChunkGrid {
         }
     }
 
-    /// The grid's configuration in JSON, which reads as the edges that the grid was made of. `Err` only where an allocation
-    /// failed.
+    /// The grid's configuration in JSON, which reads as the edges that the grid was made of. `Err`
+    /// only where an allocation failed.
     pub fn configuration(&self, alloc: Global) -> Result<Map<String, Value>, AllocError>
         ensures written { IfOk result (λ members. members_view members.entries
             ≡ rectangular_members (edges_of_rectangular self.now)) }

@@ -59,8 +59,8 @@ impl From<RectilinearChunkGridCreateError> for GridError {
     }
 }
 
-/// A grid of chunks of one edge or of repeats of edges along each dimension. Repeats cover at least the array's size (this project's
-/// profile).
+/// A grid of chunks of one edge or of repeats of edges along each dimension. Repeats cover at least
+/// the array's size (this project's profile).
 #[derive(Drop)]
 #[derive_where(Debug)]
 pub struct RectilinearChunkGrid {
@@ -76,8 +76,9 @@ impl RectilinearChunkGrid {
     ghost use Rattle.zarr_grids_chunk_grids.specs.Errors.{RefusesRectilinear};
     ghost use Rattle.zarr_grids_chunk_grids.specs.Grids.{array_shape_of_rectilinear, edges_of_rectilinear};
 
-    /// The grid of an array's shape and the edges along each dimension. Give positive edges and counts for each dimension of
-    /// the shape, with a sum that is at least its size there, and fewer than 2^64 chunks; else the error says what fails.
+    /// The grid of an array's shape and the edges along each dimension. Give positive edges and
+    /// counts for each dimension of the shape, with a sum that is at least its size there, and
+    /// fewer than 2^64 chunks; else the error says what fails.
     pub fn new(
         alloc: Global,
         array_shape: ArrayShape,
@@ -106,8 +107,9 @@ impl RectilinearChunkGrid {
         }
     }
 
-    /// The grid of an array's shape and the configuration that an extension point gives, whatever its name. `MetadataInvalid`
-    /// where that is no configuration of `rectilinear` or does not suit the shape.
+    /// The grid of an array's shape and the configuration that an extension point gives, whatever
+    /// its name. `MetadataInvalid` where that is no configuration of `rectilinear` or does not suit
+    /// the shape.
     pub fn create(
         alloc: Global,
         metadata: &MetadataV3,
@@ -133,8 +135,8 @@ impl RectilinearChunkGrid {
         }
     }
 
-    /// The grid's configuration in JSON, which reads as the edges that the grid was made of. `Err` only where an allocation
-    /// failed.
+    /// The grid's configuration in JSON, which reads as the edges that the grid was made of. `Err`
+    /// only where an allocation failed.
     pub fn configuration(&self, alloc: Global) -> Result<Map<String, Value>, AllocError>
         ensures written { IfOk result (λ members. members_view members.entries
             ≡ rectilinear_members (edges_of_rectilinear self.now)) }
@@ -162,9 +164,10 @@ impl RectilinearChunkGrid {
     }
 }
 
-/// Two are equal where their array shapes are, and along each dimension the edges, however repeats hold them: `[[4, 2]]` is `[4, 4]`.
-/// One edge of all chunks equals no list of edges, since its chunks go on past the array and a list ends. What a grid was made of
-/// is not compared: `configuration` of equal grids may differ. Takes as many steps as both have repeats.
+/// Two are equal where their array shapes are, and along each dimension the edges, however repeats
+/// hold them: `[[4, 2]]` is `[4, 4]`. One edge of all chunks equals no list of edges, since its
+/// chunks go on past the array and a list ends. What a grid was made of is not compared:
+/// `configuration` of equal grids may differ. Takes as many steps as both have repeats.
 impl PartialEq for RectilinearChunkGrid {
     ghost use Rattle.std.specs.Cmp.{on_per, partial_equiv_from_equiv};
     ghost use Rattle.zarr_grids_chunk_grids.specs.Grids.{grid_of_rectilinear};

@@ -42,7 +42,8 @@ impl From<RegularChunkGridCreateError> for GridError {
     }
 }
 
-/// A grid of chunks of one shape, the last of them whole (Zarr core specification, "Regular grids").
+/// A grid of chunks of one shape, the last of them whole (Zarr core specification, "Regular
+/// grids").
 #[derive(Drop)]
 #[derive_where(PartialEq, Eq, Debug)]
 pub struct RegularChunkGrid {
@@ -58,8 +59,8 @@ impl RegularChunkGrid {
     ghost use Rattle.zarr_grids_chunk_grids.specs.Errors.{RefusesRegular};
     ghost use Rattle.zarr_grids_chunk_grids.specs.Grids.{array_shape_of_regular, chunk_shape_of_regular};
 
-    /// The grid of an array's shape and its chunks' shape. Give both as many dimensions: with that it is made, unless memory
-    /// runs out.
+    /// The grid of an array's shape and its chunks' shape. Give both as many dimensions: with that
+    /// it is made, unless memory runs out.
     pub fn new(
         alloc: Global,
         array_shape: ArrayShape,
@@ -88,8 +89,9 @@ impl RegularChunkGrid {
         }
     }
 
-    /// The grid of an array's shape and the configuration that an extension point gives, whatever its name. `MetadataInvalid`
-    /// where that is no configuration of `regular` or has another number of dimensions than the shape.
+    /// The grid of an array's shape and the configuration that an extension point gives, whatever
+    /// its name. `MetadataInvalid` where that is no configuration of `regular` or has another
+    /// number of dimensions than the shape.
     pub fn create(
         alloc: Global,
         metadata: &MetadataV3,
@@ -129,8 +131,8 @@ impl RegularChunkGrid {
         chunk_shape_to_array_shape(alloc, &self.chunk_shape)
     }
 
-    /// The grid's configuration in JSON, which reads as the edges that the grid was made of. `Err` only where an allocation
-    /// failed.
+    /// The grid's configuration in JSON, which reads as the edges that the grid was made of. `Err`
+    /// only where an allocation failed.
     pub fn configuration(&self, alloc: Global) -> Result<Map<String, Value>, AllocError>
         ensures written { IfOk result (λ members. members_view members.entries
             ≡ regular_members (chunk_shape_of_regular self.now)) }

@@ -60,8 +60,8 @@ impl RegularBoundedChunkGrid {
     ghost use Rattle.zarr_grids_chunk_grids.specs.Errors.{RefusesRegularBounded};
     ghost use Rattle.zarr_grids_chunk_grids.specs.Grids.{array_shape_of_bounded, chunk_shape_of_bounded};
 
-    /// The grid of an array's shape and its chunks' shape. Give both as many dimensions: with that it is made, unless memory
-    /// runs out.
+    /// The grid of an array's shape and its chunks' shape. Give both as many dimensions: with that
+    /// it is made, unless memory runs out.
     pub fn new(
         alloc: Global,
         array_shape: ArrayShape,
@@ -90,8 +90,9 @@ impl RegularBoundedChunkGrid {
         }
     }
 
-    /// The grid of an array's shape and the configuration that an extension point gives, whatever its name. `MetadataInvalid`
-    /// where that is no configuration of `regular_bounded` or has another number of dimensions than the shape.
+    /// The grid of an array's shape and the configuration that an extension point gives, whatever
+    /// its name. `MetadataInvalid` where that is no configuration of `regular_bounded` or has
+    /// another number of dimensions than the shape.
     pub fn create(
         alloc: Global,
         metadata: &MetadataV3,
@@ -117,8 +118,8 @@ impl RegularBoundedChunkGrid {
         }
     }
 
-    /// The grid's configuration in JSON, which reads as the edges that the grid was made of. `Err` only where an allocation
-    /// failed.
+    /// The grid's configuration in JSON, which reads as the edges that the grid was made of. `Err`
+    /// only where an allocation failed.
     pub fn configuration(&self, alloc: Global) -> Result<Map<String, Value>, AllocError>
         ensures written { IfOk result (λ members. members_view members.entries
             ≡ regular_members (chunk_shape_of_bounded self.now)) }

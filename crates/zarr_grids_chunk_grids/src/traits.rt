@@ -17,8 +17,8 @@ use std::alloc::{AllocError, Global};
 use zarr_grids_boxes::{ArrayIndices, ArrayShape, ArraySubset, ChunkShape};
 use zarr_grids_dimensions::{Dimension, LookupError, boxes, lookups};
 
-/// A chunk grid. A lookup answers `Ok(None)` where there is no such chunk or place, and an error for a chunk or a place of
-/// another dimensionality.
+/// A chunk grid. A lookup answers `Ok(None)` where there is no such chunk or place, and an error
+/// for a chunk or a place of another dimensionality.
 pub trait ChunkGridTraits {
     ghost grid: { Self → Grid };
 
@@ -47,7 +47,8 @@ pub trait ChunkGridTraits {
         lookups::grid_shape(alloc, self.dimensions())
     }
 
-    /// How many places a chunk has in each dimension, which is more than 0, if there is such a chunk.
+    /// How many places a chunk has in each dimension, which is more than 0, if there is such a
+    /// chunk.
     final fn chunk_shape(
         &self,
         alloc: Global,
@@ -86,7 +87,8 @@ pub trait ChunkGridTraits {
         lookups::chunk_origin(alloc, self.dimensions(), chunk)
     }
 
-    /// The box of a chunk, if there is such a chunk and its end is at most 2^64 - 1 in each dimension.
+    /// The box of a chunk, if there is such a chunk and its end is at most 2^64 - 1 in each
+    /// dimension.
     final fn subset(&self, alloc: Global, chunk: &[u64]) -> Result<Option<ArraySubset>, LookupError>
         ensures found { IfOk result
             (λ found. option_map region_of found ≡ chunk_box (grid self.now) chunk.now) }
@@ -123,8 +125,8 @@ pub trait ChunkGridTraits {
         lookups::chunk_element_indices(alloc, self.dimensions(), place)
     }
 
-    /// The places of all chunks of a box of chunk indices, as one box. `None` where the box has a chunk and its first or
-    /// its last chunk has no box.
+    /// The places of all chunks of a box of chunk indices, as one box. `None` where the box has a
+    /// chunk and its first or its last chunk has no box.
     final fn chunks_subset(
         &self,
         alloc: Global,
@@ -143,8 +145,8 @@ pub trait ChunkGridTraits {
         boxes::chunks_subset(alloc, self.dimensions(), chunks)
     }
 
-    /// The chunks that a box of places intersects, as a box of chunk indices. `None` where the box has a place and its
-    /// first or its last place lies in no chunk.
+    /// The chunks that a box of places intersects, as a box of chunk indices. `None` where the box
+    /// has a place and its first or its last place lies in no chunk.
     final fn chunks_in_array_subset(
         &self,
         alloc: Global,
@@ -164,8 +166,8 @@ pub trait ChunkGridTraits {
         boxes::chunks_in_array_subset(alloc, self.dimensions(), subset)
     }
 
-    /// Whether a chunk is in bounds. A dimension with no chunk sets no bound; a chunk of another dimensionality is out of
-    /// bounds.
+    /// Whether a chunk is in bounds. A dimension with no chunk sets no bound; a chunk of another
+    /// dimensionality is out of bounds.
     final fn chunk_indices_inbounds(&self, chunk: &[u64]) -> bool
         ensures { result ≡ in_all chunk_inbounds (grid self.now) chunk.now }
     {
@@ -186,7 +188,8 @@ pub trait ChunkGridTraits {
         ChunkIndices::new(alloc, self.dimensions())
     }
 
-    /// The boxes of the chunks in the grid, row-major. A chunk whose end passes 2^64 - 1 is passed over.
+    /// The boxes of the chunks in the grid, row-major. A chunk whose end passes 2^64 - 1 is passed
+    /// over.
     final fn iter_chunk_subsets(&self, alloc: Global) -> Result<ChunkSubsets<'_>, AllocError>
         ensures left { IfOk result (λ walk. subsets_left walk ≡ chunk_indices (grid self.now)) }
         ensures grid { IfOk result (λ walk. grid_of (dimensions_of_subsets walk) ≡ grid self.now) }
@@ -194,7 +197,8 @@ pub trait ChunkGridTraits {
         ChunkSubsets::new(alloc, self.dimensions())
     }
 
-    /// The chunks in the grid, row-major, each with its box. A chunk whose end passes 2^64 - 1 is passed over.
+    /// The chunks in the grid, row-major, each with its box. A chunk whose end passes 2^64 - 1 is
+    /// passed over.
     final fn iter_chunk_indices_and_subsets(
         &self,
         alloc: Global,

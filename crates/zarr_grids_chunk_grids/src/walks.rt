@@ -10,8 +10,8 @@ use zarr_grids_boxes::indices::step;
 use zarr_grids_boxes::{ArrayIndices, ArraySubset};
 use zarr_grids_dimensions::{Dimension, lookups};
 
-/// The chunks in the grid that a walk has left, row-major. Each item takes memory: where there is none, the item is the
-/// error, and the walk goes on after that chunk.
+/// The chunks in the grid that a walk has left, row-major. Each item takes memory: where there is
+/// none, the item is the error, and the walk goes on after that chunk.
 #[derive(Drop)]
 pub struct ChunkIndices {
     chunks: ArraySubset,

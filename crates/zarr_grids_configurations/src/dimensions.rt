@@ -79,8 +79,8 @@ impl<'a> GivenEdges<'a> {
     }
 }
 
-/// The dimensions of an array's shape and the edges given for each of them. The error is another number of dimensions, or
-/// else the first refusal of a dimension.
+/// The dimensions of an array's shape and the edges given for each of them. The error is another
+/// number of dimensions, or else the first refusal of a dimension.
 #[tactic(auto, using(crate::proofs::MakingWalk::other_length))]
 pub fn dimensions(
     alloc: Global,

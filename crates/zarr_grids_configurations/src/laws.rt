@@ -1,7 +1,8 @@
 //! Laws of configurations. Each function does nothing: its contract is the law.
 ghost use Rattle.zarr_grids_configurations.specs.Laws.{RegularReadsBack, RectangularReadsBack, RectilinearReadsBack};
 
-/// What is written for a chunk shape reads as that chunk shape, for `regular` and for `regular_bounded`.
+/// What is written for a chunk shape reads as that chunk shape, for `regular` and for
+/// `regular_bounded`.
 pub fn regular_reads_back()
     ensures { RegularReadsBack }
 {}

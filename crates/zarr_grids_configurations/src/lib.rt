@@ -1,4 +1,5 @@
-//! The configurations of the four chunk grids, and the dimensions that they make of an array's shape.
+//! The configurations of the four chunk grids, and the dimensions that they make of an array's
+//! shape.
 #![tactic(auto)]
 
 pub mod configuration;

@@ -36,8 +36,8 @@ impl ChunkGridKind {
     }
 }
 
-/// Reads the chunk grid that a JSON value names and configures (Zarr core specification, "Chunk grids"; all but `regular`
-/// are this project's profile).
+/// Reads the chunk grid that a JSON value names and configures (Zarr core specification, "Chunk
+/// grids"; all but `regular` are this project's profile).
 pub fn read_configuration(
     alloc: Global,
     value: &Value,
@@ -145,8 +145,8 @@ fn is_inline(kind: Option<&Value>) -> bool
     }
 }
 
-/// The chunk shape that a configuration of `regular` or of `regular_bounded` says: positive numbers (Zarr core specification,
-/// "Regular grids").
+/// The chunk shape that a configuration of `regular` or of `regular_bounded` says: positive numbers
+/// (Zarr core specification, "Regular grids").
 #[tactic(auto, using(crate::proofs::Items::positive_edges, crate::proofs::Items::zero_edge))]
 pub fn read_chunk_shape(
     alloc: Global,
@@ -178,8 +178,8 @@ pub fn read_chunk_shape(
     }
 }
 
-/// The configuration of `rectangular`: for each dimension a positive number or a list of them that is not empty (this
-/// project's profile).
+/// The configuration of `rectangular`: for each dimension a positive number or a list of them that
+/// is not empty (this project's profile).
 pub fn read_rectangular(
     alloc: Global,
     configuration: Option<&Map<String, Value>>,
@@ -265,8 +265,9 @@ pub(crate) fn are_rectangular_positive(given: &[RectangularChunkGridDimensionCon
     true
 }
 
-/// The configuration of `rectilinear`: its kind is "inline", and for each dimension there is a positive number, or a list of
-/// positive numbers and of pairs of an edge and a count (this project's profile).
+/// The configuration of `rectilinear`: its kind is "inline", and for each dimension there is a
+/// positive number, or a list of positive numbers and of pairs of an edge and a count (this
+/// project's profile).
 pub fn read_rectilinear(
     alloc: Global,
     configuration: Option<&Map<String, Value>>,

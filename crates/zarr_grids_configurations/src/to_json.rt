@@ -8,7 +8,8 @@ use crate::rectilinear::{ChunkEdgeLengths, RunLengthElement};
 use serde_json::{Map, Value, put};
 use std::alloc::{AllocError, Global};
 
-/// The configuration of `regular` or of `regular_bounded` with this chunk shape. `Err` only where an allocation failed.
+/// The configuration of `regular` or of `regular_bounded` with this chunk shape. `Err` only where
+/// an allocation failed.
 pub fn regular_to_json(alloc: Global, chunk_shape: &[u64]) -> Result<Map<String, Value>, AllocError>
     ensures { IfOk result
         (λ members. members_view members.entries ≡ regular_members chunk_shape.now) }

@@ -10,8 +10,8 @@ use zarr_grids_boxes::ArraySubset;
 use zarr_grids_dimensions::lookups::subset;
 use zarr_grids_dimensions::{Dimension, LookupError};
 
-/// Writes where the box of a chunk in the grid starts into `origin`, and how long it is in each dimension into `shape`.
-/// It allocates nothing.
+/// Writes where the box of a chunk in the grid starts into `origin`, and how long it is in each
+/// dimension into `shape`. It allocates nothing.
 pub fn chunk_box_into(grid: &[Dimension], chunk: &[u64], origin: &mut [u64], shape: &mut [u64])
     requires below { (box : Region) × IsInGrid (grid_of grid.now) chunk.now box }
     requires origin { length origin.old ≡ length grid.now }

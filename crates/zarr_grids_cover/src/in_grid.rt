@@ -11,8 +11,8 @@ use zarr_grids_boxes::ArraySubset;
 use zarr_grids_boxes::walk::has_no_place;
 use zarr_grids_dimensions::Dimension;
 
-/// Whether a box of places has the grid's dimensions, and each of its places lies in a chunk in the grid that ends at
-/// most at 2^64 - 1. Ask this before the box is read or written.
+/// Whether a box of places has the grid's dimensions, and each of its places lies in a chunk in the
+/// grid that ends at most at 2^64 - 1. Ask this before the box is read or written.
 pub fn covers(grid: &[Dimension], region: &ArraySubset) -> bool
     ensures { IsTrue result ↔ IsCovered (grid_of grid.now) (region_of region.now) }
 {
@@ -49,8 +49,8 @@ fn is_place_covered(dimension: &Dimension, place: u64) -> bool
     }
 }
 
-/// Whether a chunk index has the grid's dimensions and lies in the grid, and the chunk has a box: it ends at most at
-/// 2^64 - 1 in each dimension.
+/// Whether a chunk index has the grid's dimensions and lies in the grid, and the chunk has a box:
+/// it ends at most at 2^64 - 1 in each dimension.
 pub fn is_in_grid(grid: &[Dimension], chunk: &[u64]) -> bool
     ensures { IsTrue result ↔ ((box : Region) × IsInGrid (grid_of grid.now) chunk.now box) }
 {
@@ -80,7 +80,8 @@ fn is_number_in_grid(dimension: &Dimension, number: u64) -> bool
     number < dimension.chunk_count() && dimension.addressable(number).is_some()
 }
 
-/// Whether a box of chunk indices has the grid's dimensions, and each of its chunks lies in the grid and has a box.
+/// Whether a box of chunk indices has the grid's dimensions, and each of its chunks lies in the
+/// grid and has a box.
 pub fn are_in_grid(grid: &[Dimension], chunks: &ArraySubset) -> bool
     ensures { IsTrue result ↔ AreInGrid (grid_of grid.now) (region_of chunks.now) }
 {

@@ -11,9 +11,10 @@ use zarr_grids_boxes::ArraySubset;
 use zarr_grids_dimensions::boxes::chunks_in_array_subset;
 use zarr_grids_dimensions::{Dimension, LookupError};
 
-/// The chunks that a covered box of places intersects, as a box of chunk indices: from the chunk of its first place to
-/// the chunk of its last one (Zarr core, regular grids; for the other dimensions this project's profile). The error is
-/// that memory ran out. Ask `covers` first whether a box is covered.
+/// The chunks that a covered box of places intersects, as a box of chunk indices: from the chunk of
+/// its first place to the chunk of its last one (Zarr core, regular grids; for the other dimensions
+/// this project's profile). The error is that memory ran out. Ask `covers` first whether a box is
+/// covered.
 pub fn chunks_intersecting(
     alloc: Global,
     grid: &[Dimension],

@@ -16,8 +16,8 @@ pub fn chunk_intersecting_alone()
     ensures { ChunkIntersectingAlone }
 {}
 
-/// The boxes of two chunks share no place. With `chunks_intersecting_cover`, the chunks that a covered box intersects
-/// partition it.
+/// The boxes of two chunks share no place. With `chunks_intersecting_cover`, the chunks that a
+/// covered box intersects partition it.
 pub fn chunks_apart()
     ensures { ChunksApart }
 {}

@@ -1,5 +1,5 @@
-//! What an array asks of its grid: which chunks and boxes lie in the grid, where a chunk lies and how large it is,
-//! and the chunks that a box of places intersects.
+//! What an array asks of its grid: which chunks and boxes lie in the grid, where a chunk lies and
+//! how large it is, and the chunks that a box of places intersects.
 #![tactic(auto)]
 
 pub mod chunk;

@@ -13,7 +13,8 @@ use zarr_grids_boxes::ArraySubset;
 use zarr_grids_boxes::walk::has_no_place;
 use zarr_grids_dimensions::{Dimension, RepeatedEdge};
 
-/// Whether one of the chunks in a box of chunk indices has at least `count` places. In a box without a chunk none has.
+/// Whether one of the chunks in a box of chunk indices has at least `count` places. In a box
+/// without a chunk none has.
 pub fn has_chunk_of(grid: &[Dimension], chunks: &ArraySubset, count: u64) -> bool
     requires below { AreInGrid (grid_of grid.now) (region_of chunks.now) }
     ensures { IsTrue result ↔ HasChunkOf (grid_of grid.now) (region_of chunks.now) count }
@@ -24,7 +25,8 @@ pub fn has_chunk_of(grid: &[Dimension], chunks: &ArraySubset, count: u64) -> boo
     count <= most_places(grid, &chunks.start, &chunks.shape)
 }
 
-/// The most places that a chunk in a box of chunk indices has, or 2^64 - 1 if that is less. The box is not empty.
+/// The most places that a chunk in a box of chunk indices has, or 2^64 - 1 if that is less. The box
+/// is not empty.
 fn most_places(grid: &[Dimension], start: &[u64], shape: &[u64]) -> u64
     requires below { AreInGrid (grid_of grid.now)
         (record { start = start.now; shape = shape.now }) }
@@ -77,7 +79,8 @@ fn largest_among(repeats: &[RepeatedEdge], first: u64, last: u64) -> u64
     largest
 }
 
-/// The edge of a repeat that has the chunks from `next` up to `end`, if one of them lies from `first` to `last`, else 0.
+/// The edge of a repeat that has the chunks from `next` up to `end`, if one of them lies from
+/// `first` to `last`, else 0.
 fn edge_among(edge: u64, next: u128, end: u128, first: u64, last: u64) -> u64
     ensures { result ≡ cond (nat_le next last && nat_lt first end) edge 0 }
 {

@@ -14,8 +14,8 @@ use std::alloc::{AllocError, Global};
 use zarr_grids_boxes::ArraySubset;
 use zarr_grids_boxes::walk::has_no_place;
 
-/// The chunks that a box of places intersects, as a box of chunk indices. `None` where the box has a place and its
-/// first or its last place lies in no chunk.
+/// The chunks that a box of places intersects, as a box of chunk indices. `None` where the box has
+/// a place and its first or its last place lies in no chunk.
 pub fn chunks_in_array_subset(
     alloc: Global,
     grid: &[Dimension],
@@ -45,8 +45,8 @@ pub fn chunks_in_array_subset(
     }
 }
 
-/// The places of all chunks of a box of chunk indices, as one box. `None` where the box has a chunk and its first or
-/// its last chunk has no box.
+/// The places of all chunks of a box of chunk indices, as one box. `None` where the box has a chunk
+/// and its first or its last chunk has no box.
 pub fn chunks_subset(
     alloc: Global,
     grid: &[Dimension],

@@ -125,7 +125,8 @@ impl Dimension {
         Some(interval.count)
     }
 
-    /// Whether a chunk number is below the number of chunks. Where there is no chunk, every number counts as in bounds.
+    /// Whether a chunk number is below the number of chunks. Where there is no chunk, every number
+    /// counts as in bounds.
     pub fn chunk_inbounds(&self, chunk: u64) -> bool
         ensures { result ≡ chunk_inbounds (dimension_of self.now) chunk }
     {

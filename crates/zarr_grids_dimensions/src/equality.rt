@@ -6,8 +6,9 @@ ghost use Rattle.zarr_grids_dimensions.specs.Same.{same_dimension, same_grid};
 use crate::dimension::Dimension;
 use crate::same_edges::have_same_edges;
 
-/// Varying edges are compared edge by edge, whatever repeats hold them: a repeat of two chunks equals two repeats of
-/// one. Chunks of one edge equal no list of edges, since they go on past the array and a list ends.
+/// Varying edges are compared edge by edge, whatever repeats hold them: a repeat of two chunks
+/// equals two repeats of one. Chunks of one edge equal no list of edges, since they go on past the
+/// array and a list ends.
 impl PartialEq for Dimension {
     ghost use Rattle.std.specs.Cmp.{on_per, partial_equiv_from_equiv};
     ghost use Rattle.zarr_grids_dimensions.specs.Dimensions.{dimension_of};
@@ -31,7 +32,8 @@ impl Eq for Dimension {
     ghost laws = { on_equiv dimension_of same_dimension_equiv };
 }
 
-/// Whether two grids are equal in each dimension. It takes time in proportion to how many repeats they have.
+/// Whether two grids are equal in each dimension. It takes time in proportion to how many repeats
+/// they have.
 pub fn is_same_grid(grid: &[Dimension], other: &[Dimension]) -> bool
     ensures { result ≡ same_grid (grid_of grid.now) (grid_of other.now) }
 {

@@ -131,8 +131,8 @@ pub fn subset(
     }
 }
 
-/// Whether a chunk is in bounds. A dimension with no chunk sets no bound; a chunk of another dimensionality is out of
-/// bounds.
+/// Whether a chunk is in bounds. A dimension with no chunk sets no bound; a chunk of another
+/// dimensionality is out of bounds.
 pub fn chunk_indices_inbounds(grid: &[Dimension], chunk: &[u64]) -> bool
     ensures { result ≡ in_all chunk_inbounds (grid_of grid.now) chunk.now }
 {

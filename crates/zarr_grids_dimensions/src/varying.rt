@@ -13,8 +13,8 @@ use crate::search::last_at_most;
 use std::alloc::{AllocError, Global};
 use thiserror::Error;
 
-/// One dimension of an array and the edges of its chunks, held as repeats of equal edges. A lookup takes time
-/// logarithmic in the number of repeats.
+/// One dimension of an array and the edges of its chunks, held as repeats of equal edges. A lookup
+/// takes time logarithmic in the number of repeats.
 #[derive(Debug, Drop)]
 pub struct VaryingEdges {
     size: u64,
@@ -68,8 +68,8 @@ impl From<AllocError> for VaryingEdgesError {
 impl VaryingEdges {
     ghost use Rattle.zarr_grids_dimensions.specs.Varying.{varying_repeats, varying_dimension, IsMadeOf};
 
-    /// The chunks of these repeats, along a dimension of this size. The sum of their edges must be at least the
-    /// size; it may be more, and may pass 2^64 - 1.
+    /// The chunks of these repeats, along a dimension of this size. The sum of their edges must be
+    /// at least the size; it may be more, and may pass 2^64 - 1.
     pub fn new(
         alloc: Global,
         size: u64,
@@ -254,7 +254,8 @@ fn first_places_of(alloc: Global, repeats: &[RepeatedEdge]) -> Result<Vec<u128>,
     Ok(places)
 }
 
-/// The first places up to the first of them that passes 2^64 - 1. A search among them reads half the memory.
+/// The first places up to the first of them that passes 2^64 - 1. A search among them reads half
+/// the memory.
 fn near_places_of(alloc: Global, places: &[u128]) -> Result<Vec<u64>, AllocError>
     ensures near { IfOk result (λ near. near.items ≡ take (length near.items) places.now) }
     ensures some { IfOk result (λ near. 0 < length places.now

@@ -40,7 +40,7 @@ NoChunkIsOwnDocument = (path : List ℕ) (keys : KeyEncoding) (chunk : List ℕ)
 abbrev pub DocumentKeysDiffer : Type 0
 DocumentKeysDiffer = (p q : List ℕ) (name other : DocumentName) → IsTrue (is_node_path p) → IsTrue (is_node_path q) → document_key p name ≡ document_key q other → (p ≡ q) × (name ≡ other)
 
--- whether two paths are related doesn't hang on which comes first
+-- whether two paths are related doesn't depend on which comes first
 abbrev pub RelatedIsSymmetric : Type 0
 RelatedIsSymmetric = (p q : List ℕ) → is_related p q ≡ is_related q p
 

@@ -27,7 +27,7 @@ pub fn same_tree_is_reflexive()
     ensures { SameTreeReflexive }
 {}
 
-/// Whether two trees are the same does not hang on which comes first.
+/// Whether two trees are the same does not depend on which comes first.
 pub fn same_tree_is_symmetric()
     ensures { SameTreeSymmetric }
 {}

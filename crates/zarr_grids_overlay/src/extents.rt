@@ -2,8 +2,8 @@
 ghost use Rattle.std.specs.Prelude.{◌≡◌, ◌↔◌, ◌+◌, ◌*◌, ◌<◌, IsTrue, length, slice_index, max, min, drop};
 ghost use Rattle.zarr_grids_boxes.specs.Boxes.{EndsFit, product};
 
-/// A box of places over borrowed numbers: where it starts and how long it is in each dimension. Each end is at most
-/// 2^64 - 1.
+/// A box of places over borrowed numbers: where it starts and how long it is in each dimension.
+/// Each end is at most 2^64 - 1.
 #[derive(Clone, Copy)]
 pub struct Extent<'a> {
     pub start: &'a [u64],

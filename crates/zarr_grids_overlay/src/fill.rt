@@ -2,7 +2,8 @@
 ghost use Rattle.std.specs.Prelude.{◌≡◌, ◌==◌};
 ghost use Rattle.std.specs.List.{list_all};
 
-/// Whether each byte is `byte`. It compares the slice with itself shifted by one, which is as fast as reading memory.
+/// Whether each byte is `byte`. It compares the slice with itself shifted by one, which is as fast
+/// as reading memory.
 pub fn is_all(bytes: &[u8], byte: u8) -> bool
     ensures { result ≡ list_all (λ b. b == byte) bytes.now }
 {

@@ -5,9 +5,9 @@ ghost use Rattle.zarr_grids_overlay.specs.Overlays.{extent_of, IsOverlaid};
 
 use crate::extents::Extent;
 
-/// Puts the cells of one box over those of another: each place that both boxes have takes its cell from `source`, and
-/// every other cell of `target` stays. `target` holds the cells of the box `into`, and `source` those of `from`,
-/// row-major, with `width` bytes to a cell.
+/// Puts the cells of one box over those of another: each place that both boxes have takes its cell
+/// from `source`, and every other cell of `target` stays. `target` holds the cells of the box
+/// `into`, and `source` those of `from`, row-major, with `width` bytes to a cell.
 pub fn overlay(target: &mut [u8], into: Extent, source: &[u8], from: Extent, width: usize)
     requires rank { length from.start.now ≡ length into.start.now }
     requires target_length { length target.old ≡ product into.shape.now * width }
@@ -21,7 +21,8 @@ pub fn overlay(target: &mut [u8], into: Extent, source: &[u8], from: Extent, wid
     overlay_extent(target, into, source, from, width);
 }
 
-/// `overlay` of slices that are not empty. It is slow where a slice is empty and a box has a size above 0.
+/// `overlay` of slices that are not empty. It is slow where a slice is empty and a box has a size
+/// above 0.
 fn overlay_extent(target: &mut [u8], into: Extent, source: &[u8], from: Extent, width: usize)
     requires rank { length from.start.now ≡ length into.start.now }
     requires target_length { length target.old ≡ product into.shape.now * width }
@@ -65,7 +66,8 @@ fn overlay_extent(target: &mut [u8], into: Extent, source: &[u8], from: Extent, 
     }
 }
 
-/// `overlay` at two dimensions, where each row is one stretch of bytes: far faster for short rows than a call for each.
+/// `overlay` at two dimensions, where each row is one stretch of bytes: far faster for short rows
+/// than a call for each.
 fn overlay_lines(target: &mut [u8], into: Extent, source: &[u8], from: Extent, width: usize)
     requires two { length into.start.now ≡ 2 }
     requires rank { length from.start.now ≡ length into.start.now }

@@ -137,7 +137,7 @@ stopped_covered path document exact region payload options old new stopped refus
       stops = record {
         chunk = stops.chunk;
         box = stops.box;
-        met = stops.met;
+        nth = stops.nth;
         refuses = chunk_refuses path document old region stops.cells options stops.chunk stops.box stopped.error stops.stops;
       };
       wrote = stops.wrote;

@@ -7,3 +7,4 @@ pub mod Turns
 pub mod Fields
 pub mod Saying
 pub mod Digits
+pub mod Cursors

@@ -1,5 +1,6 @@
 -- Members read token by token, a turn at a time, under the conversion to data.
-use Rattle.std.proofs.Common.{◌≡◌, ℕ, zero, suc, ◌-◌, ◌<◌, ◌≤◌, List, [], ◌∷◌, ◌++◌, length, Option, Some, None, option_map, option_and_then, refl, ap, ◌∙◌}
+use Rattle.std.proofs.Common.{◌≡◌, ℕ, zero, suc, ◌-◌, ◌<◌, ◌≤◌, List, [], ◌∷◌, ◌++◌, length, Option, Some, None, option_map, option_and_then, refl, sym, ap, ◌∙◌}
+use Rattle.json.specs.Token as token
 use Rattle.json.specs.Token.{Token}
 use Rattle.json.specs.Json as json
 use Rattle.json.specs.Json.{Parse, parse_map, after_end_array, read_key, items, members, if_last}
@@ -23,6 +24,28 @@ converted_some f (Some p) b r e = let both = found p.0 p.1 r (f p.0) b e in (p.0
 twice : {A B : Type 0} (g : A → B) (r : List Token) (x : Option A) → option_map (λ b. (b, r)) (option_map g x) ≡ parse_map g (option_map (λ a. (a, r)) x)
 twice g r None = refl
 twice g r (Some a) = refl
+
+nothing : {A : Type 0} (a : A) → None ≡ Some a → ⊥
+nothing a e = cc
+
+value_at_end : (depth : ℕ) (ts : List Token) → json.value depth (token.end_array ∷ ts) ≡ None
+unfolding json.value
+value_at_end zero ts = refl
+value_at_end (suc depth) ts = refl
+
+-- where a value was read, no list ends
+pub goes_on : {A : Type 0} (f : json.Json → Option A) (depth : ℕ) (ts : List Token) (a : A) (r : List Token) → converted f (json.value depth ts) ≡ Some (a, r) → after_end_array ts ≡ None
+goes_on f depth [] a r e = refl
+goes_on f depth (token.begin_object ∷ ts) a r e = refl
+goes_on f depth (token.end_object ∷ ts) a r e = refl
+goes_on f depth (token.begin_array ∷ ts) a r e = refl
+goes_on f depth (token.end_array ∷ ts) a r e = absurd (nothing (a, r) (sym (ap (converted f) (value_at_end depth ts)) ∙ e))
+goes_on f depth (token.key s ∷ ts) a r e = refl
+goes_on f depth (token.string s ∷ ts) a r e = refl
+goes_on f depth (token.number s ∷ ts) a r e = refl
+goes_on f depth (token.boolean b ∷ ts) a r e = refl
+goes_on f depth (token.null ∷ ts) a r e = refl
+goes_on f depth (token.bad ∷ ts) a r e = refl
 
 pub converted-array : (o : Option (json.Items × List Token)) → converted of_json (parse_map json.array o) ≡ parse_map array (converted of_items o)
 converted-array None = refl

@@ -1,5 +1,5 @@
 -- Lines whose members were read one by one.
-use Rattle.std.specs.Prelude.{◌≡◌, ℕ, List, Bool, true, ⊤, bytes_eq, codes, string_bytes, Option, Some, None, option_map, option_and_then}
+use Rattle.std.specs.Prelude.{◌≡◌, ℕ, List, true, ⊤, bytes_eq, codes, string_bytes, Option, Some, None, option_map, option_and_then}
 use Rattle.std.specs.List.{list_any}
 use Rattle.json.specs.Token.{Token}
 use Rattle.json.specs.Json.{value}

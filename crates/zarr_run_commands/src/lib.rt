@@ -3,6 +3,7 @@
 
 pub mod answer;
 pub mod command;
+mod cursor;
 mod field;
 pub mod laws;
 pub mod line;

@@ -11,15 +11,13 @@ use crate::command::{Command, CommandCells};
 use crate::operation::Operation;
 use crate::tokens::{Line, NotRead, read_line};
 use crate::{field, members};
-use json::Scratch;
 use serde_json::{Map, Value};
 use std::alloc::{AllocError, Global};
 
-/// Reads the commands of lines. The memory that reading takes is kept from line to line.
+/// Reads the commands of lines.
 #[derive(Drop)]
 pub struct CommandReader {
     alloc: Global,
-    scratch: Scratch,
 }
 
 impl CommandReader {
@@ -27,12 +25,9 @@ impl CommandReader {
     ghost use Rattle.zarr_run_commands.specs.Commands.{asked};
     ghost use Rattle.zarr_run_commands.specs.Lines.{Says};
 
-    /// A reader that has no memory yet.
+    /// A reader whose commands take memory of `alloc`.
     pub fn new(alloc: Global) -> CommandReader {
-        CommandReader {
-            alloc,
-            scratch: Scratch::new(alloc),
-        }
+        CommandReader { alloc }
     }
 
     /// The command of a line, or `None` where the line is no command.
@@ -42,7 +37,7 @@ impl CommandReader {
         let Ok(text) = simdutf8::basic::from_utf8(line) else {
             return Ok(None);
         };
-        match read_line(self.alloc, &mut self.scratch, text) {
+        match read_line(self.alloc, text) {
             Ok(line) => match command_of_line(line) {
                 Some(command) => Ok(Some(command)),
                 None => command_of_text(self.alloc, text),

@@ -1,8 +1,8 @@
 //! Lines read token by token, whose members are an operation, a path, a box or a chunk, and whole
 //! numbers for cells, which take eight bytes each.
-ghost use Rattle.std.specs.Prelude.{◌≡◌, ℕ, ◌<◌, ◌≤◌, ◌+◌, ◌^◌, ◌∷◌, length, Some, IfOk, IfSome, OnOk, string_bytes, option_and_then};
+ghost use Rattle.std.specs.Prelude.{◌≡◌, ℕ, ◌<◌, ◌≤◌, ◌+◌, ◌^◌, ◌∷◌, length, Some, IfOk, IfSome, OnOk, string_bytes, option_and_then, option_map};
 ghost use Rattle.std.specs.Str.Parse.{AllDigits, digits_value};
-ghost use Rattle.json.specs.Json.{items, members, value};
+ghost use Rattle.json.specs.Json.{items, members, read_key, value};
 ghost use Rattle.json.specs.Token as token;
 ghost use Rattle.serde_json.specs.Data.{Data, Members, no_members, number, object, put, unsigned};
 ghost use Rattle.serde_json.specs.Find.{as_str};
@@ -12,16 +12,13 @@ ghost use Rattle.zarr_grids_boxes.specs.Subsets.{region_of};
 ghost use Rattle.zarr_run_commands.specs.Lines.{interval_in, operation_named, region_in, region_of_pairs};
 ghost use Rattle.zarr_run_commands.specs.LineCells.{IsLine, number_list, reads};
 
+use crate::cursor::Cursor;
 use crate::operation::Operation;
-use json::{Invalid, Reader, Scratch, Token};
 use std::alloc::{AllocError, AllocFailed, Global};
 use zarr_grids_boxes::ArraySubset;
 
 /// A list gets room for so many numbers at first.
 const FEW_NUMBERS: usize = 16;
-
-/// No number of so many digits reaches 2^64.
-const FEW_DIGITS: usize = 19;
 
 /// What the members of a line say, by their names. A member that comes twice counts as the last one
 /// of its name.
@@ -54,113 +51,42 @@ impl<T: Drop> From<AllocFailed<T>> for NotRead {
     }
 }
 
-impl From<Invalid> for NotRead {
-    fn from(_error: Invalid) -> NotRead {
-        NotRead::Other
-    }
-}
-
-/// The number that digits alone write, where it is below 2^64.
-#[inline(always)]
-fn number_of_digits(bytes: &[u8]) -> Option<u64>
-    ensures digits { IfSome result (λ n. AllDigits 10 bytes.now) }
-    ensures value { IfSome result (λ n. n ≡ digits_value 10 bytes.now) }
-{
-    if bytes.len() <= FEW_DIGITS {
-        number_of_few_digits(bytes)
-    } else {
-        number_of_many_digits(bytes)
-    }
-}
-
-/// The number that few digits alone write.
-#[inline(always)]
-fn number_of_few_digits(bytes: &[u8]) -> Option<u64>
-    requires { length bytes.now ≤ 19 }
-    ensures digits { IfSome result (λ n. AllDigits 10 bytes.now) }
-    ensures value { IfSome result (λ n. n ≡ digits_value 10 bytes.now) }
-{
-    let mut number: u64 = 0;
-    for byte in bytes {
-        if !byte.is_ascii_digit() {
-            return None;
-        }
-        number = number * 10 + (*byte - b'0') as u64;
-    }
-    Some(number)
-}
-
-/// The number that digits alone write, where it is below 2^64, with a test of each step.
-fn number_of_many_digits(bytes: &[u8]) -> Option<u64>
-    ensures digits { IfSome result (λ n. AllDigits 10 bytes.now) }
-    ensures value { IfSome result (λ n. n ≡ digits_value 10 bytes.now) }
-{
-    let mut number: u64 = 0;
-    for byte in bytes {
-        if !byte.is_ascii_digit() {
-            return None;
-        }
-        number = number.checked_mul(10)?.checked_add((*byte - b'0') as u64)?;
-    }
-    Some(number)
-}
-
-/// The whole number that a token of JSON writes, where it is below 2^64. `None` where it is of
-/// another form.
-fn whole_number(text: &str) -> Option<u64>
-    ensures { IfSome result (λ n. number_of text.now ≡ Some (unsigned n)) }
-{
-    let bytes = text.as_bytes();
-    if bytes.is_empty() {
-        return None;
-    }
-    match number_of_digits(bytes) {
-        Some(number) => Some(number),
-        None => None,
-    }
-}
-
 /// The bracket that begins a list.
-fn begin_array(reader: &mut Reader<'_>) -> Result<(), NotRead>
+fn begin_array(reader: &mut Cursor<'_>) -> Result<(), NotRead>
     ensures { OnOk result (reader.old ≡ token.Token.begin_array ∷ reader.new) }
 {
-    let token = reader.next().ok_or(NotRead::Other)?;
-    match token {
-        Token::BeginArray => Ok(()),
-        _ => Err(NotRead::Other),
+    if reader.begin_array() {
+        Ok(())
+    } else {
+        Err(NotRead::Other)
     }
 }
 
 /// The next token, where it is a text.
-fn next_text<'a>(reader: &mut Reader<'a>) -> Result<&'a str, NotRead>
+fn next_text<'a>(reader: &mut Cursor<'a>) -> Result<&'a str, NotRead>
     ensures { IfOk result (λ text. reader.old ≡ token.Token.string text.now ∷ reader.new) }
 {
-    let token = reader.next().ok_or(NotRead::Other)?;
-    match token {
-        Token::String(text) => Ok(text),
-        _ => Err(NotRead::Other),
+    match reader.next_text() {
+        Some(text) => Ok(text),
+        None => Err(NotRead::Other),
     }
 }
 
 /// The next token, where it is a whole number.
 #[inline(always)]
-fn next_number(reader: &mut Reader<'_>) -> Result<u64, NotRead>
+fn next_number(reader: &mut Cursor<'_>) -> Result<u64, NotRead>
     ensures ok { IfOk result (λ n. (depth : ℕ) → converted of_json (value depth reader.old)
         ≡ Some (number (unsigned n), reader.new)) }
     ensures shorter { OnOk result (length reader.new < length reader.old) }
 {
-    let token = reader.next().ok_or(NotRead::Other)?;
-    match token {
-        Token::Number(text) => match whole_number(text) {
-            Some(number) => Ok(number),
-            None => Err(NotRead::Other),
-        },
-        _ => Err(NotRead::Other),
+    match reader.next_number() {
+        Some(number) => Ok(number),
+        None => Err(NotRead::Other),
     }
 }
 
 /// The operation that a text names.
-fn read_operation(reader: &mut Reader<'_>) -> Result<Operation, NotRead>
+fn read_operation(reader: &mut Cursor<'_>) -> Result<Operation, NotRead>
     ensures ok { IfOk result (λ operation.
         reads (λ d. option_and_then operation_named (as_str d)) reader.old
         ≡ Some (operation, reader.new)) }
@@ -174,7 +100,7 @@ fn read_operation(reader: &mut Reader<'_>) -> Result<Operation, NotRead>
 }
 
 /// A text.
-fn read_text(alloc: Global, reader: &mut Reader<'_>) -> Result<String, NotRead>
+fn read_text(alloc: Global, reader: &mut Cursor<'_>) -> Result<String, NotRead>
     ensures ok { IfOk result
         (λ text. reads as_str reader.old ≡ Some (string_bytes text, reader.new)) }
     ensures shorter { OnOk result (length reader.new < length reader.old) }
@@ -184,7 +110,7 @@ fn read_text(alloc: Global, reader: &mut Reader<'_>) -> Result<String, NotRead>
 }
 
 /// The start and the length of an interval: a list of its start and its end.
-fn read_interval(reader: &mut Reader<'_>) -> Result<(u64, u64), NotRead>
+fn read_interval(reader: &mut Cursor<'_>) -> Result<(u64, u64), NotRead>
     ensures ok { IfOk result (λ interval.
         converted (λ j. option_and_then interval_in (of_json j)) (value 125 reader.old)
         ≡ Some (interval, reader.new)) }
@@ -201,7 +127,7 @@ fn read_interval(reader: &mut Reader<'_>) -> Result<(u64, u64), NotRead>
 }
 
 /// The box of the intervals of a list that has begun.
-fn read_intervals(alloc: Global, reader: &mut Reader<'_>) -> Result<ArraySubset, NotRead>
+fn read_intervals(alloc: Global, reader: &mut Cursor<'_>) -> Result<ArraySubset, NotRead>
     ensures ok { IfOk result (λ region.
         converted (λ js. option_and_then region_of_pairs (of_items js))
         (items (value 125) (length reader.old) reader.old)
@@ -219,7 +145,7 @@ fn read_intervals(alloc: Global, reader: &mut Reader<'_>) -> Result<ArraySubset,
 }
 
 /// A box: a list of intervals.
-fn read_region(alloc: Global, reader: &mut Reader<'_>) -> Result<ArraySubset, NotRead>
+fn read_region(alloc: Global, reader: &mut Cursor<'_>) -> Result<ArraySubset, NotRead>
     ensures ok { IfOk result
         (λ region. reads region_in reader.old ≡ Some (region_of region, reader.new)) }
     ensures shorter { OnOk result (length reader.new < length reader.old) }
@@ -232,7 +158,7 @@ fn read_region(alloc: Global, reader: &mut Reader<'_>) -> Result<ArraySubset, No
 }
 
 /// The whole numbers of a list that has begun.
-fn read_numbers(alloc: Global, reader: &mut Reader<'_>) -> Result<Vec<u64>, NotRead>
+fn read_numbers(alloc: Global, reader: &mut Cursor<'_>) -> Result<Vec<u64>, NotRead>
     ensures ok { IfOk result
         (λ v. converted of_items (items (value 125) (length reader.old) reader.old)
         ≡ Some (number_items v.items, reader.new)) }
@@ -247,7 +173,7 @@ fn read_numbers(alloc: Global, reader: &mut Reader<'_>) -> Result<Vec<u64>, NotR
 }
 
 /// A list of whole numbers.
-fn read_list(alloc: Global, reader: &mut Reader<'_>) -> Result<Vec<u64>, NotRead>
+fn read_list(alloc: Global, reader: &mut Cursor<'_>) -> Result<Vec<u64>, NotRead>
     ensures ok { IfOk result
         (λ v. converted of_json (value 126 reader.old)
         ≡ Some (number_list v.items, reader.new)) }
@@ -263,7 +189,7 @@ fn read_list(alloc: Global, reader: &mut Reader<'_>) -> Result<Vec<u64>, NotRead
 /// Reads the value of the member with this name into a line.
 fn read_member(
     alloc: Global,
-    reader: &mut Reader<'_>,
+    reader: &mut Cursor<'_>,
     name: &str,
     line: &mut Line,
 ) -> Result<(), NotRead>
@@ -283,8 +209,19 @@ fn read_member(
     Ok(())
 }
 
+/// The next key, or `None` at the brace that ends the object.
+fn next_key<'a>(reader: &mut Cursor<'a>) -> Result<Option<&'a str>, NotRead>
+    ensures { IfOk result (λ key. read_key reader.old
+        ≡ Some (option_map (λ s. s.now) key, reader.new)) }
+{
+    match reader.next_key() {
+        Some(key) => Ok(key),
+        None => Err(NotRead::Other),
+    }
+}
+
 /// The members of an object that has begun.
-fn read_members(alloc: Global, reader: &mut Reader<'_>) -> Result<Line, NotRead>
+fn read_members(alloc: Global, reader: &mut Cursor<'_>) -> Result<Line, NotRead>
     ensures { IfOk result (λ line. (ms : Members) × IsLine ms line
         × (converted (λ js. of_members js no_members)
         (members (value 126) (length reader.old) reader.old) ≡ Some (ms, reader.new))) }
@@ -296,27 +233,24 @@ fn read_members(alloc: Global, reader: &mut Reader<'_>) -> Result<Line, NotRead>
         chunk: None,
         cells: None,
     };
-    'members: while let Some(name) = reader.next_key()? {
+    'members: while let Some(name) = next_key(reader)? {
         read_member(alloc, reader, name, &mut line)?;
     }
     Ok(line)
 }
 
 /// What the members of the object that a text is say.
-pub(crate) fn read_line(alloc: Global, scratch: &mut Scratch, text: &str) -> Result<Line, NotRead>
+pub(crate) fn read_line(alloc: Global, text: &str) -> Result<Line, NotRead>
     ensures { IfOk result
         (λ line. (ms : Members) × IsLine ms line × (json_of text.now ≡ Some (object ms))) }
 {
-    let mut reader = Reader::new(text, scratch)?;
-    let token = reader.next().ok_or(NotRead::Other)?;
-    match token {
-        Token::BeginObject => {
-            let line = read_members(alloc, &mut reader)?;
-            if reader.next().is_some() {
-                return Err(NotRead::Other);
-            }
-            Ok(line)
-        }
-        _ => Err(NotRead::Other),
+    let mut reader = Cursor::new(text);
+    if !reader.begin_object() {
+        return Err(NotRead::Other);
     }
+    let line = read_members(alloc, &mut reader)?;
+    if !reader.is_at_end() {
+        return Err(NotRead::Other);
+    }
+    Ok(line)
 }

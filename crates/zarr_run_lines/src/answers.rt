@@ -24,7 +24,7 @@ use zarr_run_session::Session;
 const PENDING_BYTES: usize = 65_536;
 
 /// A line of more bytes isn't kept beside the command that is read from it.
-const LONG_LINE_BYTES: usize = 1_048_576;
+const LONG_LINE_BYTES: usize = 8_388_608;
 
 /// Appends the line of a reply. After an error a part of it may stand there.
 fn append_reply(
@@ -41,8 +41,7 @@ fn append_reply(
     Ok(())
 }
 
-/// The command of a line. The text of a long line is let go once it is read, with the memory that
-/// reading it took.
+/// The command of a line. The text of a long line is let go once it is read.
 fn take_command(
     alloc: Global,
     commands: &mut CommandReader,
@@ -53,7 +52,6 @@ fn take_command(
     let command = commands.read(line.as_slice())?;
     if line.len() > LONG_LINE_BYTES {
         *line = Vec::new(alloc);
-        *commands = CommandReader::new(alloc);
     }
     Ok(command)
 }

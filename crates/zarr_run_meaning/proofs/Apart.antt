@@ -4,7 +4,7 @@ use Rattle.zarr_grids_boxes.specs.Boxes.{Region}
 use Rattle.zarr_grids_chunks.specs.Grids.{Grid, IsInGrid}
 use Rattle.zarr_codecs_meaning.proofs.Lists.{some_same}
 use Rattle.zarr_array_meaning.specs.Boxes.{IsDamagedIn, IsUnfitIn}
-use Rattle.zarr_array_meaning.specs.Chunks.{IsMet}
+use Rattle.zarr_array_meaning.specs.Chunks.{IsNthIntersecting}
 use Rattle.zarr_array_meaning.specs.Writing.{IsPartDamaged}
 use Rattle.zarr_array_meaning.proofs.OneAnswer.{reads_one_way, written_undamaged}
 use Rattle.zarr_run_meaning.specs.declared.cause.Cause.TheVariants as cause
@@ -53,10 +53,10 @@ writes_apart reads old new other path target given options n s t =
     (λ whole. whole.0)
     (λ (first : WritesFirst h target given options cause.Damage n old other).
     let same = target_once h.document.grid target first.box is.box first.is.is is.is.is in
-    let met = subst (λ (box : Region). IsMet h.document.grid box n first.stops.chunk first.stops.box) same first.stops.met in
+    let nth = subst (λ (box : Region). IsNthIntersecting h.document.grid box n first.stops.chunk first.stops.box) same first.stops.nth in
     let damaged = subst (λ (box : Region). IsPartDamaged h.path h.document old.store box options first.stops.chunk first.stops.box) same first.stops.refuses in
-    let listed = number_listed _ n first.stops.chunk met.listed in
+    let listed = number_listed _ n first.stops.chunk nth.listed in
     let among = listed_below h.document.grid is.box first.stops.chunk listed in
-    let below : IsInGrid h.document.grid first.stops.chunk first.stops.box = record { below = among.1.below; has_box = met.has_box } in
+    let below : IsInGrid h.document.grid first.stops.chunk first.stops.box = record { below = among.1.below; has_box = nth.has_box } in
     written_undamaged h.path h.document true is.box is.values options _ old.store new.store first.stops.chunk first.stops.box is.writes.stores below listed damaged)
     r

@@ -12,7 +12,7 @@ use Rattle.zarr_codecs_meaning.proofs.Chunks.{stored_part, stored_decoded}
 use Rattle.zarr_codecs_metadata.specs.Chains.{ReadsCodecs}
 use Rattle.zarr_codecs_options.specs.declared.codec_options.CodecOptions.{CodecOptions}
 use Rattle.zarr_array_meaning.specs.Boxes.{IsDamagedIn, IsUnfitIn}
-use Rattle.zarr_array_meaning.specs.Chunks.{number_in, stored_at, decoded_at, ReadsCell, IsMet}
+use Rattle.zarr_array_meaning.specs.Chunks.{number_in, stored_at, decoded_at, ReadsCell, IsNthIntersecting}
 use Rattle.zarr_array_meaning.specs.Documents.{Document}
 use Rattle.zarr_array_meaning.specs.Standing.{ChunkStandsAt, IsLossless, IsGood, AreValues}
 use Rattle.zarr_array_meaning.specs.StoreMaps.{StoreMap}
@@ -52,10 +52,10 @@ module _ (path : List ℕ) (document : Document) (store : StoreMap) (chunk : Lis
 -- ---- nothing is damaged
 
 module _ (reads : ReadsCodecs) (store : StoreMap) (h : Held) (good : ReadsGood reads) (sound : IsSoundAt reads store h) where
-  no_part_damaged : (region : Region) (options : CodecOptions) (n : ℕ) (chunk : List ℕ) (box : Region) → IsMet h.document.grid region n chunk box → IsPartDamaged h.path h.document store region options chunk box → ⊥
-  no_part_damaged region options n chunk box met damaged =
-      let among = listed_below h.document.grid region chunk (number_listed _ n chunk met.listed) in
-      let below : IsInGrid h.document.grid chunk box = record { below = among.1.below; has_box = met.has_box } in
+  no_part_damaged : (region : Region) (options : CodecOptions) (n : ℕ) (chunk : List ℕ) (box : Region) → IsNthIntersecting h.document.grid region n chunk box → IsPartDamaged h.path h.document store region options chunk box → ⊥
+  no_part_damaged region options n chunk box nth damaged =
+      let among = listed_below h.document.grid region chunk (number_listed _ n chunk nth.listed) in
+      let below : IsInGrid h.document.grid chunk box = record { below = among.1.below; has_box = nth.has_box } in
       false≢true (sym damaged.lost
       ∙ takes_decoded h.document options region box (stored_at h.path h.document store chunk) (map (cell h.document.elements.fill h.table) (places box.start box.shape)) damaged.fit
       (standing_decoded h.path h.document store chunk box (cell h.document.elements.fill h.table) (good h.tree h.document sound.says) sound.lossless sound.values below (sound.stands chunk box below)))
@@ -95,7 +95,7 @@ module _ (reads : ReadsCodecs) (old new : World) (n : ℕ) (good : ReadsGood rea
     go : (o : Option Held) → held_at path old.arrays ≡ o → RefusesHeld o (RefusesWrite target given options) cause.Damage n old new → ⊥
     go None e r = r
     go (Some h) e r = ⊎_elim (λ whole. whole.0) (λ (first : WritesFirst h target given options cause.Damage n old new).
-        no_part_damaged reads old.store h good (sound h e) first.box options n first.stops.chunk first.stops.box first.stops.met first.stops.refuses) r
+        no_part_damaged reads old.store h good (sound h e) first.box options n first.stops.chunk first.stops.box first.stops.nth first.stops.refuses) r
   undamaged (read path target options) sound s = go (held_at path old.arrays) refl s.1 where
     go : (o : Option Held) → held_at path old.arrays ≡ o → RefusesHeld o (RefusesRead target) cause.Damage n old new → ⊥
     go None e r = r

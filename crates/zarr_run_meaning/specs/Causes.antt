@@ -14,7 +14,7 @@ use Rattle.zarr_codecs_metadata.specs.Chains.{ReadsCodecs}
 use Rattle.zarr_codecs_options.specs.declared.codec_options.CodecOptions.{CodecOptions}
 use Rattle.zarr_codecs_types.specs.Given.{GivenCells, given_in}
 use Rattle.zarr_array_meaning.specs.Boxes.{IsDamagedIn, IsUnfitIn}
-use Rattle.zarr_array_meaning.specs.Chunks.{IsMet, fits_box}
+use Rattle.zarr_array_meaning.specs.Chunks.{IsNthIntersecting, fits_box}
 use Rattle.zarr_array_meaning.specs.Documents.{Document, read_document}
 use Rattle.zarr_array_meaning.specs.StoreMaps.{StoreMap}
 use Rattle.zarr_array_meaning.specs.Texts.{HasDocument}
@@ -137,7 +137,7 @@ ChunkRefuses path document store region values options chunk box c = ⊥
 pub record StopsAt (path : List ℕ) (document : Document) (store : StoreMap) (region : Region) (values : List Cell) (options : CodecOptions) (n : ℕ) (c : Cause) : Type 0 where
   pub chunk : List ℕ
   pub box : Region
-  pub met : IsMet document.grid region n chunk box
+  pub nth : IsNthIntersecting document.grid region n chunk box
   pub refuses : ChunkRefuses path document store region values options chunk box c
 
 -- a read; one of an empty box calls no store

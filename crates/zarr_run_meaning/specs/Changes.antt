@@ -66,7 +66,7 @@ pub record Opens (reads : ReadsCodecs) (path : List ℕ) (order : SubchunkWriteO
   pub begins : Begins path tree meaning order old new
   pub stores : new.store ≡ old.store
 
--- the cells of a box are given to some of the chunks that it intersects: the table has them, and the store, and the value of each of these that has one is what encoding makes of its new cells
+-- the cells of a box are given to some of the chunks that it intersects: the table has them, and the store; the value of each of these that has one is what encoding makes of its new cells, if the box holds the whole chunk or the chunk was decoded before
 pub record WritesChunks (h : Held) (region : Region) (values : List Cell) (options : CodecOptions) (chunks : List (List ℕ)) (old new : World) : Type 0 where
   pub table : Table
   pub is : table ≡ updated h.document.elements.fill h.table (changes_in h.document.grid chunks (changes region values))

@@ -1,6 +1,10 @@
 //! Why a command is refused.
 
-/// The cause of a refusal. Of the causes that are tested before a chunk is touched, the first that holds is answered.
+/// The cause of a refusal. The causes are tested in this order: `Path`; `PathTaken` by an array
+/// that is held; `NoArray` or `DocumentChanged`; `Document`; `PathTaken` by a document that is
+/// stored; `Region`, `Data`, `Size`; and then, chunk by chunk, `Fit`, `Damage`, and `Codec` and
+/// `Size`, of which either may be answered where both hold. `Store` comes where the store refuses a
+/// call, and `Memory` can come at any point.
 #[derive(Clone, Copy, Debug, PartialEq, Eq)]
 pub enum Cause {
     /// The text is not a node path.
@@ -15,8 +19,8 @@ pub enum Cause {
     Region,
     /// The cells are of another count or form, or not values of the type.
     Data,
-    /// A box, a chunk or a stored value would have 2^63 cells or bytes or more, or an offset is too large for its index; or 2^63
-    /// chunks or more are to be erased.
+    /// A box, a chunk or a stored value would have 2^63 cells or bytes or more, or an offset is too
+    /// large for its index; or 2^63 chunks or more are to be erased.
     Size,
     /// A chunk does not fit its codecs.
     Fit,

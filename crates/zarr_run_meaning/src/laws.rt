@@ -36,13 +36,14 @@ pub fn runs_own()
     ensures { RunsOwn }
 {}
 
-/// Where no key under a path is foreign, and no array is held at a related one, no chunk of it has a
-/// value.
+/// Where no key under a path is foreign, and no array is held at a related one, no chunk of it has
+/// a value.
 pub fn owned_has_no_chunks()
     ensures { OwnedHasNoChunks }
 {}
 
-/// In a sound world no array is opened where none is held and the key of the document isn't foreign.
+/// In a sound world no array is opened where none is held and the key of the document isn't
+/// foreign.
 pub fn opens_none()
     ensures { OpensNone }
 {}
@@ -73,8 +74,8 @@ pub fn creates_fill()
     ensures { CreatesFill }
 {}
 
-/// A reopening at a path where no array is held begins an array with the document that is stored, and
-/// with the cells that its stored chunks stand for.
+/// A reopening at a path where no array is held begins an array with the document that is stored,
+/// and with the cells that its stored chunks stand for.
 pub fn opens_cells()
     ensures { OpensCells }
 {}
@@ -101,8 +102,8 @@ pub fn runs_sound()
     ensures { RunsSound }
 {}
 
-/// A step is such a one, where none of the keys that its command may begin an array over is foreign,
-/// and a create that is done names a lossless document.
+/// A step is such a one, where none of the keys that its command may begin an array over is
+/// foreign, and a create that is done names a lossless document.
 pub fn owned_begins()
     ensures { OwnedBegins }
 {}
@@ -113,8 +114,8 @@ pub fn owned_runs_sound()
 {}
 
 /// In a run from a sound world in which each array begins over chunks that stand for cells, no
-/// command is refused for damage or for a document that has changed, and no read because a chunk does
-/// not fit its codecs.
+/// command is refused for damage or for a document that has changed, and no read because a chunk
+/// does not fit its codecs.
 pub fn runs_undamaged()
     ensures { RunsUndamaged }
 {}
@@ -125,7 +126,8 @@ pub fn owned_runs_undamaged()
 {}
 
 /// An array that was sound when a session was closed is opened by another one with its document and
-/// its cells, whatever is stored for the others, running out of memory and refused store calls aside.
+/// its cells, whatever is stored for the others, running out of memory and refused store calls
+/// aside.
 pub fn reopens_alike()
     ensures { ReopensAlike }
 {}
@@ -147,9 +149,9 @@ pub fn runs_reopen()
     ensures { RunsReopen }
 {}
 
-/// A session over the store of another one, in which one array was sound: each reopening of its path
-/// is done, whatever is stored for the others and whatever is done to them, running out of memory and
-/// refused store calls aside, and the array has its document and its cells.
+/// A session over the store of another one, in which one array was sound: each reopening of its
+/// path is done, whatever is stored for the others and whatever is done to them, running out of
+/// memory and refused store calls aside, and the array has its document and its cells.
 pub fn runs_reopen_one()
     ensures { RunsReopenOne }
 {}
@@ -170,8 +172,8 @@ pub fn begins_alone()
     ensures { BeginsAlone }
 {}
 
-/// A step that opens no array at a related path keeps an array sound alone, whatever is stored for the
-/// others.
+/// A step that opens no array at a related path keeps an array sound alone, whatever is stored for
+/// the others.
 pub fn steps_keep_sound()
     ensures { StepsKeepSound }
 {}
@@ -182,14 +184,14 @@ pub fn alone_undamaged()
     ensures { AloneUndamaged }
 {}
 
-/// After any run, whatever was stored, the values of each array that is held are printed, strings that
-/// are not UTF-8 aside.
+/// After any run, whatever was stored, the values of each array that is held are printed, strings
+/// that are not UTF-8 aside.
 pub fn runs_print()
     ensures { RunsPrint }
 {}
 
-/// A read is answered with values of its array's type, which are printed, strings that are not UTF-8
-/// aside.
+/// A read is answered with values of its array's type, which are printed, strings that are not
+/// UTF-8 aside.
 pub fn reads_print()
     ensures { ReadsPrint }
 {}

@@ -101,7 +101,7 @@ fn elements_of(alloc: Global, case: &Case) -> Result<Elements, Stop> {
 }
 
 /// The metadata of codecs.
-fn metadatas_of(alloc: Global, codecs: &[&str]) -> Result<Vec<MetadataV3>, Stop> {
+pub(crate) fn metadatas_of(alloc: Global, codecs: &[&str]) -> Result<Vec<MetadataV3>, Stop> {
     let mut metadatas = Vec::new(alloc);
     for codec in codecs {
         metadatas.push(read_point(alloc, codec)?)?;

@@ -1,9 +1,10 @@
 //! Shards: a codec that is built, made of its configuration and copied; shards that are kept open
 //! by a state and by a decoder; and chains with shards in them.
 
+use crate::codecs::metadatas_of;
 use crate::elements::{expect_fixed, expect_held, filled, holding};
 use crate::stop::{Stop, expect};
-use crate::values::{Values, recode, run as run_values};
+use crate::values::{Values, compact, recode, run as run_values};
 use std::alloc::Global;
 use zarr_codecs::{
     ArrayBytes, ArraySubset, ArrayToBytesCodecTraits, BytesPartialDecoderTraits,
@@ -20,6 +21,8 @@ use zarr_sharding::{
 type Chain = CodecChain<ReverseCodec>;
 
 type Codec = ShardingCodec<Chain, Chain>;
+
+type Chains = ArrayChain<ReverseCodec>;
 
 /// The cells 1, 2, 0 and 0 in subchunks of two, of which the second is fill: a slice, a pair, and
 /// an absent one.
@@ -43,6 +46,15 @@ const COMPACTED: [u8; 34] = [
 /// A shard of shards, as it is written.
 const TWO_SHARDS: &str =
     r#"{"configuration":{"chunk_shape":[2],"codecs":[{"configuration":{"chunk_shape":[1],"codecs":["bytes"],"index_codecs":[{"configuration":{"endian":"little"},"name":"bytes"}],"index_location":"start"},"name":"sharding_indexed"}],"index_codecs":[{"configuration":{"endian":"little"},"name":"bytes"}],"index_location":"end"},"name":"sharding_indexed"}"#;
+
+/// The transposition of two dimensions, and shards in subchunks that are columns of two cells of
+/// the transposed array, which are rows of the array.
+const TURNED: &str = r#"{"configuration":{"order":[1,0]},"name":"transpose"}"#;
+
+const COLUMNS: &str =
+    r#"{"configuration":{"chunk_shape":[2,1],"codecs":["bytes"],"index_codecs":[{"configuration":{"endian":"little"},"name":"bytes"}],"index_location":"end"},"name":"sharding_indexed"}"#;
+
+const REVERSE: &str = r#""x-reverse""#;
 
 /// Those cells, where a subchunk is a shard too: its index stands before its two slices of one
 /// cell.
@@ -323,27 +335,23 @@ fn run_decoder<I: ArrayToBytesCodecTraits, X: ArrayToBytesCodecTraits>(
 }
 
 /// The chain that metadata says, with options, and copied.
-fn chain(alloc: Global, metadatas: &[MetadataV3]) -> Result<ArrayChain<ReverseCodec>, Stop> {
-    let chain: ArrayChain<ReverseCodec> = ArrayChain::from_metadata(alloc, metadatas)?;
+fn read_chain(alloc: Global, metadatas: &[MetadataV3]) -> Result<Chains, Stop> {
+    let chain: Chains = ArrayChain::from_metadata(alloc, metadatas)?;
     let order = ShardingCodecOptions::default().with_subchunk_write_order(SubchunkWriteOrder::C);
     Ok(chain.with_codec_specific_options(order).try_clone(alloc)?)
 }
 
-/// A chain that metadata says is written as it.
-fn write_chain(
-    alloc: Global,
-    chain: &ArrayChain<ReverseCodec>,
-    metadatas: &[MetadataV3],
-) -> Result<(), Stop> {
+/// The chain that codecs make, which is written as they are.
+fn chain_of(alloc: Global, codecs: &[&str]) -> Result<Chains, Stop> {
+    let metadatas = metadatas_of(alloc, codecs)?;
+    let chain = read_chain(alloc, metadatas.as_slice())?;
     let written = chain.create_metadatas(alloc)?;
-    expect(written.as_slice() == metadatas)
+    expect(written.as_slice() == metadatas.as_slice())?;
+    Ok(chain)
 }
 
 /// A shard of shards, and its values.
-fn run_chain(alloc: Global, array: WholeArray<'_>) -> Result<(), Stop> {
-    let metadatas = vec![in alloc; MetadataV3::from_text(alloc, TWO_SHARDS)?]?;
-    let chain = chain(alloc, metadatas.as_slice())?;
-    write_chain(alloc, &chain, metadatas.as_slice())?;
+fn run_nested(alloc: Global, array: WholeArray<'_>) -> Result<(), Stop> {
     let values = Values {
         array,
         part: &[2],
@@ -351,20 +359,66 @@ fn run_chain(alloc: Global, array: WholeArray<'_>) -> Result<(), Stop> {
         swapped: &NESTED_SWAPPED,
         compacted: &NESTED_COMPACTED,
     };
-    run_values(alloc, &chain, &values)
+    run_values(alloc, &chain_of(alloc, &[TWO_SHARDS])?, &values)
 }
 
-/// Each of these.
-pub(crate) fn run(alloc: Global) -> Result<(), Stop> {
-    let codec = codec(alloc)?;
-    let elements = filled(alloc, DataType::UInt8, &[0])?;
-    let array = WholeArray {
-        elements: &elements,
-        shape: &[4],
+/// A shard after a transposition, and its values: those of the row of four cells, since its
+/// subchunks are the two rows of the array.
+fn run_turned(alloc: Global, array: WholeArray<'_>) -> Result<(), Stop> {
+    let values = Values {
+        array,
+        part: &[2, 2],
+        value: &VALUE,
+        swapped: &SWAPPED,
+        compacted: &COMPACTED,
     };
+    run_values(alloc, &chain_of(alloc, &[TURNED, COLUMNS])?, &values)
+}
+
+/// The same with the bytes reversed: a part is written with the whole value, so without a gap. One
+/// with a gap is compacted.
+fn run_reversed(alloc: Global, array: WholeArray<'_>) -> Result<(), Stop> {
+    let (mut value, mut gap, mut swapped) = (VALUE, SWAPPED, COMPACTED);
+    value.reverse();
+    gap.reverse();
+    swapped.reverse();
+    let values = Values {
+        array,
+        part: &[2, 2],
+        value: &value,
+        swapped: &swapped,
+        compacted: &[],
+    };
+    let chain = chain_of(alloc, &[TURNED, COLUMNS, REVERSE])?;
+    run_values(alloc, &chain, &values)?;
+    compact(alloc, &chain, array, &gap, &swapped)
+}
+
+/// A row of four cells in shards.
+fn run_row(alloc: Global, array: WholeArray<'_>) -> Result<(), Stop> {
+    let codec = codec(alloc)?;
     decode_index(alloc, &codec)?;
     run_codec(alloc, &codec, array)?;
     run_state(alloc, &codec, array)?;
     run_decoder(alloc, &codec, array)?;
-    run_chain(alloc, array)
+    run_nested(alloc, array)
+}
+
+/// Each of these.
+pub(crate) fn run(alloc: Global) -> Result<(), Stop> {
+    let elements = filled(alloc, DataType::UInt8, &[0])?;
+    let elements = &elements;
+    let (row, square) = (
+        WholeArray {
+            elements,
+            shape: &[4],
+        },
+        WholeArray {
+            elements,
+            shape: &[2, 2],
+        },
+    );
+    run_row(alloc, row)?;
+    run_turned(alloc, square)?;
+    run_reversed(alloc, square)
 }

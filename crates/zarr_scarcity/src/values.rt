@@ -53,7 +53,7 @@ pub(crate) fn recode<C: ArrayToBytesCodecTraits>(
 }
 
 /// A value is compacted to these bytes; there are none where nothing is gained.
-fn compact<C: ArrayToBytesCodecTraits>(
+pub(crate) fn compact<C: ArrayToBytesCodecTraits>(
     alloc: Global,
     codec: &C,
     array: WholeArray<'_>,

@@ -40,11 +40,11 @@ impl<B: BytesToBytesCodecTraits> ArrayChain<B> {
 
     /// The chain that the metadata of its codecs names and describes, in their order, with all
     /// chains inside of them, each codec under the name that it has there. `TooDeep`, before all
-    /// else, where one of them nests deeper than `CodecChain::from_metadata` reads. Else the first
-    /// codec that is refused decides: `NameUnsupported` where its name is that of none;
-    /// `MetadataInvalid` where its configuration is not one of its name's, or where no array to
-    /// bytes codec stands after the array to array codecs; a caller's codec is refused as its
-    /// `create` answers. A shard's configuration comes before the codecs in it, those of its
+    /// else, where one of them nests deeper than 127 levels, as `CodecChain::from_metadata` counts
+    /// them. Else the first codec that is refused decides: `NameUnsupported` where its name is that
+    /// of none; `MetadataInvalid` where its configuration is not one of its name's, or where no
+    /// array to bytes codec stands after the array to array codecs; a caller's codec is refused as
+    /// its `create` answers. A shard's configuration comes before the codecs in it, those of its
     /// subchunks before those of its index, and both before the caller's codecs after it. `TooDeep`
     /// also where a shard stands in the subchunks of a shard that stands in those of another; no
     /// shard has a name that is known in an index, in `vlen` or in `optional`. `MetadataInvalid`
@@ -72,10 +72,10 @@ impl<B: BytesToBytesCodecTraits> ArrayChain<B> {
     }
 
     /// The metadata of the codecs under the names that they keep, of which `from_metadata` makes an
-    /// equal chain where it nests no deeper than that reads, and array to array codecs stand only
-    /// where they may: in any chain that it made, and in any that is made of chains that
-    /// `CodecChain::from_metadata` or `CodecChain::new` made, as these say. `Err` only where an
-    /// allocation failed.
+    /// equal chain where array to array codecs stand only where they may: in any chain that it
+    /// made, and in any that is made of chains that `CodecChain::from_metadata` or
+    /// `CodecChain::new` made, as these say. An equal chain is read again only if it nests no
+    /// deeper than 127 levels as it is written. `Err` only where an allocation failed.
     pub fn create_metadatas(&self, alloc: Global) -> Result<Vec<MetadataV3>, AllocError>
         ensures written { IfOk result (λ codecs.
             map point_of codecs.items ≡ array_chain_points B.described self.now) }

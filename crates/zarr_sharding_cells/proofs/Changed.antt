@@ -18,21 +18,19 @@ use Rattle.zarr_sharding_cells.specs.Tables.{Held, IsTold, held_as, stored_of}
 use Rattle.zarr_sharding_cells.proofs.Known.{same_told}
 use Rattle.zarr_sharding_cells.proofs.Refused.{unwritten}
 
--- the same changes of the same shard, said by what is lent
-pub changed_as : {A : Type 0} (result : Result A CodecError) (index : Chain) (one : Bool) (location place : Location) (shape pairs_shape : List ℕ) (changes lent : List Change) (end ended : ℕ) (pairs : List Pair) (old later new : Option (List ℕ))
-    → place ≡ location → pairs_shape ≡ shape → lent ≡ changes → old ≡ later → OnOk result (IsChanged index one place pairs_shape lent end pairs later new ended) → OnOk result (IsChanged index one location shape changes end pairs old new ended)
-changed_as result index one location place shape pairs_shape changes lent end ended pairs old later new at_ is are same made =
+-- the same changes of the same shard
+pub changed_as : {A : Type 0} (result : Result A CodecError) (index : Chain) (one : Bool) (location place : Location) (shape pairs_shape : List ℕ) (changes : List Change) (end ended : ℕ) (pairs : List Pair) (old later new : Option (List ℕ))
+    → place ≡ location → pairs_shape ≡ shape → old ≡ later → OnOk result (IsChanged index one place pairs_shape changes end pairs later new ended) → OnOk result (IsChanged index one location shape changes end pairs old new ended)
+changed_as result index one location place shape pairs_shape changes end ended pairs old later new at_ is same made =
     subst (λ (l : Location). OnOk result (IsChanged index one l shape changes end pairs old new ended)) at_
     (subst (λ (sh : List ℕ). OnOk result (IsChanged index one place sh changes end pairs old new ended)) is
-    (subst (λ (cs : List Change). OnOk result (IsChanged index one place pairs_shape cs end pairs old new ended)) are
-    (subst (λ (o : Option (List ℕ)). OnOk result (IsChanged index one place pairs_shape lent end pairs o new ended)) (sym same) made)))
+    (subst (λ (o : Option (List ℕ)). OnOk result (IsChanged index one place pairs_shape changes end pairs o new ended)) (sym same) made))
 
-pub refused_as : {A : Type 0} (result : Result A CodecError) (index : Chain) (location place : Location) (shape pairs_shape : List ℕ) (changes lent : List Change) (end : ℕ) (pairs : List Pair)
-    → place ≡ location → pairs_shape ≡ shape → lent ≡ changes → ChangesRefused index place pairs_shape lent end (pairs_after end lent pairs) result → ChangesRefused index location shape changes end (pairs_after end changes pairs) result
-refused_as result index location place shape pairs_shape changes lent end pairs at_ is are why =
-    subst (λ (l : Location). ChangesRefused index l shape changes end (pairs_after end changes pairs) result) at_
-    (subst (λ (sh : List ℕ). ChangesRefused index place sh changes end (pairs_after end changes pairs) result) is
-    (subst (λ (cs : List Change). ChangesRefused index place pairs_shape cs end (pairs_after end cs pairs) result) are why))
+pub refused_as : {A : Type 0} (result : Result A CodecError) (index : Chain) (location place : Location) (shape pairs_shape : List ℕ) (changes : List Change) (end : ℕ) (pairs : List Pair)
+    → place ≡ location → pairs_shape ≡ shape → ChangesRefused index place pairs_shape changes end pairs result → ChangesRefused index location shape changes end pairs result
+refused_as result index location place shape pairs_shape changes end pairs at_ is why =
+    subst (λ (l : Location). ChangesRefused index l shape changes end pairs result) at_
+    (subst (λ (sh : List ℕ). ChangesRefused index place sh changes end pairs result) is why)
 
 -- as many pairs as before
 pub after_count : {A : Type 0} (result : Result A CodecError) (end : ℕ) (changes : List Change) (pairs made : List Pair) (same : Type 0) → OnOk result (made ≡ pairs_after end changes pairs) → OnErr result ((made ≡ pairs) × same) → length made ≡ length pairs

@@ -11,7 +11,7 @@ use Rattle.zarr_sharding_changes.specs.Changes.{Change, pairs_after}
 use Rattle.zarr_sharding_codec.specs.PartWriting.{AreChanged, Put, UpdatesSlices}
 use Rattle.zarr_sharding_decoder.specs.Shards.{ShardOf}
 use Rattle.zarr_sharding_state.specs.Written.{ChangesRefused}
-use Rattle.zarr_sharding_cells.specs.Puts.{IsRefusedForGiven, NotWritten}
+use Rattle.zarr_sharding_cells.specs.Puts.{IsRefusedUnwritten, NotWritten}
 use Rattle.zarr_sharding_cells.specs.Tables.{Held, stored_of}
 
 -- the subchunks that are met are not encoded anew
@@ -35,7 +35,7 @@ unwritten A s exact new_cells held changes error.Memory changed why = tt
 unwritten A s exact new_cells held changes e changed why = absurd why
 
 -- what changes are refused for is none of what a write is refused for first
-pub written_after : (A X : Type 0) (index : Chain) (location : Location) (shape : List ℕ) (changes : List Change) (end : ℕ) (pairs : List Pair) (result : Result A CodecError) → ChangesRefused index location shape changes end pairs result → IfErr result (λ e. IsRefusedForGiven e → X)
+pub written_after : (A X : Type 0) (index : Chain) (location : Location) (shape : List ℕ) (changes : List Change) (end : ℕ) (pairs : List Pair) (result : Result A CodecError) → ChangesRefused index location shape changes end pairs result → IfErr result (λ e. IsRefusedUnwritten e → X)
 written_after A X index location shape changes end pairs (Ok value) why = tt
 written_after A X index location shape changes end pairs (Err error.Codec) why = λ no. absurd no
 written_after A X index location shape changes end pairs (Err error.Size) why = λ no. absurd no

@@ -112,9 +112,9 @@ abbrev pub NotPutInto : ShardOf → Bool → Asked → Payload → Held → Code
 NotPutInto s exact asked payload held e = NotGiven s.elements s.shape asked payload e ⊎ ((cells : List Cell) × IsGiven s.elements s.shape asked payload cells × NotWritten s exact (put_of s asked cells) held e)
 
 -- whether a write is refused before the source is asked to write: for what is given, or for damage
-abbrev pub IsRefusedForGiven : CodecError → Type 0
-IsRefusedForGiven error.Codec = ⊥
-IsRefusedForGiven error.Size = ⊥
-IsRefusedForGiven error.Source = ⊥
-IsRefusedForGiven error.Memory = ⊥
-IsRefusedForGiven e = Unit {0}
+abbrev pub IsRefusedUnwritten : CodecError → Type 0
+IsRefusedUnwritten error.Codec = ⊥
+IsRefusedUnwritten error.Size = ⊥
+IsRefusedUnwritten error.Source = ⊥
+IsRefusedUnwritten error.Memory = ⊥
+IsRefusedUnwritten e = Unit {0}

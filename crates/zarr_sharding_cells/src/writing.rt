@@ -7,7 +7,7 @@ use zarr_codecs_options::CodecOptions;
 use zarr_codecs_traits::{ArrayToBytesCodecTraits, BytesPartialEncoderTraits, Indexer, WholeArray};
 use zarr_sharding_codec::{AskedElements, ShardInSource};
 use zarr_sharding_index::IndexLayout;
-use zarr_sharding_state::ShardChanges;
+use zarr_sharding_state::GivenChanges;
 
 impl<
     'a,
@@ -22,7 +22,7 @@ impl<
     ghost use Rattle.zarr_codecs_traits.specs.Indexers.{are_inside, asked_of, numbers_asked};
     ghost use Rattle.zarr_codecs_traits.specs.Sources.{refused_after};
     ghost use Rattle.zarr_codecs_traits.specs.Writes.{WriteRefused, accepted_after};
-    ghost use Rattle.zarr_sharding_cells.specs.Puts.{IsPutInto, IsRefusedForGiven, IsWritten, NotPutInto, NotWritten};
+    ghost use Rattle.zarr_sharding_cells.specs.Puts.{IsPutInto, IsRefusedUnwritten, IsWritten, NotPutInto, NotWritten};
     ghost use Rattle.zarr_sharding_cells.specs.Tables.{IsErased, IsTold};
     ghost use Rattle.zarr_sharding_cells.specs.Views.{codec_of, held_of, known_of, shard_of, source_of};
     ghost use Rattle.zarr_sharding_codec.specs.PartWriting.{put_at};
@@ -66,7 +66,7 @@ impl<
         ensures refused { E.refused_calls (source_of self.new) ≡
             refused_after (E.refused_calls (source_of self.old)) result }
         ensures given { IsTrue (E.is_honest (source_of self.old)) → IfErr result (λ error.
-            IsRefusedForGiven error → E.given_bytes (source_of self.new)
+            IsRefusedUnwritten error → E.given_bytes (source_of self.new)
             ≤ E.given_bytes (source_of self.old) + slices_met
             (shard_of I.meaning X.meaning self.old) (Some (known_of self.old).0)
             (asked_of indexer.entry)) }
@@ -131,7 +131,7 @@ impl<
         ensures refused { E.refused_calls (source_of self.new) ≡
             refused_after (E.refused_calls (source_of self.old)) result }
         ensures given { IsTrue (E.is_honest (source_of self.old)) → IfErr result (λ error.
-            IsRefusedForGiven error → E.given_bytes (source_of self.new)
+            IsRefusedUnwritten error → E.given_bytes (source_of self.new)
             ≤ E.given_bytes (source_of self.old) + slices_met
             (shard_of I.meaning X.meaning self.old) (Some (known_of self.old).0)
             (asked_of indexer.entry)) }
@@ -162,11 +162,10 @@ impl<
             .update_asked(alloc, &mut self.source, shard, given, options)
         {
             Ok(changes) => {
-                let changes = changes.as_slice();
-                let given = ShardChanges { layout, changes };
+                let given = GivenChanges { layout, changes };
                 let codecs = self.codec.index_codecs();
                 self.known
-                    .write_slices(alloc, &mut self.source, codecs, given, options)
+                    .write_given(alloc, &mut self.source, codecs, given, options)
             }
             Err(error) => Err(error),
         }

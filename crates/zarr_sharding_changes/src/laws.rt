@@ -1,4 +1,5 @@
-//! Worked examples and laws of shards under change. Each function does nothing: its contract is the law.
+//! Worked examples and laws of shards under change. Each function does nothing: its contract is the
+//! law.
 ghost use Rattle.zarr_sharding_changes.specs.Laws.{ChangesWritten, RegionWritten, PartOverlaid, PartKept, CompactedStands, CompactedEncoded, PlainKept};
 ghost use Rattle.zarr_sharding_changes.specs.WorkedChanges.{ChangeRows};
 ghost use Rattle.zarr_sharding_changes.specs.WorkedCompaction.{CompactionRows};
@@ -14,12 +15,14 @@ pub fn compaction_rows()
     ensures { CompactionRows }
 {}
 
-/// Slices that are appended and pairs that are replaced stand for the changed subchunks, together with all others.
+/// Slices that are appended and pairs that are replaced stand for the changed subchunks, together
+/// with all others.
 pub fn changes_written()
     ensures { ChangesWritten }
 {}
 
-/// After a box of cells was put over an array that it lies in, the array has those cells at its places.
+/// After a box of cells was put over an array that it lies in, the array has those cells at its
+/// places.
 pub fn region_written()
     ensures { RegionWritten }
 {}

@@ -1,6 +1,6 @@
 pub mod Configured
 pub mod EvenParts
-pub mod TakenRuns
+pub mod TakenStretches
 pub mod StoredParts
 pub mod StoredLoop
 pub mod EncodedShard
@@ -26,7 +26,10 @@ pub mod SoFarWritten
 pub mod PartFill
 pub mod PartStands
 pub mod PartKept
+pub mod PartPlaced
 pub mod PartWritten
+pub mod ChangedSlices
+pub mod PartLength
 pub mod PartAppended
 pub mod GivenSoFar
 pub mod WholeSubchunk

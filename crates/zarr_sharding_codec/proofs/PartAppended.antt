@@ -1,17 +1,17 @@
 -- A part of an array is appended to its shard: what was read, and what is written then.
-use Rattle.std.proofs.Common.{◌≡◌, ◌∙◌, ℕ, ◌*◌, ◌/◌, List, length, ap, sym, subst, arith, Bool, true, Option, IsTrue, IfOk, Result, Ok, Err, Vec, Global}
+use Rattle.std.proofs.Common.{◌≡◌, ◌∙◌, ℕ, ◌*◌, ◌/◌, List, length, ap, sym, subst, arith, Bool, true, Option, IsTrue, IfOk, OnOk, Result, Ok, Err}
 use Rattle.zarr_grids_boxes.specs.Boxes.{product}
 use Rattle.zarr_codecs_arrays.specs.Outcomes.{IsValid}
 use Rattle.zarr_codecs_arrays.specs.declared.error.CodecError.{CodecError}
 use Rattle.zarr_codecs_meaning.specs.Chains.{Chain, Location, sharded}
-use Rattle.zarr_codecs_meaning.specs.Encoding.{Pair, index_size}
+use Rattle.zarr_codecs_meaning.specs.Encoding.{Pair}
 use Rattle.zarr_codecs_meaning.specs.Laws.{IsLawfulChain}
 use Rattle.zarr_codecs_meaning.specs.Payloads.{Payload}
 use Rattle.zarr_codecs_meaning.specs.Places.{index_shape, parts_of}
-use Rattle.zarr_codecs_meaning.specs.Types.{Cell, Elements, is_value}
+use Rattle.zarr_codecs_meaning.specs.Types.{Elements, is_value}
 use Rattle.zarr_codecs_meaning.proofs.Parts.{index_product}
 use Rattle.zarr_codecs_traits.specs.Indexers.{Asked}
-use Rattle.zarr_codecs_traits.specs.PartWriting.{NotEncodedInto}
+use Rattle.zarr_codecs_traits.specs.PartWriting.{IsPlaced, NotEncodedInto}
 use Rattle.zarr_sharding_changes.specs.Changes.{Change, pairs_after}
 use Rattle.zarr_sharding_state.specs.Held.{IsOpened}
 use Rattle.zarr_sharding_state.specs.Opened.{OpenRefused}
@@ -20,7 +20,9 @@ use Rattle.zarr_sharding_state.specs.declared.writing.SliceChange.{SliceChange}
 use Rattle.zarr_sharding_state.proofs.Counts.{changed_count}
 use Rattle.zarr_sharding_codec.specs.Appending.{AppendsChanges, AppendsPart, ChangesUnwritten, IsTestedPart}
 use Rattle.zarr_sharding_codec.specs.PartWriting.{AreChanged, IsOf, UpdatesSlices, put_at, stored_in}
-use Rattle.zarr_sharding_codec.proofs.PartWritten.{IsReady, opened_of, part_appended, part_not_updated, part_not_written, part_unopened, ready_opened}
+use Rattle.zarr_sharding_codec.proofs.PartLength.{part_appended}
+use Rattle.zarr_sharding_codec.proofs.PartPlaced.{opened_placed}
+use Rattle.zarr_sharding_codec.proofs.PartWritten.{IsReady, opened_of, part_not_updated, part_not_written, part_unopened, ready_opened}
 
 -- an index that was opened, by the shape that it was read with
 pub record IsRead (subchunk : List ℕ) (inner index : Chain) (location : Location) (elements : Elements) (shape : List ℕ) (asked : Asked) (payload : Payload) (size : ℕ) (numbers pairs_shape given : List ℕ) (old : Option (List ℕ)) (pairs : List Pair) (end : ℕ) : Type 0 where
@@ -87,3 +89,10 @@ pub not_opened : (A : Type 0) (subchunk : List ℕ) (inner index : Chain) (locat
     → IsTestedPart (sharded subchunk inner index location) elements shape asked payload size numbers → pairs_shape ≡ index_shape shape subchunk → OpenRefused index location pairs_shape old e → NotEncodedInto {A = A} (sharded subchunk inner index location) elements shape asked payload old (Err e)
 not_opened A subchunk inner index location elements shape asked payload size numbers pairs_shape old e tested is why =
     part_unopened A subchunk inner index location elements shape asked payload size numbers old e tested (subst (λ (s : List ℕ). OpenRefused index location s old e) is why)
+
+-- what was opened has each present slice in its data part, by the shape that it is read with
+pub placed_read : (subchunk : List ℕ) (inner index : Chain) (location : Location) (shape pairs_shape : List ℕ) (old : Option (List ℕ)) (pairs : List Pair) (end : ℕ) (result : Result Bool CodecError) → pairs_shape ≡ index_shape shape subchunk
+    → IsOpened index location pairs_shape (product pairs_shape / 2) old pairs end → OnOk result (IsPlaced (sharded subchunk inner index location) shape old)
+placed_read subchunk inner index location shape pairs_shape old pairs end (Ok written) is opened =
+    opened_placed subchunk inner index location shape (product (index_shape shape subchunk) / 2) end old pairs (subst (λ (s : List ℕ). IsOpened index location s (product s / 2) old pairs end) is opened)
+placed_read subchunk inner index location shape pairs_shape old pairs end (Err e) is opened = tt

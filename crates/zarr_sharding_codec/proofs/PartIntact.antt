@@ -1,7 +1,8 @@
--- A write in part meets no subchunk that isn't decoded.
-use Rattle.std.proofs.Common.{◌≡◌, ◌∙◌, ◌⊎◌, inl, inr, ℕ, zero, suc, ◌<◌, List, [], ◌∷◌, length, get_or, replicate, ap, sym, refl, subst, arith, Bool, true, false, ◌||◌, if◌then◌else◌, Option, Some, None, option_and_then}
+-- A write in part meets no subchunk that isn't decoded, or is refused.
+use Rattle.std.proofs.Common.{◌≡◌, ◌∙◌, inl, inr, ℕ, zero, suc, ◌<◌, List, [], ◌∷◌, length, get_or, replicate, ap, sym, refl, subst, arith, Bool, true, false, ◌||◌, if◌then◌else◌, Option, Some, None, option_and_then}
 use Rattle.std.specs.Prelude.{MatchOption, nat_lt}
-use Rattle.std.proofs.lemmas.Bool.{ltb-true}
+use Rattle.std.specs.List.{list_all}
+use Rattle.std.proofs.lemmas.Bool.{lt-ltb, ltb-true, or_left, or_right}
 use Rattle.zarr_grids_boxes.specs.Boxes.{product}
 use Rattle.zarr_codecs_meaning.specs.Chains.{Chain, Location, sharded}
 use Rattle.zarr_codecs_meaning.specs.Decoding.{decoded, is_absent, pairs_in, slice_at}
@@ -12,14 +13,16 @@ use Rattle.zarr_codecs_meaning.specs.Types.{Cell, Elements, uint64, zero_filled}
 use Rattle.zarr_codecs_meaning.proofs.Lists.{some_same}
 use Rattle.zarr_codecs_meaning.proofs.Parts.{no_part}
 use Rattle.zarr_codecs_meaning.proofs.PartsOnce.{number_in}
-use Rattle.zarr_codecs_meaning.proofs.Positions.{each_at, position_read}
+use Rattle.zarr_codecs_meaning.proofs.Positions.{among_at, each_at, position_found, position_read}
+use Rattle.zarr_codecs_regions.proofs.Puts.{number_below}
 use Rattle.zarr_codecs_traits.specs.PartWriting.{IsLostAmong, MeetsLost, is_met}
 use Rattle.zarr_sharding_changes.specs.Changes.{Change}
-use Rattle.zarr_sharding_places.specs.Locating.{subchunk_of}
+use Rattle.zarr_sharding_places.specs.Locating.{inside_of, subchunk_of}
 use Rattle.zarr_sharding_places.specs.Pieces.{piece_decoded}
 use Rattle.zarr_sharding_state.specs.Held.{IsOpened}
-use Rattle.zarr_sharding_codec.specs.PartWriting.{AreChanged, AreUpdated, HasChange, IsUpdated, Put, Stored, put_at, stored_in}
+use Rattle.zarr_sharding_codec.specs.PartWriting.{AreChanged, AreUpdated, HasChange, IsLostAt, IsUpdated, Put, Stored, put_at, stored_in}
 use Rattle.zarr_sharding_codec.proofs.EvenParts.{whole_parts}
+use Rattle.zarr_sharding_codec.proofs.LocatedParts.{located_place}
 use Rattle.zarr_sharding_codec.proofs.PutPieces.{place_tells}
 
 -- a subchunk, by its number, that one of the places lies in and that isn't decoded
@@ -89,3 +92,51 @@ pub part_intact : (subchunk : List ℕ) (inner index : Chain) (location : Locati
 part_intact subchunk inner index location exact elements shape numbers cells count end None pairs changes cuts even changed opened = tt
 part_intact subchunk inner index location exact elements shape numbers cells count end (Some value) pairs changes cuts even changed opened =
     λ meets. each_met subchunk inner index location exact elements shape numbers cells value pairs changes cuts even changed opened.0 meets
+
+-- ---- a subchunk that isn't decoded is one that the write meets
+
+among_lost : (inner : List ℕ → List ℕ → Option (List Cell)) (value numbers : List ℕ) (parts : List Part) (pairs : List Pair) (k : ℕ) → k < length parts → k < length pairs → is_met numbers (get_or parts k no_part) ≡ true → is_absent (get_or pairs k absent_pair) ≡ false
+    → option_and_then (inner (get_or parts k no_part).shape) (slice_at value (get_or pairs k absent_pair)) ≡ None → IsLostAmong inner value numbers parts pairs
+among_lost inner value numbers [] pairs k part pair met there lost = absurd (omega (arith, part))
+among_lost inner value numbers (part ∷ parts) [] k below low met there lost = absurd (omega (arith, low))
+among_lost inner value numbers (part ∷ parts) (pair ∷ pairs) zero below low met there lost = inl (met, there, lost)
+among_lost inner value numbers (part ∷ parts) (pair ∷ pairs) (suc k) below low met there lost = inr (among_lost inner value numbers parts pairs k (omega (arith, below)) (omega (arith, low)) met there lost)
+
+-- a place that lies in a subchunk meets it
+meets_part : (numbers : List ℕ) (part : Part) (t : ℕ) → t < length numbers → nat_lt (position_of (get_or numbers t 0) part.places) (length part.places) ≡ true → is_met numbers part ≡ true
+meets_part [] part t below inside = absurd (omega (arith, below))
+meets_part (n ∷ ns) part zero below inside = or_left (nat_lt (position_of n part.places) (length part.places)) (is_met ns part) inside
+meets_part (n ∷ ns) part (suc t) below inside = or_right (nat_lt (position_of n part.places) (length part.places)) (is_met ns part) (meets_part ns part t (omega (arith, below)) inside)
+
+-- what isn't read of a subchunk was present
+unread_there : (gone : Bool) (fill : List Cell) (read : Option (List Cell)) → (if gone then Some fill else read) ≡ None → (gone ≡ false) × (read ≡ None)
+unread_there true fill read lost = absurd (cc)
+unread_there false fill read lost = (refl, lost)
+
+pub lost_meets : (subchunk : List ℕ) (inner index : Chain) (location : Location) (exact : Bool) (elements : Elements) (shape numbers : List ℕ) (cells : List Cell) (value : List ℕ) (pairs : List Pair)
+    → can_cut shape subchunk ≡ true → divides shape subchunk ≡ true → length pairs ≡ length (parts_of shape subchunk) → list_all (λ n. nat_lt n (product shape)) numbers ≡ true
+    → pairs_in (decoded index (zero_filled uint64) (index_shape shape subchunk)) location (index_size index (index_shape shape subchunk)) value ≡ Some pairs → IsLostAt (stored_in inner exact elements (Some value) pairs) (put_at shape subchunk numbers cells)
+    → MeetsLost (sharded subchunk inner index location) elements shape value numbers
+lost_meets subchunk inner index location exact elements shape numbers cells value pairs cuts even many below read lost =
+    let parts = parts_of shape subchunk in
+    let k = lost.number in
+    let low = lost.below in
+    let there : k < length parts = omega (arith, low, many) in
+    let part = get_or parts k no_part in
+    let pair = get_or pairs k absent_pair in
+    let t = lost.met.at_ in
+    let n = get_or numbers t 0 in
+    let located = located_place shape subchunk n cuts even (number_below (product shape) numbers t below lost.met.below) in
+    let i = inside_of shape subchunk n in
+    let same : subchunk_of shape subchunk n ≡ k = lost.met.is in
+    let in_part : i < length part.places = subst (λ (j : ℕ). i < length (get_or parts j no_part).places) same located.place in
+    let here : get_or part.places i 0 ≡ n = subst (λ (j : ℕ). get_or (get_or parts j no_part).places i 0 ≡ n) same located.here in
+    let inside = position_found n part.places (among_at part.places i n in_part here) in
+    let unread = unread_there (is_absent pair) (replicate (product subchunk) elements.fill) (option_and_then (decoded inner elements subchunk) (slice_at value pair)) lost.lost in
+    let whole : part.shape ≡ subchunk = each_at (λ (p : Part). p.shape ≡ subchunk) parts k no_part (whole_parts shape subchunk cuts even) there in
+    (
+      pairs,
+      read,
+      among_lost (decoded inner elements) value numbers parts pairs k there low (meets_part numbers part t lost.met.below (lt-ltb (position_of n part.places) (length part.places) inside)) unread.0
+      (ap (λ (s : List ℕ). option_and_then (decoded inner elements s) (slice_at value pair)) whole ∙ unread.1),
+    )

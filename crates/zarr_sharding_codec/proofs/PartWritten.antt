@@ -1,49 +1,40 @@
 -- A part of an array was written into its shard, or why it wasn't.
-use Rattle.std.proofs.Common.{◌≡◌, ◌⊎◌, ◌∙◌, inl, inr, ℕ, ◌+◌, ◌/◌, ◌<◌, ◌≤◌, ◌^◌, List, [], ◌∷◌, length, map, get_or, replicate, take, drop, ◌-◌, ap, sym, refl, subst, arith, Bool, true, false, ◌&&◌, ◌||◌, Option, Some, None, option_and_then, option_map, unwrap_or, if◌then◌else◌, is_some, IsTrue, MatchOption, IfOk, Result, Ok, Err}
-use Rattle.std.specs.Prelude.{nat_le, nat_lt}
+use Rattle.std.proofs.Common.{◌≡◌, ◌⊎◌, ◌∙◌, inl, inr, ℕ, ◌+◌, ◌/◌, ◌<◌, ◌^◌, List, [], ◌∷◌, length, map, get_or, ◌-◌, ap, sym, subst, arith, Bool, true, Option, Some, None, unwrap_or, is_some, IsTrue, MatchOption, Result, Ok, Err}
+use Rattle.std.specs.Prelude.{nat_lt}
 use Rattle.std.specs.List.{list_all}
-use Rattle.std.specs.Option.{option_map_or}
 use Rattle.std.proofs.lemmas.List.{length-map}
 use Rattle.zarr_grids_boxes.specs.Boxes.{product}
-use Rattle.zarr_codecs_arrays.specs.Outcomes.{IsValid}
 use Rattle.zarr_codecs_arrays.specs.declared.error.CodecError.{CodecError}
 use Rattle.zarr_codecs_arrays.specs.declared.error.CodecError.TheVariants as error
 use Rattle.zarr_codecs_meaning.specs.Chains.{Chain, Location, sharded}
-use Rattle.zarr_codecs_meaning.specs.Chunks.{chunk_decoded}
-use Rattle.zarr_codecs_meaning.specs.Decoding.{decoded, is_absent, opens}
-use Rattle.zarr_codecs_meaning.specs.Encoding.{Pair, Piece, absent_pair, base_of, index_size, joined_slices, pair_cells, piece_of, pieces_of}
-use Rattle.zarr_codecs_meaning.specs.Fits.{fits}
+use Rattle.zarr_codecs_meaning.specs.Decoding.{opens}
+use Rattle.zarr_codecs_meaning.specs.Encoding.{Pair, Piece, absent_pair, index_size, piece_of, pieces_of}
 use Rattle.zarr_codecs_meaning.specs.Laws.{IsLawfulChain}
 use Rattle.zarr_codecs_meaning.specs.Payloads.{Payload}
-use Rattle.zarr_codecs_meaning.specs.Places.{Part, gather, grid_of, index_shape, parts_of}
+use Rattle.zarr_codecs_meaning.specs.Places.{gather, index_shape, parts_of}
 use Rattle.zarr_codecs_meaning.specs.Refusals.{CodecRefuses, IsMade, PassesIndex, PieceRefused}
 use Rattle.zarr_codecs_meaning.specs.Types.{Cell, Elements, is_fill, is_value}
 use Rattle.zarr_codecs_meaning.proofs.Fitting.{fitted}
-use Rattle.zarr_codecs_meaning.proofs.Parts.{index_product, length-parts, no_part}
-use Rattle.zarr_codecs_meaning.proofs.Positions.{each_at}
+use Rattle.zarr_codecs_meaning.proofs.Parts.{index_product, length-parts}
 use Rattle.zarr_codecs_traits.specs.Indexers.{Asked, numbers_asked, put}
-use Rattle.zarr_codecs_traits.specs.PartWriting.{AreSlices, IsEncodedInto, IsRefusedInto, NotEncodedInto, PassesLength, cells_after, cells_shown, only_cell}
-use Rattle.zarr_codecs_traits.specs.PartWriting as part
+use Rattle.zarr_codecs_traits.specs.PartWriting.{AreSlices, IsDamaged, IsEncodedInto, IsRefusedInto, MeetsLost, NotEncodedInto, PassesLength, cells_after, cells_shown, only_cell}
 use Rattle.zarr_sharding_changes.specs.Changes.{Change, appended, pairs_after}
-use Rattle.zarr_sharding_changes.specs.Compaction.{data_in, slice_in, slices_in, slices_of, stored_at}
-use Rattle.zarr_sharding_changes.specs.Compactions.{by_length, compacted_to, compaction, damaged}
-use Rattle.zarr_sharding_changes.specs.Compaction.{compacted}
-use Rattle.zarr_sharding_places.specs.Pieces.{piece_decoded, shard_decoded}
-use Rattle.zarr_sharding_places.proofs.ReadPieces.{lost_shard}
-use Rattle.zarr_sharding_state.specs.Held.{IsOpened, are_absent, lies_between}
+use Rattle.zarr_sharding_places.specs.Pieces.{piece_decoded}
+use Rattle.zarr_sharding_state.specs.Held.{IsOpened, are_absent}
 use Rattle.zarr_sharding_state.specs.Written.{IsChanged}
 use Rattle.zarr_sharding_state.proofs.Reopened.{opened_length}
 use Rattle.zarr_sharding_state.specs.Opened as opening
-use Rattle.zarr_sharding_codec.specs.Appending.{AppendsChanges, AppendsPart, ChangesUnwritten, IsTestedPart}
-use Rattle.zarr_sharding_codec.specs.PartWriting.{AreChanged, IsOf, IsRefusedAt, Put, Stored, UpdatesSlices, cells_held, cells_put, given_in, numbers_in, put_at, stored_in}
-use Rattle.zarr_sharding_codec.proofs.EvenParts.{part_fewer, whole_parts}
+use Rattle.zarr_sharding_codec.specs.Appending.{ChangesUnwritten, IsTestedPart}
+use Rattle.zarr_sharding_codec.specs.PartWriting.{AreChanged, IsLostAt, IsOf, IsRefusedAt, UpdatesSlices, cells_put, given_in, numbers_in, put_at, stored_in}
+use Rattle.zarr_sharding_codec.proofs.EvenParts.{part_fewer}
 use Rattle.zarr_sharding_codec.proofs.PartFill.{none_present}
 use Rattle.zarr_sharding_codec.proofs.PartHolds.{piece_there, put_gathered}
-use Rattle.zarr_sharding_codec.proofs.PartIntact.{part_intact}
+use Rattle.zarr_sharding_codec.proofs.PartIntact.{lost_meets, part_intact}
 use Rattle.zarr_sharding_codec.proofs.ShardSizes.{divides_fit}
 use Rattle.zarr_sharding_codec.proofs.PartKept.{shown_put}
 use Rattle.zarr_sharding_codec.proofs.PartShown.{IsShardOpened, absent_at, piece_gathered, shown_count}
 use Rattle.zarr_sharding_codec.proofs.PartStands.{IsAppended, absent_put, stands_put, tight_put}
+use Rattle.zarr_sharding_codec.proofs.PartPlaced.{damaged_value}
 use Rattle.zarr_sharding_codec.proofs.PutPieces.{places_at}
 use Rattle.zarr_sharding_codec.proofs.StoredLoop.{inner_fit, no_piece, too_large}
 use Rattle.zarr_sharding_codec.proofs.StoredParts.{refused_at}
@@ -75,40 +66,20 @@ part_encoded subchunk inner index location exact one whole elements shape asked 
 
 -- ---- what isn't opened
 
-outside_by : (base : ℕ) («data» : List ℕ) (p : Pair) (ps : List Pair) (gone within rest : Bool) → is_absent p ≡ gone → (nat_le base p.0 && nat_le (p.0 + p.1) (base + length «data»)) ≡ within → ((gone || within) && rest) ≡ false → (rest ≡ false → slices_of base «data» ps ≡ None)
-    → option_and_then (λ (first : Option (List ℕ)). option_map (λ (others : List (Option (List ℕ))). first ∷ others) (slices_of base «data» ps)) (if gone then Some None else option_map Some (if within then Some (take p.1 (drop (p.0 - base) «data»)) else None)) ≡ None
-outside_by base «data» p ps true within rest e1 e2 all law = ap (option_map (λ (others : List (Option (List ℕ))). None ∷ others)) (law all)
-outside_by base «data» p ps false true rest e1 e2 all law = ap (option_map (λ (others : List (Option (List ℕ))). Some (take p.1 (drop (p.0 - base) «data»)) ∷ others)) (law all)
-outside_by base «data» p ps false false rest e1 e2 all law = refl
-
--- where a present pair lies outside the data part, there are no slices
-outside_none : (base : ℕ) («data» : List ℕ) (pairs : List Pair) → list_all (lies_between base (base + length «data»)) pairs ≡ false → slices_of base «data» pairs ≡ None
-outside_none base «data» [] all = cc
-outside_none base «data» (p ∷ ps) all =
-    outside_by base «data» p ps (is_absent p) (nat_le base p.0 && nat_le (p.0 + p.1) (base + length «data»)) (list_all (lies_between base (base + length «data»)) ps) refl refl all (outside_none base «data» ps)
-
-damaged_value : (subchunk : List ℕ) (inner index : Chain) (location : Location) (elements : Elements) (shape value : List ℕ) → opening.IsDamaged index location (index_shape shape subchunk) value → part.IsDamaged (sharded subchunk inner index location) elements shape (Some value)
-damaged_value subchunk inner index location elements shape value (inl lost) = inl (ap (option_and_then (shard_decoded inner elements shape subchunk value)) lost)
-damaged_value subchunk inner index location elements shape value (inr outside) =
-    let size = index_size index (index_shape shape subchunk) in
-    let base = base_of location size in
-    let none : slices_in subchunk index location shape value ≡ None = ap (option_and_then (slices_of base (data_in location size value))) outside.1 ∙ outside_none base (data_in location size value) outside.0 outside.2 in
-    inr (ap (λ (o : Option (List (Option (List ℕ)))). elim o [ None ↦ damaged | Some stored ↦ by_length (length value) (size + length (joined_slices stored)) (compacted subchunk index location shape value) ]) none)
-
 -- no new slices
 are_no_slices : (made : List ℕ → List Cell → List ℕ → Type 0) (pieces : List Piece) → AreSlices made pieces (map (λ (piece : Piece). None) pieces)
 are_no_slices made [] = tt
 are_no_slices made (piece ∷ pieces) = (tt, are_no_slices made pieces)
 
 -- why elements that were tested are not put
-refused_tested : (chain : Chain) (elements : Elements) (shape : List ℕ) (asked : Asked) (payload : Payload) (size : ℕ) (numbers : List ℕ) (stored : Option (List ℕ)) (refuses : List Cell → Type 0) → (tested : IsTestedPart chain elements shape asked payload size numbers)
+pub refused_tested : (chain : Chain) (elements : Elements) (shape : List ℕ) (asked : Asked) (payload : Payload) (size : ℕ) (numbers : List ℕ) (stored : Option (List ℕ)) (refuses : List Cell → Type 0) → (tested : IsTestedPart chain elements shape asked payload size numbers)
     → refuses (cells_after chain elements shape stored (numbers_asked shape asked) tested.cells) → IsRefusedInto chain elements shape asked payload stored refuses
 refused_tested chain elements shape asked payload size numbers stored refuses tested is = record { cells = tested.cells; valid = tested.valid; fit = tested.fit; inside = tested.inside; is = is }
 
 pub part_unopened : (A : Type 0) (subchunk : List ℕ) (inner index : Chain) (location : Location) (elements : Elements) (shape : List ℕ) (asked : Asked) (payload : Payload) (size : ℕ) (numbers : List ℕ) (old : Option (List ℕ)) (e : CodecError)
     → IsTestedPart (sharded subchunk inner index location) elements shape asked payload size numbers → opening.OpenRefused index location (index_shape shape subchunk) old e → NotEncodedInto {A = A} (sharded subchunk inner index location) elements shape asked payload old (Err e)
 part_unopened A subchunk inner index location elements shape asked payload size numbers None error.Damage tested why = absurd why
-part_unopened A subchunk inner index location elements shape asked payload size numbers (Some value) error.Damage tested why = (tested.fit, damaged_value subchunk inner index location elements shape value why)
+part_unopened A subchunk inner index location elements shape asked payload size numbers (Some value) error.Damage tested why = (tested.fit, inl (damaged_value subchunk inner index location elements shape value (numbers_asked shape asked) why))
 part_unopened A subchunk inner index location elements shape asked payload size numbers None error.Size tested why = absurd why
 part_unopened A subchunk inner index location elements shape asked payload size numbers (Some value) error.Size tested why =
     let chain = sharded subchunk inner index location in
@@ -127,11 +98,11 @@ module _ (A : Type 0) (subchunk : List ℕ) (inner index : Chain) (location : Lo
     (tested : IsTestedPart (sharded subchunk inner index location) elements shape asked payload size numbers) (opened : IsShardOpened subchunk inner index location elements shape old pairs)
     (below : list_all (λ n. nat_lt n (product shape)) numbers ≡ true) where
   -- the cells that the array would have
-  abbrev after : List Cell
+  abbrev pub after : List Cell
   after = cells_after (sharded subchunk inner index location) elements shape old (numbers_asked shape asked) tested.cells
 
   -- those of a subchunk that is decoded
-  after_piece : (k : ℕ) (before : List Cell) → k < length pairs → piece_decoded inner elements (unwrap_or old []) subchunk (get_or pairs k absent_pair) ≡ Some before
+  pub after_piece : (k : ℕ) (before : List Cell) → k < length pairs → piece_decoded inner elements (unwrap_or old []) subchunk (get_or pairs k absent_pair) ≡ Some before
       → get_or (pieces_of elements.fill after (parts_of shape subchunk)) k no_piece ≡ (subchunk, cells_put (put_at shape subchunk numbers tested.cells) k before)
   after_piece k before low held =
       let many = opened.many in
@@ -153,20 +124,19 @@ module _ (A : Type 0) (subchunk : List ℕ) (inner index : Chain) (location : Lo
       refused_at (refuses inner elements) elements.fill (pieces_of elements.fill after (parts_of shape subchunk)) why.number no_piece (omega (arith, many, low, count))
       (ap (λ (piece : Piece). is_fill elements.fill piece.1) is ∙ why.some) (subst (λ (piece : Piece). refuses inner elements piece.0 piece.1) (sym is) why.is)
 
-  lost_value : (o : Option (List ℕ)) → IsShardOpened subchunk inner index location elements shape o pairs → (k : ℕ) → k < length pairs → piece_decoded inner elements (unwrap_or o []) subchunk (get_or pairs k absent_pair) ≡ None → chunk_decoded (sharded subchunk inner index location) elements shape o ≡ None
-  lost_value None is k low lost =
-      let pair : get_or pairs k absent_pair ≡ absent_pair = ap (λ (ps : List Pair). get_or ps k absent_pair) is.opened.0 ∙ absent_at is.count k in
-      let some : piece_decoded inner elements [] subchunk absent_pair ≡ None = ap (piece_decoded inner elements [] subchunk) (sym pair) ∙ lost in
+  -- a subchunk that isn't decoded is damage, as one of the places lies in it
+  lost_stops : (o : Option (List ℕ)) → IsShardOpened subchunk inner index location elements shape o pairs → IsLostAt (stored_in inner exact elements o pairs) (put_at shape subchunk numbers tested.cells)
+      → IsDamaged (sharded subchunk inner index location) elements shape o (numbers_asked shape asked)
+  lost_stops None is lost =
+      let pair : get_or pairs lost.number absent_pair ≡ absent_pair = ap (λ (ps : List Pair). get_or ps lost.number absent_pair) is.opened.0 ∙ absent_at is.count lost.number in
+      let some : piece_decoded inner elements [] subchunk absent_pair ≡ None = ap (piece_decoded inner elements [] subchunk) (sym pair) ∙ lost.lost in
       absurd (cc)
-  lost_value (Some value) is k low lost =
-      let many = is.many in
-      let there : k < length (parts_of shape subchunk) = omega (arith, low, many) in
-      let whole = each_at (λ (part : Part). part.shape ≡ subchunk) (parts_of shape subchunk) k no_part (whole_parts shape subchunk is.cuts is.even) there in
-      ap (option_and_then (shard_decoded inner elements shape subchunk value)) is.opened.0
-      ∙ lost_shard inner elements shape subchunk value pairs k there (ap (λ (s : List ℕ). piece_decoded inner elements value s (get_or pairs k absent_pair)) whole ∙ lost)
+  lost_stops (Some value) is lost =
+      let meets = lost_meets subchunk inner index location exact elements shape numbers tested.cells value pairs is.cuts is.even is.many below is.opened.0 lost in
+      inr (inl (subst (λ (ns : List ℕ). MeetsLost (sharded subchunk inner index location) elements shape value ns) tested.numbers_are meets))
 
   pub part_not_updated : (e : CodecError) → UpdatesSlices (stored_in inner exact elements old pairs) (put_at shape subchunk numbers tested.cells) (Err e) → NotEncodedInto {A = A} (sharded subchunk inner index location) elements shape asked payload old (Err e)
-  part_not_updated error.Damage why = (tested.fit, inl (lost_value old opened why.number why.below why.lost))
+  part_not_updated error.Damage why = (tested.fit, inl (lost_stops old opened why))
   part_not_updated error.Codec why =
       refused_tested (sharded subchunk inner index location) elements shape asked payload size numbers old (CodecRefuses (sharded subchunk inner index location) elements shape) tested (inl (after_refused CodecRefuses why))
   part_not_updated error.Size (inl large) =
@@ -229,16 +199,6 @@ ready_appended subchunk inner index location exact one elements shape asked payl
   room = room;
   written = written;
 }
-
-pub part_appended : (subchunk : List ℕ) (inner index : Chain) (location : Location) (exact one whole : Bool) (elements : Elements) (shape : List ℕ) (asked : Asked) (payload : Payload) (size : ℕ) (numbers : List ℕ) (old new : Option (List ℕ)) (pairs : List Pair) (end : ℕ) (changes : List Change) (result : Result Bool CodecError)
-    → IsReady subchunk inner index location exact elements shape asked payload size numbers old pairs end changes → (IsTrue whole → IsTrue exact) → IfOk result (AppendsChanges index one location (index_shape shape subchunk) changes end pairs old new)
-    → IfOk result (AppendsPart (sharded subchunk inner index location) whole elements shape asked payload old new)
-part_appended subchunk inner index location exact one whole elements shape asked payload size numbers old new pairs end changes (Err e) h to_exact made = tt
-part_appended subchunk inner index location exact one whole elements shape asked payload size numbers old new pairs end changes (Ok false) h to_exact made = made
-part_appended subchunk inner index location exact one whole elements shape asked payload size numbers old new pairs end changes (Ok true) h to_exact made = (
-  h.tested.cells,
-  part_encoded subchunk inner index location exact one whole elements shape asked payload size numbers old new h.tested (ready_appended subchunk inner index location exact one elements shape asked payload size numbers old new pairs end made.1.0 changes h made.0 made.1.1) to_exact,
-)
 
 -- what is known of a shard that was opened
 pub ready_opened : (subchunk : List ℕ) (inner index : Chain) (location : Location) (elements : Elements) (shape : List ℕ) (asked : Asked) (payload : Payload) (size : ℕ) (numbers : List ℕ) (old : Option (List ℕ)) (pairs : List Pair) (end : ℕ)

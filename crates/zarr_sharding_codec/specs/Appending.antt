@@ -1,10 +1,10 @@
 -- What is written of a part of an array by appending to its shard.
-use Rattle.std.specs.Prelude.{◌≡◌, ℕ, ◌+◌, ◌^◌, ◌<◌, List, length, Option, Bool, true, false, MatchBool, nat_lt, Result, Ok, Err}
+use Rattle.std.specs.Prelude.{◌≡◌, ℕ, ◌+◌, ◌^◌, ◌<◌, ◌≤◌, List, length, Option, Bool, true, false, MatchBool, nat_lt, Result, Ok, Err}
 use Rattle.std.specs.List.{list_all}
 use Rattle.zarr_grids_boxes.specs.Boxes.{product}
 use Rattle.zarr_codecs_meaning.specs.Chains.{Chain, Location}
-use Rattle.zarr_codecs_meaning.specs.Encoding.{Pair, pair_cells}
-use Rattle.zarr_codecs_meaning.specs.Fits.{fits}
+use Rattle.zarr_codecs_meaning.specs.Encoding.{Pair, index_size, pair_cells}
+use Rattle.zarr_codecs_meaning.specs.Fits.{fits, is_lossless}
 use Rattle.zarr_codecs_meaning.specs.Payloads.{Payload}
 use Rattle.zarr_codecs_meaning.specs.Refusals.{CodecRefuses, PassesIndex}
 use Rattle.zarr_codecs_meaning.specs.Types.{Cell, Elements, uint64, zero_filled}
@@ -12,9 +12,10 @@ use Rattle.zarr_codecs_arrays.specs.Outcomes.{IsValid}
 use Rattle.zarr_codecs_arrays.specs.declared.error.CodecError.{CodecError}
 use Rattle.zarr_codecs_arrays.specs.declared.error.CodecError.TheVariants as error
 use Rattle.zarr_codecs_traits.specs.Indexers.{Asked, are_inside, numbers_asked}
-use Rattle.zarr_codecs_traits.specs.PartWriting.{IsEncodedInto}
+use Rattle.zarr_codecs_traits.specs.PartWriting.{IsEncodedInto, IsRefusedInto, PassesLength}
 use Rattle.zarr_codecs_traits.specs.Writes.{accepted_after}
 use Rattle.zarr_sharding_changes.specs.Changes.{Change, appended, pairs_after}
+use Rattle.zarr_sharding_state.specs.Held.{shard_length}
 use Rattle.zarr_sharding_state.specs.Written.{IsChanged}
 use Rattle.zarr_sharding_codec.specs.Fitting.{index_length}
 
@@ -29,15 +30,20 @@ pub record IsTestedPart (chain : Chain) (elements : Elements) (shape : List ℕ)
   pub below : list_all (λ n. nat_lt n (product shape)) numbers ≡ true
   pub size_is : size ≡ index_length chain shape
 
--- new cells were put at the places that are asked for, or nothing was written
+-- if the chain keeps every bit, the new slices of a part, put behind what is stored, would make 2^63 bytes or more
+abbrev pub LacksRoom : Chain → Elements → List ℕ → Asked → Payload → Option (List ℕ) → Type 0
+LacksRoom chain elements shape asked payload old = is_lossless chain elements.type ≡ true → IsRefusedInto chain elements shape asked payload old (PassesLength chain elements shape old)
+
+-- new cells were put at the places that are asked for; or there is no room for them, and nothing was written
 abbrev pub AppendsPart : Chain → Bool → Elements → List ℕ → Asked → Payload → Option (List ℕ) → Option (List ℕ) → Bool → Type 0
 AppendsPart chain exact elements shape asked payload old new written =
-    MatchBool written ((cells : List Cell) × IsEncodedInto chain exact elements shape asked payload cells old new) (new ≡ old)
+    MatchBool written ((cells : List Cell) × IsEncodedInto chain exact elements shape asked payload cells old new) ((new ≡ old) × LacksRoom chain elements shape asked payload old)
 
--- changes were written, or nothing was
+-- changes were written; or the shard would then have 2^63 bytes or more, and nothing was written
 abbrev pub AppendsChanges : Chain → Bool → Location → List ℕ → List Change → ℕ → List Pair → Option (List ℕ) → Option (List ℕ) → Bool → Type 0
 AppendsChanges index exact location shape changes end pairs old new written =
-    MatchBool written ((end + length (appended changes) < 2 ^ 63) × ((ended : ℕ) × IsChanged index exact location shape changes end (pairs_after end changes pairs) old new ended)) (new ≡ old)
+    MatchBool written ((end + length (appended changes) < 2 ^ 63) × ((ended : ℕ) × IsChanged index exact location shape changes end (pairs_after end changes pairs) old new ended))
+    ((new ≡ old) × (2 ^ 63 ≤ shard_length location (index_size index shape) (end + length (appended changes))))
 
 -- the count of accepted writing calls after a call: one more where something was written
 abbrev pub accepted_by : ℕ → Result Bool CodecError → ℕ

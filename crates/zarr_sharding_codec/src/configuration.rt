@@ -61,8 +61,9 @@ impl<I: ChainOfMetadata, B: BytesToBytesCodecTraits> ShardingCodec<I, CodecChain
     }
 
     /// What the codec is configured by, of which `new_with_configuration` makes an equal codec
-    /// where it nests no deeper than that reads, and array to array codecs stand only where they
-    /// may. `Err` only where an allocation failed.
+    /// where array to array codecs stand only where they may. An equal codec is made again only if
+    /// those inside of it nest no deeper than 127 levels as they are written. `Err` only where an
+    /// allocation failed.
     pub fn configuration(&self, alloc: Global) -> Result<ShardingCodecConfiguration, AllocError>
         ensures given { IfOk result (λ configuration. shard_points configuration
             ≡ given_to_shard I.described (points_of B.described) self.now) }
@@ -92,8 +93,9 @@ fn shard_too_deep(configuration: &ShardingCodecConfiguration) -> bool
     any_too_deep(subchunks) || any_too_deep(index_codecs)
 }
 
-/// The shard that a configuration gives, as `ShardingCodec::new_with_configuration` does, however
-/// deep its codecs nest: for a configuration of which that is known, as one in a document.
+/// The shard that a configuration gives, for one of codecs whose depth was tested, as those of a
+/// document are. It refuses as `ShardingCodec::new_with_configuration` does, except for the
+/// `TooDeep` that comes there before all else.
 pub fn read_allowed_shard<I: ChainOfMetadata, B: BytesToBytesCodecTraits>(
     alloc: Global,
     configuration: &ShardingCodecConfiguration,

@@ -21,12 +21,12 @@ pub struct TestedPart<'a> {
 }
 
 impl<I: ArrayToBytesCodecTraits, X: ArrayToBytesCodecTraits> ShardingCodec<I, X> {
-    ghost use Rattle.std.specs.Prelude.{◌≡◌, ◌+◌, ◌*◌, ◌<◌, ◌^◌, ℕ, List, Option, Some, true, length, nat_lt, unwrap_or, IsTrue, IfOk, OnErr};
+    ghost use Rattle.std.specs.Prelude.{◌≡◌, ◌+◌, ◌*◌, ◌<◌, ◌^◌, ℕ, List, Option, Some, true, length, nat_lt, unwrap_or, IsTrue, IfOk, OnErr, OnOk};
     ghost use Rattle.std.specs.List.{list_all};
     ghost use Rattle.zarr_codecs_arrays.specs.Views.{elements_of, payload_of};
     ghost use Rattle.zarr_codecs_meaning.specs.Encoding.{index_size};
     ghost use Rattle.zarr_codecs_traits.specs.Indexers.{asked_of, numbers_asked};
-    ghost use Rattle.zarr_codecs_traits.specs.PartWriting.{NotEncodedInto};
+    ghost use Rattle.zarr_codecs_traits.specs.PartWriting.{IsPlaced, NotEncodedInto};
     ghost use Rattle.zarr_codecs_traits.specs.Sources.{refused_after};
     ghost use Rattle.zarr_grids_boxes.specs.Boxes.{product};
     ghost use Rattle.zarr_sharding_changes.specs.Changes.{appended, pairs_after};
@@ -101,6 +101,9 @@ impl<I: ArrayToBytesCodecTraits, X: ArrayToBytesCodecTraits> ShardingCodec<I, X>
             (asked_of part.entry.indexer) (payload_of tested.entry.bytes.now)
             (E.contents source.old)
             (E.contents source.new)) }
+        ensures placed { IsTrue (E.is_honest source.old) → OnOk result
+            (IsPlaced (shard_chain I.meaning X.meaning self.now) part.entry.shape.now
+            (E.contents source.old)) }
         ensures err { IsTrue (E.is_honest source.old) →
             OnErr result (E.contents source.new ≡ E.contents source.old) }
         ensures cause { IsTrue (E.is_honest source.old) → NotEncodedInto

@@ -114,9 +114,9 @@ fn multiply(place: &mut [u64], edges: &[u64]) -> Result<(), AllocError>
     Ok(())
 }
 
-/// The elements at the places of a box of an array, row-major: in runs where each element has the
-/// same number of bytes, over those in `room` where these are as many. `Err` where an allocation
-/// failed, and where these are no elements of the array, or the box doesn't lie in it.
+/// The elements at the places of a box of an array, row-major: in stretches where each element has
+/// the same number of bytes, over those in `room` where these are as many. `Err` where an
+/// allocation failed, and where these are no elements of the array, or the box doesn't lie in it.
 pub(crate) fn take_box(
     alloc: Global,
     room: Vec<u8>,
@@ -136,7 +136,14 @@ pub(crate) fn take_box(
     match bytes {
         ArrayBytes::Fixed(bytes) => match whole_width(bytes.len(), array) {
             Some(width) => {
-                let piece = take_runs(alloc, room, bytes.as_slice(), array.shape, region, width)?;
+                let piece = take_stretches(
+                    alloc,
+                    room,
+                    bytes.as_slice(),
+                    array.shape,
+                    region,
+                    width,
+                )?;
                 Ok(ArrayBytes::Fixed(piece))
             }
             None => Err(AllocError),
@@ -147,7 +154,7 @@ pub(crate) fn take_box(
 
 /// The bytes at the places of a box of an array, row-major with `width` bytes to an element, over
 /// those in `room` where these are as many. `Err` only where an allocation failed.
-fn take_runs(
+fn take_stretches(
     alloc: Global,
     room: Vec<u8>,
     bytes: &[u8],

@@ -13,6 +13,10 @@ use Rattle.zarr_sharding_decoder.specs.Shards.{ShardOf, chain_of}
 abbrev pub ReadsPart : ShardOf → Option (List ℕ) → Asked → Result ArrayBytes CodecError → Type 0
 ReadsPart s contents asked result = DecodesPart (chain_of s) s.elements s.shape contents asked result
 
+-- the elements at the places that are asked for, of what is stored
+abbrev pub GivesPart : ShardOf → Option (List ℕ) → Asked → Payload → Type 0
+GivesPart s contents asked payload = IsPart (chain_of s) s.elements s.shape contents asked payload
+
 -- how many bytes the slices have of the subchunks that the places lie in, each slice counted once
 abbrev pub slices_met : ShardOf → Option (List Pair) → Asked → ℕ
 slices_met s None asked = 0
@@ -21,9 +25,9 @@ slices_met s (Some pairs) asked = bytes_met s.shape s.subchunk (numbers_asked s.
 -- the elements at the places that are asked for were put over those of a target
 pub record IsPartInto (s : ShardOf) (contents : Option (List ℕ)) (asked : Asked) (puts : Payload → Type 0) : Type 0 where
   pub payload : Payload
-  pub is : IsPart (chain_of s) s.elements s.shape contents asked payload
+  pub is : GivesPart s contents asked payload
   pub put : puts payload
 
 -- why elements are not put over those of a target: they are not read, or the target refuses them
 abbrev pub NotPartInto : ShardOf → Option (List ℕ) → Asked → (Payload → CodecError → Type 0) → CodecError → Type 0
-NotPartInto s contents asked misfits e = ReadsPart s contents asked (Err e) ⊎ ((payload : Payload) × IsPart (chain_of s) s.elements s.shape contents asked payload × misfits payload e)
+NotPartInto s contents asked misfits e = ReadsPart s contents asked (Err e) ⊎ ((payload : Payload) × GivesPart s contents asked payload × misfits payload e)

@@ -20,7 +20,7 @@ impl<
     ghost use Rattle.std.specs.Prelude.{◌≡◌, ◌≤◌, ◌+◌, IfErr, IsTrue, OnErr, OnOk};
     ghost use Rattle.zarr_codecs_traits.specs.Indexers.{asked_of};
     ghost use Rattle.zarr_codecs_traits.specs.Sources.{IsRefusedAfter, refused_after};
-    ghost use Rattle.zarr_sharding_decoder.specs.Parts.{IsPartInto, NotPartInto, ReadsPart, slices_met};
+    ghost use Rattle.zarr_sharding_decoder.specs.Parts.{GivesPart, IsPartInto, NotPartInto, ReadsPart, slices_met};
     ghost use Rattle.zarr_sharding_decoder.specs.Views.{pairs_held, reference_of, shard_of, source_of};
 
     /// The elements at the places that are asked for, in their order; each is the fill value where
@@ -91,7 +91,9 @@ impl<
         ensures cause { IsTrue (D.is_honest (source_of self.old)) → IfErr result (NotPartInto
             (shard_of I.meaning X.meaning self.old) (D.contents (source_of self.old))
             (asked_of indexer.entry) (T.misfits target.old)) }
-        ensures refused { IsRefusedAfter (T.misfits target.old)
+        ensures refused { IsRefusedAfter (λ payload. IsTrue (D.is_honest (source_of self.old)) →
+            GivesPart (shard_of I.meaning X.meaning self.old) (D.contents (source_of self.old))
+            (asked_of indexer.entry) payload) (T.misfits target.old)
             (D.refused_calls (source_of self.old)) result (D.refused_calls (source_of self.new)) }
         ensures follows { D.follows (source_of self.old) (source_of self.new) }
         ensures given { IsTrue (D.is_honest (source_of self.old)) →

@@ -18,7 +18,7 @@ use zarr_grids_boxes::ArraySubset;
 use zarr_grids_boxes::walk::count_places;
 
 /// Elements of an array while those of boxes of it are put over them. Of elements of one size these
-/// are the bytes, and those of a box are copied in runs; others are put by their numbers.
+/// are the bytes, and those of a box are copied in stretches; others are put by their numbers.
 #[derive(Debug, Drop)]
 pub enum BoxedElements {
     Fixed(Vec<u8>),

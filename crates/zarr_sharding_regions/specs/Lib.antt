@@ -1,4 +1,3 @@
-pub mod Regions
 pub mod Updates
 pub mod Laws
 pub mod WorkedRegions

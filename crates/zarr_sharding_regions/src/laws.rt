@@ -1,33 +1,11 @@
-//! Worked examples and laws of boxes through array codecs. Each function does nothing: its contract
-//! is the law.
-ghost use Rattle.zarr_sharding_regions.specs.Laws.{BoxInPart, ReadBehind, RegionRead, RegionUndone, StandsUpdated, StoredUpdated, SubchunkUpdated, UpdateBehind, UpdateEncoded, UpdateOverlaid};
+//! A worked example and laws of boxes through several array codecs. Each function does nothing: its
+//! contract is the law.
+ghost use Rattle.zarr_sharding_regions.specs.Laws.{BoxInPart, ReadBehind, StandsUpdated, StoredUpdated, SubchunkUpdated, UpdateBehind};
 ghost use Rattle.zarr_sharding_regions.specs.WorkedRegions.{RegionRows};
 
-/// Which box of the encoded array a box of an array becomes, and with which cells.
+/// Which box a box becomes behind several array codecs, and with which cells.
 pub fn region_rows()
     ensures { RegionRows }
-{}
-
-/// New cells that are put at the places of a box are the box put over the array.
-pub fn update_overlaid()
-    ensures { UpdateOverlaid }
-{}
-
-/// A box put over an array, and then an array codec, is the codec, and then the box put over the
-/// coordinates that the codec makes of it; through a `transpose` and through a `squeeze`.
-pub fn update_encoded()
-    ensures { UpdateEncoded }
-{}
-
-/// A box of the encoded array has the cells of the box that it came from, as the codec makes them.
-pub fn region_read()
-    ensures { RegionRead }
-{}
-
-/// A box is read by reading the box that it becomes, and undoing the codec as of an array of its
-/// shape.
-pub fn region_undone()
-    ensures { RegionUndone }
 {}
 
 /// A box put over an array is a box put over what several array codecs make of it.

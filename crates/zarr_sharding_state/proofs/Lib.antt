@@ -1,5 +1,6 @@
 pub mod Counts
 pub mod Ranges
+pub mod OnlySlice
 pub mod Stands
 pub mod Opened
 pub mod Reopened

@@ -1,5 +1,5 @@
 //! What replaces the slices of some subchunks.
-ghost use Rattle.std.specs.Prelude.{◌≡◌, ◌+◌, ◌^◌, ◌<◌, ◌≤◌, ℕ, List, [], Option, length, true, unwrap_or, IfNone, IfOk, IfSome, IsTrue};
+ghost use Rattle.std.specs.Prelude.{◌≡◌, ◌+◌, ◌^◌, ◌<◌, ◌≤◌, ◌∷◌, ℕ, List, [], Option, Some, length, true, unwrap_or, IfNone, IfOk, IfSome, IsTrue};
 ghost use Rattle.std.specs.List.{list_all};
 ghost use Rattle.zarr_codecs_traits.specs.Patches.{any_too_far, patched_contents};
 ghost use Rattle.zarr_sharding_changes.specs.Changes.{appended, pairs_after};
@@ -28,6 +28,14 @@ pub struct ShardChanges<'a> {
     pub changes: &'a [SliceChange],
 }
 
+/// What replaces the slices of some subchunks of a shard, given away, and how its index is laid
+/// out.
+#[derive(Drop)]
+pub struct GivenChanges<'a> {
+    pub layout: IndexLayout<'a>,
+    pub changes: Vec<SliceChange>,
+}
+
 /// The bytes of an index, and slices in a row.
 #[derive(Drop)]
 pub(crate) struct ShardBytes {
@@ -46,6 +54,23 @@ pub(crate) fn join_slices(alloc: Global, changes: &[SliceChange]) -> Result<Vec<
         }
     }
     Ok(made)
+}
+
+/// The number and the slice of the only change, where there is one alone and it has a slice; the
+/// slice is taken out of it.
+pub(crate) fn take_only_slice(changes: &mut Vec<SliceChange>) -> Option<(usize, Vec<u8>)>
+    ensures some { IfSome result (λ taken. changes_of changes.old.items
+        ≡ (taken.0, Some taken.1.items) ∷ []) }
+    ensures none { IfNone result (changes.new.items ≡ changes.old.items) }
+{
+    if changes.len() != 1 {
+        return None;
+    }
+    let number = changes[0].number;
+    match changes[0].slice.take() {
+        Some(slice) => Some((number, slice)),
+        None => None,
+    }
 }
 
 /// How many bytes the slices of changes have together, if that is below 2^64.

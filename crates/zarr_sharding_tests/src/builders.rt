@@ -1,17 +1,14 @@
 //! Shards that a builder makes, and chains around them, with bytes typed in by hand. What shards of
 //! other parts are encoded to is in calls/sharding.calls.
-use crate::samples::{NONE, ONE_OF_FOUR, Value, chunk_shape, makes};
+use crate::samples::{Chain, NONE, ONE_OF_FOUR, Value, chunk_shape, makes, transposition};
 use std::alloc::{AllocError, Global};
-use zarr_codecs::{
-    ArrayToArrayCodec, ArrayToBytesCodec, BytesCodec, CodecChain, CodecError, TransposeCodec,
-    TransposeOrder, data_type,
-};
+use zarr_codecs::{ArrayToBytesCodec, BytesCodec, CodecError, data_type};
 use zarr_codecs_reverse::ReverseCodec;
 use zarr_sharding::{ShardedChain, ShardingCodec, ShardingCodecBuilder, ShardingIndexLocation};
 
 type Builder = ShardingCodecBuilder<ReverseCodec>;
 
-type Built = ShardingCodec<CodecChain<ReverseCodec>, CodecChain<ReverseCodec>>;
+type Built = ShardingCodec<Chain, Chain>;
 
 /// A builder of shards of [4,4] of the type uint8 in subchunks of [2,2].
 fn builder(alloc: Global) -> Result<Builder, CodecError> {
@@ -41,15 +38,6 @@ fn is_shared(alloc: Global) -> Result<bool, CodecError> {
 #[test]
 fn a_builder_shares_what_it_makes(rt: HostRuntime) {
     assert!(rt; matches!(is_shared(rt.alloc()), Ok(true)));
-}
-
-/// The transposition of two dimensions.
-fn transposition(alloc: Global) -> Result<Vec<ArrayToArrayCodec>, CodecError> {
-    let Some(order) = TransposeOrder::new(alloc, vec![in alloc; 1, 0]?)? else {
-        return Err(CodecError::Fit);
-    };
-    let codec = ArrayToArrayCodec::Transpose(TransposeCodec::new(order));
-    Ok(vec![in alloc; codec]?)
 }
 
 /// A builder that is told of the codecs of subchunks.

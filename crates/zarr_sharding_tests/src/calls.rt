@@ -180,5 +180,6 @@ pub(crate) fn given_of_two(alloc: Global, case: Case<'_>) -> Result<Option<u128>
 
 /// The same of a shard of [4,4] in subchunks of [2,2] that are shards of [1,2].
 pub(crate) fn given_of_nested(alloc: Global, case: Case<'_>) -> Result<Option<u128>, CodecError> {
-    given(alloc, &nested(alloc)?, &elements(alloc, 0)?, &[4, 4], case)
+    let codec = nested(alloc, ShardingIndexLocation::End)?;
+    given(alloc, &codec, &elements(alloc, 0)?, &[4, 4], case)
 }

@@ -1,10 +1,13 @@
 //! Drawn lists of calls of one shard, compared with a plain table.
 use crate::calls::{State, erase, open, put, shows};
-use crate::samples::{elements, nested, shards};
+use crate::samples::{Chain, chunk_shape, elements, encoded, nested, shards, transposition};
 use crate::source::source_of;
 use std::alloc::Global;
-use zarr_codecs::{ArrayToBytesCodecTraits, BytesCodec, CodecError};
-use zarr_sharding::{ShardingCodec, ShardingIndexLocation};
+use zarr_codecs::{
+    ArrayToBytesCodec, ArrayToBytesCodecTraits, BytesCodec, CodecChain, CodecError, CodecOptions,
+};
+use zarr_codecs_reverse::ReverseCodec;
+use zarr_sharding::{ShardingCodec, ShardingIndexLocation, SubchunkWriteOrder};
 
 /// The cells of [4,4].
 type Table = [u8; 16];
@@ -75,19 +78,39 @@ fn is_as_after<I: ArrayToBytesCodecTraits>(
 fn goes_along<I: ArrayToBytesCodecTraits>(
     alloc: Global,
     state: &mut State<'_, I>,
+    table: &mut Table,
     seed: u64,
 ) -> Result<bool, CodecError> {
-    let (mut table, mut number) = ([0; 16], seed);
+    let mut number = seed;
     for _ in 0..60 {
         number = number_after(number);
-        if !is_as_after(alloc, state, &mut table, number)? {
+        if !is_as_after(alloc, state, table, number)? {
             return Ok(false);
         }
     }
     Ok(true)
 }
 
-/// The same of a shard that is opened over no value.
+/// Whether a value is, once it is compacted, what a table is encoded to. None stands for a table of
+/// fill alone.
+fn is_compacted<I: ArrayToBytesCodecTraits>(
+    alloc: Global,
+    codec: &ShardingCodec<I, BytesCodec>,
+    value: Option<Vec<u8>>,
+    table: Table,
+) -> Result<bool, CodecError> {
+    let Some(value) = value else {
+        return Ok(table == [0; 16]);
+    };
+    let (elements, options) = (elements(alloc, 0)?, CodecOptions::default());
+    let want = encoded(alloc, codec, table)?;
+    match codec.compact(alloc, value.as_slice(), &elements, &[4, 4], &options)? {
+        Some(compacted) => Ok(compacted.as_slice() == want.as_slice()),
+        None => Ok(value.len() == want.len()),
+    }
+}
+
+/// Whether a shard that is opened over no value goes along with a table, and is compacted to it.
 fn list_goes_along<I: ArrayToBytesCodecTraits>(
     alloc: Global,
     codec: &ShardingCodec<I, BytesCodec>,
@@ -95,7 +118,12 @@ fn list_goes_along<I: ArrayToBytesCodecTraits>(
 ) -> Result<bool, CodecError> {
     let (elements, source) = (elements(alloc, 0)?, source_of(alloc, None, 0)?);
     let mut state = open(alloc, codec, &elements, &[4, 4], source)?;
-    goes_along(alloc, &mut state, seed)
+    let mut table = [0; 16];
+    if !goes_along(alloc, &mut state, &mut table, seed)? {
+        return Ok(false);
+    }
+    let value = state.into_source().inner.into_value();
+    is_compacted(alloc, codec, value, table)
 }
 
 /// The same for ten lists.
@@ -117,18 +145,44 @@ fn shards_go_along(alloc: Global, location: ShardingIndexLocation) -> Result<boo
 }
 
 #[test]
-fn a_shard_is_a_table_under_drawn_calls(rt: HostRuntime) {
+fn a_shard_is_a_table_under_drawn_calls_and_compacted(rt: HostRuntime) {
     for location in [ShardingIndexLocation::Start, ShardingIndexLocation::End] {
         assert!(rt; matches!(shards_go_along(rt.alloc(), location), Ok(true)));
     }
 }
 
-/// Whether drawn calls of shards of shards go along with a table.
-fn nested_go_along(alloc: Global) -> Result<bool, CodecError> {
-    all_go_along(alloc, &nested(alloc)?)
+/// Whether those of shards of shards do, with both indices there.
+fn nested_go_along(alloc: Global, location: ShardingIndexLocation) -> Result<bool, CodecError> {
+    all_go_along(alloc, &nested(alloc, location)?)
 }
 
 #[test]
-fn a_shard_of_shards_is_a_table_under_drawn_calls(rt: HostRuntime) {
-    assert!(rt; matches!(nested_go_along(rt.alloc()), Ok(true)));
+fn a_shard_of_shards_is_a_table_under_drawn_calls_and_compacted(rt: HostRuntime) {
+    for location in [ShardingIndexLocation::Start, ShardingIndexLocation::End] {
+        assert!(rt; matches!(nested_go_along(rt.alloc(), location), Ok(true)));
+    }
+}
+
+/// Shards of subchunks of [2,2] that are transposed and reversed, written row-major.
+fn turned(
+    alloc: Global,
+    location: ShardingIndexLocation,
+) -> Result<ShardingCodec<Chain, BytesCodec>, CodecError> {
+    let bytes = ArrayToBytesCodec::Bytes(BytesCodec::little());
+    let inner = CodecChain::new(transposition(alloc)?, bytes, vec![in alloc; ReverseCodec]?);
+    let shape = chunk_shape(alloc, &[2, 2])?;
+    let codec = ShardingCodec::new(shape, inner, BytesCodec::little(), location);
+    Ok(codec.with_subchunk_write_order(SubchunkWriteOrder::C))
+}
+
+/// Whether those of such shards do.
+fn turned_go_along(alloc: Global, location: ShardingIndexLocation) -> Result<bool, CodecError> {
+    all_go_along(alloc, &turned(alloc, location)?)
+}
+
+#[test]
+fn a_shard_of_turned_subchunks_is_a_table_under_drawn_calls_and_compacted(rt: HostRuntime) {
+    for location in [ShardingIndexLocation::Start, ShardingIndexLocation::End] {
+        assert!(rt; matches!(turned_go_along(rt.alloc(), location), Ok(true)));
+    }
 }

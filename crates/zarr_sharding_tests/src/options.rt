@@ -1,7 +1,7 @@
 //! Options of shards.
-use crate::samples::{NONE, Nested, Shards, Value, chunk_shape, makes};
+use crate::samples::{NONE, Nested, Shards, Value, chunk_shape, makes, plain};
 use std::alloc::Global;
-use zarr_codecs::{ArrayToBytesCodec, ArrayToBytesCodecTraits, BytesCodec, CodecChain, CodecError};
+use zarr_codecs::{ArrayToBytesCodecTraits, BytesCodec, CodecError};
 use zarr_codecs_reverse::ReverseCodec;
 use zarr_sharding::{
     ArrayChain, ShardedChain, ShardingCodec, ShardingCodecOptions, ShardingIndexLocation,
@@ -76,14 +76,6 @@ fn is_row_major(alloc: Global) -> Result<bool, CodecError> {
 #[test]
 fn options_change_no_shard_but_its_order(rt: HostRuntime) {
     assert!(rt; matches!(is_row_major(rt.alloc()), Ok(true)));
-}
-
-type Plain = CodecChain<ReverseCodec>;
-
-/// The chain of `bytes` alone.
-fn plain(alloc: Global) -> Plain {
-    let bytes = ArrayToBytesCodec::Bytes(BytesCodec::little());
-    CodecChain::new(Vec::new(alloc), bytes, Vec::new(alloc))
 }
 
 /// The chain of an array whose shards of subchunks of [2,2] have shards of subchunks of [1,2].

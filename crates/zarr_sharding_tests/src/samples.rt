@@ -1,9 +1,11 @@
 //! What tests of shards share, with bytes typed in by hand.
 use std::alloc::Global;
 use zarr_codecs::{
-    ArrayBytes, ArrayToBytesCodecTraits, BytesCodec, CodecError, CodecOptions, Elements, FillValue,
+    ArrayBytes, ArrayToArrayCodec, ArrayToBytesCodec, ArrayToBytesCodecTraits, BytesCodec,
+    CodecChain, CodecError, CodecOptions, Elements, FillValue, TransposeCodec, TransposeOrder,
     data_type,
 };
+use zarr_codecs_reverse::ReverseCodec;
 use zarr_grids::ChunkShape;
 use zarr_sharding::{ShardingCodec, ShardingIndexLocation, SubchunkWriteOrder};
 
@@ -12,6 +14,9 @@ pub(crate) const NONE: u64 = u64::MAX;
 
 /// Shards whose subchunks and index are encoded by `bytes`.
 pub(crate) type Shards = ShardingCodec<BytesCodec, BytesCodec>;
+
+/// A chain without shards.
+pub(crate) type Chain = CodecChain<ReverseCodec>;
 
 /// Shards whose subchunks are shards.
 pub(crate) type Nested = ShardingCodec<Shards, BytesCodec>;
@@ -52,11 +57,28 @@ pub(crate) fn shards(
 }
 
 /// Shards of [2,2] whose subchunks are shards of [1,2], written row-major.
-pub(crate) fn nested(alloc: Global) -> Result<Nested, CodecError> {
-    let (shape, end) = (chunk_shape(alloc, &[2, 2])?, ShardingIndexLocation::End);
-    let inner = shards(alloc, &[1, 2], end)?;
-    let codec = ShardingCodec::new(shape, inner, BytesCodec::little(), end);
+pub(crate) fn nested(alloc: Global, location: ShardingIndexLocation) -> Result<Nested, CodecError> {
+    let (shape, inner) = (
+        chunk_shape(alloc, &[2, 2])?,
+        shards(alloc, &[1, 2], location)?,
+    );
+    let codec = ShardingCodec::new(shape, inner, BytesCodec::little(), location);
     Ok(codec.with_subchunk_write_order(SubchunkWriteOrder::C))
+}
+
+/// The chain of `bytes` alone.
+pub(crate) fn plain(alloc: Global) -> Chain {
+    let bytes = ArrayToBytesCodec::Bytes(BytesCodec::little());
+    CodecChain::new(Vec::new(alloc), bytes, Vec::new(alloc))
+}
+
+/// The transposition of two dimensions.
+pub(crate) fn transposition(alloc: Global) -> Result<Vec<ArrayToArrayCodec>, CodecError> {
+    let Some(order) = TransposeOrder::new(alloc, vec![in alloc; 1, 0]?)? else {
+        return Err(CodecError::Fit);
+    };
+    let codec = ArrayToArrayCodec::Transpose(TransposeCodec::new(order));
+    Ok(vec![in alloc; codec]?)
 }
 
 /// A value: bytes, then numbers of eight bytes, and then bytes again.
@@ -118,14 +140,23 @@ pub(crate) fn are(elements: &ArrayBytes, bytes: &[u8]) -> bool {
     }
 }
 
-/// Whether a codec makes this value of 16 cells in four rows.
+/// What a codec makes of 16 cells in four rows.
+pub(crate) fn encoded<C: ArrayToBytesCodecTraits>(
+    alloc: Global,
+    codec: &C,
+    cells: [u8; 16],
+) -> Result<Vec<u8>, CodecError> {
+    let (given, elements) = (ArrayBytes::Fixed(cells.to_vec(alloc)?), elements(alloc, 0)?);
+    codec.encode(alloc, given, &elements, &[4, 4], &CodecOptions::default())
+}
+
+/// Whether it makes this value of them.
 pub(crate) fn makes<C: ArrayToBytesCodecTraits>(
     alloc: Global,
     codec: &C,
     cells: [u8; 16],
     want: Value<'_>,
 ) -> Result<bool, CodecError> {
-    let (given, elements) = (ArrayBytes::Fixed(cells.to_vec(alloc)?), elements(alloc, 0)?);
-    let made = codec.encode(alloc, given, &elements, &[4, 4], &CodecOptions::default())?;
+    let made = encoded(alloc, codec, cells)?;
     Ok(made.as_slice() == bytes_of(alloc, want)?.as_slice())
 }

@@ -1,21 +1,13 @@
-use Rattle.std.proofs.Common.{◌≡◌, ◌∙◌, ◌+◌, ◌-◌, ◌<◌, ℕ, List, [], ◌∷◌, length, get_or, map, refl, sym, ap, arith, rules}
+use Rattle.std.proofs.Common.{◌≡◌, ◌∙◌, ◌+◌, ◌-◌, ◌<◌, ℕ, List, length, get_or, sym, ap, arith, rules}
 use Rattle.std.specs.List.{flat_map, range_with_len}
 use Rattle.std.proofs.lemmas.Result.{IfOk-weaker}
-use Rattle.zarr_grids_boxes.specs.Boxes.{Region, product, places, ravel}
+use Rattle.zarr_grids_boxes.specs.Boxes.{Region}
 use Rattle.zarr_grids_boxes.specs.Subsets.{region_of}
-use Rattle.zarr_grids_boxes.proofs.InBox.{length-places}
 use Rattle.zarr_codecs_traits.specs.Indexers.{numbers_of}
-use Rattle.zarr_codecs_regions.specs.BoxLines.{first_places}
-use Rattle.zarr_codecs_regions.proofs.BoxLines.{length_of_lines, line_length, numbers_by_lines}
+use Rattle.zarr_codecs_regions.specs.BoxLines.{first_places, line_length}
+use Rattle.zarr_codecs_regions.proofs.BoxLines.{length_of_lines, no_numbers, numbers_by_lines}
 use Rattle.zarr_codecs_regions.proofs.InsideArray.{inside_rank}
 use Rattle.zarr_codecs_regions.proofs.asked.box_numbers.Goals as goal
-
--- a box without a place has no number
-no_numbers : (shape : List ℕ) (region : Region) → length region.shape ≡ length region.start → product region.shape ≡ 0 → [] ≡ numbers_of shape region
-no_numbers shape region l none = ap (map (λ place. ravel place shape)) (no_elements (places region.start region.shape) (length-places region.start region.shape (sym l) ∙ none)) where
-  no_elements : (ps : List (List ℕ)) → length ps ≡ 0 → [] ≡ ps
-  no_elements [] h = refl
-  no_elements (p ∷ ps) h = absurd (omega arith)
 
 pub returns-then-is_empty : goal.returns-then-is_empty
 returns-then-is_empty c = c.new.ensures.items ∙ no_numbers c.args.shape.now (region_of c.args.region.now) c.args.region.now.same (c.is_empty.ensures.0 c.if-is_empty.true)

@@ -1,4 +1,4 @@
-use Rattle.std.proofs.Common.{◌≡◌, ◌∙◌, ◌*◌, ◌≤◌, ap, arith}
+use Rattle.std.proofs.Common.{◌∙◌, ◌*◌, ap, arith}
 use Rattle.zarr_grids_boxes.specs.Boxes.{product}
 use Rattle.zarr_grids_boxes.specs.Subsets.{region_of}
 use Rattle.zarr_codecs_regions.proofs.InsideArray.{inside_bytes, inside_count}

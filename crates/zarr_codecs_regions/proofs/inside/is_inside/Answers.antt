@@ -1,4 +1,4 @@
-use Rattle.std.proofs.Common.{◌≡◌, ◌∙◌, sym}
+use Rattle.std.proofs.Common.{◌∙◌, sym}
 use Rattle.zarr_grids_boxes.specs.Subsets.{region_of}
 use Rattle.zarr_codecs_regions.proofs.InsideArray.{empty_inside, ends_inside}
 use Rattle.zarr_codecs_regions.proofs.inside.is_inside.Goals as goal

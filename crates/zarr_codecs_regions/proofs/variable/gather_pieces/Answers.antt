@@ -1,6 +1,6 @@
 use Rattle.std.proofs.Common.{◌≡◌, ◌-◌, ◌<◌, ◌++◌, ℕ, List, length, get_or, take, drop, flat_map, sym, subst, rules}
 use Rattle.zarr_codecs_regions.specs.Pieces.{piece_of}
-use Rattle.zarr_codecs_regions.proofs.Stretches.{IsGathered, apart, next_to, piece_more}
+use Rattle.zarr_codecs_regions.proofs.GatheredStretches.{IsGathered, apart, next_to, piece_more}
 use Rattle.zarr_codecs_regions.proofs.variable.gather_pieces.Goals as goal
 use Rattle.zarr_codecs_regions.proofs.variable.gather_pieces.Goals.{then-piece-end+in_ok-extend_from_slice, else-piece-end}
 

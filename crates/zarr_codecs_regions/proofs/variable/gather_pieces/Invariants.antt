@@ -1,6 +1,6 @@
 use Rattle.std.proofs.Common.{flat_map, take}
 use Rattle.zarr_codecs_regions.specs.Pieces.{piece_of}
-use Rattle.zarr_codecs_regions.proofs.Stretches.{IsGathered}
+use Rattle.zarr_codecs_regions.proofs.GatheredStretches.{IsGathered}
 use Rattle.zarr_codecs_regions.proofs.variable.gather_pieces.Given as goal
 
 -- the bytes so far, of which a last stretch is still to be copied

@@ -1,5 +1,5 @@
-use Rattle.std.proofs.Common.{◌≡◌, ◌≤◌, ◌<◌, ◌^◌, subst, sym, length, true}
-use Rattle.std.specs.Option.{IfNone, IfSome, SomeIff}
+use Rattle.std.proofs.Common.{◌≡◌, ◌<◌, ◌^◌, subst, sym, length, true}
+use Rattle.std.specs.Option.{IfSome, SomeIff}
 use Rattle.zarr_grids_boxes.specs.Boxes.{product}
 use Rattle.zarr_grids_boxes.specs.Subsets.{region_of}
 use Rattle.zarr_codecs_traits.specs.Indexers.{are_inside, asked_of, numbers_asked}

@@ -12,5 +12,5 @@ abbrev pub invariant-loop-done : goal.invariant-loop-done
 invariant-loop-done l = record {
   some : 0 < l.most;
   within : l.done ≤ l.side.count;
-  panels : l.out.items ≡ l.initial.out.items ++ flat_map (λ c. walked l.runs.width l.runs.bytes.now (l.side.base + c) l.walk.sizes.now l.walk.strides.now) (range_with_len 0 l.done);
+  panels : l.out.items ≡ l.initial.out.items ++ flat_map (λ c. walked l.stretches.width l.stretches.bytes.now (l.side.base + c) l.walk.sizes.now l.walk.strides.now) (range_with_len 0 l.done);
 }

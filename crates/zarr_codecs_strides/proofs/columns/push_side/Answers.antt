@@ -9,17 +9,17 @@ use Rattle.zarr_codecs_strides.proofs.columns.push_side.Goals as goal
 pub push_line-requires-clause-inside : goal.push_line-requires-clause-inside
 push_line-requires-clause-inside c =
     let rest = reach c.args.walk.sizes.now c.args.walk.strides.now in
-    line_inside c.args.side.base c.args.side.count rest c.args.runs.width (length c.args.runs.bytes.now) (side_inside c.args.side.base c.args.side.count rest c.args.runs.width c.args.runs.run (length c.args.runs.bytes.now) c.requires.sided c.requires.run c.requires.inside)
+    line_inside c.args.side.base c.args.side.count rest c.args.stretches.width (length c.args.stretches.bytes.now) (side_inside c.args.side.base c.args.side.count rest c.args.stretches.width c.args.stretches.stretch (length c.args.stretches.bytes.now) c.requires.sided c.requires.stretch c.requires.inside)
 
 pub returns-then-is_empty : goal.returns-then-is_empty
 returns-then-is_empty c =
-    let w = c.args.runs.width in
-    let bytes = c.args.runs.bytes.now in
+    let w = c.args.stretches.width in
+    let bytes = c.args.stretches.bytes.now in
     let none = empty_list c.args.walk.sizes.now (exact_unsigned_eq (length c.args.walk.sizes.now) 0 (sym c.is_empty.ensures ∙ c.if-is_empty.true)) in
     let all = side_walked w c.args.side.base c.args.side.count bytes [] c.args.walk.strides.now ∙ ap (λ ns. walked w bytes c.args.side.base (c.args.side.count ∷ ns) (1 ∷ c.args.walk.strides.now)) (sym none) in
     on_ok_weaker c.push_line.result (λ h. h ∙ ap (λ vs. c.args.out.now.items ++ vs) all) c.push_line.ensures
 
 pub returns : goal.returns
 returns c =
-    let all = side_walked c.args.runs.width c.args.side.base c.args.side.count c.args.runs.bytes.now c.args.walk.sizes.now c.args.walk.strides.now in
+    let all = side_walked c.args.stretches.width c.args.side.base c.args.side.count c.args.stretches.bytes.now c.args.walk.sizes.now c.args.walk.strides.now in
     on_ok_weaker c.push_panels.result (λ h. h ∙ ap (λ vs. c.args.out.now.items ++ vs) all) c.push_panels.ensures

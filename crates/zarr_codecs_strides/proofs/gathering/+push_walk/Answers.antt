@@ -3,41 +3,41 @@ use Rattle.std.specs.Prelude.{flat_map}
 use Rattle.std.proofs.Math.Nat.{mul-pos}
 use Rattle.std.specs.List.{range_with_len}
 use Rattle.zarr_codecs_strides.specs.Strides.{walked}
-use Rattle.zarr_codecs_strides.proofs.Walks.{front, inner_walk, flat_more, runs_walked}
+use Rattle.zarr_codecs_strides.proofs.Walks.{front, inner_walk, flat_more, stretches_walked}
 use Rattle.zarr_codecs_strides.proofs.gathering.+push_walk.Goals as goal
 
 pub push_side-requires-clause-some : goal.push_side-requires-clause-some
 push_side-requires-clause-some t c =
-    let f = front c.args.walk.sizes.now c.args.walk.strides.now c.args.base c.args.runs.width c.args.runs.run (length c.args.runs.bytes.now) c.in-Some-Some.size.now c.in-Some-Some.stride.now c.in-Some-Some.sizes.now c.in-Some-Some.strides.now c.in-Some-Some.ensures.cases.0 c.in-Some-Some.ensures'.cases.0 c.requires.ranks c.requires.some c.requires.inside in
+    let f = front c.args.walk.sizes.now c.args.walk.strides.now c.args.base c.args.stretches.width c.args.stretches.stretch (length c.args.stretches.bytes.now) c.in-Some-Some.size.now c.in-Some-Some.stride.now c.in-Some-Some.sizes.now c.in-Some-Some.strides.now c.in-Some-Some.ensures.cases.0 c.in-Some-Some.ensures'.cases.0 c.requires.ranks c.requires.some c.requires.inside in
     mul-pos f.rest f.wide
 
 pub overflow_mul-i : goal.overflow_mul-i
 overflow_mul-i t c =
-    let w = inner_walk c.args.walk.sizes.now c.args.walk.strides.now c.args.base c.args.runs.width c.args.runs.run (length c.args.runs.bytes.now) c.in-Some-Some.size.now c.in-Some-Some.stride.now c.loop-i.i c.in-Some-Some.sizes.now c.in-Some-Some.strides.now c.in-Some-Some.ensures.cases.0 c.in-Some-Some.ensures'.cases.0 c.requires.ranks c.requires.some c.requires.inside c.loop-i-test.true in
+    let w = inner_walk c.args.walk.sizes.now c.args.walk.strides.now c.args.base c.args.stretches.width c.args.stretches.stretch (length c.args.stretches.bytes.now) c.in-Some-Some.size.now c.in-Some-Some.stride.now c.loop-i.i c.in-Some-Some.sizes.now c.in-Some-Some.strides.now c.in-Some-Some.ensures.cases.0 c.in-Some-Some.ensures'.cases.0 c.requires.ranks c.requires.some c.requires.inside c.loop-i-test.true in
     let s = w.steps in
     omega arith
 
 pub overflow_add-base : goal.overflow_add-base
 overflow_add-base t c =
-    let w = inner_walk c.args.walk.sizes.now c.args.walk.strides.now c.args.base c.args.runs.width c.args.runs.run (length c.args.runs.bytes.now) c.in-Some-Some.size.now c.in-Some-Some.stride.now c.loop-i.i c.in-Some-Some.sizes.now c.in-Some-Some.strides.now c.in-Some-Some.ensures.cases.0 c.in-Some-Some.ensures'.cases.0 c.requires.ranks c.requires.some c.requires.inside c.loop-i-test.true in
+    let w = inner_walk c.args.walk.sizes.now c.args.walk.strides.now c.args.base c.args.stretches.width c.args.stretches.stretch (length c.args.stretches.bytes.now) c.in-Some-Some.size.now c.in-Some-Some.stride.now c.loop-i.i c.in-Some-Some.sizes.now c.in-Some-Some.strides.now c.in-Some-Some.ensures.cases.0 c.in-Some-Some.ensures'.cases.0 c.requires.ranks c.requires.some c.requires.inside c.loop-i-test.true in
     let s = w.place in
     omega arith
 
 pub push_walk-requires : goal.push_walk-requires
 push_walk-requires t c =
-    let w = inner_walk c.args.walk.sizes.now c.args.walk.strides.now c.args.base c.args.runs.width c.args.runs.run (length c.args.runs.bytes.now) c.in-Some-Some.size.now c.in-Some-Some.stride.now c.loop-i.i c.in-Some-Some.sizes.now c.in-Some-Some.strides.now c.in-Some-Some.ensures.cases.0 c.in-Some-Some.ensures'.cases.0 c.requires.ranks c.requires.some c.requires.inside c.loop-i-test.true in
+    let w = inner_walk c.args.walk.sizes.now c.args.walk.strides.now c.args.base c.args.stretches.width c.args.stretches.stretch (length c.args.stretches.bytes.now) c.in-Some-Some.size.now c.in-Some-Some.stride.now c.loop-i.i c.in-Some-Some.sizes.now c.in-Some-Some.strides.now c.in-Some-Some.ensures.cases.0 c.in-Some-Some.ensures'.cases.0 c.requires.ranks c.requires.some c.requires.inside c.loop-i-test.true in
     let s = w.shorter in
-    (search rules, (w.ranks, (w.some, (c.requires.run, w.inside))))
+    (search rules, (w.ranks, (w.some, (c.requires.stretch, w.inside))))
 
 pub loop-i-preserved : goal.loop-i-preserved
-loop-i-preserved t c = flat_more (λ k. walked c.args.runs.width c.args.runs.bytes.now (c.args.base + k * c.in-Some-Some.stride.now) c.in-Some-Some.sizes.now c.in-Some-Some.strides.now) c.args.out.now.items c.loop-i.out.items c.push_walk.new.out.items c.loop-i.i c.loop-i.invariant c.in_ok-push_walk-in-Some-Some.ensures
+loop-i-preserved t c = flat_more (λ k. walked c.args.stretches.width c.args.stretches.bytes.now (c.args.base + k * c.in-Some-Some.stride.now) c.in-Some-Some.sizes.now c.in-Some-Some.strides.now) c.args.out.now.items c.loop-i.out.items c.push_walk.new.out.items c.loop-i.i c.loop-i.invariant c.in_ok-push_walk-in-Some-Some.ensures
 
 pub returns-after-loop-i : goal.returns-after-loop-i
 returns-after-loop-i t c =
     let size = c.in-Some-Some.size.now in
     let e : c.loop-i.i ≡ size = omega arith in
-    let f = λ (k : ℕ). walked c.args.runs.width c.args.runs.bytes.now (c.args.base + k * c.in-Some-Some.stride.now) c.in-Some-Some.sizes.now c.in-Some-Some.strides.now in
+    let f = λ (k : ℕ). walked c.args.stretches.width c.args.stretches.bytes.now (c.args.base + k * c.in-Some-Some.stride.now) c.in-Some-Some.sizes.now c.in-Some-Some.strides.now in
     c.loop-i.invariant
     ∙ ap (λ n. c.args.out.now.items ++ flat_map f (range_with_len 0 n)) e
-    ∙ ap (λ vs. c.args.out.now.items ++ vs) (runs_walked c.args.runs.width c.args.runs.width c.args.base size c.in-Some-Some.stride.now c.args.runs.bytes.now c.in-Some-Some.sizes.now c.in-Some-Some.strides.now
-    ∙ ap₂ (λ vs ws. walked c.args.runs.width c.args.runs.bytes.now c.args.base vs ws) (sym c.in-Some-Some.ensures.cases.0) (sym c.in-Some-Some.ensures'.cases.0))
+    ∙ ap (λ vs. c.args.out.now.items ++ vs) (stretches_walked c.args.stretches.width c.args.stretches.width c.args.base size c.in-Some-Some.stride.now c.args.stretches.bytes.now c.in-Some-Some.sizes.now c.in-Some-Some.strides.now
+    ∙ ap₂ (λ vs ws. walked c.args.stretches.width c.args.stretches.bytes.now c.args.base vs ws) (sym c.in-Some-Some.ensures.cases.0) (sym c.in-Some-Some.ensures'.cases.0))

@@ -9,4 +9,4 @@ decreases-push_walk l = length l.walk.sizes.now
 
 -- the elements so far
 abbrev pub invariant-loop-i : goal.invariant-loop-i
-invariant-loop-i l = l.out.items ≡ l.initial.out.items ++ flat_map (λ k. walked l.runs.width l.runs.bytes.now (l.base + k * l.stride) l.sizes l.strides) (range_with_len 0 l.i)
+invariant-loop-i l = l.out.items ≡ l.initial.out.items ++ flat_map (λ k. walked l.stretches.width l.stretches.bytes.now (l.base + k * l.stride) l.sizes l.strides) (range_with_len 0 l.i)

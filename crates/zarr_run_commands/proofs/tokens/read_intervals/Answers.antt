@@ -1,6 +1,9 @@
-use Rattle.std.proofs.Common.{◌≡◌, ◌+◌, ◌-◌, ◌<◌, [], ◌∷◌, ◌++◌, length, length-append, None, sym, ap, ◌∙◌, subst, arith}
-use Rattle.json.specs.Json.{parse_map, after_end_array, items, value}
+use Rattle.std.proofs.Common.{◌≡◌, ◌+◌, ◌-◌, ◌<◌, [], ◌∷◌, ◌++◌, length, length-append, option_and_then, sym, ap, ◌∙◌, subst, arith}
+use Rattle.json.specs.Json.{parse_map, items, value}
 use Rattle.zarr_grids_boxes.specs.Boxes.{EndsFit}
+use Rattle.serde_json.specs.Read.{of_json}
+use Rattle.zarr_run_commands.specs.Lines.{interval_in}
+use Rattle.zarr_run_commands.proofs.Turns.{goes_on}
 use Rattle.zarr_run_commands.proofs.Pairs.{after, fit_more}
 use Rattle.zarr_run_commands.proofs.Saying.{regions, region_read, one_more_interval, regions_over}
 use Rattle.zarr_run_commands.proofs.tokens.read_intervals.Goals as goal
@@ -12,13 +15,14 @@ pairs-preserved c =
     let n = l.invariant.0 in
     let start = l.start.items in
     let shape = l.shape.items in
-    let going : (after_end_array l.reader ≡ None) × (c.take_end_array.new.self ≡ l.reader) = grind arith in
+    let kept : c.take_end_array.new.self ≡ l.reader = grind arith in
     let done = c.in_ok-first.ensures in
+    let going = goes_on (λ j. option_and_then interval_in (of_json j)) 125 l.reader (c.in_ok-first.first, c.in_ok-first.size) c.read_interval.new.reader (rw (← kept) done.ok) in
     let s = c.in_ok-first.first in
     let e = c.in_ok-first.size in
     let r = c.read_interval.new.reader in
-    let less : length r < length l.reader = rw (← going.1) done.shorter in
-    let turn = region_read p n l.reader r (s, e) (omega (arith, l.invariant.1)) going.0 (rw (← going.1) done.ok) in
+    let less : length r < length l.reader = rw (← kept) done.shorter in
+    let turn = region_read p n l.reader r (s, e) (omega (arith, l.invariant.1)) going (rw (← kept) done.ok) in
     let rest = regions (items p (n - 1) r) in
     let longer : c.push.new.self.items ≡ start ++ s ∷ [] = c.in_ok-push.ensures.items in
     let wider : c.push-in-pairs.new.self.items ≡ shape ++ e ∷ [] = c.in_ok-push-2.ensures.items in

@@ -1,5 +1,5 @@
-use Rattle.std.proofs.Common.{◌≡◌, ◌-◌, ◌<◌, ◌≤◌, length, Some, None, refl, ap, ◌∙◌, arith}
-use Rattle.json.specs.Json.{read_key, members, value}
+use Rattle.std.proofs.Common.{◌≡◌, ◌-◌, length, Some, refl, ◌∙◌, arith}
+use Rattle.json.specs.Json.{read_key, value}
 use Rattle.json.proofs.Grammar.{read_key-shorter}
 use Rattle.serde_json.specs.Data.{put, no_members}
 use Rattle.zarr_run_commands.proofs.Fields.{is_empty_line}
@@ -16,7 +16,7 @@ members-preserved c =
     let n = l.invariant.0 in
     let ms = l.invariant.1 in
     let k = c.in-Some.name.now in
-    let s = c.next_key.new.self in
+    let s = c.next_key.new.reader in
     let named : read_key l.reader ≡ Some (Some k, s) = grind arith in
     let done = c.in_ok-read_member.ensures in
     let told = done.ok ms l.invariant.2 in
@@ -34,4 +34,4 @@ members-preserved c =
 pub returns : goal.returns
 returns c =
     let l = c.members in
-    (l.invariant.1, l.invariant.2, l.invariant.4 ∙ members_over (value 126) l.invariant.1 l.invariant.0 l.reader c.next_key.new.self l.invariant.3 (grind arith))
+    (l.invariant.1, l.invariant.2, l.invariant.4 ∙ members_over (value 126) l.invariant.1 l.invariant.0 l.reader c.next_key.new.reader l.invariant.3 (grind arith))

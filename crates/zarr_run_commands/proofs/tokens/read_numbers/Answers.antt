@@ -1,8 +1,8 @@
-use Rattle.std.proofs.Common.{◌≡◌, ◌-◌, ◌<◌, length, Some, None, sym, ap, ◌∙◌, arith}
-use Rattle.json.specs.Json.{parse_map, after_end_array, items, value}
+use Rattle.std.proofs.Common.{◌≡◌, ◌-◌, ◌<◌, length, Some, sym, ap, ◌∙◌, arith}
+use Rattle.json.specs.Json.{parse_map, items, value}
 use Rattle.serde_json.specs.Data.{number, unsigned}
-use Rattle.serde_json.specs.Read.{of_items, converted}
-use Rattle.zarr_run_commands.proofs.Turns.{item_read, items_over, none_before, numbers_before, numbers_before-no_items, one_more_number}
+use Rattle.serde_json.specs.Read.{of_items, of_json, converted}
+use Rattle.zarr_run_commands.proofs.Turns.{goes_on, item_read, items_over, none_before, numbers_before, numbers_before-no_items, one_more_number}
 use Rattle.zarr_run_commands.proofs.tokens.read_numbers.Goals as goal
 
 pub items-init : goal.items-init
@@ -15,12 +15,13 @@ items-preserved c =
     let p = value 125 in
     let l = c.items in
     let n = l.invariant.0 in
-    let going : (after_end_array l.reader ≡ None) × (c.take_end_array.new.self ≡ l.reader) = grind arith in
+    let kept : c.take_end_array.new.self ≡ l.reader = grind arith in
     let done = c.in_ok-number.ensures in
+    let going = goes_on of_json 125 l.reader (number (unsigned c.in_ok-number.number)) c.next_number.new.reader (rw (← kept) (done.ok 125)) in
     let x = c.in_ok-number.number in
     let r = c.next_number.new.reader in
-    let less : length r < length l.reader = rw (← going.1) done.shorter in
-    let turn = item_read p n l.reader r (number (unsigned x)) (omega (arith, l.invariant.1)) going.0 (rw (← going.1) (done.ok 125)) in (
+    let less : length r < length l.reader = rw (← kept) done.shorter in
+    let turn = item_read p n l.reader r (number (unsigned x)) (omega (arith, l.invariant.1)) going (rw (← kept) (done.ok 125)) in (
       n - 1,
       omega (arith, l.invariant.1),
       l.invariant.2 ∙ ap (parse_map (numbers_before l.found.items)) turn ∙ one_more_number l.found.items x _

@@ -4,7 +4,7 @@ use Rattle.zarr_grids_boxes.specs.Subsets.{region_of}
 use Rattle.zarr_array_elements.specs.Views.{cells_shown}
 use Rattle.zarr_array_elements.proofs.Shown.{length-shown}
 use Rattle.zarr_array_core.specs.Views.{document_of, path_of}
-use Rattle.zarr_array_core.proofs.MetChunks.{met_here, shares_here}
+use Rattle.zarr_array_core.proofs.NthChunks.{nth_here, shares_here}
 use Rattle.zarr_array_core.proofs.ReadSoFar.{read_next, read_end, read_stops}
 use Rattle.zarr_array_core.proofs.array_core.ArrayCore.read_chunks.Goals as goal
 
@@ -14,7 +14,7 @@ read_chunk-requires-clause-below g c =
     let at_place = rw (c.start-first.ensures, c.shape-shape.ensures) at c.place_into.ensures in
     let total : c.unwrap-count.result ≡ product chunks.shape = search rules in
     let below : c.loop-n.n < product chunks.shape = omega (arith, c.loop-n-test.true) in
-    met_here (document_of g.C.ArrayToBytesCodecTraits.meaning c.args.self.now).grid chunks c.loop-n.n c.place_into.new.place (sym c.args.read.chunks.now.same) c.requires.intersecting.below below at_place
+    nth_here (document_of g.C.ArrayToBytesCodecTraits.meaning c.args.self.now).grid chunks c.loop-n.n c.place_into.new.place (sym c.args.read.chunks.now.same) c.requires.intersecting.below below at_place
 
 pub read_chunk-requires-clause-shares : goal.read_chunk-requires-clause-shares
 read_chunk-requires-clause-shares g c =
@@ -31,7 +31,7 @@ loop-n-preserved g c =
     let at_place = rw (c.start-first.ensures, c.shape-shape.ensures) at c.place_into.ensures in
     let total : c.unwrap-count.result ≡ product chunks.shape = search rules in
     let below : c.loop-n.n < product chunks.shape = omega (arith, c.loop-n-test.true) in
-    let found = met_here document.grid chunks c.loop-n.n c.place_into.new.place (sym c.args.read.chunks.now.same) c.requires.intersecting.below below at_place in
+    let found = nth_here document.grid chunks c.loop-n.n c.place_into.new.place (sym c.args.read.chunks.now.same) c.requires.intersecting.below below at_place in
     let step = c.in-Ok.ensures in
     let kept = c.loop-n.invariant in
     let elements = document.elements in

@@ -2,7 +2,7 @@ use Rattle.std.proofs.Common.{◌≡◌, IsTrue}
 use Rattle.zarr_grids_boxes.specs.Subsets.{region_of}
 use Rattle.zarr_array_elements.specs.Views.{AreShown, cells_shown}
 use Rattle.zarr_array_core.specs.Views.{document_of, path_of}
-use Rattle.zarr_array_core.proofs.MetChunks.{first_chunks}
+use Rattle.zarr_array_core.proofs.NthChunks.{first_chunks}
 use Rattle.zarr_array_core.proofs.ReadSoFar.{ReadSoFar}
 use Rattle.zarr_array_core.proofs.array_core.ArrayCore.read_chunks.Given as goal
 

@@ -1,4 +1,4 @@
-use Rattle.std.proofs.Common.{◌≡◌, ◌∙◌, ℕ, List, Option, Some, None, Vec, replicate, true, ap, sym, subst, rules}
+use Rattle.std.proofs.Common.{◌≡◌, ◌∙◌, ℕ, List, Option, Some, None, Vec, replicate, true, ap, subst, rules}
 use Rattle.std.specs.List.{list_all}
 use Rattle.std.specs.declared.alloc.Global.{Global}
 use Rattle.std.proofs.lemmas.Result.{IfOk-weaker, IfErr-weaker}
@@ -12,7 +12,6 @@ use Rattle.zarr_codecs_meaning.proofs.DecodedElements.{all_filled}
 use Rattle.zarr_codecs_traits.specs.Sources.{source_contents}
 use Rattle.zarr_array_storage.specs.Stores.{value_bytes}
 use Rattle.zarr_array_core.specs.ChunkValues.{EncodeRefuses, PutsCells, PutStops}
-use Rattle.zarr_array_core.specs.declared.error.ChunkError.{ChunkError}
 use Rattle.zarr_array_core.specs.Views.{array_cells, document_of}
 use Rattle.zarr_array_core.proofs.InParts.{fill_stops, parts_of_write}
 use Rattle.zarr_array_core.proofs.PutParts.{puts_filled}

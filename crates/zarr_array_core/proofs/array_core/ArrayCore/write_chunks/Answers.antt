@@ -7,7 +7,7 @@ use Rattle.zarr_array_core.specs.Views.{array_cells, document_of, is_exact, path
 use Rattle.zarr_array_core.specs.declared.error.ChunkError.TheVariants as error
 use Rattle.zarr_array_core.proofs.BoxWalks.{walk_of}
 use Rattle.zarr_array_core.proofs.ChunksWritten.{wrote_none, wrote_next, wrote_all, write_stops}
-use Rattle.zarr_array_core.proofs.MetChunks.{met_here, shares_here}
+use Rattle.zarr_array_core.proofs.NthChunks.{nth_here, shares_here}
 use Rattle.zarr_array_core.proofs.array_core.ArrayCore.write_chunks.Goals as goal
 
 pub returns-then-is_err-clause-err : goal.returns-then-is_err-clause-err
@@ -24,7 +24,7 @@ returns-then-is_err-clause-err g c = λ honest.
     let walk = walk_of g.C.ArrayToBytesCodecTraits.meaning g.met.C.ArrayToBytesCodecTraits.lawful array region chunks (array_cells array bytes) (sym c.args.write.now.region.same) (sym c.args.chunks.now.same) c.requires.rank c.requires.intersecting c.requires.values in
     let lists = c.requires.many.lists in
     let chunk = place_at chunks.start chunks.shape 0 in
-    let here = met_here document.grid chunks 0 chunk walk.chunks_rank walk.intersecting.below c.requires.some refl in
+    let here = nth_here document.grid chunks 0 chunk walk.chunks_rank walk.intersecting.below c.requires.some refl in
     write_stops path document exact region chunks (array_cells array bytes) (payload_of bytes) options 0 chunk here.0 error.Memory old old old walk lists c.requires.some refl here.1 tt refl (wrote_none path document exact region (array_cells array bytes) options old)
 
 pub write_at-requires-clause-below : goal.write_at-requires-clause-below
@@ -33,7 +33,7 @@ write_at-requires-clause-below g c =
     let at_place = rw (c.start.ensures, c.shape-in-loop-n.ensures) at c.place_into.ensures in
     let total : c.unwrap-count.result ≡ product chunks.shape = search rules in
     let below : c.loop-n.n < product chunks.shape = omega (arith, c.loop-n-test.true) in
-    met_here (document_of g.C.ArrayToBytesCodecTraits.meaning c.args.self.now).grid chunks c.loop-n.n c.place_into.new.place (sym c.args.chunks.now.same) c.requires.intersecting.below below at_place
+    nth_here (document_of g.C.ArrayToBytesCodecTraits.meaning c.args.self.now).grid chunks c.loop-n.n c.place_into.new.place (sym c.args.chunks.now.same) c.requires.intersecting.below below at_place
 
 pub write_at-requires-clause-shares : goal.write_at-requires-clause-shares
 write_at-requires-clause-shares g c =

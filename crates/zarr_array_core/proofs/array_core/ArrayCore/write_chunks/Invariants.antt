@@ -4,7 +4,7 @@ use Rattle.zarr_grids_overlay.specs.Overlays.{extent_of}
 use Rattle.zarr_array_meaning.specs.Writing.{WroteChunks}
 use Rattle.zarr_array_core.specs.Views.{array_cells, document_of, is_exact, path_of}
 use Rattle.zarr_array_core.specs.Outcomes.{CountsUpTo}
-use Rattle.zarr_array_core.proofs.MetChunks.{first_chunks}
+use Rattle.zarr_array_core.proofs.NthChunks.{first_chunks}
 use Rattle.zarr_array_core.proofs.array_core.ArrayCore.write_chunks.Given as goal
 
 abbrev pub invariant-loop-n : goal.invariant-loop-n

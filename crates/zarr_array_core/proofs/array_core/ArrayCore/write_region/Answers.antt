@@ -6,7 +6,7 @@ use Rattle.zarr_grids_boxes.specs.Boxes.{product}
 use Rattle.zarr_grids_boxes.specs.Subsets.{region_of}
 use Rattle.zarr_array_core.specs.Views.{document_of}
 use Rattle.zarr_array_core.proofs.ChunksWritten.{some_chunk}
-use Rattle.zarr_array_core.proofs.MetChunks.{length-intersecting}
+use Rattle.zarr_array_core.proofs.NthChunks.{length-intersecting}
 use Rattle.zarr_array_elements.proofs.FixedPuts.{counted, known}
 use Rattle.zarr_array_core.proofs.array_core.ArrayCore.write_region.Goals as goal
 

@@ -1,12 +1,13 @@
-use Rattle.std.proofs.Common.{rules, ◌≡◌, ◌∙◌, sym, length, None}
+use Rattle.std.proofs.Common.{rules, ◌≡◌, ◌∙◌, sym, length, inl, None}
 use Rattle.std.proofs.lemmas.Bool.{eqb-false}
 use Rattle.zarr_codecs_arrays.specs.Views.{elements_of, payload_of}
 use Rattle.zarr_codecs_meaning.specs.Chunks.{chunk_decoded}
-use Rattle.zarr_codecs_traits.specs.Indexers.{asked_of}
-use Rattle.zarr_codecs_traits.specs.PartWriting.{IsDamaged}
-use Rattle.zarr_codecs_traits.proofs.Damage.{not_put, whole_damaged}
+use Rattle.zarr_codecs_traits.specs.Indexers.{asked_of, numbers_asked}
+use Rattle.zarr_codecs_traits.specs.PartWriting.{IsPlaced, StopsWrite}
+use Rattle.zarr_codecs_traits.proofs.Damage.{not_put, plain_placed, whole_damaged}
 use Rattle.zarr_codecs_around.proofs.Telling.{never_encodes}
-use Rattle.zarr_codecs_chains.specs.Views.{bytes_meaning, codec_chain}
+use Rattle.zarr_codecs_around.proofs.WritingAfter.{on_written}
+use Rattle.zarr_codecs_chains.specs.Views.{bytes_meaning, bytes_plain, codec_chain}
 use Rattle.zarr_codecs_chains.proofs.bytes_chain.BytesChainArrayToBytesCodecTraits.partial_encode.Goals as goal
 
 pub returns-clause-cause : goal.returns-clause-cause
@@ -20,5 +21,13 @@ returns-clause-cause g c = λ honest.
     let shape = c.args.part.shape.now in
     let stored = g.E.BytesPartialDecoderTraits.contents c.args.source.now in
     let whole = sym (never_encodes (codec_chain meaning c.args.self.now.array_to_bytes) meaning codecs.items (λ e. some (same ∙ e))) in
-    not_put {A = Unit {0}} (chunk_decoded chain elements shape stored ≡ None) (IsDamaged chain elements shape stored) chain elements shape (asked_of c.args.part.indexer) (payload_of c.args.bytes) stored c.encode_whole.result
-    (whole_damaged chain elements shape stored whole) (c.encode_whole.ensures.cause honest)
+    let asked = asked_of c.args.part.indexer in
+    not_put {A = Unit {0}} (chunk_decoded chain elements shape stored ≡ None) (StopsWrite chain elements shape asked (payload_of c.args.bytes) stored) chain elements shape asked (payload_of c.args.bytes) stored c.encode_whole.result
+    (λ lost. inl (whole_damaged chain elements shape stored (numbers_asked shape asked) whole lost)) (c.encode_whole.ensures.cause honest)
+
+pub returns-clause-placed : goal.returns-clause-placed
+returns-clause-placed g c = λ honest.
+    let meaning = g.B.BytesToBytesCodecTraits.meaning in
+    let stored = g.E.BytesPartialDecoderTraits.contents c.args.source.now in
+    on_written c.encode_whole.result _ (IsPlaced (bytes_meaning meaning c.args.self.now) c.args.part.shape.now stored)
+    (λ done. plain_placed (bytes_meaning meaning c.args.self.now) c.args.part.shape.now stored (bytes_plain meaning c.args.self.now)) (c.encode_whole.ensures.ok honest)

@@ -53,23 +53,21 @@ invariant_of-self g c =
     let count = pairs_count s self.pairs_shape.items old.pairs self.cut self.many in
     let pairs_shape = c.as_slice.result.now in
     let shape_is : pairs_shape ≡ index_shape s.shape s.subchunk = c.as_slice.ensures.value ∙ self.cut in
-    let new : Held = held_as (contents c.write_slices.new.source) (pairs_in c.write_slices.new.self) (end_of c.write_slices.new.self) in
+    let new : Held = held_as (contents c.write_given.new.source) (pairs_in c.write_given.new.self) (end_of c.write_given.new.self) in
     let changes = changes_of c.in-Ok.changes.items in
-    let lent = changes_of c.as_slice-changes.result.now in
-    let are = ap changes_of c.as_slice-changes.ensures.value in
     let laws = g.met.E.BytesPartialDecoderTraits in
     let follows = c.in-Ok.ensures.follows in
     let later = contents c.update_asked.new.source in
     let same = laws.same _ _ follows in
     let one = g.X.ArrayToBytesCodecTraits.is_function codec.index_codecs in
-    let result = c.write_slices.result in
+    let result = c.write_given.result in
     let after_call : IsTrue (g.E.BytesPartialDecoderTraits.is_honest c.update_asked.new.source) → IsAfter result s one changes old new = λ still. record {
-      pairs = subst (λ cs. OnOk result (new.pairs ≡ pairs_after old.end cs old.pairs)) are c.write_slices.ensures.pairs;
-      room = subst (λ cs. OnOk result (old.end + length (appended cs) < 2 ^ 63)) are c.write_slices.ensures.room;
-      written = changed_as result s.index one s.location (location_of c.index_location.result) (index_shape s.shape s.subchunk) pairs_shape changes lent old.end new.end new.pairs old.contents later new.contents c.index_location.ensures shape_is are same
-          (subst (λ x. OnOk result (IsChanged (g.X.ArrayToBytesCodecTraits.meaning x) (g.X.ArrayToBytesCodecTraits.is_function x) (location_of c.index_location.result) pairs_shape lent old.end new.pairs later new.contents new.end)) c.index_codecs-codecs.ensures (c.write_slices.ensures.ok still));
-      same = c.write_slices.ensures.same;
-      err = subst (λ (o : Option (List ℕ)). OnErr result (new.contents ≡ o)) (sym same) (c.write_slices.ensures.err still);
+      pairs = c.write_given.ensures.pairs;
+      room = c.write_given.ensures.room;
+      written = changed_as result s.index one s.location (location_of c.index_location.result) (index_shape s.shape s.subchunk) pairs_shape changes old.end new.end new.pairs old.contents later new.contents c.index_location.ensures shape_is same
+          (subst (λ x. OnOk result (IsChanged (g.X.ArrayToBytesCodecTraits.meaning x) (g.X.ArrayToBytesCodecTraits.is_function x) (location_of c.index_location.result) pairs_shape changes old.end new.pairs later new.contents new.end)) c.index_codecs-codecs.ensures (c.write_given.ensures.ok still));
+      same = c.write_given.ensures.same;
+      err = subst (λ (o : Option (List ℕ)). OnErr result (new.contents ≡ o)) (sym same) (c.write_given.ensures.err still);
     } in
     record {
       fit = self.fit;
@@ -77,9 +75,9 @@ invariant_of-self g c =
       cut = self.cut;
       sized = self.sized;
       low = self.low;
-      many = self.many ∙ ap (λ n. 2 * n) (sym (after_count result old.end lent old.pairs new.pairs (new.end ≡ old.end) c.write_slices.ensures.pairs c.write_slices.ensures.same));
+      many = self.many ∙ ap (λ n. 2 * n) (sym (after_count result old.end changes old.pairs new.pairs (new.end ≡ old.end) c.write_given.ensures.pairs c.write_given.ensures.same));
       told = λ honest lossless.
-          let still = subst IsTrue (sym (g.met.E.BytesPartialEncoderTraits.still_honest _ _ c.write_slices.ensures.rewrites)) honest in
+          let still = subst IsTrue (sym (g.met.E.BytesPartialEncoderTraits.still_honest _ _ c.write_given.ensures.rewrites)) honest in
           let before = subst IsTrue (sym (laws.honest _ _ follows)) still in
           told_again s new.contents new.pairs new.end (after_told result s one changes old new (after_call still) count lossless (again_told s old.contents old.pairs old.end (self.told before lossless)));
     }
@@ -100,23 +98,21 @@ returns-in-Ok-clause-ok g c = λ honest told cells valid.
     let old : Held = held_as (contents self.source) (pairs_in self.known) (end_of self.known) in
     let pairs_shape = c.as_slice.result.now in
     let shape_is : pairs_shape ≡ index_shape s.shape s.subchunk = c.as_slice.ensures.value ∙ self.cut in
-    let new : Held = held_as (contents c.write_slices.new.source) (pairs_in c.write_slices.new.self) (end_of c.write_slices.new.self) in
+    let new : Held = held_as (contents c.write_given.new.source) (pairs_in c.write_given.new.self) (end_of c.write_given.new.self) in
     let changes = changes_of c.in-Ok.changes.items in
-    let lent = changes_of c.as_slice-changes.result.now in
-    let are = ap changes_of c.as_slice-changes.ensures.value in
     let laws = g.met.E.BytesPartialDecoderTraits in
     let follows = c.in-Ok.ensures.follows in
     let later = contents c.update_asked.new.source in
     let same = laws.same _ _ follows in
     let one = g.X.ArrayToBytesCodecTraits.is_function codec.index_codecs in
-    let result = c.write_slices.result in
+    let result = c.write_given.result in
     let after_call : IsTrue (g.E.BytesPartialDecoderTraits.is_honest c.update_asked.new.source) → IsAfter result s one changes old new = λ still. record {
-      pairs = subst (λ cs. OnOk result (new.pairs ≡ pairs_after old.end cs old.pairs)) are c.write_slices.ensures.pairs;
-      room = subst (λ cs. OnOk result (old.end + length (appended cs) < 2 ^ 63)) are c.write_slices.ensures.room;
-      written = changed_as result s.index one s.location (location_of c.index_location.result) (index_shape s.shape s.subchunk) pairs_shape changes lent old.end new.end new.pairs old.contents later new.contents c.index_location.ensures shape_is are same
-          (subst (λ x. OnOk result (IsChanged (g.X.ArrayToBytesCodecTraits.meaning x) (g.X.ArrayToBytesCodecTraits.is_function x) (location_of c.index_location.result) pairs_shape lent old.end new.pairs later new.contents new.end)) c.index_codecs-codecs.ensures (c.write_slices.ensures.ok still));
-      same = c.write_slices.ensures.same;
-      err = subst (λ (o : Option (List ℕ)). OnErr result (new.contents ≡ o)) (sym same) (c.write_slices.ensures.err still);
+      pairs = c.write_given.ensures.pairs;
+      room = c.write_given.ensures.room;
+      written = changed_as result s.index one s.location (location_of c.index_location.result) (index_shape s.shape s.subchunk) pairs_shape changes old.end new.end new.pairs old.contents later new.contents c.index_location.ensures shape_is same
+          (subst (λ x. OnOk result (IsChanged (g.X.ArrayToBytesCodecTraits.meaning x) (g.X.ArrayToBytesCodecTraits.is_function x) (location_of c.index_location.result) pairs_shape changes old.end new.pairs later new.contents new.end)) c.index_codecs-codecs.ensures (c.write_given.ensures.ok still));
+      same = c.write_given.ensures.same;
+      err = subst (λ (o : Option (List ℕ)). OnErr result (new.contents ≡ o)) (sym same) (c.write_given.ensures.err still);
     } in
     let size_is = self.sized ∙ ap (index_size s.index) self.cut in
     let of : IsOf (location_of c.index_location.result) self.size old.contents old.pairs old.end =
@@ -141,23 +137,21 @@ returns-in-Ok-clause-cause g c = λ honest told cells valid.
     let old : Held = held_as (contents self.source) (pairs_in self.known) (end_of self.known) in
     let pairs_shape = c.as_slice.result.now in
     let shape_is : pairs_shape ≡ index_shape s.shape s.subchunk = c.as_slice.ensures.value ∙ self.cut in
-    let new : Held = held_as (contents c.write_slices.new.source) (pairs_in c.write_slices.new.self) (end_of c.write_slices.new.self) in
+    let new : Held = held_as (contents c.write_given.new.source) (pairs_in c.write_given.new.self) (end_of c.write_given.new.self) in
     let changes = changes_of c.in-Ok.changes.items in
-    let lent = changes_of c.as_slice-changes.result.now in
-    let are = ap changes_of c.as_slice-changes.ensures.value in
     let laws = g.met.E.BytesPartialDecoderTraits in
     let follows = c.in-Ok.ensures.follows in
     let later = contents c.update_asked.new.source in
     let same = laws.same _ _ follows in
     let one = g.X.ArrayToBytesCodecTraits.is_function codec.index_codecs in
-    let result = c.write_slices.result in
+    let result = c.write_given.result in
     let after_call : IsTrue (g.E.BytesPartialDecoderTraits.is_honest c.update_asked.new.source) → IsAfter result s one changes old new = λ still. record {
-      pairs = subst (λ cs. OnOk result (new.pairs ≡ pairs_after old.end cs old.pairs)) are c.write_slices.ensures.pairs;
-      room = subst (λ cs. OnOk result (old.end + length (appended cs) < 2 ^ 63)) are c.write_slices.ensures.room;
-      written = changed_as result s.index one s.location (location_of c.index_location.result) (index_shape s.shape s.subchunk) pairs_shape changes lent old.end new.end new.pairs old.contents later new.contents c.index_location.ensures shape_is are same
-          (subst (λ x. OnOk result (IsChanged (g.X.ArrayToBytesCodecTraits.meaning x) (g.X.ArrayToBytesCodecTraits.is_function x) (location_of c.index_location.result) pairs_shape lent old.end new.pairs later new.contents new.end)) c.index_codecs-codecs.ensures (c.write_slices.ensures.ok still));
-      same = c.write_slices.ensures.same;
-      err = subst (λ (o : Option (List ℕ)). OnErr result (new.contents ≡ o)) (sym same) (c.write_slices.ensures.err still);
+      pairs = c.write_given.ensures.pairs;
+      room = c.write_given.ensures.room;
+      written = changed_as result s.index one s.location (location_of c.index_location.result) (index_shape s.shape s.subchunk) pairs_shape changes old.end new.end new.pairs old.contents later new.contents c.index_location.ensures shape_is same
+          (subst (λ x. OnOk result (IsChanged (g.X.ArrayToBytesCodecTraits.meaning x) (g.X.ArrayToBytesCodecTraits.is_function x) (location_of c.index_location.result) pairs_shape changes old.end new.pairs later new.contents new.end)) c.index_codecs-codecs.ensures (c.write_given.ensures.ok still));
+      same = c.write_given.ensures.same;
+      err = subst (λ (o : Option (List ℕ)). OnErr result (new.contents ≡ o)) (sym same) (c.write_given.ensures.err still);
     } in
     let size_is = self.sized ∙ ap (index_size s.index) self.cut in
     let of : IsOf (location_of c.index_location.result) self.size old.contents old.pairs old.end =
@@ -165,8 +159,8 @@ returns-in-Ok-clause-cause g c = λ honest told cells valid.
     let exact = g.I.ArrayToBytesCodecTraits.is_function codec.inner_codecs in
     let still = subst IsTrue (laws.honest _ _ follows) honest in
     after_refused result s exact (put_at s.shape s.subchunk (numbers_asked s.shape (asked_of c.args.indexer)) cells) changes old (c.in-Ok.ensures.changes honest of cells valid)
-    (refused_as result s.index s.location (location_of c.index_location.result) (index_shape s.shape s.subchunk) pairs_shape changes lent old.end old.pairs c.index_location.ensures shape_is are
-    (subst (λ x. ChangesRefused (g.X.ArrayToBytesCodecTraits.meaning x) (location_of c.index_location.result) pairs_shape lent old.end (pairs_after old.end lent old.pairs) result) c.index_codecs-codecs.ensures (c.write_slices.ensures.cause still)))
+    (refused_as result s.index s.location (location_of c.index_location.result) (index_shape s.shape s.subchunk) pairs_shape changes old.end (pairs_after old.end changes old.pairs) c.index_location.ensures shape_is
+    (subst (λ x. ChangesRefused (g.X.ArrayToBytesCodecTraits.meaning x) (location_of c.index_location.result) pairs_shape changes old.end (pairs_after old.end changes old.pairs) result) c.index_codecs-codecs.ensures (c.write_given.ensures.cause still)))
 
 pub returns-in-Err-clause-cause : goal.returns-in-Err-clause-cause
 returns-in-Err-clause-cause g c = λ honest told cells valid.
@@ -192,9 +186,9 @@ pub returns-in-Ok-clause-given : goal.returns-in-Ok-clause-given
 returns-in-Ok-clause-given g c = λ honest.
     let still = subst IsTrue (g.met.E.BytesPartialDecoderTraits.honest _ _ c.in-Ok.ensures.follows) honest in
     let self = c.args.self.now in
-    let lent = changes_of c.as_slice-changes.result.now in
+    let changes = changes_of c.in-Ok.changes.items in
     let end = end_of self.known in
-    written_after _ _ (g.X.ArrayToBytesCodecTraits.meaning c.index_codecs-codecs.result.now) (location_of c.index_location.result) c.as_slice.result.now lent end (pairs_after end lent (pairs_in self.known)) c.write_slices.result (c.write_slices.ensures.cause still)
+    written_after _ _ (g.X.ArrayToBytesCodecTraits.meaning c.index_codecs-codecs.result.now) (location_of c.index_location.result) c.as_slice.result.now changes end (pairs_after end changes (pairs_in self.known)) c.write_given.result (c.write_given.ensures.cause still)
 
 pub returns-in-Err-clause-given : goal.returns-in-Err-clause-given
 returns-in-Err-clause-given g c = λ honest first. c.in-Err.ensures.given honest

@@ -1,4 +1,4 @@
-use Rattle.std.proofs.Common.{◌≡◌, ◌∙◌, ◌%◌, ap, sym, refl, subst, arith, length, Bool, true, IsTrue, Option, List, ℕ, OnErr}
+use Rattle.std.proofs.Common.{◌≡◌, ◌∙◌, ◌%◌, ap, sym, refl, subst, arith, length, Bool, IsTrue, Option, List, ℕ, OnErr}
 use Rattle.std.proofs.lemmas.Bool.{and_parts}
 use Rattle.zarr_grids_boxes.specs.Boxes.{product}
 use Rattle.zarr_codecs_arrays.specs.Views.{elements_of, payload_of}
@@ -19,7 +19,7 @@ use Rattle.zarr_sharding_codec.specs.Appending.{accepted_by}
 use Rattle.zarr_sharding_codec.specs.Views.{is_row_major, makes_a_function}
 use Rattle.zarr_sharding_codec.proofs.DecodedShard.{even_index}
 use Rattle.zarr_sharding_codec.proofs.EncodedShard.{index_part}
-use Rattle.zarr_sharding_codec.proofs.PartAppended.{IsRead, appended_read, not_opened, not_updated, not_written, read_of, read_valid}
+use Rattle.zarr_sharding_codec.proofs.PartAppended.{IsRead, appended_read, not_opened, not_updated, not_written, placed_read, read_of, read_valid}
 use Rattle.zarr_sharding_codec.proofs.StoredLoop.{rank_fits}
 use Rattle.zarr_sharding_codec.proofs.codec.ShardingCodec.append_part.Goals as goal
 
@@ -246,6 +246,15 @@ returns-in-Ok-update_asked-clause-ok g c = λ honest.
     let last = g.E.BytesPartialDecoderTraits.contents c.update_asked.new.source in
     appended_read subchunk inner index location exact elements shape asked payload size numbers pairs_shape given old later pairs end h same one whole (g.E.BytesPartialDecoderTraits.contents c.append_changes.new.source) c.in-Ok-update_asked.changes.items c.as_slice-changes.result.now c.append_changes.result c.as_slice-changes.ensures.value to_exact
     (c.in-Ok-update_asked.ensures.changes still of tested.cells (subst (λ p. IsValid elements.type p (length numbers) tested.cells) (sym c.in_ok-bytes.ensures) valid)) last (laws.same _ _ both) (c.append_changes.ensures.ok (subst IsTrue (laws.honest _ _ both) honest))
+
+pub returns-in-Ok-update_asked-clause-placed : goal.returns-in-Ok-update_asked-clause-placed
+returns-in-Ok-update_asked-clause-placed g c = λ honest.
+    let self = c.args.self.now in
+    let inner = g.I.ArrayToBytesCodecTraits.meaning self.inner_codecs in
+    let index = g.X.ArrayToBytesCodecTraits.meaning self.index_codecs in
+    let shape_is = c.as_slice.ensures.value ∙ c.in_ok-pairs_shape.ensures in
+    let old = g.E.BytesPartialDecoderTraits.contents c.args.source.now in
+    placed_read self.subchunk_shape inner index (location_of self.index_location) c.args.part.shape.now c.as_slice.result.now old (pairs_in c.in-Ok.known) (end_of c.in-Ok.known) c.append_changes.result shape_is (c.in-Ok.ensures.opened honest)
 
 pub returns-in-Ok-update_asked-clause-err : goal.returns-in-Ok-update_asked-clause-err
 returns-in-Ok-update_asked-clause-err g c = λ honest.

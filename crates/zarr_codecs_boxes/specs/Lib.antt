@@ -1,0 +1,4 @@
+pub mod Regions
+pub mod Updates
+pub mod Laws
+pub mod WorkedRegions

@@ -1,0 +1,26 @@
+-- One slice that replaces a subchunk's.
+use Rattle.std.proofs.Common.{◌≡◌, ℕ, zero, suc, ◌-◌, ◌^◌, ◌<◌, List, [], ◌∷◌, length, get_or, set, ap, arith, Some, None, true, false}
+use Rattle.std.specs.Prelude.{◌==◌}
+use Rattle.std.specs.List.{list_all}
+use Rattle.std.proofs.lemmas.Bool.{and_left, and_parts, and_right, ltb-true, ne_eqb}
+use Rattle.zarr_codecs_meaning.specs.Decoding.{is_absent}
+use Rattle.zarr_codecs_meaning.specs.Encoding.{Pair}
+use Rattle.zarr_sharding_changes.specs.Changes.{Change}
+use Rattle.zarr_sharding_state.specs.Held.{are_absent}
+use Rattle.zarr_sharding_state.specs.Views.{changes_of, is_below}
+use Rattle.zarr_sharding_state.specs.declared.writing.SliceChange.{SliceChange}
+
+-- where a slice is put, a subchunk is present
+pub present_after : (pairs : List Pair) (n offset size : ℕ) → n < length pairs → offset < 2 ^ 64 - 1 → are_absent (set pairs n (offset, size)) ≡ false
+present_after [] n offset size low small = absurd (omega (arith, low))
+present_after (p ∷ ps) zero offset size low small =
+    and_left (is_absent (offset, size)) (list_all is_absent ps) (and_left (offset == 2 ^ 64 - 1) (size == 2 ^ 64 - 1) (ne_eqb offset (2 ^ 64 - 1) (λ e. omega (arith, small, e))))
+present_after (p ∷ ps) (suc n) offset size low small = and_right (is_absent p) (are_absent (set ps n (offset, size))) (present_after ps n offset size (omega (arith, low)) small)
+
+-- the only change is of a subchunk that is there
+pub only_below : (count n : ℕ) (slice : List ℕ) (changes : List SliceChange) → changes_of changes ≡ (n, Some slice) ∷ [] → list_all (is_below count) changes ≡ true → n < count
+only_below count n slice [] is below = absurd (omega (arith, ap (λ (cs : List Change). length cs) is))
+only_below count n slice (change ∷ changes) is below =
+    let number : change.number ≡ n = ap (λ (cs : List Change). (get_or cs 0 (0, None)).0) is in
+    let low = ltb-true change.number count (and_parts (is_below count change) (list_all (is_below count) changes) below).0 in
+    omega (arith, number, low)

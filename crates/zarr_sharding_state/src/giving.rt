@@ -1,0 +1,163 @@
+//! Changes of a shard that are given away with their slices.
+ghost use Rattle.std.specs.Prelude.{◌<◌, ◌^◌};
+
+use crate::known::KnownShard;
+use crate::writing::{GivenChanges, ShardChanges, slice_patches, take_only_slice};
+use std::alloc::Global;
+use zarr_codecs_arrays::CodecError;
+use zarr_codecs_options::CodecOptions;
+use zarr_codecs_traits::{ArrayToBytesCodecTraits, ByteRange, BytesPartialEncoderTraits};
+use zarr_sharding_index::held::IndexLayout;
+use zarr_sharding_index::stored::write_index;
+
+/// The new slice of the subchunk with this number, and how the shard's index is laid out.
+#[derive(Drop)]
+struct GivenSlice<'a> {
+    layout: IndexLayout<'a>,
+    number: usize,
+    slice: Vec<u8>,
+}
+
+impl KnownShard {
+    ghost use Rattle.std.specs.Prelude.{◌≡◌, ◌+◌, ◌*◌, ◌<◌, ◌^◌, ◌∷◌, [], length, true, Some, OnOk, OnErr, IsTrue, unwrap_or};
+    ghost use Rattle.std.specs.List.{list_all};
+    ghost use Rattle.zarr_codecs_meaning.specs.Encoding.{index_size};
+    ghost use Rattle.zarr_codecs_traits.specs.Sources.{refused_after};
+    ghost use Rattle.zarr_codecs_traits.specs.Writes.{accepted_after};
+    ghost use Rattle.zarr_grids_boxes.specs.Boxes.{product};
+    ghost use Rattle.zarr_sharding_changes.specs.Changes.{appended, pairs_after};
+    ghost use Rattle.zarr_sharding_index.specs.Stored.{index_fits};
+    ghost use Rattle.zarr_sharding_index.specs.Views.{location_of};
+    ghost use Rattle.zarr_sharding_state.specs.States.{end_of, pairs_in};
+    ghost use Rattle.zarr_sharding_state.specs.Views.{changes_of, is_below};
+    ghost use Rattle.zarr_sharding_state.specs.Written.{AppendRefused, ChangesRefused, IsChanged, with_slices};
+
+    /// Replaces the slices of some subchunks, as `write_slices` does, with its errors. The slice of
+    /// a change that is the only one isn't copied before it goes out.
+    pub fn write_given<X: ArrayToBytesCodecTraits, E: BytesPartialEncoderTraits>(
+        &mut self,
+        alloc: Global,
+        source: &mut E,
+        codecs: &X,
+        given: GivenChanges<'_>,
+        options: &CodecOptions,
+    ) -> Result<(), CodecError>
+        requires fit { index_fits (X.meaning codecs.now) given.layout.shape.now ≡ true }
+        requires size { given.layout.size
+            ≡ index_size (X.meaning codecs.now) given.layout.shape.now }
+        requires many { product given.layout.shape.now ≡ 2 * length (pairs_in self.old) }
+        requires below { list_all (is_below (length (pairs_in self.old))) given.changes.items
+            ≡ true }
+        ensures pairs { OnOk result (pairs_in self.new ≡ pairs_after (end_of self.old)
+            (changes_of given.entry.changes.items) (pairs_in self.old)) }
+        ensures room { OnOk result (end_of self.old
+            + length (appended (changes_of given.entry.changes.items)) < 2 ^ 63) }
+        ensures ok { IsTrue (E.is_honest source.old) → OnOk result
+            (IsChanged (X.meaning codecs.now) (X.is_function codecs.now)
+            (location_of given.entry.layout.location) given.entry.layout.shape.now
+            (changes_of given.entry.changes.items) (end_of self.old) (pairs_in self.new)
+            (E.contents source.old) (E.contents source.new) (end_of self.new)) }
+        ensures err { IsTrue (E.is_honest source.old) →
+            OnErr result (E.contents source.new ≡ E.contents source.old) }
+        ensures same { OnErr result ((pairs_in self.new ≡ pairs_in self.old)
+            × (end_of self.new ≡ end_of self.old)) }
+        ensures cause { IsTrue (E.is_honest source.old) → ChangesRefused
+            (X.meaning codecs.now) (location_of given.entry.layout.location)
+            given.entry.layout.shape.now (changes_of given.entry.changes.items) (end_of self.old)
+            (pairs_after (end_of self.old) (changes_of given.entry.changes.items)
+            (pairs_in self.old)) result }
+        ensures refused { E.refused_calls source.new ≡
+            refused_after (E.refused_calls source.old) result }
+        ensures accepted { E.accepted_writes source.new ≡
+            accepted_after (E.accepted_writes source.old) result }
+        ensures rewrites { E.rewrites source.old source.new }
+    {
+        let layout = given.layout;
+        let mut changes = given.changes;
+        match take_only_slice(&mut changes) {
+            Some((number, slice)) => {
+                let given = GivenSlice {
+                    layout,
+                    number,
+                    slice,
+                };
+                self.write_slice(alloc, source, codecs, given, options)
+            }
+            None => {
+                let changes = changes.as_slice();
+                let given = ShardChanges { layout, changes };
+                self.write_slices(alloc, source, codecs, given, options)
+            }
+        }
+    }
+
+    /// Replaces the slice of one subchunk, as `write_slices` does.
+    fn write_slice<X: ArrayToBytesCodecTraits, E: BytesPartialEncoderTraits>(
+        &mut self,
+        alloc: Global,
+        source: &mut E,
+        codecs: &X,
+        given: GivenSlice<'_>,
+        options: &CodecOptions,
+    ) -> Result<(), CodecError>
+        requires fit { index_fits (X.meaning codecs.now) given.layout.shape.now ≡ true }
+        requires size { given.layout.size
+            ≡ index_size (X.meaning codecs.now) given.layout.shape.now }
+        requires many { product given.layout.shape.now ≡ 2 * length (pairs_in self.old) }
+        requires below { given.number < length (pairs_in self.old) }
+        ensures pairs { OnOk result (pairs_in self.new ≡ pairs_after (end_of self.old)
+            ((given.entry.number, Some given.entry.slice.items) ∷ []) (pairs_in self.old)) }
+        ensures room { OnOk result (end_of self.old
+            + length (appended ((given.entry.number, Some given.entry.slice.items) ∷ []))
+            < 2 ^ 63) }
+        ensures ok { IsTrue (E.is_honest source.old) → OnOk result
+            (IsChanged (X.meaning codecs.now) (X.is_function codecs.now)
+            (location_of given.entry.layout.location) given.entry.layout.shape.now
+            ((given.entry.number, Some given.entry.slice.items) ∷ []) (end_of self.old)
+            (pairs_in self.new)
+            (E.contents source.old) (E.contents source.new) (end_of self.new)) }
+        ensures err { IsTrue (E.is_honest source.old) →
+            OnErr result (E.contents source.new ≡ E.contents source.old) }
+        ensures same { OnErr result ((pairs_in self.new ≡ pairs_in self.old)
+            × (end_of self.new ≡ end_of self.old)) }
+        ensures cause { IsTrue (E.is_honest source.old) → ChangesRefused
+            (X.meaning codecs.now) (location_of given.entry.layout.location)
+            given.entry.layout.shape.now
+            ((given.entry.number, Some given.entry.slice.items) ∷ []) (end_of self.old)
+            (pairs_after (end_of self.old) ((given.entry.number, Some given.entry.slice.items) ∷ [])
+            (pairs_in self.old)) result }
+        ensures refused { E.refused_calls source.new ≡
+            refused_after (E.refused_calls source.old) result }
+        ensures accepted { E.accepted_writes source.new ≡
+            accepted_after (E.accepted_writes source.old) result }
+        ensures rewrites { E.rewrites source.old source.new }
+    {
+        let GivenSlice {
+            layout,
+            number,
+            slice,
+        } = given;
+        let length = slice.len() as u64;
+        if length > 0x7fff_ffff_ffff_ffff - self.end {
+            return Err(CodecError::Size);
+        }
+        let offset = self.end;
+        let pair = ByteRange { offset, length };
+        let mut index = self.index.try_clone(alloc)?;
+        index.put(number, pair);
+        match write_index(alloc, codecs, index, layout.shape, options) {
+            Ok(index) => {
+                let patches = slice_patches(alloc, layout.location, offset, index, slice)?;
+                match source.partial_encode(alloc, patches) {
+                    Ok(()) => {
+                        self.index.put(number, pair);
+                        self.end = offset + length;
+                        Ok(())
+                    }
+                    Err(error) => Err(error),
+                }
+            }
+            Err(error) => Err(error),
+        }
+    }
+}
