@@ -133,10 +133,9 @@ lost_meets subchunk inner index location exact elements shape numbers cells valu
     let here : get_or part.places i 0 ≡ n = subst (λ (j : ℕ). get_or (get_or parts j no_part).places i 0 ≡ n) same located.here in
     let inside = position_found n part.places (among_at part.places i n in_part here) in
     let unread = unread_there (is_absent pair) (replicate (product subchunk) elements.fill) (option_and_then (decoded inner elements subchunk) (slice_at value pair)) lost.lost in
-    let whole : part.shape ≡ subchunk = each_at (λ (p : Part). p.shape ≡ subchunk) parts k no_part (whole_parts shape subchunk cuts even) there in
-    (
+    let whole : part.shape ≡ subchunk = each_at (λ (p : Part). p.shape ≡ subchunk) parts k no_part (whole_parts shape subchunk cuts even) there in (
       pairs,
       read,
       among_lost (decoded inner elements) value numbers parts pairs k there low (meets_part numbers part t lost.met.below (lt-ltb (position_of n part.places) (length part.places) inside)) unread.0
-      (ap (λ (s : List ℕ). option_and_then (decoded inner elements s) (slice_at value pair)) whole ∙ unread.1),
+          (ap (λ (s : List ℕ). option_and_then (decoded inner elements s) (slice_at value pair)) whole ∙ unread.1),
     )

@@ -34,8 +34,7 @@ are_rising : (stored : Stored) (new : Put) (first end : ℕ) (changes : List Cha
     → AreRising first end changes
 are_rising stored new first end [] are many from once = tt
 are_rising stored new first end (change ∷ changes) are many from once =
-    let low = are.0.below in
-    (
+    let low = are.0.below in (
       from (omega arith),
       omega (arith, low, many),
       are_rising stored new (change.0 + 1) end changes are.1 many (λ some. let less = once 0 1 (omega arith) (omega (arith, some)) in omega (arith, less)) (λ i j less below. once (suc i) (suc j) (omega (arith, less)) (omega (arith, below))),
