@@ -177,13 +177,9 @@ impl<'a, S: WritableStorageTraits> BytesPartialEncoderTraits for StoragePartialE
         (S.held (store_behind a)) (S.held (store_behind b))) };
 
     #[tactic(auto, using(crate::proofs::PartialEncoderLemmas::target_counts, crate::proofs::PartialEncoderLemmas::patches_refused, crate::proofs::PartialEncoderLemmas::get_inserted, crate::proofs::PartialEncoderLemmas::inserted_elsewhere))]
-    fn partial_encode(
-        &mut self,
-        alloc: Global,
-        patches: Vec<ValuePatch>,
-    ) -> Result<(), CodecError> {
+    fn partial_encode(&mut self, alloc: Global, patches: &[ValuePatch]) -> Result<(), CodecError> {
         let key = self.source.key;
-        match write_ranges(alloc, self.source.store, key, &patches) {
+        match write_ranges(alloc, self.source.store, key, patches) {
             Ok(()) => Ok(()),
             Err(error) => Err(self.refuse(error)),
         }

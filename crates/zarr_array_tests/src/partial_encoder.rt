@@ -50,7 +50,7 @@ fn two_patches(alloc: Global) -> Result<Vec<ValuePatch>, CodecError> {
 /// Writes the two patches into the value at a key.
 fn patch(alloc: Global, store: &mut CountingStore, key: &StoreKey) -> Result<(), CodecError> {
     let patches = two_patches(alloc)?;
-    StoragePartialEncoder::new(store, key).partial_encode(alloc, patches)
+    StoragePartialEncoder::new(store, key).partial_encode(alloc, &patches)
 }
 
 /// How many calls read, set and write parts for the two patches, where the value is right then.

@@ -1,4 +1,5 @@
 //! The chains that arrays have.
+use crate::states;
 use anyhow::Result;
 use std::alloc::Global;
 use zarr_calls_kinds::words::{cut, metadatas_in, refused, texts_of};
@@ -12,6 +13,9 @@ pub(crate) fn answer(alloc: Global, name: &str, rest: &str) -> Result<String> {
     }
     let (codecs, rest) = cut(rest)?;
     let chain = chain_in(alloc, codecs)?;
+    if name == "state" {
+        return states::answer(alloc, &chain, rest);
+    }
     answer_of_chain(alloc, &chain, name, rest)
 }
 

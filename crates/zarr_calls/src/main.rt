@@ -7,6 +7,7 @@
 mod chains;
 mod documents;
 mod lines;
+mod states;
 
 fn main(rt: HostRuntime) -> anyhow::Result<()> {
     lines::answer_lines(rt.alloc(), rt.stdin(), &mut rt.stdout())

@@ -12,7 +12,7 @@ use zarr_codecs_types::DataType;
 
 /// An array that a chain may encode: its elements and its shape.
 #[derive(Drop)]
-pub(crate) struct Array {
+pub struct Array {
     pub elements: Elements,
     pub shape: Vec<u64>,
 }
@@ -34,7 +34,7 @@ pub(crate) fn answer<C: ArrayToBytesCodecTraits>(
 }
 
 /// The array of a data type, a fill value and a shape, and the other arguments.
-pub(crate) fn array_in(alloc: Global, text: &str) -> Result<(Array, &str)> {
+pub fn array_in(alloc: Global, text: &str) -> Result<(Array, &str)> {
     let (data_type, rest) = cut(text)?;
     let (fill, rest) = cut(rest)?;
     let (shape, rest) = cut(rest)?;

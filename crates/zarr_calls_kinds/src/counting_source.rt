@@ -80,11 +80,7 @@ impl BytesPartialEncoderTraits for CountingSource {
 
     ghost rewrites = { λ _ _. Unit {0} };
 
-    fn partial_encode(
-        &mut self,
-        alloc: Global,
-        patches: Vec<ValuePatch>,
-    ) -> Result<(), CodecError> {
+    fn partial_encode(&mut self, alloc: Global, patches: &[ValuePatch]) -> Result<(), CodecError> {
         self.writes = self.writes.wrapping_add(1);
         self.inner.partial_encode(alloc, patches)
     }

@@ -38,7 +38,7 @@ fn values_in(alloc: Global, data_type: &DataType, text: &str) -> Result<Option<A
 }
 
 /// The elements of a type that an argument says, as JSON or by their bytes.
-pub(crate) fn given_in(alloc: Global, data_type: &DataType, text: &str) -> Result<ArrayBytes> {
+pub fn given_in(alloc: Global, data_type: &DataType, text: &str) -> Result<ArrayBytes> {
     if !text.starts_with('[') {
         return raw_in(alloc, text);
     }
@@ -46,7 +46,7 @@ pub(crate) fn given_in(alloc: Global, data_type: &DataType, text: &str) -> Resul
 }
 
 /// The JSON list of elements.
-pub(crate) fn json(alloc: Global, data_type: &DataType, elements: &ArrayBytes) -> Result<String> {
+pub fn json(alloc: Global, data_type: &DataType, elements: &ArrayBytes) -> Result<String> {
     let mut text = Vec::new(alloc);
     match push_elements(&mut text, data_type, elements)? {
         Printed::Whole => Ok(

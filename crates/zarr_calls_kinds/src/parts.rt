@@ -2,8 +2,8 @@
 use crate::arrays::{Array, array_in};
 use crate::counting_source::CountingSource;
 use crate::elements::{given_in, json};
-use crate::sources::{source_in, value_of};
-use crate::words::{box_in, cut, digits, numbers_in, push_word, refused, word};
+use crate::sources::{counting_in, value_of};
+use crate::words::{box_in, counted, cut, digits, numbers_in, push_word, refused, word};
 use anyhow::{Result, bail};
 use std::alloc::Global;
 use zarr_codecs_arrays::{ArrayBytes, CodecError};
@@ -29,13 +29,23 @@ pub(crate) fn answer<C: ArrayToBytesCodecTraits>(
 
 /// Places of an array: those of a box, or those with some numbers.
 #[derive(Drop)]
-enum Places {
+pub enum Places {
     Region(ArraySubset),
     Numbers(Vec<u64>),
 }
 
+impl Places {
+    /// The places as codecs take them.
+    pub fn indexer(&self) -> Indexer<'_> {
+        match self {
+            Places::Region(region) => Indexer::Subset(region),
+            Places::Numbers(numbers) => Indexer::List(numbers.as_slice()),
+        }
+    }
+}
+
 /// The places of an argument: `box` and a list of pairs, or `places` and a list of numbers.
-fn places_in(alloc: Global, text: &str) -> Result<Places> {
+pub fn places_in(alloc: Global, text: &str) -> Result<Places> {
     match text.split_once(' ') {
         Some(("box", pairs)) => Ok(Places::Region(box_in(alloc, pairs)?)),
         Some(("places", numbers)) => Ok(Places::Numbers(numbers_in(alloc, numbers)?)),
@@ -68,10 +78,7 @@ fn asked(part: &Part) -> ArrayPart<'_> {
     ArrayPart {
         elements: &part.array.elements,
         shape: part.array.shape.as_slice(),
-        indexer: match &part.places {
-            Places::Region(region) => Indexer::Subset(region),
-            Places::Numbers(numbers) => Indexer::List(numbers.as_slice()),
-        },
+        indexer: part.places.indexer(),
     }
 }
 
@@ -90,7 +97,7 @@ fn cells_of<C: ArrayToBytesCodecTraits>(
 /// took.
 fn read<C: ArrayToBytesCodecTraits>(alloc: Global, chain: &C, rest: &str) -> Result<String> {
     let (part, value) = part_in(alloc, rest)?;
-    let mut source = source_in(alloc, value)?;
+    let mut source = counting_in(alloc, value)?;
     read_of(alloc, chain, &part, &mut source)
 }
 
@@ -114,8 +121,9 @@ fn told(
     source: &CountingSource,
 ) -> Result<String> {
     let cells = json(alloc, data_type, cells)?;
-    let (calls, bytes) = (source.reads, source.given);
-    Ok(format!(in alloc; "{cells} of {bytes} bytes by {calls} call")?)
+    let bytes = counted(alloc, source.given, "byte")?;
+    let calls = counted(alloc, source.reads, "call")?;
+    Ok(format!(in alloc; "{cells} of {bytes} by {calls}")?)
 }
 
 /// Puts cells at the places of a part.
@@ -130,7 +138,8 @@ fn put_cells<C: ArrayToBytesCodecTraits>(
     chain.partial_encode(alloc, source, cells, asked(part), &options)
 }
 
-/// The value once cells are put at places, and how many calls read and wrote it.
+/// The value once cells are put at places, how many calls wrote it, how many bytes were read to do
+/// so, and by how many calls.
 fn put<C: ArrayToBytesCodecTraits>(alloc: Global, chain: &C, rest: &str) -> Result<String> {
     let (part, rest) = part_in(alloc, rest)?;
     let (value, cells) = cut(rest)?;
@@ -145,18 +154,20 @@ fn put_into<C: ArrayToBytesCodecTraits>(
     cells: ArrayBytes,
     value: &str,
 ) -> Result<String> {
-    let mut source = source_in(alloc, value)?;
+    let mut source = counting_in(alloc, value)?;
     match put_cells(alloc, chain, part, &mut source, cells) {
         Ok(()) => left(alloc, source),
         Err(error) => left_by(alloc, &error, source),
     }
 }
 
-/// What a source holds, and how many calls wrote and read it.
+/// What a source holds, and what it was asked for.
 fn left(alloc: Global, source: CountingSource) -> Result<String> {
-    let (writes, reads) = (source.writes, source.reads);
+    let writes = counted(alloc, source.writes, "call")?;
+    let bytes = counted(alloc, source.given, "byte")?;
+    let reads = counted(alloc, source.reads, "call")?;
     let value = value_of(alloc, source.inner)?;
-    Ok(format!(in alloc; "{value}, written by {writes} call and read by {reads}")?)
+    Ok(format!(in alloc; "{value}, written by {writes}, {bytes} read by {reads}")?)
 }
 
 /// The same after a refusal.

@@ -15,13 +15,18 @@ pub(crate) fn answer(alloc: Global, name: &str, rest: &str) -> Option<Result<Str
 }
 
 /// The source of a value, or of `none`.
-pub(crate) fn source_in(alloc: Global, text: &str) -> Result<CountingSource> {
+pub fn source_in(alloc: Global, text: &str) -> Result<MemorySource> {
     let value = match text {
         "none" => None,
         _ => Some(bytes_in(alloc, text)?),
     };
+    Ok(MemorySource::new(value))
+}
+
+/// The same as a source that counts calls.
+pub(crate) fn counting_in(alloc: Global, text: &str) -> Result<CountingSource> {
     Ok(CountingSource {
-        inner: MemorySource::new(value),
+        inner: source_in(alloc, text)?,
         reads: 0,
         given: 0,
         writes: 0,
@@ -29,7 +34,7 @@ pub(crate) fn source_in(alloc: Global, text: &str) -> Result<CountingSource> {
 }
 
 /// The value of a source, or `none`.
-pub(crate) fn value_of(alloc: Global, source: MemorySource) -> Result<String> {
+pub fn value_of(alloc: Global, source: MemorySource) -> Result<String> {
     match source.into_value() {
         Some(value) => digits(alloc, value.as_slice()),
         None => word(alloc, "none"),
@@ -38,7 +43,7 @@ pub(crate) fn value_of(alloc: Global, source: MemorySource) -> Result<String> {
 
 /// Writes bytes into a source from an offset on.
 fn patch(alloc: Global, source: &mut MemorySource, patch: ValuePatch) -> Result<(), CodecError> {
-    source.partial_encode(alloc, vec![in alloc; patch]?)
+    source.partial_encode(alloc, &[patch])
 }
 
 /// The bytes of an argument, and the offset of the one before it.
@@ -52,7 +57,7 @@ fn patch_in(alloc: Global, text: &str) -> Result<ValuePatch> {
 /// The value once bytes are written into it from an offset on.
 fn write(alloc: Global, rest: &str) -> Result<String> {
     let (value, rest) = cut(rest)?;
-    let mut source = source_in(alloc, value)?.inner;
+    let mut source = source_in(alloc, value)?;
     match patch(alloc, &mut source, patch_in(alloc, rest)?) {
         Ok(()) => value_of(alloc, source),
         Err(error) => left_by(alloc, &error, source),

@@ -54,14 +54,16 @@ fn size<C: ArrayToBytesCodecTraits>(alloc: Global, chain: &C, rest: &str) -> Res
     }
 }
 
-/// Whether parts of an array are decoded and encoded as parts of its value, and the shape of those.
+/// Whether parts of an array are decoded and encoded as parts of its value, the shape of those, and
+/// whether elements are encoded as they are.
 fn by_parts<C: ArrayToBytesCodecTraits>(alloc: Global, chain: &C, rest: &str) -> Result<String> {
     let shape = numbers_in(alloc, rest)?;
     let part = chain.partial_decode_granularity(alloc, shape.as_slice())?;
     let part = part.as_slice();
     let decoder = chain.partial_decoder_capability();
     let encoder = chain.partial_encoder_capability();
-    Ok(format!(in alloc; "decoded {decoder}, encoded {encoder}, by {part:?}")?)
+    let as_is = chain.encodes_as_is();
+    Ok(format!(in alloc; "decoded {decoder}, encoded {encoder}, by {part:?}, as is {as_is}")?)
 }
 
 /// Whether a chain writes elements of a type into values that it has not read.

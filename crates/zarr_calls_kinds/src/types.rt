@@ -4,7 +4,7 @@ use anyhow::{Context, Result};
 use serde_json::Value;
 use std::alloc::Global;
 use zarr_codecs_arrays::Elements;
-use zarr_codecs_types::{Cell, DataType, FillValue, is_value};
+use zarr_codecs_types::{Cell, Component, DataType, FillValue, Sign, is_value};
 
 /// What a call of types gives.
 pub(crate) fn answer(alloc: Global, name: &str, rest: &str) -> Option<Result<String>> {
@@ -16,9 +16,37 @@ pub(crate) fn answer(alloc: Global, name: &str, rest: &str) -> Option<Result<Str
     }
 }
 
-/// The type of a text.
+/// The type of a text: of its metadata, or a caller's own of a list of its numbers.
 pub(crate) fn type_in(alloc: Global, text: &str) -> Result<DataType> {
-    Ok(DataType::from_metadata(alloc, &Value::from_str(alloc, text)?)?)
+    match Value::from_str(alloc, text)? {
+        Value::Array(numbers) => custom_type(alloc, numbers.as_slice()),
+        metadata => Ok(DataType::from_metadata(alloc, &metadata)?),
+    }
+}
+
+/// A caller's type, whose elements are these numbers.
+fn custom_type(alloc: Global, numbers: &[Value]) -> Result<DataType> {
+    let mut components = Vec::new(alloc);
+    for number in numbers {
+        components.push(component_of(number).context("a type has no number")?)?;
+    }
+    Ok(DataType::Custom(components))
+}
+
+/// A number of an element: how many bits it has, how many bytes, and whether it has a sign.
+fn component_of(number: &Value) -> Option<Component> {
+    let [width, byte_count, is_signed] = number.as_array()?.as_slice() else {
+        return None;
+    };
+    Some(Component {
+        width: width.as_u64()? as usize,
+        byte_count: byte_count.as_u64()? as usize,
+        sign: if is_signed.as_bool()? {
+            Sign::Signed
+        } else {
+            Sign::Unsigned
+        },
+    })
 }
 
 /// The fill value of a text.

@@ -123,6 +123,12 @@ pub fn word(alloc: Global, text: &str) -> Result<String> {
     Ok(String::from_str(alloc, text)?)
 }
 
+/// So many of what a word names, as `1 call` and `2 calls`.
+pub(crate) fn counted(alloc: Global, count: u64, word: &str) -> Result<String> {
+    let ending = if count == 1 { "" } else { "s" };
+    Ok(format!(in alloc; "{count} {word}{ending}")?)
+}
+
 /// Appends a word, after a space where it isn't the first.
 pub fn push_word(all: &mut String, text: &str) -> Result<(), AllocError> {
     if !all.is_empty() {

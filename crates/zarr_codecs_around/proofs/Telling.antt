@@ -9,7 +9,7 @@ use Rattle.zarr_codecs_meaning.specs.Partial.{encodes_in_part}
 use Rattle.zarr_codecs_meaning.specs.Payloads.{Payload}
 use Rattle.zarr_codecs_arrays.specs.declared.error.CodecError.{CodecError}
 use Rattle.zarr_codecs_arrays.specs.declared.error.CodecError.TheVariants as error
-use Rattle.zarr_codecs_traits.specs.Capabilities.{decodes_parts, granularity}
+use Rattle.zarr_codecs_traits.specs.Capabilities.{decodes_parts, encodes_as_is, granularity}
 use Rattle.zarr_codecs_traits.specs.Indexers.{Asked, in_box, listed}
 use Rattle.zarr_codecs_traits.specs.PartEncoding.{EncodesAsked, encodes_ranges, takes_patches}
 use Rattle.zarr_codecs_traits.specs.Representations.{IsRepresented, RepresentsArray, is_too_long, known_size, tells_too_long}
@@ -137,6 +137,21 @@ granularity_whole (codec ∷ codecs) chain shape some = refl
 pub never_replaced : (codecs : List ArrayToArrayCodec) (chain : Chain) (type : DataType) → (length codecs ≡ 0 → ⊥) → false ≡ takes_patches (with_array_codecs (codecs_of codecs) chain) type
 never_replaced [] chain type some = absurd (some refl)
 never_replaced (codec ∷ codecs) chain type some = refl
+
+-- ---- values that are bytes as they stand in memory
+
+-- with an array codec before it, or a bytes codec after it, no chain encodes elements as they are
+pub never_as_is_before : (codecs : List ArrayToArrayCodec) (chain : Chain) → (length codecs ≡ 0 → ⊥) → false ≡ encodes_as_is (with_array_codecs (codecs_of codecs) chain)
+never_as_is_before [] chain some = absurd (some refl)
+never_as_is_before (codec ∷ codecs) chain some = refl
+
+as_is_after : (chain : Chain) (codec : ByteCodec) (codecs : List ByteCodec) → false ≡ encodes_as_is (with_codecs (then_bytes chain codec) codecs)
+as_is_after chain codec [] = refl
+as_is_after chain codec (other ∷ codecs) = as_is_after (then_bytes chain codec) other codecs
+
+pub never_as_is_after : {B : Type 0} (chain : Chain) (meaning : B → ByteCodec) (codecs : List B) → (length codecs ≡ 0 → ⊥) → false ≡ encodes_as_is (with_codecs chain (map meaning codecs))
+never_as_is_after chain meaning [] some = absurd (some refl)
+never_as_is_after chain meaning (codec ∷ codecs) some = as_is_after chain (meaning codec) (map meaning codecs)
 
 -- ---- parts that are replaced
 

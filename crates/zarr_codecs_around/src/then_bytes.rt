@@ -140,6 +140,10 @@ impl<A: InnerCodec, B: BytesToBytesCodecTraits> ArrayToBytesCodecTraits for Then
         self.bytes_to_bytes.is_empty() && self.codec.partial_encoder_capability()
     }
 
+    fn encodes_as_is(&self) -> bool {
+        self.bytes_to_bytes.is_empty() && self.codec.encodes_as_is()
+    }
+
     fn partial_decode_granularity(
         &self,
         alloc: Global,

@@ -333,6 +333,13 @@ impl ArrayToBytesCodecTraits for BytesCodec {
         true
     }
 
+    fn encodes_as_is(&self) -> bool {
+        match self.endian {
+            Some(Endianness::Big) => false,
+            _ => true,
+        }
+    }
+
     fn partial_decode_granularity(
         &self,
         alloc: Global,

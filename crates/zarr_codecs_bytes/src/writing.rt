@@ -88,7 +88,7 @@ fn write_over<E: BytesPartialEncoderTraits>(
     ensures rewrites { E.rewrites source.old source.new }
 {
     match asked_patches(alloc, codec, bytes, part, total) {
-        Ok(patches) => source.partial_encode(alloc, patches),
+        Ok(patches) => source.partial_encode(alloc, &patches),
         Err(error) => Err(error),
     }
 }

@@ -168,6 +168,14 @@ impl<B: BytesToBytesCodecTraits> ArrayToBytesCodecTraits for ArrayToBytesCodec<B
         }
     }
 
+    fn encodes_as_is(&self) -> bool {
+        match self {
+            ArrayToBytesCodec::Bytes(codec) => codec.encodes_as_is(),
+            ArrayToBytesCodec::PackBits(codec) => codec.encodes_as_is(),
+            ArrayToBytesCodec::Vlen(_) | ArrayToBytesCodec::Optional(_) => false,
+        }
+    }
+
     fn partial_decode_granularity(
         &self,
         alloc: Global,

@@ -106,6 +106,10 @@ impl<B: BytesToBytesCodecTraits> ArrayToBytesCodecTraits for BytesChain<B> {
         self.bytes_to_bytes.is_empty() && self.array_to_bytes.partial_encoder_capability()
     }
 
+    fn encodes_as_is(&self) -> bool {
+        self.bytes_to_bytes.is_empty() && self.array_to_bytes.encodes_as_is()
+    }
+
     fn partial_decode_granularity(
         &self,
         alloc: Global,

@@ -208,6 +208,10 @@ impl<B: BytesToBytesCodecTraits> ArrayToBytesCodecTraits for CodecChain<B> {
         self.others.partial_encoder_capability()
     }
 
+    fn encodes_as_is(&self) -> bool {
+        self.array_to_array.is_empty() && self.others.encodes_as_is()
+    }
+
     fn partial_decode_granularity(
         &self,
         alloc: Global,

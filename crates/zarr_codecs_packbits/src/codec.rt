@@ -259,6 +259,10 @@ impl ArrayToBytesCodecTraits for PackBitsCodec {
         false
     }
 
+    fn encodes_as_is(&self) -> bool {
+        false
+    }
+
     fn partial_decode_granularity(
         &self,
         alloc: Global,

@@ -5,7 +5,6 @@ use zarr_codecs::{
     ArrayBytes, ArrayToBytesCodecTraits, BytesCodec, CodecError, CodecOptions, Component, DataType,
     DataTypeError, Elements, FillValue, FillValueError, Sign,
 };
-use zarr_codecs_json::{Printed, push_elements};
 
 /// A 16-bit number without a sign and a 4-bit one with a sign, in three bytes.
 fn two_numbers(alloc: Global) -> Result<DataType, AllocError> {
@@ -49,18 +48,6 @@ fn are_two_numbers(alloc: Global, bytes: &[u8]) -> Result<(bool, bool), FillValu
 fn the_bytes_of_several_numbers_are_in_turn(rt: HostRuntime) {
     assert!(rt; matches!(are_two_numbers(rt.alloc(), &[1, 2, 255]), Ok((true, true))));
     assert!(rt; matches!(are_two_numbers(rt.alloc(), &[1, 2, 8]), Ok((false, true))));
-}
-
-/// Whether nothing is printed of an element of two numbers.
-fn has_no_text(alloc: Global, bytes: &[u8]) -> Result<bool, AllocError> {
-    let mut text = b">".to_vec(alloc)?;
-    let printed = push_elements(&mut text, &two_numbers(alloc)?, &fixed(alloc, bytes)?)?;
-    Ok(matches!(printed, Printed::NoText) && text.as_slice() == b">".as_slice())
-}
-
-#[test]
-fn elements_of_two_numbers_are_not_printed(rt: HostRuntime) {
-    assert!(rt; matches!(has_no_text(rt.alloc(), &[1, 2, 3]), Ok(true)));
 }
 
 /// Elements that are two numbers each, of which all are 0.

@@ -7,7 +7,7 @@ ghost use Rattle.zarr_codecs_meaning.specs.Partial.{encodes_in_part};
 ghost use Rattle.zarr_codecs_meaning.specs.Types.{Cell};
 ghost use Rattle.zarr_codecs_types.specs.Views.{type_of};
 ghost use Rattle.zarr_codecs_arrays.specs.Views.{payload_of, elements_of};
-ghost use Rattle.zarr_codecs_traits.specs.Capabilities.{decodes_parts, granularity};
+ghost use Rattle.zarr_codecs_traits.specs.Capabilities.{decodes_parts, encodes_as_is, granularity};
 ghost use Rattle.zarr_codecs_traits.specs.Compactions.{Compacts};
 ghost use Rattle.zarr_codecs_traits.specs.Indexers.{asked_of};
 ghost use Rattle.zarr_codecs_traits.specs.Outcomes.{Encodes, Decodes, DecodesPart};
@@ -118,6 +118,11 @@ pub trait ArrayToBytesCodecTraits: Sized + Drop {
         shape: &[u64],
     ) -> Result<BytesRepresentation, CodecError>
         ensures { RepresentsArray (meaning self.now) (type_of data_type.now) shape.now result };
+
+    /// Whether the value of elements of one size is their bytes, in the order that they have in
+    /// memory, so that nothing need be encoded: the codec is `bytes` alone, and not big endian.
+    fn encodes_as_is(&self) -> bool
+        ensures { result ≡ encodes_as_is (meaning self.now) };
 
     /// Whether a part of an array can be decoded from a part of its value (this project's profile).
     /// The values of other codecs are read whole.

@@ -132,15 +132,11 @@ impl BytesPartialEncoderTraits for MemorySource {
 
     ghost rewrites = { λ _ _. Unit {0} };
 
-    fn partial_encode(
-        &mut self,
-        alloc: Global,
-        patches: Vec<ValuePatch>,
-    ) -> Result<(), CodecError> {
-        if any_too_far(&patches) {
+    fn partial_encode(&mut self, alloc: Global, patches: &[ValuePatch]) -> Result<(), CodecError> {
+        if any_too_far(patches) {
             return Err(CodecError::Size);
         }
-        patch_value(alloc, &mut self.value, &patches)?;
+        patch_value(alloc, &mut self.value, patches)?;
         self.accepted = self.accepted.saturating_add(1);
         Ok(())
     }

@@ -4,7 +4,7 @@ use crate::elements::holding;
 use crate::stop::{Stop, expect};
 use crate::texts::read_point;
 use crate::types::{read_fill, read_type};
-use crate::values::{Values, run as run_values};
+use crate::values::{PutBox, Values, run as run_values};
 use std::alloc::Global;
 use zarr_codecs::{
     ArraySubset, ArrayToBytesCodecTraits, BytesPartialDecoderTraits, CodecChain, CodecOptions,
@@ -15,7 +15,8 @@ use zarr_codecs_reverse::ReverseCodec;
 type Chain = CodecChain<ReverseCodec>;
 
 /// A chain, what the elements of an array are and its shape, a value that the chain makes of such
-/// elements, and the value where the first two elements have changed places.
+/// elements, the value where the first two elements have changed places, and boxes that are put
+/// into it.
 #[derive(Clone, Copy)]
 struct Case {
     codecs: &'static [&'static str],
@@ -24,13 +25,14 @@ struct Case {
     shape: &'static [u64],
     value: &'static [u8],
     swapped: &'static [u8],
+    boxes: &'static [PutBox<'static>],
 }
 
 const BIG: &str = r#"{"configuration":{"endian":"big"},"name":"bytes"}"#;
 
 const REVERSE: &str = r#""x-reverse""#;
 
-const CASES: [Case; 5] = [
+const CASES: [Case; 6] = [
     Case {
         codecs: &[
             r#"{"configuration":{"order":[1,0]},"name":"transpose"}"#,
@@ -42,6 +44,12 @@ const CASES: [Case; 5] = [
         shape: &[2, 2],
         value: &[4, 0, 2, 0, 3, 0, 1, 0],
         swapped: &[4, 0, 1, 0, 3, 0, 2, 0],
+        boxes: &[PutBox {
+            ranges: &[0..2, 1..2],
+            found: &[2, 0, 4, 0],
+            given: &[5, 0, 6, 0],
+            left: &[6, 0, 5, 0, 3, 0, 1, 0],
+        }],
     },
     Case {
         codecs: &[
@@ -54,6 +62,12 @@ const CASES: [Case; 5] = [
         shape: &[1, 3],
         value: &[1, 2, 3],
         swapped: &[2, 1, 3],
+        boxes: &[PutBox {
+            ranges: &[0..1, 1..3],
+            found: &[2, 3],
+            given: &[8, 9],
+            left: &[1, 8, 9],
+        }],
     },
     Case {
         codecs: &[r#"{"configuration":{"padding_encoding":"first_byte"},"name":"packbits"}"#],
@@ -62,6 +76,22 @@ const CASES: [Case; 5] = [
         shape: &[2],
         value: &[0, 0x78],
         swapped: &[0, 0x87],
+        boxes: &[],
+    },
+    // -8, 7, 1 and -1: of this value the bytes are read that are asked for.
+    Case {
+        codecs: &[r#""packbits""#],
+        data_type: r#""int4""#,
+        fill: "0",
+        shape: &[4],
+        value: &[0x78, 0xf1],
+        swapped: &[0x87, 0xf1],
+        boxes: &[PutBox {
+            ranges: &[1..3],
+            found: &[7, 1],
+            given: &[255, 2],
+            left: &[0xf8, 0xf2],
+        }],
     },
     Case {
         codecs: &[
@@ -77,6 +107,7 @@ const CASES: [Case; 5] = [
         swapped: &[
             0, 0, 0, 0, 0, 0, 0, 12, 3, 0, 0, 0, 2, 0, 0, 0, 0, 0, 0, 0, 97, 99, 98,
         ],
+        boxes: &[],
     },
     Case {
         codecs: &[
@@ -87,6 +118,7 @@ const CASES: [Case; 5] = [
         shape: &[3],
         value: &[1, 0, 0, 0, 0, 0, 0, 0, 2, 0, 0, 0, 0, 0, 0, 0, 5, 5, 7],
         swapped: &[1, 0, 0, 0, 0, 0, 0, 0, 2, 0, 0, 0, 0, 0, 0, 0, 6, 5, 7],
+        boxes: &[],
     },
 ];
 
@@ -139,6 +171,7 @@ fn run_case(alloc: Global, case: &Case) -> Result<(), Stop> {
         value: case.value,
         swapped: case.swapped,
         compacted: &[],
+        boxes: case.boxes,
     };
     run_values(alloc, &chain_of(alloc, case.codecs)?, &values)
 }

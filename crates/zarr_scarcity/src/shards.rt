@@ -4,7 +4,7 @@
 use crate::codecs::metadatas_of;
 use crate::elements::{expect_fixed, expect_held, filled, holding};
 use crate::stop::{Stop, expect};
-use crate::values::{Values, compact, recode, run as run_values};
+use crate::values::{PutBox, Values, compact, recode, run as run_values};
 use std::alloc::Global;
 use zarr_codecs::{
     ArrayBytes, ArraySubset, ArrayToBytesCodecTraits, BytesPartialDecoderTraits,
@@ -43,9 +43,71 @@ const COMPACTED: [u8; 34] = [
     255, 255, 255, 255, 255, 255, 255, 255,
 ];
 
+/// The value once 5, 0 and 6 have taken the place of the cells from the second on: two slices more.
+const ACROSS: [u8; 38] = [
+    1, 2, 1, 5, 0, 6, 2, 0, 0, 0, 0, 0, 0, 0, 2, 0, 0, 0, 0, 0, 0, 0, 4, 0, 0, 0, 0, 0, 0, 0, 2, 0,
+    0, 0, 0, 0, 0, 0,
+];
+
+/// Then 8 and 9 that of the last two cells, which are a subchunk.
+const REPLACED: [u8; 40] = [
+    1, 2, 1, 5, 0, 6, 8, 9, 2, 0, 0, 0, 0, 0, 0, 0, 2, 0, 0, 0, 0, 0, 0, 0, 6, 0, 0, 0, 0, 0, 0, 0,
+    2, 0, 0, 0, 0, 0, 0, 0,
+];
+
+/// And then 3, 8 and 4 that of those from the second on again.
+const ACROSS_AGAIN: [u8; 44] = [
+    1, 2, 1, 5, 0, 6, 8, 9, 1, 3, 8, 4, 8, 0, 0, 0, 0, 0, 0, 0, 2, 0, 0, 0, 0, 0, 0, 0, 10, 0, 0,
+    0, 0, 0, 0, 0, 2, 0, 0, 0, 0, 0, 0, 0,
+];
+
+/// These three boxes, of which the second is a whole subchunk, and the others lie in both.
+const BOXES: [PutBox<'static>; 3] = [
+    PutBox {
+        ranges: &[1..4],
+        found: &[2, 0, 0],
+        given: &[5, 0, 6],
+        left: &ACROSS,
+    },
+    PutBox {
+        ranges: &[2..4],
+        found: &[0, 6],
+        given: &[8, 9],
+        left: &REPLACED,
+    },
+    PutBox {
+        ranges: &[1..4],
+        found: &[5, 8, 9],
+        given: &[3, 8, 4],
+        left: &ACROSS_AGAIN,
+    },
+];
+
+/// The same in an array of two rows: its second column, its second row, and the column again.
+const TURNED_BOXES: [PutBox<'static>; 3] = [
+    PutBox {
+        ranges: &[0..2, 1..2],
+        found: &[2, 0],
+        given: &[5, 6],
+        left: &ACROSS,
+    },
+    PutBox {
+        ranges: &[1..2, 0..2],
+        found: &[0, 6],
+        given: &[8, 9],
+        left: &REPLACED,
+    },
+    PutBox {
+        ranges: &[0..2, 1..2],
+        found: &[5, 9],
+        given: &[3, 4],
+        left: &ACROSS_AGAIN,
+    },
+];
+
 /// A shard of shards, as it is written.
 const TWO_SHARDS: &str =
-    r#"{"configuration":{"chunk_shape":[2],"codecs":[{"configuration":{"chunk_shape":[1],"codecs":["bytes"],"index_codecs":[{"configuration":{"endian":"little"},"name":"bytes"}],"index_location":"start"},"name":"sharding_indexed"}],"index_codecs":[{"configuration":{"endian":"little"},"name":"bytes"}],"index_location":"end"},"name":"sharding_indexed"}"#;
+    r#"{"configuration":{"chunk_shape":[2],"codecs":[{"configuration":{"chunk_shape":[1],"codecs":["bytes"],"index_codecs":[{"configuration":{"endian":"little"},"name":"bytes"}],"index_location":"start"},"name":"sharding_indexed"}],"index_codecs":[{"configuration":{"endian":"big"},"name":"bytes"}],"index_location":"end"},"name":"sharding_indexed"}"#;
 
 /// The transposition of two dimensions, and shards in subchunks that are columns of two cells of
 /// the transposed array, which are rows of the array.
@@ -57,10 +119,10 @@ const COLUMNS: &str =
 const REVERSE: &str = r#""x-reverse""#;
 
 /// Those cells, where a subchunk is a shard too: its index stands before its two slices of one
-/// cell.
+/// cell. The other index has its highest bytes first.
 const NESTED: [u8; 66] = [
     32, 0, 0, 0, 0, 0, 0, 0, 1, 0, 0, 0, 0, 0, 0, 0, 33, 0, 0, 0, 0, 0, 0, 0, 1, 0, 0, 0, 0, 0, 0,
-    0, 1, 2, 0, 0, 0, 0, 0, 0, 0, 0, 34, 0, 0, 0, 0, 0, 0, 0, 255, 255, 255, 255, 255, 255, 255,
+    0, 1, 2, 0, 0, 0, 0, 0, 0, 0, 0, 0, 0, 0, 0, 0, 0, 0, 34, 255, 255, 255, 255, 255, 255, 255,
     255, 255, 255, 255, 255, 255, 255, 255, 255,
 ];
 
@@ -68,16 +130,24 @@ const NESTED: [u8; 66] = [
 const NESTED_SWAPPED: [u8; 100] = [
     32, 0, 0, 0, 0, 0, 0, 0, 1, 0, 0, 0, 0, 0, 0, 0, 33, 0, 0, 0, 0, 0, 0, 0, 1, 0, 0, 0, 0, 0, 0,
     0, 1, 2, 32, 0, 0, 0, 0, 0, 0, 0, 1, 0, 0, 0, 0, 0, 0, 0, 33, 0, 0, 0, 0, 0, 0, 0, 1, 0, 0, 0,
-    0, 0, 0, 0, 2, 1, 34, 0, 0, 0, 0, 0, 0, 0, 34, 0, 0, 0, 0, 0, 0, 0, 255, 255, 255, 255, 255,
+    0, 0, 0, 0, 2, 1, 0, 0, 0, 0, 0, 0, 0, 34, 0, 0, 0, 0, 0, 0, 0, 34, 255, 255, 255, 255, 255,
     255, 255, 255, 255, 255, 255, 255, 255, 255, 255, 255,
 ];
 
 /// And without the gap.
 const NESTED_COMPACTED: [u8; 66] = [
     32, 0, 0, 0, 0, 0, 0, 0, 1, 0, 0, 0, 0, 0, 0, 0, 33, 0, 0, 0, 0, 0, 0, 0, 1, 0, 0, 0, 0, 0, 0,
-    0, 2, 1, 0, 0, 0, 0, 0, 0, 0, 0, 34, 0, 0, 0, 0, 0, 0, 0, 255, 255, 255, 255, 255, 255, 255,
+    0, 2, 1, 0, 0, 0, 0, 0, 0, 0, 0, 0, 0, 0, 0, 0, 0, 0, 34, 255, 255, 255, 255, 255, 255, 255,
     255, 255, 255, 255, 255, 255, 255, 255, 255,
 ];
+
+/// What makes that of the first, by a box of the first subchunk and of a part of the second.
+const NESTED_BOXES: [PutBox<'static>; 1] = [PutBox {
+    ranges: &[0..3],
+    found: &[1, 2, 0],
+    given: &[2, 1, 0],
+    left: &NESTED_SWAPPED,
+}];
 
 /// A builder of shards of subchunks of two cells.
 fn builder(alloc: Global) -> Result<ShardingCodecBuilder<ReverseCodec>, Stop> {
@@ -116,6 +186,7 @@ fn run_codec(alloc: Global, codec: &Codec, array: WholeArray<'_>) -> Result<(), 
         value: &VALUE,
         swapped: &SWAPPED,
         compacted: &COMPACTED,
+        boxes: &BOXES,
     };
     run_values(alloc, codec, &values)?;
     let shared = builder(alloc)?.build_arc(alloc)?;
@@ -158,14 +229,15 @@ fn open<'a, I: ArrayToBytesCodecTraits, X: ArrayToBytesCodecTraits>(
     }
 }
 
-/// 2 and 1 are put at the first two places.
+/// 2 and 1 are put in the place of the first subchunk.
 fn put<I: ArrayToBytesCodecTraits, X: ArrayToBytesCodecTraits, E: BytesPartialEncoderTraits>(
     alloc: Global,
     state: &mut ShardState<'_, I, X, E>,
 ) -> Result<(), Stop> {
+    let first = ArraySubset::new_with_ranges(alloc, &[0..2])?;
     let given = ArrayBytes::Fixed([2, 1].to_vec(alloc)?);
     let options = CodecOptions::default();
-    Ok(state.partial_encode(alloc, Indexer::List(&[0, 1]), given, &options)?)
+    Ok(state.partial_encode(alloc, Indexer::Subset(&first), given, &options)?)
 }
 
 /// Whether the cells of a shard are these.
@@ -174,8 +246,9 @@ fn read<I: ArrayToBytesCodecTraits, X: ArrayToBytesCodecTraits, E: BytesPartialE
     state: &mut ShardState<'_, I, X, E>,
     want: &[u8],
 ) -> Result<(), Stop> {
+    let all = ArraySubset::new_with_ranges(alloc, &[0..4])?;
     let options = CodecOptions::default();
-    let cells = state.partial_decode(alloc, Indexer::List(&[0, 1, 2, 3]), &options)?;
+    let cells = state.partial_decode(alloc, Indexer::Subset(&all), &options)?;
     expect_fixed(&cells, want)
 }
 
@@ -275,13 +348,13 @@ fn read_slice<I: ArrayToBytesCodecTraits, X: ArrayToBytesCodecTraits, D: BytesPa
     }
 }
 
-/// The second and the first cell are put over the last two of three bytes.
+/// The second cell is put over the second of three bytes.
 fn put_part<I: ArrayToBytesCodecTraits, X: ArrayToBytesCodecTraits, D: BytesPartialDecoderTraits>(
     alloc: Global,
     decoder: &mut ShardingPartialDecoder<'_, I, X, D>,
     bytes: &mut [u8],
 ) -> Result<(), Stop> {
-    let place = ArraySubset::new_with_ranges(alloc, &[1..3])?;
+    let place = ArraySubset::new_with_ranges(alloc, &[1..2])?;
     let mut target = TargetBytes {
         bytes,
         shape: &[3],
@@ -289,7 +362,7 @@ fn put_part<I: ArrayToBytesCodecTraits, X: ArrayToBytesCodecTraits, D: BytesPart
         width: 1,
     };
     let options = CodecOptions::default();
-    Ok(decoder.partial_decode_into(alloc, Indexer::List(&[1, 0]), &mut target, &options)?)
+    Ok(decoder.partial_decode_into(alloc, Indexer::Subset(&place), &mut target, &options)?)
 }
 
 /// Both are read.
@@ -301,7 +374,7 @@ fn read_both<I: ArrayToBytesCodecTraits, X: ArrayToBytesCodecTraits, D: BytesPar
     read_slice(alloc, decoder)
 }
 
-/// Cells are put once more where memory ran out, which leaves the bytes.
+/// It is put once more where memory ran out, which leaves the bytes.
 fn put_part_at_last<
     I: ArrayToBytesCodecTraits,
     X: ArrayToBytesCodecTraits,
@@ -315,7 +388,7 @@ fn put_part_at_last<
         }
         said => said?,
     }
-    expect(bytes == [9, 2, 1])
+    expect(bytes == [9, 2, 9])
 }
 
 /// A shard whose index is kept is read in part, once more where memory ran out, and by its slices.
@@ -358,6 +431,7 @@ fn run_nested(alloc: Global, array: WholeArray<'_>) -> Result<(), Stop> {
         value: &NESTED,
         swapped: &NESTED_SWAPPED,
         compacted: &NESTED_COMPACTED,
+        boxes: &NESTED_BOXES,
     };
     run_values(alloc, &chain_of(alloc, &[TWO_SHARDS])?, &values)
 }
@@ -371,6 +445,7 @@ fn run_turned(alloc: Global, array: WholeArray<'_>) -> Result<(), Stop> {
         value: &VALUE,
         swapped: &SWAPPED,
         compacted: &COMPACTED,
+        boxes: &TURNED_BOXES,
     };
     run_values(alloc, &chain_of(alloc, &[TURNED, COLUMNS])?, &values)
 }
@@ -388,6 +463,7 @@ fn run_reversed(alloc: Global, array: WholeArray<'_>) -> Result<(), Stop> {
         value: &value,
         swapped: &swapped,
         compacted: &[],
+        boxes: &[],
     };
     let chain = chain_of(alloc, &[TURNED, COLUMNS, REVERSE])?;
     run_values(alloc, &chain, &values)?;

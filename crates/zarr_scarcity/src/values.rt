@@ -1,12 +1,24 @@
 //! Values of any codec: decoded and encoded, whole and in part, and compacted.
 
-use crate::elements::{expect_held, holding};
+use crate::elements::{expect_fixed, expect_held, holding};
 use crate::stop::{Stop, expect};
 use std::alloc::Global;
+use std::ops::Range;
 use zarr_codecs::{
-    ArrayToBytesCodecTraits, BytesPartialEncoderTraits, BytesRepresentation, CodecError,
-    CodecOptions, CodecPartialEncoder, Indexer, MemorySource, WholeArray,
+    ArrayBytes, ArraySubset, ArrayToBytesCodecTraits, BytesPartialEncoderTraits,
+    BytesRepresentation, CodecError, CodecOptions, CodecPartialEncoder, Indexer, MemorySource,
+    WholeArray,
 };
+
+/// A box of an array: the bytes of the elements that are read there, of those that are put in their
+/// place, and of the value then.
+#[derive(Clone, Copy)]
+pub(crate) struct PutBox<'a> {
+    pub ranges: &'a [Range<u64>],
+    pub found: &'a [u8],
+    pub given: &'a [u8],
+    pub left: &'a [u8],
+}
 
 /// An array, a value of it, and what becomes of that.
 #[derive(Clone, Copy)]
@@ -19,6 +31,8 @@ pub(crate) struct Values<'a> {
     pub swapped: &'a [u8],
     /// What that is compacted to; no bytes where nothing is gained.
     pub compacted: &'a [u8],
+    /// Boxes that are put one after the other, the first one into the value.
+    pub boxes: &'a [PutBox<'a>],
 }
 
 /// What a codec tells of an array: it fits, in which parts it is decoded, and the size of its
@@ -99,6 +113,58 @@ fn swap<C: ArrayToBytesCodecTraits>(
     }
 }
 
+/// The elements of a box are read, and others are put in their place.
+fn put_box_in<C: ArrayToBytesCodecTraits, E: BytesPartialEncoderTraits>(
+    alloc: Global,
+    codec: &C,
+    array: WholeArray<'_>,
+    source: &mut E,
+    put: PutBox<'_>,
+) -> Result<(), Stop> {
+    let options = CodecOptions::default();
+    let region = ArraySubset::new_with_ranges(alloc, put.ranges)?;
+    let mut encoder = CodecPartialEncoder::new(codec, source, array);
+    let found = encoder.partial_decode(alloc, Indexer::Subset(&region), &options)?;
+    expect_fixed(&found, put.found)?;
+    let given = ArrayBytes::Fixed(put.given.to_vec(alloc)?);
+    Ok(encoder.partial_encode(alloc, Indexer::Subset(&region), given, &options)?)
+}
+
+/// They are put into the value that a source holds, and once more where memory runs out, which
+/// leaves it.
+fn put_box<C: ArrayToBytesCodecTraits>(
+    alloc: Global,
+    codec: &C,
+    array: WholeArray<'_>,
+    value: &[u8],
+    put: PutBox<'_>,
+) -> Result<MemorySource, Stop> {
+    let mut source = holding(alloc, value)?;
+    match put_box_in(alloc, codec, array, &mut source, put) {
+        Ok(()) => expect_held(source, put.left),
+        Err(Stop::Short) => {
+            let mut source = expect_held(source, value)?;
+            put_box_in(alloc, codec, array, &mut source, put)?;
+            expect_held(source, put.left)
+        }
+        Err(Stop::Other) => Err(Stop::Other),
+    }
+}
+
+/// The boxes are put one after the other.
+fn put_boxes<C: ArrayToBytesCodecTraits>(
+    alloc: Global,
+    codec: &C,
+    values: &Values<'_>,
+) -> Result<(), Stop> {
+    let mut value = values.value;
+    for put in values.boxes {
+        put_box(alloc, codec, values.array, value, *put)?;
+        value = put.left;
+    }
+    Ok(())
+}
+
 /// All of these.
 pub(crate) fn run<C: ArrayToBytesCodecTraits>(
     alloc: Global,
@@ -108,6 +174,7 @@ pub(crate) fn run<C: ArrayToBytesCodecTraits>(
     tell(alloc, codec, values)?;
     recode(alloc, codec, values)?;
     expect_held(swap(alloc, codec, values)?, values.swapped)?;
+    put_boxes(alloc, codec, values)?;
     compact(alloc, codec, values.array, values.value, &[])?;
     compact(alloc, codec, values.array, values.swapped, values.compacted)
 }

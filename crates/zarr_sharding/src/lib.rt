@@ -15,8 +15,8 @@
 //!   behind a lock.
 //! - Parts: `read_asked`, `read_numbers`, `update_asked` and `update_slices` of a `ShardingCodec`
 //!   are the calls that readers and writers are made of. They take an `OpenedShard` or a
-//!   `ShardInSource`, whose `KnownShard` writes `ShardChanges`: a `SliceChange` for each subchunk
-//!   that changed.
+//!   `ShardInSource`, whose `KnownShard` writes `ShardChanges`, or `GivenChanges` that are given
+//!   away: a `SliceChange` for each subchunk that changed.
 #![tactic(auto)]
 
 pub use zarr_codecs_around::InnerCodec;
@@ -32,4 +32,4 @@ pub use zarr_sharding_codec::{
 pub use zarr_sharding_configurations::ShardingCodecConfiguration;
 pub use zarr_sharding_decoder::{OpenedIndex, ShardingPartialDecoder, open_shard};
 pub use zarr_sharding_index::{FetchedIndex, IndexLayout, ShardIndex, ShardingIndexLocation};
-pub use zarr_sharding_state::{KnownShard, ShardChanges, SliceChange};
+pub use zarr_sharding_state::{GivenChanges, KnownShard, ShardChanges, SliceChange};

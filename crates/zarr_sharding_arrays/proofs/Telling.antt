@@ -6,6 +6,7 @@ use Rattle.zarr_codecs_meaning.specs.Chains.Chain.{then_bytes}
 use Rattle.zarr_codecs_meaning.specs.Fits.{is_plain}
 use Rattle.zarr_codecs_meaning.specs.Partial.{encodes_in_part}
 use Rattle.zarr_codecs_meaning.specs.Types.{DataType}
+use Rattle.zarr_codecs_traits.specs.Capabilities.{encodes_as_is}
 use Rattle.zarr_codecs_traits.specs.PartEncoding.{encodes_ranges, takes_patches}
 use Rattle.zarr_codecs_around.specs.Views.{plain_before, plain_with, with_array_codecs, with_codecs}
 use Rattle.zarr_sharding_arrays.specs.Reshapes.{any_reshape}
@@ -40,6 +41,17 @@ patches_after chain (codec ∷ codecs) type h = patches_after (then_bytes chain 
 pub no_patches_between : (before : List ArrayCodec) (chain : Chain) (after : List ByteCodec) (type : DataType) → takes_patches chain type ≡ false → false ≡ takes_patches (with_array_codecs before (with_codecs chain after)) type
 no_patches_between [] chain after type h = sym (patches_after chain after type h)
 no_patches_between (codec ∷ codecs) chain after type h = refl
+
+-- ---- values that are bytes as they stand in memory
+
+as_is_after : (chain : Chain) (codecs : List ByteCodec) → encodes_as_is chain ≡ false → encodes_as_is (with_codecs chain codecs) ≡ false
+as_is_after chain [] h = h
+as_is_after chain (codec ∷ codecs) h = as_is_after (then_bytes chain codec) codecs refl
+
+-- codecs around a chain that encodes elements otherwise than as they are encode none so
+pub never_as_is_between : (before : List ArrayCodec) (chain : Chain) (after : List ByteCodec) → encodes_as_is chain ≡ false → false ≡ encodes_as_is (with_array_codecs before (with_codecs chain after))
+never_as_is_between [] chain after h = sym (as_is_after chain after h)
+never_as_is_between (codec ∷ codecs) chain after h = refl
 
 -- ---- options
 

@@ -95,6 +95,14 @@ impl<B: BytesToBytesCodecTraits> ArrayToBytesCodecTraits for ArrayChain<B> {
         }
     }
 
+    fn encodes_as_is(&self) -> bool {
+        match self {
+            ArrayChain::Plain(chain) => chain.encodes_as_is(),
+            ArrayChain::Sharded(chain) => chain.encodes_as_is(),
+            ArrayChain::Nested(chain) => chain.encodes_as_is(),
+        }
+    }
+
     fn partial_decode_granularity(
         &self,
         alloc: Global,

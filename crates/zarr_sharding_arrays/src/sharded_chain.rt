@@ -141,6 +141,10 @@ impl<B: BytesToBytesCodecTraits, I: InnerCodec> ArrayToBytesCodecTraits for Shar
         !has_reshape(self.array_to_array.as_slice()) && self.others.partial_encoder_capability()
     }
 
+    fn encodes_as_is(&self) -> bool {
+        false
+    }
+
     fn partial_decode_granularity(
         &self,
         alloc: Global,

@@ -113,6 +113,10 @@ impl<I: ArrayToBytesCodecTraits, X: IndexCodec> ArrayToBytesCodecTraits for Shar
         true
     }
 
+    fn encodes_as_is(&self) -> bool {
+        false
+    }
+
     fn partial_decode_granularity(&self, alloc: Global, _: &[u64]) -> Result<Vec<u64>, AllocError> {
         self.subchunk_shape.as_slice().to_vec(alloc)
     }

@@ -10,7 +10,7 @@ use zarr_codecs_traits::{ArrayPart, ArrayToBytesCodecTraits, BytesPartialEncoder
 use zarr_grids_boxes::walk::count_places;
 use zarr_sharding_index::IndexLayout;
 use zarr_sharding_index::shapes::index_shape;
-use zarr_sharding_state::{KnownShard, ShardChanges};
+use zarr_sharding_state::{GivenChanges, KnownShard, ShardChanges};
 
 /// Elements that can be put at the places of an array that are asked for, one for each, and how
 /// many bytes the index of the array's shard has.
@@ -137,8 +137,7 @@ impl<I: ArrayToBytesCodecTraits, X: ArrayToBytesCodecTraits> ShardingCodec<I, X>
                 };
                 match self.update_asked(alloc, source, shard, given, options) {
                     Ok(changes) => {
-                        let changes = changes.as_slice();
-                        let given = ShardChanges { layout, changes };
+                        let given = GivenChanges { layout, changes };
                         self.append_changes(alloc, source, known, given, options)
                     }
                     Err(error) => Err(error),
@@ -148,31 +147,31 @@ impl<I: ArrayToBytesCodecTraits, X: ArrayToBytesCodecTraits> ShardingCodec<I, X>
         }
     }
 
-    /// Replaces the slices of some subchunks of a shard, as `KnownShard::write_slices` does.
+    /// Replaces the slices of some subchunks of a shard, as `KnownShard::write_given` does.
     /// `false`, with nothing written, where the shard would then have 2^63 bytes or more.
     fn append_changes<E: BytesPartialEncoderTraits>(
         &self,
         alloc: Global,
         source: &mut E,
         known: KnownShard,
-        given: ShardChanges<'_>,
+        given: GivenChanges<'_>,
         options: &CodecOptions,
     ) -> Result<bool, CodecError>
         requires fit { index_fits (X.meaning (index_of self.now)) given.layout.shape.now ≡ true }
         requires size { given.layout.size ≡ index_size (X.meaning (index_of self.now))
             given.layout.shape.now }
         requires many { product given.layout.shape.now ≡ 2 * length (pairs_in known) }
-        requires below { list_all (is_below (length (pairs_in known))) given.changes.now ≡ true }
+        requires below { list_all (is_below (length (pairs_in known))) given.changes.items ≡ true }
         ensures ok { IsTrue (E.is_honest source.old) → IfOk result
             (AppendsChanges (X.meaning (index_of self.now)) (X.is_function (index_of self.now))
             (location_of given.entry.layout.location) given.entry.layout.shape.now
-            (changes_of given.entry.changes.now) (end_of known) (pairs_in known)
+            (changes_of given.entry.changes.items) (end_of known) (pairs_in known)
             (E.contents source.old) (E.contents source.new)) }
         ensures err { IsTrue (E.is_honest source.old) →
             OnErr result (E.contents source.new ≡ E.contents source.old) }
         ensures cause { IsTrue (E.is_honest source.old) → ChangesUnwritten
             (X.meaning (index_of self.now)) given.entry.layout.shape.now
-            (pairs_after (end_of known) (changes_of given.entry.changes.now) (pairs_in known))
+            (pairs_after (end_of known) (changes_of given.entry.changes.items) (pairs_in known))
             result }
         ensures refused { E.refused_calls source.new ≡
             refused_after (E.refused_calls source.old) result }
@@ -180,11 +179,15 @@ impl<I: ArrayToBytesCodecTraits, X: ArrayToBytesCodecTraits> ShardingCodec<I, X>
             accepted_by (E.accepted_writes source.old) result }
         ensures rewrites { E.rewrites source.old source.new }
     {
-        if !known.has_room(given) {
+        let lent = ShardChanges {
+            layout: given.layout,
+            changes: given.changes.as_slice(),
+        };
+        if !known.has_room(lent) {
             return Ok(false);
         }
         let mut known = known;
-        match known.write_slices(alloc, source, &self.index_codecs, given, options) {
+        match known.write_given(alloc, source, &self.index_codecs, given, options) {
             Ok(()) => Ok(true),
             Err(error) => Err(error),
         }

@@ -1,4 +1,6 @@
 pub mod Grids
 pub mod PairBytes
+pub mod StoredAsIs
 pub mod StoredIndex
 pub mod HeldIndex
+pub mod TooLong

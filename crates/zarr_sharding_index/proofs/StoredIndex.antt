@@ -55,7 +55,7 @@ index_below index shape fit =
     let is : index_size index shape ≡ known.0 = ap (λ (o : Option ℕ). unwrap_or o 0) known.1 in
     (known.1 ∙ ap Some (sym is), subst (λ n. n < 2 ^ 63) (sym is) known.2)
 
-fixed_long : (known : chains.BytesRepresentation) (size long : ℕ) → is_size_as known long ≡ true → fixed_of known ≡ Some size → long ≡ size
+pub fixed_long : (known : chains.BytesRepresentation) (size long : ℕ) → is_size_as known long ≡ true → fixed_of known ≡ Some size → long ≡ size
 fixed_long (chains.BytesRepresentation.fixed_size n) size long h is = eqb-true long n h ∙ some_same is
 fixed_long (chains.BytesRepresentation.bounded_size n) size long h is = cc
 fixed_long chains.BytesRepresentation.unbounded_size size long h is = cc

@@ -8,6 +8,7 @@ use Rattle.zarr_codecs_meaning.specs.Encoding.{Pair, encoded, index_size, pair_c
 use Rattle.zarr_codecs_meaning.specs.Fits.{fits, is_lossless, is_some_below, size_of}
 use Rattle.zarr_codecs_meaning.specs.Refusals.{CodecRefuses, PassesIndex}
 use Rattle.zarr_codecs_meaning.specs.Types.{uint64, zero_filled}
+use Rattle.zarr_codecs_traits.specs.Capabilities.{encodes_as_is}
 use Rattle.zarr_codecs_arrays.specs.declared.error.CodecError.{CodecError}
 use Rattle.zarr_codecs_arrays.specs.declared.error.CodecError.TheVariants as error
 use Rattle.zarr_sharding_index.specs.declared.index.ShardIndex.{ShardIndex}
@@ -27,6 +28,10 @@ pub record IsIndexWritten (index : Chain) (exact : Bool) (shape : List ℕ) (pai
   pub encodes : IsTrue exact → encoded index (zero_filled uint64) shape (pair_cells pairs) ≡ Some value
   pub reads_back : is_lossless index uint64 ≡ true → decoded index (zero_filled uint64) shape value ≡ Some (pair_cells pairs)
   pub sized : length value ≡ index_size index shape
+
+-- the bytes of pairs that each chain stores as their index which encodes elements as they are
+abbrev pub AreStoredAsIs : List Pair → List ℕ → Type 0
+AreStoredAsIs pairs bytes = (index : Chain) (exact : Bool) (shape : List ℕ) → encodes_as_is index ≡ true → index_fits index shape ≡ true → product shape ≡ 2 * length pairs → IsIndexWritten index exact shape pairs bytes
 
 -- what a chain makes of an index, or why it makes nothing
 abbrev pub WritesIndex : Chain → Bool → List ℕ → List Pair → Result (Vec ℕ Global) CodecError → Type 0

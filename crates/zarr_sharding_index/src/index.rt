@@ -22,7 +22,8 @@ impl ShardIndex {
     ghost use Rattle.zarr_codecs_meaning.specs.Encoding.{absent_pair, pair_cells};
     ghost use Rattle.zarr_codecs_meaning.specs.Payloads.{cells_in};
     ghost use Rattle.zarr_codecs_meaning.specs.Types.{Cell, uint64};
-    ghost use Rattle.zarr_sharding_index.specs.Views.{pair_of, pairs_of};
+    ghost use Rattle.zarr_sharding_index.specs.Stored.{AreStoredAsIs};
+    ghost use Rattle.zarr_sharding_index.specs.Views.{pair_of, pairs_of, pairs_of_bytes};
 
     /// An index without subchunks.
     #[tactic(auto, using(crate::proofs::PairBytes::no_pairs))]
@@ -58,6 +59,25 @@ impl ShardIndex {
     {
         let _known = count_pairs(self.bytes.as_slice());
         ArrayBytes::Fixed(self.bytes)
+    }
+
+    /// The bytes of the offsets and lengths. A codec that encodes elements as they are stores these
+    /// (`ArrayToBytesCodecTraits::encodes_as_is`).
+    pub fn into_bytes(self) -> Vec<u8>
+        ensures stored { AreStoredAsIs (pairs_of self) result.items }
+        ensures pairs { pairs_of_bytes result.items ≡ pairs_of self }
+        ensures long { length result.items ≡ 16 * length (pairs_of self) }
+    {
+        let _known = count_pairs(self.bytes.as_slice());
+        self.bytes
+    }
+
+    /// The index that these bytes are, sixteen for each subchunk, as `into_bytes` gives them.
+    pub fn from_bytes(bytes: Vec<u8>) -> ShardIndex
+        requires { length bytes.items % 16 ≡ 0 }
+        ensures { pairs_of result ≡ pairs_of_bytes bytes.items }
+    {
+        ShardIndex { bytes }
     }
 
     /// An equal index. `Err` only where an allocation failed.

@@ -4,6 +4,7 @@ ghost use Rattle.zarr_codecs_meaning.specs.Encoding.{absent_pair, pair_cells};
 ghost use Rattle.zarr_codecs_meaning.specs.Numbers.{number, word};
 ghost use Rattle.zarr_codecs_meaning.specs.Payloads.{cells_in, fixed};
 ghost use Rattle.zarr_codecs_meaning.specs.Types.{uint64};
+ghost use Rattle.zarr_sharding_index.specs.Stored.{AreStoredAsIs};
 ghost use Rattle.zarr_sharding_index.specs.Views.{pair_of, pairs_of_bytes};
 
 use zarr_codecs_traits::ByteRange;
@@ -15,6 +16,8 @@ pub(crate) fn count_pairs(bytes: &[u8]) -> usize
     ensures within { 16 * length (pairs_of_bytes bytes.now) ≤ length bytes.now }
     ensures cells { length bytes.now % 16 ≡ 0 → cells_in uint64 (fixed bytes.now)
         ≡ Some (pair_cells (pairs_of_bytes bytes.now)) }
+    ensures stored { length bytes.now % 16 ≡ 0 →
+        AreStoredAsIs (pairs_of_bytes bytes.now) bytes.now }
 {
     bytes.len() / 16
 }

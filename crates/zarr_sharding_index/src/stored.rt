@@ -16,7 +16,8 @@ use zarr_codecs_types::data_type::uint64;
 
 /// How many bytes a codec makes of an index of this shape. `None` where it doesn't suit the index,
 /// or doesn't make fewer than 2^63 bytes of each, always as many. `Err` where an allocation failed,
-/// and where the codec tells only that its array, or what one of its codecs makes, is too large.
+/// and where a codec other than `bytes`, alone or after array codecs, tells only that its array, or
+/// what one of its codecs makes, is too large.
 pub fn index_size<X: ArrayToBytesCodecTraits>(
     alloc: Global,
     codec: &X,
@@ -34,6 +35,7 @@ pub fn index_size<X: ArrayToBytesCodecTraits>(
         }
         Ok(_) => Ok(None),
         Err(CodecError::Fit) => Ok(None),
+        Err(CodecError::Size) if codec.partial_encoder_capability() => Ok(None),
         Err(_) => Err(AllocError),
     }
 }

@@ -3,5 +3,6 @@ pub mod PutPlaces
 pub mod PartPlaces
 pub mod ReadPieces
 pub mod LocatedPlaces
+pub mod ListedAxes
 pub mod Stable
 pub mod BoxPuts

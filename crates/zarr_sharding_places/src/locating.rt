@@ -1,5 +1,5 @@
 //! The subchunks that places of an array lie in.
-ghost use Rattle.std.specs.Prelude.{◌≡◌, ◌++◌, ℕ, IfOk, IfSome, IsPermutation, OnOk};
+ghost use Rattle.std.specs.Prelude.{◌≡◌, ◌*◌, ◌≤◌, ℕ, length, IfOk, IfSome, IsPermutation};
 ghost use Rattle.std.specs.List.Sorted.{IsNonDecreasingBy};
 ghost use Rattle.zarr_codecs_meaning.specs.Places.{grid_of};
 ghost use Rattle.zarr_grids_boxes.specs.Boxes.{product};
@@ -67,8 +67,7 @@ fn locate_all(
     if numbers.is_empty() {
         return Ok(places);
     }
-    let mut axes = Vec::with_capacity(alloc, shape.len())?;
-    push_axes(shape, edges, grid, &mut axes)?;
+    let axes = list_axes(alloc, shape, edges, grid)?;
     for position in 0..numbers.len() {
         let Some(found) = locate(axes.as_slice(), numbers[position]) else {
             return Err(AllocError);
@@ -82,32 +81,45 @@ fn locate_all(
     Ok(places)
 }
 
-/// Adds what each dimension adds to numbers.
-fn push_axes(
+/// What each dimension of the grid adds to numbers. It goes from the last dimension to the first,
+/// and multiplies what the later ones have by one size at a time, so it reads each size once.
+fn list_axes(
+    alloc: Global,
     shape: &[u64],
     edges: &[u64],
     grid: &[u64],
-    axes: &mut Vec<Axis>,
-) -> Result<(), AllocError>
-    ensures { OnOk result
-        (axes.new.items ≡ axes.old.items ++ axes_of shape.now edges.now grid.now) }
+) -> Result<Vec<Axis>, AllocError>
+    requires sizes { length grid.now ≤ length shape.now }
+    requires edges { length grid.now ≤ length edges.now }
+    ensures { IfOk result (λ axes. axes.items ≡ axes_of shape.now edges.now grid.now) }
 {
-    let Some((_, sizes)) = shape.split_first() else {
-        return Ok(());
-    };
-    let Some((edge, edges)) = edges.split_first() else {
-        return Ok(());
-    };
-    let Some((_, counts)) = grid.split_first() else {
-        return Ok(());
-    };
+    let dimensions = grid.len();
+    let mut axes = Vec::with_capacity(alloc, dimensions)?;
+    if dimensions == 0 {
+        return Ok(axes);
+    }
+    let mut places = count(&shape[dimensions..])?;
+    let mut subchunks = 1;
+    let mut inside = count(&edges[dimensions..])?;
+    for k in (1..dimensions).rev() {
+        axes.push(Axis {
+            edge: edges[k],
+            places,
+            subchunks,
+            inside,
+        })?;
+        places = times(shape[k], places)?;
+        subchunks = times(grid[k], subchunks)?;
+        inside = times(edges[k], inside)?;
+    }
     axes.push(Axis {
-        edge: *edge,
-        places: count(sizes)?,
-        subchunks: count(counts)?,
-        inside: count(edges)?,
+        edge: edges[0],
+        places,
+        subchunks,
+        inside,
     })?;
-    push_axes(sizes, edges, counts, axes)
+    axes.reverse();
+    Ok(axes)
 }
 
 /// How many places a shape has. `Err` where they are 2^63 or more.
@@ -117,6 +129,16 @@ fn count(shape: &[u64]) -> Result<u64, AllocError>
     match count_places(shape) {
         Some(count) => Ok(count),
         None => Err(AllocError),
+    }
+}
+
+/// A count of places times the size of one dimension more. `Err` where it is 2^63 or more.
+fn times(size: u64, count: u64) -> Result<u64, AllocError>
+    ensures { IfOk result (λ more. more ≡ size * count) }
+{
+    match size.checked_mul(count) {
+        Some(more) if more < 1 << 63 => Ok(more),
+        _ => Err(AllocError),
     }
 }
 

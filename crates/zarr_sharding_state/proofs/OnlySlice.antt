@@ -1,6 +1,6 @@
 -- One slice that replaces a subchunk's.
-use Rattle.std.proofs.Common.{◌≡◌, ℕ, zero, suc, ◌-◌, ◌^◌, ◌<◌, List, [], ◌∷◌, length, get_or, set, ap, arith, Some, None, true, false}
-use Rattle.std.specs.Prelude.{◌==◌}
+use Rattle.std.proofs.Common.{◌≡◌, ℕ, zero, suc, ◌-◌, ◌^◌, ◌<◌, List, [], ◌∷◌, length, get_or, set, ap, arith, refl, Some, None, true, false, Result, Ok, Err}
+use Rattle.std.specs.Prelude.{◌==◌, OnOk}
 use Rattle.std.specs.List.{list_all}
 use Rattle.std.proofs.lemmas.Bool.{and_left, and_parts, and_right, ltb-true, ne_eqb}
 use Rattle.zarr_codecs_meaning.specs.Decoding.{is_absent}
@@ -24,3 +24,19 @@ only_below count n slice (change ∷ changes) is below =
     let number : change.number ≡ n = ap (λ (cs : List Change). (get_or cs 0 (0, None)).0) is in
     let low = ltb-true change.number count (and_parts (is_below count change) (list_all (is_below count) changes) below).0 in
     omega (arith, number, low)
+
+-- a pair that was replaced is put back
+pub put_back : (pairs : List Pair) (n : ℕ) (pair other : Pair) → n < length pairs → set (set pairs n pair) n (get_or pairs n other) ≡ pairs
+put_back [] n pair other low = absurd (omega (arith, low))
+put_back (p ∷ ps) zero pair other low = refl
+put_back (p ∷ ps) (suc n) pair other low = ap (λ (qs : List Pair). p ∷ qs) (put_back ps n pair other (omega (arith, low)))
+
+-- what holds of a call that answered
+pub when_ok : {A E P : Type 0} (result : Result A E) (done : A) → result ≡ Ok done → OnOk result P → P
+when_ok (Ok x) done is h = h
+when_ok (Err e) done is h = cc
+
+-- what follows where three facts hold of a call that answered
+pub all_when_ok : {A E P Q R S : Type 0} (result : Result A E) → (P → Q → R → S) → OnOk result P → OnOk result Q → OnOk result R → OnOk result S
+all_when_ok (Ok x) follows p q r = follows p q r
+all_when_ok (Err e) follows p q r = tt

@@ -3,8 +3,8 @@ ghost use Rattle.std.specs.Prelude.{◌^◌, ◌<◌};
 
 use crate::opening::open_fetched;
 use crate::writing::{
-    ShardBytes, ShardChanges, SliceChange, appended_length, are_absent, changed_index, join_slices,
-    put_changes, slice_patches,
+    ShardBytes, ShardChanges, SliceChange, append_bytes, appended_length, are_absent,
+    changed_index, join_slices, put_changes,
 };
 use std::alloc::Global;
 use zarr_codecs_arrays::CodecError;
@@ -304,8 +304,8 @@ impl KnownShard {
         ensures rewrites { E.rewrites source.old source.new }
     {
         let end = self.end + bytes.slices.len() as u64;
-        let patches = slice_patches(alloc, location, self.end, bytes.index, bytes.slices)?;
-        match source.partial_encode(alloc, patches) {
+        let (written, _) = append_bytes(alloc, source, location, self.end, bytes);
+        match written {
             Ok(()) => {
                 put_changes(&mut self.index, changes, self.end);
                 self.end = end;

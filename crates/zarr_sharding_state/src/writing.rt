@@ -1,15 +1,18 @@
 //! What replaces the slices of some subchunks.
-ghost use Rattle.std.specs.Prelude.{◌≡◌, ◌+◌, ◌^◌, ◌<◌, ◌≤◌, ◌∷◌, ℕ, List, [], Option, Some, length, true, unwrap_or, IfNone, IfOk, IfSome, IsTrue};
+ghost use Rattle.std.specs.Prelude.{◌≡◌, ◌+◌, ◌^◌, ◌<◌, ◌≤◌, ◌∷◌, ℕ, List, [], Option, Some, length, true, unwrap_or, IfNone, IfOk, IfSome, IsTrue, OnErr, OnOk};
 ghost use Rattle.std.specs.List.{list_all};
 ghost use Rattle.zarr_codecs_traits.specs.Patches.{any_too_far, patched_contents};
+ghost use Rattle.zarr_codecs_traits.specs.Sources.{refused_after};
+ghost use Rattle.zarr_codecs_traits.specs.Writes.{accepted_after};
 ghost use Rattle.zarr_sharding_changes.specs.Changes.{appended, pairs_after};
 ghost use Rattle.zarr_sharding_index.specs.Views.{location_of, pairs_of};
 ghost use Rattle.zarr_sharding_state.specs.Held.{are_absent, shard_length};
 ghost use Rattle.zarr_sharding_state.specs.Views.{changes_of, is_below};
-ghost use Rattle.zarr_sharding_state.specs.Written.{with_slices};
+ghost use Rattle.zarr_sharding_state.specs.Written.{AppendRefused, index_patched, with_slices};
 
 use std::alloc::{AllocError, Global};
-use zarr_codecs_traits::{ByteRange, ValuePatch};
+use zarr_codecs_arrays::CodecError;
+use zarr_codecs_traits::{ByteRange, BytesPartialEncoderTraits, ValuePatch};
 use zarr_sharding_index::pair::{ABSENT, is_absent};
 use zarr_sharding_index::{IndexLayout, ShardIndex, ShardingIndexLocation};
 
@@ -135,45 +138,81 @@ pub(crate) fn are_absent(index: &ShardIndex) -> bool
     true
 }
 
-/// The ranges to be written into a shard whose data part ends at `end`, so that slices are appended
-/// to it, and its index is replaced.
-pub(crate) fn slice_patches(
+/// Appends slices to the data part of a shard, which ends at `end`, and puts another index in the
+/// place of the one that was there, by one writing call. Gives the bytes of the index back.
+pub(crate) fn append_bytes<E: BytesPartialEncoderTraits>(
     alloc: Global,
+    source: &mut E,
     location: ShardingIndexLocation,
     end: u64,
-    index: Vec<u8>,
-    slices: Vec<u8>,
-) -> Result<Vec<ValuePatch>, AllocError>
-    requires { end + length slices.items < 2 ^ 63 }
-    ensures patched { IfOk result (λ patches. (contents : Option (List ℕ)) →
-        patched_contents contents patches.items ≡ with_slices (location_of location) end
-        index.items slices.items (unwrap_or contents [])) }
-    ensures far { IfOk result (λ patches. IsTrue (any_too_far patches.items) → 2 ^ 63
-        ≤ shard_length (location_of location) (length index.items) (end + length slices.items)) }
+    bytes: ShardBytes,
+) -> (Result<(), CodecError>, Vec<u8>)
+    requires { end + length bytes.slices.items < 2 ^ 63 }
+    ensures index { result.1.items ≡ bytes.index.items }
+    ensures ok { IsTrue (E.is_honest source.old) → OnOk result.0
+        (E.contents source.new ≡ Some (with_slices (location_of location) end
+        bytes.index.items bytes.slices.items (unwrap_or (E.contents source.old) []))) }
+    ensures err { IsTrue (E.is_honest source.old) →
+        OnErr result.0 (E.contents source.new ≡ E.contents source.old) }
+    ensures cause { IsTrue (E.is_honest source.old) → AppendRefused
+        (shard_length (location_of location) (length bytes.index.items)
+        (end + length bytes.slices.items)) result.0 }
+    ensures refused { E.refused_calls source.new ≡
+        refused_after (E.refused_calls source.old) result.0 }
+    ensures accepted { E.accepted_writes source.new ≡
+        accepted_after (E.accepted_writes source.old) result.0 }
+    ensures rewrites { E.rewrites source.old source.new }
 {
-    let mut patches = Vec::with_capacity(alloc, 2)?;
+    let patches = slice_patches(location, end, bytes);
+    let written = source.partial_encode(alloc, &patches);
+    (written, into_index(location, patches))
+}
+
+/// The ranges to be written into a shard whose data part ends at `end`, so that slices are appended
+/// to it, and its index is replaced.
+fn slice_patches(location: ShardingIndexLocation, end: u64, bytes: ShardBytes) -> [ValuePatch; 2]
+    requires { end + length bytes.slices.items < 2 ^ 63 }
+    ensures patched { (contents : Option (List ℕ)) → patched_contents contents result
+        ≡ with_slices (location_of location) end bytes.index.items bytes.slices.items
+        (unwrap_or contents []) }
+    ensures far { IsTrue (any_too_far result) → 2 ^ 63
+        ≤ shard_length (location_of location) (length bytes.index.items)
+        (end + length bytes.slices.items) }
+    ensures index { index_patched (location_of location) result ≡ bytes.index.items }
+{
+    let ShardBytes { index, slices } = bytes;
+    let after = end + slices.len() as u64;
     match location {
-        ShardingIndexLocation::Start => {
-            patches.push(ValuePatch {
+        ShardingIndexLocation::Start => [
+            ValuePatch {
                 offset: 0,
                 bytes: index,
-            })?;
-            patches.push(ValuePatch {
+            },
+            ValuePatch {
                 offset: end,
                 bytes: slices,
-            })?;
-        }
-        ShardingIndexLocation::End => {
-            let after = end + slices.len() as u64;
-            patches.push(ValuePatch {
+            },
+        ],
+        ShardingIndexLocation::End => [
+            ValuePatch {
                 offset: end,
                 bytes: slices,
-            })?;
-            patches.push(ValuePatch {
+            },
+            ValuePatch {
                 offset: after,
                 bytes: index,
-            })?;
-        }
+            },
+        ],
     }
-    Ok(patches)
+}
+
+/// The bytes of the index among the ranges of `slice_patches`.
+fn into_index(location: ShardingIndexLocation, patches: [ValuePatch; 2]) -> Vec<u8>
+    ensures { result.items ≡ index_patched (location_of location) patches }
+{
+    let [first, second] = patches;
+    match location {
+        ShardingIndexLocation::Start => first.bytes,
+        ShardingIndexLocation::End => second.bytes,
+    }
 }

@@ -2,9 +2,10 @@
 use crate::samples::{Value, are, elements, is, nested, numbers, shards};
 use crate::source::{TestSource, source_of};
 use std::alloc::Global;
+use std::ops::Range;
 use zarr_codecs::{
-    ArrayBytes, ArrayToBytesCodecTraits, BytesCodec, CodecError, CodecOptions, Elements, Indexer,
-    WholeArray,
+    ArrayBytes, ArraySubset, ArrayToBytesCodecTraits, BytesCodec, CodecError, CodecOptions,
+    Elements, Indexer, WholeArray,
 };
 use zarr_sharding::{ShardState, ShardingCodec, ShardingIndexLocation};
 
@@ -13,8 +14,12 @@ use zarr_sharding::{ShardState, ShardingCodec, ShardingIndexLocation};
 pub(crate) enum Call<'x> {
     /// Puts bytes at the places with these numbers.
     Put(&'x [u64], &'x [u8]),
+    /// Puts bytes at the places of a box.
+    PutBox(&'x [Range<u64>], &'x [u8]),
     /// Reads the places with these numbers, as these bytes.
     Shows(&'x [u64], &'x [u8]),
+    /// Reads the places of a box, as these bytes.
+    ShowsBox(&'x [Range<u64>], &'x [u8]),
     Erase,
 }
 
@@ -41,28 +46,25 @@ pub(crate) struct Case<'x> {
 
 pub(crate) type State<'a, I> = ShardState<'a, I, BytesCodec, TestSource>;
 
-/// Puts bytes at the places with these numbers.
+/// Puts bytes at places.
 pub(crate) fn put<I: ArrayToBytesCodecTraits>(
     alloc: Global,
     state: &mut State<'_, I>,
-    numbers: &[u64],
+    places: Indexer<'_>,
     bytes: &[u8],
 ) -> Result<(), CodecError> {
-    let (asked, given) = (
-        Indexer::List(numbers),
-        ArrayBytes::Fixed(bytes.to_vec(alloc)?),
-    );
-    state.partial_encode(alloc, asked, given, &CodecOptions::default())
+    let given = ArrayBytes::Fixed(bytes.to_vec(alloc)?);
+    state.partial_encode(alloc, places, given, &CodecOptions::default())
 }
 
-/// Whether the places with these numbers are read as these bytes.
+/// Whether places are read as these bytes.
 pub(crate) fn shows<I: ArrayToBytesCodecTraits>(
     alloc: Global,
     state: &mut State<'_, I>,
-    numbers: &[u64],
+    places: Indexer<'_>,
     bytes: &[u8],
 ) -> Result<bool, CodecError> {
-    let read = state.partial_decode(alloc, Indexer::List(numbers), &CodecOptions::default())?;
+    let read = state.partial_decode(alloc, places, &CodecOptions::default())?;
     Ok(are(&read, bytes))
 }
 
@@ -81,8 +83,16 @@ fn made<I: ArrayToBytesCodecTraits>(
     call: Call<'_>,
 ) -> Result<bool, CodecError> {
     match call {
-        Call::Put(numbers, bytes) => put(alloc, state, numbers, bytes)?,
-        Call::Shows(numbers, bytes) => return shows(alloc, state, numbers, bytes),
+        Call::Put(numbers, bytes) => put(alloc, state, Indexer::List(numbers), bytes)?,
+        Call::PutBox(ranges, bytes) => {
+            let region = ArraySubset::new_with_ranges(alloc, ranges)?;
+            put(alloc, state, Indexer::Subset(&region), bytes)?;
+        }
+        Call::Shows(numbers, bytes) => return shows(alloc, state, Indexer::List(numbers), bytes),
+        Call::ShowsBox(ranges, bytes) => {
+            let region = ArraySubset::new_with_ranges(alloc, ranges)?;
+            return shows(alloc, state, Indexer::Subset(&region), bytes);
+        }
         Call::Erase => erase(alloc, state)?,
     }
     Ok(true)

@@ -5,6 +5,7 @@ use crate::source::source_of;
 use std::alloc::Global;
 use zarr_codecs::{
     ArrayToBytesCodec, ArrayToBytesCodecTraits, BytesCodec, CodecChain, CodecError, CodecOptions,
+    Indexer,
 };
 use zarr_codecs_reverse::ReverseCodec;
 use zarr_sharding::{ShardingCodec, ShardingIndexLocation, SubchunkWriteOrder};
@@ -38,7 +39,7 @@ fn put_drawn<I: ArrayToBytesCodecTraits>(
     put_in(table, places[0], cells[0]);
     put_in(table, places[1], cells[1]);
     put_in(table, places[2], cells[2]);
-    put(alloc, state, &places, &cells)
+    put(alloc, state, Indexer::List(&places), &cells)
 }
 
 /// The numbers of all places, from the last to the first.
@@ -53,8 +54,8 @@ fn is_as<I: ArrayToBytesCodecTraits>(
 ) -> Result<bool, CodecError> {
     let mut backwards = *table;
     backwards.reverse();
-    let all = shows(alloc, state, &BACKWARDS, &backwards)?;
-    Ok(all && shows(alloc, state, &[0, 1], &table[0..2])?)
+    let all = shows(alloc, state, Indexer::List(&BACKWARDS), &backwards)?;
+    Ok(all && shows(alloc, state, Indexer::List(&[0, 1]), &table[0..2])?)
 }
 
 /// Makes a drawn call of a shard, of which one in eight takes it away. Whether it is as the table

@@ -7,8 +7,8 @@ use crate::samples::{
 use crate::source::{TestSource, source_of};
 use std::alloc::Global;
 use zarr_codecs::{
-    ArrayBytes, ArrayPart, ArrayToBytesCodecTraits, BytesCodec, CodecError, CodecOptions, Elements,
-    Indexer, WholeArray,
+    ArrayBytes, ArrayPart, ArraySubset, ArrayToBytesCodecTraits, BytesCodec, CodecError,
+    CodecOptions, Elements, Indexer, WholeArray,
 };
 use zarr_codecs_reverse::ReverseCodec;
 use zarr_sharding::{
@@ -74,7 +74,7 @@ struct Put<'x> {
     unmade: u64,
 }
 
-/// Whether a codec alone reads 5 at a place.
+/// Whether a codec alone reads 5 in the box of one place.
 fn has_five<C: ArrayToBytesCodecTraits>(
     alloc: Global,
     codec: &C,
@@ -82,16 +82,18 @@ fn has_five<C: ArrayToBytesCodecTraits>(
     place: u64,
 ) -> Result<bool, CodecError> {
     let (elements, options) = (elements(alloc, 0)?, CodecOptions::default());
+    let (row, column) = (place / 4, place % 4);
+    let region = ArraySubset::new_with_ranges(alloc, &[row..row + 1, column..column + 1])?;
     let part = ArrayPart {
         elements: &elements,
         shape: &[4, 4],
-        indexer: Indexer::List(&[place]),
+        indexer: Indexer::Subset(&region),
     };
     let read = codec.partial_decode(alloc, source, part, &options)?;
     Ok(are(&read, &[5]))
 }
 
-/// Puts 3 there by it.
+/// Puts 3 by it at the place with this number.
 fn put_three<C: ArrayToBytesCodecTraits>(
     alloc: Global,
     codec: &C,

@@ -1,5 +1,5 @@
 //! Shards over sources of their own, with bytes typed in by hand.
-use crate::calls::Call::{Erase, Put, Shows};
+use crate::calls::Call::{Erase, Put, PutBox, Shows, ShowsBox};
 use crate::calls::End::{Damage, Done, Source};
 use crate::calls::{Case, given_of_four, given_of_nested, given_of_numbers, given_of_two, open};
 use crate::samples::{NINE_PUT, NONE, ONE_OF_FOUR, THREE_PUT, Value, elements, is, shards};
@@ -270,18 +270,52 @@ fn a_refused_put_leaves_all_as_it_was(rt: HostRuntime) {
     assert!(rt; matches!(given_of_four(rt.alloc(), write_refused), Ok(Some(_))));
 }
 
+/// A box in both upper subchunks: of the slices that it takes, the second one is refused.
+const PUT_IN_BOTH_REFUSED: Case<'static> = Case {
+    held: Some(NINE_PUT),
+    refuses: 4,
+    calls: &[
+        (PutBox(&[0..1, 1..3], &[3, 4]), Source),
+        (ShowsBox(&[0..2, 0..4], &[9, 0, 5, 6, 0, 0, 7, 8]), Done),
+    ],
+    left: Some(NINE_PUT),
+    writes: 0,
+};
+
+/// A box that is a whole subchunk, of which the slice is refused.
+const WHOLE_PUT_REFUSED: Case<'static> = Case {
+    refuses: 3,
+    calls: &[
+        (PutBox(&[0..2, 2..4], &[1, 2, 3, 4]), Source),
+        (ShowsBox(&[0..2, 2..4], &[5, 6, 7, 8]), Done),
+    ],
+    ..PUT_IN_BOTH_REFUSED
+};
+
+#[test]
+fn a_refused_put_of_a_box_leaves_all_as_it_was(rt: HostRuntime) {
+    assert!(rt; matches!(given_of_four(rt.alloc(), PUT_IN_BOTH_REFUSED), Ok(Some(_))));
+    assert!(rt; matches!(given_of_four(rt.alloc(), WHOLE_PUT_REFUSED), Ok(Some(_))));
+}
+
 /// The upper places once 3 is put at the third one.
 const UPPER_THEN: [u8; 8] = [0, 0, 3, 6, 0, 0, 7, 8];
 
+/// Of the slices of both upper subchunks the second one is refused, once a put has made three calls
+/// of the source.
 const READ_REFUSED: Case<'static> = Case {
-    held: Some(ONE_OF_FOUR),
-    refuses: 5,
+    held: Some(NINE_PUT),
+    refuses: 6,
     calls: &[
         (Put(&[2], &[3]), Done),
-        (Shows(&UPPER, &UPPER_THEN), Source),
-        (Shows(&UPPER, &UPPER_THEN), Done),
+        (ShowsBox(&[0..2, 0..4], &[9, 0, 3, 6, 0, 0, 7, 8]), Source),
+        (ShowsBox(&[0..2, 0..4], &[9, 0, 3, 6, 0, 0, 7, 8]), Done),
     ],
-    left: Some(THREE_PUT),
+    left: Some(Value {
+        front: &[5, 6, 7, 8, 9, 0, 0, 0, 3, 6, 7, 8],
+        pairs: &[4, 4, 8, 4, NONE, NONE, NONE, NONE],
+        back: &[],
+    }),
     writes: 1,
 };
 

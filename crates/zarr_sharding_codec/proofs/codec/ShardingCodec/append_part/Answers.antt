@@ -143,7 +143,7 @@ pub append_changes-requires-clause-many : goal.append_changes-requires-clause-ma
 append_changes-requires-clause-many g c = c.in-Ok.ensures.many
 
 pub append_changes-requires-clause-below : goal.append_changes-requires-clause-below
-append_changes-requires-clause-below g c = ap (list_all (is_below (length (pairs_in c.in-Ok.known)))) c.as_slice-changes.ensures.value ∙ c.in-Ok-update_asked.ensures.below
+append_changes-requires-clause-below g c = c.in-Ok-update_asked.ensures.below
 
 pub returns-clause-cause : goal.returns-clause-cause
 returns-clause-cause g c = λ honest.
@@ -244,7 +244,7 @@ returns-in-Ok-update_asked-clause-ok g c = λ honest.
     let to_exact : IsTrue whole → IsTrue exact = λ e. (and_parts exact one (and_parts (is_row_major self.subchunk_write_order) (exact && one) e).1).0 in
     let both = laws.goes_on _ _ _ c.in-Ok.ensures.follows c.in-Ok-update_asked.ensures.follows in
     let last = g.E.BytesPartialDecoderTraits.contents c.update_asked.new.source in
-    appended_read subchunk inner index location exact elements shape asked payload size numbers pairs_shape given old later pairs end h same one whole (g.E.BytesPartialDecoderTraits.contents c.append_changes.new.source) c.in-Ok-update_asked.changes.items c.as_slice-changes.result.now c.append_changes.result c.as_slice-changes.ensures.value to_exact
+    appended_read subchunk inner index location exact elements shape asked payload size numbers pairs_shape given old later pairs end h same one whole (g.E.BytesPartialDecoderTraits.contents c.append_changes.new.source) c.in-Ok-update_asked.changes.items c.in-Ok-update_asked.changes.items c.append_changes.result refl to_exact
     (c.in-Ok-update_asked.ensures.changes still of tested.cells (subst (λ p. IsValid elements.type p (length numbers) tested.cells) (sym c.in_ok-bytes.ensures) valid)) last (laws.same _ _ both) (c.append_changes.ensures.ok (subst IsTrue (laws.honest _ _ both) honest))
 
 pub returns-in-Ok-update_asked-clause-placed : goal.returns-in-Ok-update_asked-clause-placed
@@ -299,7 +299,7 @@ returns-in-Ok-update_asked-clause-cause g c = λ honest.
     let of = read_of subchunk inner index location exact elements shape asked payload size numbers pairs_shape given old later pairs end h same in
     let valid = read_valid subchunk inner index location exact elements shape asked payload size numbers pairs_shape given old later pairs end h same in
     let both = laws.goes_on _ _ _ c.in-Ok.ensures.follows c.in-Ok-update_asked.ensures.follows in
-    not_written subchunk inner index location exact elements shape asked payload size numbers pairs_shape given old later pairs end h same (changes_of c.as_slice-changes.result.now) c.append_changes.result (c.append_changes.ensures.cause (subst IsTrue (laws.honest _ _ both) honest))
+    not_written subchunk inner index location exact elements shape asked payload size numbers pairs_shape given old later pairs end h same (changes_of c.in-Ok-update_asked.changes.items) c.append_changes.result (c.append_changes.ensures.cause (subst IsTrue (laws.honest _ _ both) honest))
 
 pub returns-in-Ok-update_asked-clause-refused : goal.returns-in-Ok-update_asked-clause-refused
 returns-in-Ok-update_asked-clause-refused g c = c.append_changes.ensures.refused ∙ ap (λ n. refused_after n c.append_changes.result) (c.in-Ok-update_asked.ensures.refused ∙ c.in-Ok.ensures.refused)
