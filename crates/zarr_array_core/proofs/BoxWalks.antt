@@ -1,5 +1,5 @@
 -- What an array knows of a write of a box.
-use Rattle.std.proofs.Common.{◌≡◌, ℕ, List, length, true}
+use Rattle.std.proofs.Common.{◌≡◌, List, length, true}
 use Rattle.std.specs.List.{list_all}
 use Rattle.zarr_grids_boxes.specs.Boxes.{Region}
 use Rattle.zarr_grids_cover.specs.Intersecting.{AreIntersecting}

@@ -1,32 +1,25 @@
 -- Chains that are written in part and make no shard: `bytes`, alone or after array codecs. Their values have one size, nothing refuses their cells, and only a value that doesn't open is damaged.
-use Rattle.std.proofs.Common.{◌≡◌, ◌∙◌, ℕ, ◌*◌, ◌^◌, ◌≤◌, ◌⊎◌, Bool, true, false, ◌&&◌, if◌then◌else◌, List, ◌∷◌, length, map, get_or, refl, sym, ap, subst, arith, Option, Some, None, Result, Ok, Err, IsTrue, inl, inr}
+use Rattle.std.proofs.Common.{◌≡◌, ◌∙◌, ℕ, ◌*◌, ◌^◌, ◌≤◌, ◌⊎◌, Bool, true, false, ◌&&◌, if◌then◌else◌, List, ◌∷◌, map, refl, sym, ap, subst, arith, Option, Some, None, Result, Ok, Err, IsTrue, inl, inr}
 use Rattle.std.specs.Prelude.{not, IfErr, MatchOption}
-use Rattle.std.specs.List.{range_with_len}
 use Rattle.std.proofs.lemmas.Bool.{and_parts, false≢true, leb-true}
-use Rattle.std.proofs.lemmas.List.{length-map}
-use Rattle.std.proofs.lemmas.List.FromFn.{length-range_with_len, get_or-map-range_with_len}
 use Rattle.zarr_grids_boxes.specs.Boxes.{Region, product}
-use Rattle.zarr_codecs_meaning.specs.Chains as chains
 use Rattle.zarr_codecs_meaning.specs.Chains.{Chain, ArrayCodec}
 use Rattle.zarr_codecs_meaning.specs.Chains.ArrayCodec.{transpose, reshape, squeeze}
 use Rattle.zarr_codecs_meaning.specs.Chains.BytesRepresentation.{fixed_size, bounded_size, unbounded_size}
 use Rattle.zarr_codecs_meaning.specs.Chains.Chain.{bytes, packbits, vlen, optional, after_array_codec, then_bytes, sharded}
 use Rattle.zarr_codecs_meaning.specs.Decoding.{opens}
-use Rattle.zarr_codecs_meaning.specs.Fits.{array_codec_fits, at_most, bound_of, fits, is_lossless, is_plain, order_fits, representation_of, sum_of_bounds}
+use Rattle.zarr_codecs_meaning.specs.Fits.{array_codec_fits, at_most, bound_of, fits, is_lossless, is_plain, order_fits, representation_of, sum_of_bounds, tells_too_long}
 use Rattle.zarr_codecs_meaning.specs.Partial.{encodes_in_part}
-use Rattle.zarr_codecs_meaning.specs.Places.{Part, encoded_shape, gather, index_shape, parts_of, position_of, source_places, undone_places}
+use Rattle.zarr_codecs_meaning.specs.Places.{Part, encoded_shape, gather, index_shape, parts_of, position_of, source_places}
 use Rattle.zarr_codecs_meaning.specs.Refusals.{CodecRefuses, PassesIndex}
 use Rattle.zarr_codecs_meaning.specs.Types.{Cell, DataType, Elements, bytes_in, components, is_fixed, byte_width, uint64, IsTooLarge}
-use Rattle.zarr_codecs_meaning.proofs.ArrayCodecs.{array_codec_count}
-use Rattle.zarr_codecs_meaning.proofs.Covers.{array_codec_covers}
-use Rattle.zarr_codecs_meaning.proofs.Once.{array_codec_once, covering_long}
-use Rattle.zarr_codecs_meaning.proofs.Positions.{among_at}
+use Rattle.zarr_codecs_meaning.proofs.Once.{product_moved}
 use Rattle.zarr_codecs_options.specs.declared.codec_options.CodecOptions.{CodecOptions}
 use Rattle.zarr_codecs_traits.specs.PartWriting.{MeetsLost, PassesLength, StopsWrite}
 use Rattle.zarr_codecs_traits.specs.Indexers.{Asked, numbers_asked}
 use Rattle.zarr_codecs_traits.proofs.Damage.{plain_placed, stops_part}
 use Rattle.zarr_codecs_meaning.specs.Payloads.{Payload}
-use Rattle.zarr_codecs_traits.specs.Representations.{IsRepresented, tells_too_long}
+use Rattle.zarr_codecs_traits.specs.Representations.{IsRepresented}
 use Rattle.zarr_codecs_traits.specs.declared.bytes_representation.BytesRepresentation.{BytesRepresentation}
 use Rattle.zarr_codecs_traits.specs.declared.bytes_representation.BytesRepresentation.TheVariants.{FixedSize, BoundedSize, UnboundedSize}
 use Rattle.zarr_array_meaning.specs.Chunks.{fits_box, holds_box}
@@ -135,22 +128,6 @@ fill_stops document box stored cells error.Memory is h = tt
 
 -- ---- sizes
 
--- an array codec keeps the number of places
-product_moved : (codec : ArrayCodec) (shape : List ℕ) → array_codec_fits codec shape ≡ true → product (encoded_shape codec shape) ≡ product shape
-product_moved codec shape fit =
-    let ns = source_places codec shape in
-    let count = product shape in
-    let back = undone_places codec shape in
-    let once = array_codec_once codec shape fit in
-    let many = array_codec_count codec shape fit in
-    let long : length back ≡ count = length-map (range_with_len 0 count) (λ n. position_of n ns) ∙ length-range_with_len 0 count in
-    let one = covering_long count ns (array_codec_covers codec shape fit) in
-    let two = covering_long (length ns) back (λ i h.
-    let n = get_or ns i 0 in
-    let below = once.below i h in
-    among_at back n i (omega (arith, below, long)) (get_or-map-range_with_len (λ k. position_of k ns) 0 count n n 0 below (omega arith) ∙ once.position i h)) in
-    omega (arith, one, two, many, long)
-
 -- its size is told
 told_size : (chain : Chain) (type : DataType) (shape : List ℕ) → IsInPart chain → (n : ℕ) × (representation_of chain type shape ≡ fixed_size n)
 told_size (bytes order) type shape is = (bytes_in (components type) * product shape, refl)
@@ -175,7 +152,7 @@ too_long (vlen index «data» width location) type shape is fit h = absurd (fals
 too_long (optional mask values) type shape is fit h = absurd (false≢true is.partly)
 too_long (after_array_codec codec chain) type shape is fit h =
     let both = and_parts (array_codec_fits codec shape) (fits chain type (encoded_shape codec shape)) fit in
-    subst (IsTooLarge type) (product_moved codec shape both.0) (too_long chain type (encoded_shape codec shape) (inner codec chain is) both.1 h)
+    subst (IsTooLarge type) (sym (product_moved codec shape both.0)) (too_long chain type (encoded_shape codec shape) (inner codec chain is) both.1 h)
 too_long (then_bytes chain codec) type shape is fit h = absurd (false≢true is.partly)
 too_long (sharded subchunk within index location) type shape is fit h = absurd (false≢true is.plain)
 

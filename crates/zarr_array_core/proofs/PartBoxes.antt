@@ -1,8 +1,8 @@
 -- The places that a box and a chunk share, as the chunk's codecs number them.
-use Rattle.std.proofs.Common.{◌≡◌, ℕ, ◌+◌, ◌-◌, ◌*◌, ◌^◌, ◌≤◌, Bool, true, false, max, min, List, [], ◌∷◌, length, map, refl, sym, ap, arith, Option, Some, None, inl, inr, MatchOption}
+use Rattle.std.proofs.Common.{◌≡◌, ℕ, ◌+◌, ◌-◌, ◌≤◌, Bool, true, false, max, List, [], ◌∷◌, length, map, refl, sym, ap, arith}
 use Rattle.std.proofs.Math.Dec.{leb, ltb}
 use Rattle.std.proofs.lemmas.Bool.{le-leb, lt-ltb, leb-true, ltb-true}
-use Rattle.zarr_grids_boxes.specs.Boxes.{Region, product, ravel, each2, is_in_box, share_place}
+use Rattle.zarr_grids_boxes.specs.Boxes.{Region, ravel, each2, is_in_box}
 use Rattle.zarr_grids_boxes.specs.Cuts.{overlapped, relative}
 use Rattle.zarr_grids_boxes.proofs.Places.{both}
 use Rattle.zarr_array_meaning.specs.Chunks.{number_in}

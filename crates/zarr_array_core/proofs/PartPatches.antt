@@ -1,8 +1,7 @@
 -- The value of a chunk into which the elements of a box were written.
-use Rattle.std.proofs.Common.{◌≡◌, ◌∙◌, ℕ, ◌-◌, ◌*◌, ◌<◌, ◌&&◌, if◌then◌else◌, Bool, true, false, List, [], ◌∷◌, length, map, get_or, refl, sym, ap, subst, arith, Option, Some, None, Ok, Vec, option_map, zero, suc, unwrap_or, IfSome, IsTrue}
+use Rattle.std.proofs.Common.{◌≡◌, ◌∙◌, ℕ, ◌-◌, ◌*◌, ◌<◌, ◌&&◌, if◌then◌else◌, Bool, true, false, List, [], ◌∷◌, length, map, get_or, refl, sym, ap, subst, arith, Option, Some, None, Ok, option_map, zero, suc, unwrap_or, IfSome, IsTrue}
 use Rattle.std.specs.List.{list_all}
 use Rattle.std.specs.FinMap.{get, insert}
-use Rattle.std.specs.declared.alloc.Global.{Global}
 use Rattle.std.proofs.lemmas.Bool.{false≢true}
 use Rattle.std.proofs.lemmas.List.{length-map}
 use Rattle.zarr_grids_boxes.specs.Boxes.{Region, product, place_at, ravel, each2, is_in_box, share_place}
@@ -19,8 +18,8 @@ use Rattle.zarr_codecs_meaning.specs.Standing.{Stands}
 use Rattle.zarr_codecs_meaning.specs.Types.{Cell, is_value, is_fill, same_cell, bytes_in, components, byte_width}
 use Rattle.zarr_codecs_meaning.proofs.Lists.{all_pass, each_map, map_some, some_same, if_some}
 use Rattle.zarr_codecs_traits.specs.PartEncoding.{EncodesPart, IsEncodedPart, DecodesBySize, cells_with_box, takes_patches}
-use Rattle.zarr_codecs_traits.specs.Patches.{patched}
-use Rattle.zarr_codecs_traits.specs.declared.value_patch.ValuePatch.{ValuePatch}
+use Rattle.zarr_codecs_traits.specs.Patches.{Patch, patched, patches_in}
+use Rattle.zarr_codecs_traits.specs.declared.value_patch.ValuePatches.{ValuePatches}
 use Rattle.zarr_codecs_traits.proofs.PartValues.{patched_decode}
 use Rattle.zarr_array_storage.specs.Ranges.{patched_at}
 use Rattle.zarr_array_storage.specs.Stores.{HasBytesAt}
@@ -162,19 +161,19 @@ pub record AreShared (document : Document) (region box : Region) (given : List C
   pub some : store_empty ≡ false → is_fill document.elements.fill sub ≡ false
 
 -- the cells that the codec put into the value are those of the box
-put_cells : (document : Document) (exact : Bool) (region box : Region) (given : List Cell) (payload : Payload) (sub : List Cell) (store_empty : Bool) (cells : List Cell) (patches : List ValuePatch) → AreShared document region box given payload sub store_empty
+put_cells : (document : Document) (exact : Bool) (region box : Region) (given : List Cell) (payload : Payload) (sub : List Cell) (store_empty : Bool) (cells : List Cell) (patches : List Patch) → AreShared document region box given payload sub store_empty
     → IsEncodedPart document.chain exact document.elements box.shape (part_of region box) payload cells patches → cells ≡ sub
 put_cells document exact region box given payload sub store_empty cells patches are h =
     some_same (sym h.valid.is.lists ∙ are.are.valid.is.lists)
 
-part_stands : (document : Document) (exact : Bool) (region box : Region) (given : List Cell) (payload : Payload) (sub : List Cell) (store_empty : Bool) (cells : List Cell) (patches : List ValuePatch) → AreShared document region box given payload sub store_empty
+part_stands : (document : Document) (exact : Bool) (region box : Region) (given : List Cell) (payload : Payload) (sub : List Cell) (store_empty : Bool) (cells : List Cell) (patches : List Patch) → AreShared document region box given payload sub store_empty
     → IsEncodedPart document.chain exact document.elements box.shape (part_of region box) payload cells patches → (value : List ℕ) (before : List Cell) → decoded document.chain document.elements box.shape value ≡ Some before
     → is_lossless document.chain document.elements.type ≡ true → Stands document.chain document.elements box.shape (patched value patches) (new_cells document.elements.fill region box sub before)
 part_stands document exact region box given payload sub store_empty cells patches are h value before is lossless =
     subst (λ (cs : List Cell). Stands document.chain document.elements box.shape (patched value patches) (new_cells document.elements.fill region box cs before)) (put_cells document exact region box given payload sub store_empty cells patches are h)
     (h.stands lossless value before is)
 
-part_encoded : (document : Document) (exact : Bool) (region box : Region) (given : List Cell) (payload : Payload) (sub : List Cell) (store_empty : Bool) (cells : List Cell) (patches : List ValuePatch) → AreShared document region box given payload sub store_empty
+part_encoded : (document : Document) (exact : Bool) (region box : Region) (given : List Cell) (payload : Payload) (sub : List Cell) (store_empty : Bool) (cells : List Cell) (patches : List Patch) → AreShared document region box given payload sub store_empty
     → IsEncodedPart document.chain exact document.elements box.shape (part_of region box) payload cells patches → (value : List ℕ) (before : List Cell) → decoded document.chain document.elements box.shape value ≡ Some before
     → IsTrue exact → encoded document.chain document.elements box.shape (new_cells document.elements.fill region box sub before) ≡ Some (patched value patches)
 part_encoded document exact region box given payload sub store_empty cells patches are h value before is one =
@@ -204,8 +203,8 @@ part_become document region box given payload sub store_empty value before are i
     }
 
 -- the ranges of a codec, written into a chunk's value
-pub part_patches : (document : Document) (exact : Bool) (region box : Region) (given : List Cell) (payload : Payload) (sub : List Cell) (store_empty : Bool) (patches : Vec ValuePatch Global) → AreShared document region box given payload sub store_empty
-    → EncodesPart document.chain exact document.elements box.shape (part_of region box) payload (Ok (Some patches)) → PatchesChunk document exact region given store_empty box patches.items
+pub part_patches : (document : Document) (exact : Bool) (region box : Region) (given : List Cell) (payload : Payload) (sub : List Cell) (store_empty : Bool) (patches : ValuePatches) → AreShared document region box given payload sub store_empty
+    → EncodesPart document.chain exact document.elements box.shape (part_of region box) payload (Ok (Some patches)) → PatchesChunk document exact region given store_empty box (patches_in patches)
 part_patches document exact region box given payload sub store_empty patches are h =
     let fill = document.elements.fill in
     let meet = meeting region box are.share in
@@ -218,17 +217,17 @@ part_patches document exact region box given payload sub store_empty patches are
             cells = cells;
             becomes = part_become document region box given payload sub store_empty value before are is;
             is = record {
-              absent = λ none. let no : Some (patched value patches.items) ≡ None = none in cc;
+              absent = λ none. let no : Some (patched value (patches_in patches)) ≡ None = none in cc;
               present = λ made same empty. unless_all (is_fill fill cells) (not_filled fill region box sub before are.rank meet are.becomes.many (are.some empty));
-              stands = part_stands document exact region box given payload sub store_empty h.0 patches.items are h.1 value before is;
-              encodes = λ one made same. part_encoded document exact region box given payload sub store_empty h.0 patches.items are h.1 value before is one ∙ same;
+              stands = part_stands document exact region box given payload sub store_empty h.0 (patches_in patches) are h.1 value before is;
+              encodes = λ one made same. part_encoded document exact region box given payload sub store_empty h.0 (patches_in patches) are h.1 value before is one ∙ same;
             };
           };
     }
 
 -- whatever ranges it gave
-pub found_patches : (document : Document) (exact : Bool) (region box : Region) (given : List Cell) (payload : Payload) (sub : List Cell) (store_empty : Bool) (found : Option (Vec ValuePatch Global)) → AreShared document region box given payload sub store_empty
-    → EncodesPart document.chain exact document.elements box.shape (part_of region box) payload (Ok found) → IfSome found (λ patches. PatchesChunk document exact region given store_empty box patches.items)
+pub found_patches : (document : Document) (exact : Bool) (region box : Region) (given : List Cell) (payload : Payload) (sub : List Cell) (store_empty : Bool) (found : Option ValuePatches) → AreShared document region box given payload sub store_empty
+    → EncodesPart document.chain exact document.elements box.shape (part_of region box) payload (Ok found) → IfSome found (λ patches. PatchesChunk document exact region given store_empty box (patches_in patches))
 found_patches document exact region box given payload sub store_empty None are h = tt
 found_patches document exact region box given payload sub store_empty (Some patches) are h = part_patches document exact region box given payload sub store_empty patches are h
 
@@ -258,7 +257,7 @@ absent_value held key h = no_value (get held key) h
 by_size : (document : Document) (width : ℕ) (held : StoreMap) (key shape value : List ℕ) (size : ℕ) → IsSized document width held key size → get held key ≡ Some value → DecodesBySize document.chain document.elements shape value
 by_size document width held key shape value size is found = patched_decode document.chain document.elements shape value is.takes (is.bytes value found)
 
-pub sized_part : (document : Document) (exact : Bool) (width : ℕ) (region box : Region) (given : List Cell) (store_empty : Bool) (patches : List ValuePatch) (held new : StoreMap) (key : List ℕ) (size : ℕ) → IsSized document width held key size → size ≡ product box.shape * width
+pub sized_part : (document : Document) (exact : Bool) (width : ℕ) (region box : Region) (given : List Cell) (store_empty : Bool) (patches : List Patch) (held new : StoreMap) (key : List ℕ) (size : ℕ) → IsSized document width held key size → size ≡ product box.shape * width
     → PatchesChunk document exact region given store_empty box patches → new ≡ insert held key (patched_at held key patches)
     → (made : Option (List ℕ)) × MakesValue document exact region given store_empty box (get held key) made × (new ≡ with_value held key made)
 sized_part document exact width region box given store_empty patches held new key size is right h e =

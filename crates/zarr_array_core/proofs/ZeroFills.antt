@@ -1,5 +1,5 @@
 -- The value of a new chunk whose fill value is zeros.
-use Rattle.std.proofs.Common.{◌≡◌, ◌∙◌, ℕ, zero, suc, ◌+◌, ◌-◌, ◌*◌, ◌<◌, ◌≤◌, List, [], ◌∷◌, length, map, take, drop, replicate, refl, sym, ap, subst, arith, Bool, ◌&&◌, true, false, if◌then◌else◌, Option, Some, None, option_map, option_and_then, length-drop}
+use Rattle.std.proofs.Common.{◌≡◌, ◌∙◌, ℕ, zero, suc, ◌+◌, ◌-◌, ◌*◌, ◌<◌, ◌≤◌, List, [], ◌∷◌, length, map, take, drop, replicate, refl, sym, ap, subst, arith, Bool, ◌&&◌, true, if◌then◌else◌, Option, Some, None, option_map, option_and_then, length-drop}
 use mathlib.Core.List.{reverse_aux}
 use Rattle.std.specs.Prelude.{◌==◌, OnOk, Result, Ok, Err}
 use Rattle.std.specs.FinMap.{get, insert}
@@ -20,9 +20,8 @@ use Rattle.zarr_codecs_meaning.proofs.Elements.{on_true}
 use Rattle.zarr_codecs_meaning.proofs.Lists.{Each, each_append, each_passes, each_weaker}
 use Rattle.zarr_codecs_meaning.proofs.Values.{length-ordered}
 use Rattle.zarr_codecs_arrays.specs.Values.{takes_all_bytes}
-use Rattle.zarr_codecs_traits.specs.Patches.{patched}
+use Rattle.zarr_codecs_traits.specs.Patches.{Patch, patched}
 use Rattle.zarr_codecs_traits.specs.PartEncoding.{takes_patches}
-use Rattle.zarr_codecs_traits.specs.declared.value_patch.ValuePatch.{ValuePatch}
 use Rattle.zarr_array_meaning.specs.Documents.{Document}
 use Rattle.zarr_array_meaning.specs.StoreMaps.{StoreMap}
 use Rattle.zarr_array_core.specs.ChunkValues.{MakesValue, with_value}
@@ -126,7 +125,7 @@ on_ok (Ok value) P Q f h = f h
 on_ok (Err e) P Q f h = tt
 
 -- zeros into which the ranges were written are the value of a chunk that has none
-pub zeros_part : (document : Document) (exact : Bool) (region box : Region) (given : List Cell) (store_empty : Bool) (patches : List ValuePatch) (held new : StoreMap) (key value : List ℕ) (size : ℕ)
+pub zeros_part : (document : Document) (exact : Bool) (region box : Region) (given : List Cell) (store_empty : Bool) (patches : List Patch) (held new : StoreMap) (key value : List ℕ) (size : ℕ)
     → decoded document.chain document.elements box.shape (replicate size 0) ≡ Some (replicate (product box.shape) document.elements.fill) → PatchesChunk document exact region given store_empty box patches → get held key ≡ None
     → value ≡ patched (replicate size 0) patches → new ≡ insert held key value
     → (made : Option (List ℕ)) × MakesValue document exact region given store_empty box (get held key) made × (new ≡ with_value held key made)

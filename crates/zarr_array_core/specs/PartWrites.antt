@@ -5,8 +5,7 @@ use Rattle.zarr_codecs_meaning.specs.Decoding.{decoded}
 use Rattle.zarr_codecs_meaning.specs.Types.{Cell}
 use Rattle.zarr_codecs_traits.specs.declared.bytes_representation.BytesRepresentation.{BytesRepresentation}
 use Rattle.zarr_codecs_traits.specs.declared.bytes_representation.BytesRepresentation.TheVariants.{FixedSize, BoundedSize, UnboundedSize}
-use Rattle.zarr_codecs_traits.specs.Patches.{any_too_far, patched}
-use Rattle.zarr_codecs_traits.specs.declared.value_patch.ValuePatch.{ValuePatch}
+use Rattle.zarr_codecs_traits.specs.Patches.{Patch, any_too_far, patched}
 use Rattle.zarr_array_meaning.specs.Documents.{Document}
 use Rattle.zarr_array_core.specs.ChunkValues.{MakesValue}
 
@@ -17,7 +16,7 @@ tells_size (BoundedSize n) = false
 tells_size UnboundedSize = false
 
 -- ranges to be written into the value of a chunk, if it is decoded: it is then the value that the chunk is to get
-pub record PatchesChunk (document : Document) (exact : Bool) (region : Region) (given : List Cell) (store_empty : Bool) (box : Region) (patches : List ValuePatch) : Type 0 where
+pub record PatchesChunk (document : Document) (exact : Bool) (region : Region) (given : List Cell) (store_empty : Bool) (box : Region) (patches : List Patch) : Type 0 where
   pub near : any_too_far patches ≡ false
   pub makes : (value : List ℕ) (before : List Cell) → decoded document.chain document.elements box.shape value ≡ Some before
       → MakesValue document exact region given store_empty box (Some value) (Some (patched value patches))

@@ -1,6 +1,6 @@
 //! A part of a chunk written into its value, of which nothing is fetched.
 ghost use Rattle.std.specs.Prelude.{◌≡◌, replicate, IfOk, IfSome};
-ghost use Rattle.zarr_codecs_traits.specs.Patches.{patched};
+ghost use Rattle.zarr_codecs_traits.specs.Patches.{patched, patches_of};
 
 use crate::array_core::ArrayCore;
 use crate::chunk_value::BoxWrite;
@@ -15,7 +15,7 @@ use zarr_array_storage::{ValuePatch, WritableStorageTraits};
 use zarr_codecs_arrays::{ArrayBytes, CodecError};
 use zarr_codecs_options::CodecOptions;
 use zarr_codecs_traits::value_patch::{any_ends_past, overwrite_each};
-use zarr_codecs_traits::{ArrayPart, ArrayToBytesCodecTraits, Indexer};
+use zarr_codecs_traits::{ArrayPart, ArrayToBytesCodecTraits, Indexer, ValuePatches};
 use zarr_codecs_types::Cell;
 use zarr_grids_boxes::ArraySubset;
 use zarr_grids_boxes::walk::count_places;
@@ -38,10 +38,10 @@ fn has_few_lines(part: &ArraySubset, shape: &[u64]) -> bool {
 fn over_zeros(
     alloc: Global,
     size: usize,
-    patches: &[ValuePatch],
+    patches: &[ValuePatch<'_>],
 ) -> Result<Option<Vec<u8>>, AllocError>
     ensures { IfOk result (λ made. IfSome made
-        (λ value. value.items ≡ patched (replicate size 0) patches.now)) }
+        (λ value. value.items ≡ patched (replicate size 0) (patches_of patches.now))) }
 {
     if any_ends_past(patches, size) {
         return Ok(None);
@@ -67,6 +67,7 @@ impl<C: ArrayToBytesCodecTraits> ArrayCore<C> {
     ghost use Rattle.zarr_codecs_meaning.specs.Fits.{fits};
     ghost use Rattle.zarr_codecs_meaning.specs.Types.{byte_width, is_value, IsTooLarge};
     ghost use Rattle.zarr_codecs_traits.specs.PartEncoding.{EncodesPart, takes_patches};
+    ghost use Rattle.zarr_codecs_traits.specs.Patches.{patches_in, patches_of};
     ghost use Rattle.zarr_grids_boxes.specs.Boxes.{product, share_place};
     ghost use Rattle.zarr_grids_boxes.specs.Subsets.{region_of};
     ghost use Rattle.zarr_grids_overlay.specs.Overlays.{extent_of};
@@ -98,7 +99,7 @@ impl<C: ArrayToBytesCodecTraits> ArrayCore<C> {
         rooms: &mut ChunkRooms,
         write: &BoxWrite,
         own: &ArraySubset,
-    ) -> Result<Option<Vec<ValuePatch>>, ChunkError>
+    ) -> Result<Option<ValuePatches>, ChunkError>
         requires small { ¬ IsTooLarge (document_of C.meaning self.now).elements.type
             (product own.now.shape.items) }
         requires fit { fits (document_of C.meaning self.now).chain
@@ -115,7 +116,8 @@ impl<C: ArrayToBytesCodecTraits> ArrayCore<C> {
             (is_exact C.is_function self.now) (extent_of write.now.region)
             (array_cells self.now write.now.bytes.now)
             (stores_fill (document_of C.meaning self.now) write.now.options.now
-            (extent_of write.now.region) (region_of own.now)) (region_of own.now) patches.items)) }
+            (extent_of write.now.region) (region_of own.now)) (region_of own.now)
+            (patches_in patches))) }
         ensures err { IfErr result (λ e. e ≡ Memory) }
     {
         let shared = overlap_in(rooms.take_shared(), write.subset, own)?;
@@ -145,7 +147,7 @@ impl<C: ArrayToBytesCodecTraits> ArrayCore<C> {
         shape: &'x [u64],
         part: &'x ArraySubset,
         options: &CodecOptions,
-    ) -> Result<Option<Vec<ValuePatch>>, CodecError>
+    ) -> Result<Option<ValuePatches>, CodecError>
         ensures { EncodesPart (document_of C.meaning self.now).chain
             (C.is_function self.now.codecs) (document_of C.meaning self.now).elements shape.now
             (region_of part.now) (payload_of given) result }
@@ -191,7 +193,7 @@ impl<C: ArrayToBytesCodecTraits> ArrayCore<C> {
         key: &StoreKey,
         write: &BoxWrite,
         own: &ArraySubset,
-        patches: &[ValuePatch],
+        patches: &[ValuePatch<'_>],
     ) -> Result<(), ChunkError>
         requires small { ¬ IsTooLarge (document_of C.meaning self.now).elements.type
             (product own.now.shape.items) }
@@ -213,7 +215,8 @@ impl<C: ArrayToBytesCodecTraits> ArrayCore<C> {
             (is_exact C.is_function self.now) (extent_of write.now.region)
             (array_cells self.now write.now.bytes.now)
             (stores_fill (document_of C.meaning self.now) write.now.options.now
-            (extent_of write.now.region) (region_of own.now)) (region_of own.now) patches.now }
+            (extent_of write.now.region) (region_of own.now)) (region_of own.now)
+            (patches_of patches.now) }
         ensures ok { IsTrue (S.is_honest store.old) → OnOk result ((made : Option (List ℕ))
             × MakesValue (document_of C.meaning self.now)
             (is_exact C.is_function self.now) (extent_of write.now.region)
@@ -307,14 +310,15 @@ impl<C: ArrayToBytesCodecTraits> ArrayCore<C> {
         let Some(patches) = self.chunk_patches(rooms, write, own)? else {
             return Ok(false);
         };
+        let lent = patches.lend(write.alloc)?;
         let Some(size) = size_key(store, key)? else {
-            self.write_new(store, key, write, own, patches.as_slice())?;
+            self.write_new(store, key, write, own, lent.as_slice())?;
             return Ok(true);
         };
         if size != count_places(shape).unwrap() * width as u64 {
             return Err(ChunkError::Damage);
         }
-        set_partial(store, key, patches.as_slice())?;
+        set_partial(store, key, lent.as_slice())?;
         Ok(true)
     }
 

@@ -5,7 +5,7 @@ ghost use Rattle.zarr_array_meaning.specs.StoreMaps.{counted};
 ghost use Rattle.zarr_array_storage.specs.Ranges.{patched_at};
 ghost use Rattle.zarr_array_storage.specs.Refusals.{IfByteRange, is_counted};
 ghost use Rattle.zarr_array_storage.specs.Stores.{HasBytesAt, value_bytes};
-ghost use Rattle.zarr_codecs_traits.specs.Patches.{any_too_far};
+ghost use Rattle.zarr_codecs_traits.specs.Patches.{any_too_far, patches_of};
 ghost use Rattle.zarr_array_core.specs.Outcomes.{IsErasureStop, CountsUpTo, refused_after, refused_with};
 
 use crate::error::ChunkError;
@@ -95,11 +95,12 @@ pub(crate) fn set<S: WritableStorageTraits>(
 pub(crate) fn set_partial<S: WritableStorageTraits>(
     store: &mut S,
     key: &StoreKey,
-    patches: &[ValuePatch],
+    patches: &[ValuePatch<'_>],
 ) -> Result<(), ChunkError>
-    requires { any_too_far patches.now ≡ false }
+    requires { any_too_far (patches_of patches.now) ≡ false }
     ensures ok { IsTrue (S.is_honest store.old) → OnOk result (S.held store.new ≡ insert
-        (S.held store.old) key.now (patched_at (S.held store.old) key.now patches.now)) }
+        (S.held store.old) key.now
+        (patched_at (S.held store.old) key.now (patches_of patches.now))) }
     ensures err { IsTrue (S.is_honest store.old) →
         OnErr result (S.held store.new ≡ S.held store.old) }
     ensures stops { IsTrue (S.is_honest store.old) → IfErr result IsErasureStop }

@@ -10,8 +10,7 @@ use Rattle.std.proofs.lemmas.Map.Lookups.{exact_bytes}
 use Rattle.zarr_array_meaning.specs.StoreMaps.{StoreMap, counted}
 use Rattle.zarr_codecs_traits.specs.Sources as source
 use Rattle.zarr_codecs_traits.specs.Writes.{IsGivenByPatching, PatchesRefused, WriteRefused}
-use Rattle.zarr_codecs_traits.specs.Patches.{any_too_far}
-use Rattle.zarr_codecs_traits.specs.declared.value_patch.ValuePatch.{ValuePatch}
+use Rattle.zarr_codecs_traits.specs.Patches.{Patch, any_too_far}
 use Rattle.zarr_array_storage.specs.PartialEncoders.{SameElsewhere, target_error}
 use Rattle.zarr_array_storage.specs.Refusals.{IfByteRange, refused_after}
 use Rattle.zarr_array_storage.specs.declared.error.StorageError.{StorageError}
@@ -38,7 +37,7 @@ target_refused A (Other text) none = tt
 target_refused A Memory none = tt
 
 -- ranges aren't written where one ends too far, or the value is not written
-pub patches_refused : (A : Type 0) (patches : List ValuePatch) (e : StorageError) → IfByteRange e (IsTrue (any_too_far patches)) → PatchesRefused {A = A} patches (Err (target_error e))
+pub patches_refused : (A : Type 0) (patches : List Patch) (e : StorageError) → IfByteRange e (IsTrue (any_too_far patches)) → PatchesRefused {A = A} patches (Err (target_error e))
 patches_refused A patches Io far = tt
 patches_refused A patches (InvalidMetadata key text) far = tt
 patches_refused A patches InvalidKey far = tt

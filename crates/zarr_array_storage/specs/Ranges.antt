@@ -3,9 +3,8 @@ use Rattle.std.specs.Prelude.{ℕ, List, Option, Bool}
 use Rattle.std.specs.FinMap.{get}
 use Rattle.zarr_array_meaning.specs.StoreMaps.{StoreMap}
 use Rattle.zarr_codecs_traits.specs.Sources as source
-use Rattle.zarr_codecs_traits.specs.Patches.{patched_contents}
+use Rattle.zarr_codecs_traits.specs.Patches.{Patch, patched_contents}
 use Rattle.zarr_codecs_traits.specs.declared.byte_range.ByteRange.{ByteRange}
-use Rattle.zarr_codecs_traits.specs.declared.value_patch.ValuePatch.{ValuePatch}
 
 -- the bytes of the value at a key in each of the ranges, or none where it has no value
 abbrev pub parts_at : StoreMap → List ℕ → List ByteRange → Option (List (List ℕ))
@@ -16,5 +15,5 @@ abbrev pub any_past_end : StoreMap → List ℕ → List ByteRange → Bool
 any_past_end held key ranges = source.any_past_end (get held key) ranges
 
 -- the value at a key with several ranges written; no value counts as empty
-abbrev pub patched_at : StoreMap → List ℕ → List ValuePatch → List ℕ
+abbrev pub patched_at : StoreMap → List ℕ → List Patch → List ℕ
 patched_at held key patches = patched_contents (get held key) patches

@@ -132,7 +132,11 @@ impl WritableStorageTraits for MemoryStore {
         Ok(())
     }
 
-    fn set_partial(&mut self, key: &StoreKey, patches: &[ValuePatch]) -> Result<(), StorageError> {
+    fn set_partial(
+        &mut self,
+        key: &StoreKey,
+        patches: &[ValuePatch<'_>],
+    ) -> Result<(), StorageError> {
         if any_too_far(patches) {
             return Err(StorageError::InvalidByteRange);
         }

@@ -3,7 +3,7 @@ ghost use Rattle.std.specs.Prelude.{◌≡◌, false, IsTrue, IfOk, OnOk, OnErr,
 ghost use Rattle.std.specs.FinMap as map;
 ghost use Rattle.zarr_array_meaning.specs.StoreMaps.{counted};
 ghost use Rattle.zarr_array_storage.specs.Ranges.{any_past_end, parts_at, patched_at};
-ghost use Rattle.zarr_codecs_traits.specs.Patches.{any_too_far};
+ghost use Rattle.zarr_codecs_traits.specs.Patches.{any_too_far, patches_of};
 ghost use Rattle.zarr_array_storage.specs.RefusedCalls.{CountsCall, after_call, countdown_of, inner_of, own_refused, own_refused_after, refuses_next};
 ghost use Rattle.zarr_array_storage.specs.Refusals.{OnByteRange, refused_after};
 ghost use Rattle.zarr_array_storage.specs.declared.refusing_store.CallKind.TheVariants.{Read, Write};
@@ -231,12 +231,16 @@ impl<S: WritableStorageTraits> WritableStorageTraits for RefusingStore<S> {
         self.inner.set(key, value)
     }
 
-    fn set_partial(&mut self, key: &StoreKey, patches: &[ValuePatch]) -> Result<(), StorageError>
+    fn set_partial(
+        &mut self,
+        key: &StoreKey,
+        patches: &[ValuePatch<'_>],
+    ) -> Result<(), StorageError>
         ensures ok { IsTrue (S.is_honest (inner_of self.old)) → OnOk result
             (S.held (inner_of self.new) ≡ map.insert (S.held (inner_of self.old)) key.now
-            (patched_at (S.held (inner_of self.old)) key.now patches.now)) }
+            (patched_at (S.held (inner_of self.old)) key.now (patches_of patches.now))) }
         ensures in_range { IsTrue (S.is_honest (inner_of self.old)) →
-            OnOk result (any_too_far patches.now ≡ false) }
+            OnOk result (any_too_far (patches_of patches.now) ≡ false) }
         ensures err { IsTrue (S.is_honest (inner_of self.old)) → OnErr result
             (S.held (inner_of self.new) ≡ S.held (inner_of self.old)) }
         ensures honest { S.is_honest (inner_of self.new) ≡ S.is_honest (inner_of self.old) }
@@ -244,7 +248,7 @@ impl<S: WritableStorageTraits> WritableStorageTraits for RefusingStore<S> {
             refused_after
             (counted (own_refused self.old) (S.refused_calls (inner_of self.old))) result }
         ensures byte_range { IsTrue (S.is_honest (inner_of self.old)) →
-            OnByteRange result (IsTrue (any_too_far patches.now)) }
+            OnByteRange result (IsTrue (any_too_far (patches_of patches.now))) }
         ensures given { S.given_bytes (inner_of self.new) ≡ S.given_bytes (inner_of self.old) }
         ensures accepted { OnOk result (S.accepted_writes (inner_of self.new) ≡
             counted (S.accepted_writes (inner_of self.old)) 1) }

@@ -5,7 +5,7 @@ ghost use Rattle.zarr_array_meaning.specs.StoreMaps.{counted};
 ghost use Rattle.zarr_array_storage.specs.PartialEncoders.{key_behind, reference_behind, store_behind, target_error};
 ghost use Rattle.zarr_array_storage.specs.Ranges.{patched_at};
 ghost use Rattle.zarr_array_storage.specs.Refusals.{OnByteRange, refused_after};
-ghost use Rattle.zarr_codecs_traits.specs.Patches.{any_too_far};
+ghost use Rattle.zarr_codecs_traits.specs.Patches.{any_too_far, patches_of};
 ghost use Rattle.zarr_codecs_traits.specs.Writes.{IsGivenByPatching};
 
 use crate::error::StorageError;
@@ -80,17 +80,18 @@ fn write_ranges<S: WritableStorageTraits>(
     alloc: Global,
     store: &mut S,
     key: &StoreKey,
-    patches: &[ValuePatch],
+    patches: &[ValuePatch<'_>],
 ) -> Result<(), StorageError>
     ensures ok { IsTrue (S.is_honest store.old) → OnOk result (S.held store.new
-        ≡ insert (S.held store.old) key.now (patched_at (S.held store.old) key.now patches.now)) }
+        ≡ insert (S.held store.old) key.now
+        (patched_at (S.held store.old) key.now (patches_of patches.now))) }
     ensures err { IsTrue (S.is_honest store.old) →
         OnErr result (S.held store.new ≡ S.held store.old) }
     ensures honest { S.is_honest store.new ≡ S.is_honest store.old }
     ensures refused { S.refused_calls store.new ≡
         refused_after (S.refused_calls store.old) result }
     ensures byte_range { IsTrue (S.is_honest store.old) →
-        OnByteRange result (IsTrue (any_too_far patches.now)) }
+        OnByteRange result (IsTrue (any_too_far (patches_of patches.now))) }
     ensures given { IsTrue (S.supports_set_partial store.old) →
         S.given_bytes store.new ≡ S.given_bytes store.old }
     ensures given_once { IsTrue (S.is_honest store.old) → IsGivenByPatching
@@ -177,7 +178,11 @@ impl<'a, S: WritableStorageTraits> BytesPartialEncoderTraits for StoragePartialE
         (S.held (store_behind a)) (S.held (store_behind b))) };
 
     #[tactic(auto, using(crate::proofs::PartialEncoderLemmas::target_counts, crate::proofs::PartialEncoderLemmas::patches_refused, crate::proofs::PartialEncoderLemmas::get_inserted, crate::proofs::PartialEncoderLemmas::inserted_elsewhere))]
-    fn partial_encode(&mut self, alloc: Global, patches: &[ValuePatch]) -> Result<(), CodecError> {
+    fn partial_encode(
+        &mut self,
+        alloc: Global,
+        patches: &[ValuePatch<'_>],
+    ) -> Result<(), CodecError> {
         let key = self.source.key;
         match write_ranges(alloc, self.source.store, key, patches) {
             Ok(()) => Ok(()),

@@ -3,7 +3,7 @@ ghost use Rattle.std.specs.Prelude.{◌≡◌, ℕ, Bool, false, IsTrue, IfOk, O
 ghost use Rattle.std.specs.FinMap as map;
 ghost use Rattle.zarr_array_meaning.specs.StoreMaps.{StoreMap, counted};
 ghost use Rattle.zarr_array_storage.specs.Ranges.{any_past_end, parts_at, patched_at};
-ghost use Rattle.zarr_codecs_traits.specs.Patches.{any_too_far};
+ghost use Rattle.zarr_codecs_traits.specs.Patches.{any_too_far, patches_of};
 ghost use Rattle.zarr_array_storage.specs.Refusals.{OnByteRange, refused_after};
 ghost use Rattle.zarr_array_storage.specs.Stores.{HasBytesAt, parts_bytes, parts_size, value_bytes, value_size};
 
@@ -124,18 +124,23 @@ pub trait WritableStorageTraits: ReadableStorageTraits {
     /// Writes several ranges into the value at a key, in their order: all, or none where it is
     /// refused. No value counts as empty, and zeros come where a range begins past the end. It is
     /// refused with `InvalidByteRange` where a range ends past 2^63 - 1 bytes.
-    fn set_partial(&mut self, key: &StoreKey, patches: &[ValuePatch]) -> Result<(), StorageError>
+    fn set_partial(
+        &mut self,
+        key: &StoreKey,
+        patches: &[ValuePatch<'_>],
+    ) -> Result<(), StorageError>
         ensures ok { IsTrue (Self.is_honest self.old) → OnOk result (Self.held self.new ≡ map.insert
-            (Self.held self.old) key.now (patched_at (Self.held self.old) key.now patches.now)) }
+            (Self.held self.old) key.now
+            (patched_at (Self.held self.old) key.now (patches_of patches.now))) }
         ensures in_range { IsTrue (Self.is_honest self.old) →
-            OnOk result (any_too_far patches.now ≡ false) }
+            OnOk result (any_too_far (patches_of patches.now) ≡ false) }
         ensures err { IsTrue (Self.is_honest self.old) →
             OnErr result (Self.held self.new ≡ Self.held self.old) }
         ensures honest { Self.is_honest self.new ≡ Self.is_honest self.old }
         ensures refused { Self.refused_calls self.new ≡
             refused_after (Self.refused_calls self.old) result }
         ensures byte_range { IsTrue (Self.is_honest self.old) →
-            OnByteRange result (IsTrue (any_too_far patches.now)) }
+            OnByteRange result (IsTrue (any_too_far (patches_of patches.now))) }
         ensures given { Self.given_bytes self.new ≡ Self.given_bytes self.old }
         ensures accepted { OnOk result
             (Self.accepted_writes self.new ≡ counted (Self.accepted_writes self.old) 1) }

@@ -5,7 +5,7 @@ ghost use Rattle.zarr_array_storage.specs.Ranges.{patched_at};
 ghost use Rattle.zarr_array_storage.specs.Stores.{HasBytesAt};
 ghost use Rattle.zarr_array_storage.specs.ValueMaps.{key_bytes};
 ghost use Rattle.zarr_codecs_meaning.specs.Types.{are_bytes};
-ghost use Rattle.zarr_codecs_traits.specs.Patches.{any_too_far};
+ghost use Rattle.zarr_codecs_traits.specs.Patches.{any_too_far, patches_of};
 ghost use Rattle.zarr_codecs_traits.specs.Sources.{value_lent};
 
 use std::alloc::{AllocError, Global};
@@ -104,9 +104,9 @@ impl ValueMap {
     /// Writes ranges into the value at a key where each of them ends within it, and copies nothing
     /// else. `false` where there is no value or one of them ends past its end; then none is
     /// written.
-    fn set_within(&mut self, key: &str, patches: &[ValuePatch]) -> bool
+    fn set_within(&mut self, key: &str, patches: &[ValuePatch<'_>]) -> bool
         ensures written { result ≡ true → self.new
-            ≡ map.insert self.old key.now (patched_at self.old key.now patches.now) }
+            ≡ map.insert self.old key.now (patched_at self.old key.now (patches_of patches.now)) }
         ensures kept { result ≡ false → self.new ≡ self.old }
     {
         let Some(held) = self.values.get_mut(key) else {
@@ -124,11 +124,11 @@ impl ValueMap {
     pub(crate) fn set_partial(
         &mut self,
         key: &str,
-        patches: &[ValuePatch],
+        patches: &[ValuePatch<'_>],
     ) -> Result<(), AllocError>
-        requires { any_too_far patches.now ≡ false }
+        requires { any_too_far (patches_of patches.now) ≡ false }
         ensures ok { OnOk result (self.new
-            ≡ map.insert self.old key.now (patched_at self.old key.now patches.now)) }
+            ≡ map.insert self.old key.now (patched_at self.old key.now (patches_of patches.now))) }
         ensures err { OnErr result (self.new ≡ self.old) }
     {
         if self.set_within(key, patches) {

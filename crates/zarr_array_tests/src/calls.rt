@@ -108,20 +108,10 @@ fn write(
 ) -> Result<(), StorageError> {
     let mut patches = Vec::new(alloc);
     for (offset, bytes) in pairs {
-        push_patch(alloc, &mut patches, *offset, bytes)?;
+        let (offset, bytes) = (*offset, *bytes);
+        patches.push(ValuePatch { offset, bytes })?;
     }
     store.set_partial(key, patches.as_slice())
-}
-
-/// Appends a patch.
-fn push_patch(
-    alloc: Global,
-    patches: &mut Vec<ValuePatch>,
-    offset: u64,
-    bytes: &[u8],
-) -> Result<(), StorageError> {
-    let bytes = bytes.to_vec(alloc)?;
-    Ok(patches.push(ValuePatch { offset, bytes })?)
 }
 
 /// Makes a call at a key. Whether what is read is as said.

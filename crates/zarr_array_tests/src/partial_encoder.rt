@@ -35,22 +35,21 @@ fn counting(alloc: Global, takes_ranges: bool) -> Result<CountingStore, CodecErr
 }
 
 /// 7, 7 from the second byte on, and 8, 8, 8 from the third.
-fn two_patches(alloc: Global) -> Result<Vec<ValuePatch>, CodecError> {
+fn two_patches() -> [ValuePatch<'static>; 2] {
     let first = ValuePatch {
         offset: 1,
-        bytes: vec![in alloc; 7, 7]?,
+        bytes: &[7, 7],
     };
     let second = ValuePatch {
         offset: 2,
-        bytes: vec![in alloc; 8, 8, 8]?,
+        bytes: &[8, 8, 8],
     };
-    Ok(vec![in alloc; first, second]?)
+    [first, second]
 }
 
 /// Writes the two patches into the value at a key.
 fn patch(alloc: Global, store: &mut CountingStore, key: &StoreKey) -> Result<(), CodecError> {
-    let patches = two_patches(alloc)?;
-    StoragePartialEncoder::new(store, key).partial_encode(alloc, &patches)
+    StoragePartialEncoder::new(store, key).partial_encode(alloc, &two_patches())
 }
 
 /// How many calls read, set and write parts for the two patches, where the value is right then.

@@ -80,7 +80,11 @@ impl BytesPartialEncoderTraits for CountingSource {
 
     ghost rewrites = { λ _ _. Unit {0} };
 
-    fn partial_encode(&mut self, alloc: Global, patches: &[ValuePatch]) -> Result<(), CodecError> {
+    fn partial_encode(
+        &mut self,
+        alloc: Global,
+        patches: &[ValuePatch<'_>],
+    ) -> Result<(), CodecError> {
         self.writes = self.writes.wrapping_add(1);
         self.inner.partial_encode(alloc, patches)
     }

@@ -7,8 +7,11 @@ use crate::words::{box_in, counted, cut, digits, numbers_in, push_word, refused,
 use anyhow::{Result, bail};
 use std::alloc::Global;
 use zarr_codecs_arrays::{ArrayBytes, CodecError};
+use zarr_codecs_coders::{CodecPartialDecoder, CodecPartialEncoder};
 use zarr_codecs_options::CodecOptions;
-use zarr_codecs_traits::{ArrayPart, ArrayToBytesCodecTraits, Indexer, ValuePatch};
+use zarr_codecs_traits::{
+    ArrayPart, ArrayToBytesCodecTraits, Indexer, ValuePatch, ValuePatches, WholeArray,
+};
 use zarr_codecs_types::DataType;
 use zarr_grids_boxes::ArraySubset;
 
@@ -82,7 +85,15 @@ fn asked(part: &Part) -> ArrayPart<'_> {
     }
 }
 
-/// The cells of a part.
+/// The array of a part as coders take it.
+fn whole(part: &Part) -> WholeArray<'_> {
+    WholeArray {
+        elements: &part.array.elements,
+        shape: part.array.shape.as_slice(),
+    }
+}
+
+/// The cells of a part, by the decoder of its array.
 fn cells_of<C: ArrayToBytesCodecTraits>(
     alloc: Global,
     chain: &C,
@@ -90,7 +101,8 @@ fn cells_of<C: ArrayToBytesCodecTraits>(
     source: &mut CountingSource,
 ) -> Result<ArrayBytes, CodecError> {
     let options = CodecOptions::default();
-    chain.partial_decode(alloc, source, asked(part), &options)
+    let mut decoder = CodecPartialDecoder::new(chain, source, whole(part));
+    decoder.partial_decode(alloc, part.places.indexer(), &options)
 }
 
 /// The cells at places that are read of a value, how many calls read it, and how many bytes these
@@ -126,7 +138,7 @@ fn told(
     Ok(format!(in alloc; "{cells} of {bytes} by {calls}")?)
 }
 
-/// Puts cells at the places of a part.
+/// Puts cells at the places of a part, by the encoder of its array.
 fn put_cells<C: ArrayToBytesCodecTraits>(
     alloc: Global,
     chain: &C,
@@ -135,7 +147,8 @@ fn put_cells<C: ArrayToBytesCodecTraits>(
     cells: ArrayBytes,
 ) -> Result<(), CodecError> {
     let options = CodecOptions::default();
-    chain.partial_encode(alloc, source, cells, asked(part), &options)
+    let mut encoder = CodecPartialEncoder::new(chain, source, whole(part));
+    encoder.partial_encode(alloc, part.places.indexer(), cells, &options)
 }
 
 /// The value once cells are put at places, how many calls wrote it, how many bytes were read to do
@@ -182,7 +195,7 @@ fn patches_for<C: ArrayToBytesCodecTraits>(
     chain: &C,
     part: &Part,
     cells: ArrayBytes,
-) -> Result<Option<Vec<ValuePatch>>, CodecError> {
+) -> Result<Option<ValuePatches>, CodecError> {
     let options = CodecOptions::default();
     chain.encode_patches(alloc, cells, asked(part), &options)
 }
@@ -197,22 +210,22 @@ fn patches<C: ArrayToBytesCodecTraits>(alloc: Global, chain: &C, rest: &str) -> 
     }
 }
 
-fn texts_or_none(alloc: Global, patches: &Option<Vec<ValuePatch>>) -> Result<String> {
+fn texts_or_none(alloc: Global, patches: &Option<ValuePatches>) -> Result<String> {
     match patches {
-        Some(patches) => texts(alloc, patches.as_slice()),
+        Some(patches) => texts(alloc, patches.lend(alloc)?.as_slice()),
         None => word(alloc, "none"),
     }
 }
 
 /// A range by where it starts and its bytes.
-fn text_of(alloc: Global, patch: &ValuePatch) -> Result<String> {
-    let bytes = digits(alloc, patch.bytes.as_slice())?;
+fn text_of(alloc: Global, patch: &ValuePatch<'_>) -> Result<String> {
+    let bytes = digits(alloc, patch.bytes)?;
     let offset = patch.offset;
     Ok(format!(in alloc; "{offset}:{bytes}")?)
 }
 
 /// Each range by where it starts and its bytes.
-fn texts(alloc: Global, patches: &[ValuePatch]) -> Result<String> {
+fn texts(alloc: Global, patches: &[ValuePatch<'_>]) -> Result<String> {
     if patches.is_empty() {
         return word(alloc, "no range");
     }
@@ -223,6 +236,6 @@ fn texts(alloc: Global, patches: &[ValuePatch]) -> Result<String> {
     Ok(all)
 }
 
-fn push_patch(alloc: Global, all: &mut String, patch: &ValuePatch) -> Result<()> {
+fn push_patch(alloc: Global, all: &mut String, patch: &ValuePatch<'_>) -> Result<()> {
     Ok(push_word(all, text_of(alloc, patch)?.as_str())?)
 }

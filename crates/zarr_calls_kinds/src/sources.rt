@@ -42,23 +42,23 @@ pub fn value_of(alloc: Global, source: MemorySource) -> Result<String> {
 }
 
 /// Writes bytes into a source from an offset on.
-fn patch(alloc: Global, source: &mut MemorySource, patch: ValuePatch) -> Result<(), CodecError> {
-    source.partial_encode(alloc, &[patch])
-}
-
-/// The bytes of an argument, and the offset of the one before it.
-fn patch_in(alloc: Global, text: &str) -> Result<ValuePatch> {
-    let (offset, bytes) = cut(text)?;
-    let offset = number_in(offset)?;
-    let bytes = bytes_in(alloc, bytes)?;
-    Ok(ValuePatch { offset, bytes })
+fn patch(
+    alloc: Global,
+    source: &mut MemorySource,
+    offset: u64,
+    bytes: &[u8],
+) -> Result<(), CodecError> {
+    source.partial_encode(alloc, &[ValuePatch { offset, bytes }])
 }
 
 /// The value once bytes are written into it from an offset on.
 fn write(alloc: Global, rest: &str) -> Result<String> {
     let (value, rest) = cut(rest)?;
+    let (offset, bytes) = cut(rest)?;
+    let offset = number_in(offset)?;
+    let bytes = bytes_in(alloc, bytes)?;
     let mut source = source_in(alloc, value)?;
-    match patch(alloc, &mut source, patch_in(alloc, rest)?) {
+    match patch(alloc, &mut source, offset, bytes.as_slice()) {
         Ok(()) => value_of(alloc, source),
         Err(error) => left_by(alloc, &error, source),
     }

@@ -46,7 +46,7 @@ pub use zarr_codecs_traits::{
     ArrayBytesDecodeIntoTarget, ArrayPart, ArrayToArrayCodecTraits, ArrayToBytesCodecTraits,
     ByteRange, BytesPartialDecoderTraits, BytesPartialEncoderTraits, BytesRepresentation,
     BytesToBytesCodecTraits, Indexer, IntervalSource, MemorySource, OptionalTarget, TargetBytes,
-    ValuePatch, WholeArray,
+    ValuePatch, ValuePatches, WholeArray,
 };
 pub use zarr_codecs_types::{
     Cell, Component, DataType, DataTypeError, FillValue, FillValueError, Sign, data_type,

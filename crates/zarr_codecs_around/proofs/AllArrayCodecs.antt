@@ -1,9 +1,9 @@
 -- Array codecs one after another, before a chain.
-use Rattle.std.proofs.Common.{◌≡◌, ◌∙◌, ℕ, List, [], ◌∷◌, length, map, ap, sym, refl, subst, Bool, true, false, ◌&&◌, Some, Result, Ok, Err, Vec, Global}
+use Rattle.std.proofs.Common.{◌≡◌, ◌∙◌, ℕ, List, [], ◌∷◌, ◌++◌, length, map, ap, sym, refl, subst, Bool, true, false, ◌&&◌, Some, Result, Ok, Err, Vec, Global}
 use Rattle.std.proofs.lemmas.Bool.{and_parts}
 use Rattle.zarr_grids_boxes.specs.Boxes.{product}
 use Rattle.zarr_codecs_meaning.specs.Chains.{ArrayCodec, ByteCodec, Chain}
-use Rattle.zarr_codecs_meaning.specs.Chains.Chain.{then_bytes}
+use Rattle.zarr_codecs_meaning.specs.Chains.Chain.{after_array_codec, then_bytes}
 use Rattle.zarr_codecs_meaning.specs.Fits.{array_codec_fits, fits, takes_each_shape}
 use Rattle.zarr_codecs_meaning.specs.Payloads.{Payload}
 use Rattle.zarr_codecs_meaning.specs.Places.{encoded_shape, source_places}
@@ -14,10 +14,12 @@ use Rattle.zarr_codecs_arrays.specs.declared.error.CodecError.{CodecError}
 use Rattle.zarr_codecs_arrays.specs.declared.error.CodecError.TheVariants as error
 use Rattle.zarr_codecs_array_to_array.specs.declared.codec.ArrayToArrayCodec.{ArrayToArrayCodec}
 use Rattle.zarr_codecs_traits.specs.Outcomes.{UndoesBytes, Encodes, Decodes, EncodesShape, IsMoved, EncodesArray, DecodesArray}
+use Rattle.zarr_codecs_traits.specs.Representations.{RepresentsArray}
+use Rattle.zarr_codecs_traits.specs.declared.bytes_representation.BytesRepresentation.{BytesRepresentation}
 use Rattle.zarr_codecs_around.specs.ArrayCodecs.{shape_after, all_fit, EncodesShapes, MovesAll, UndoesAll}
 use Rattle.zarr_codecs_around.specs.Codecs.{all_decoded}
 use Rattle.zarr_codecs_around.specs.Views.{chain_between, codecs_of, with_array_codecs, with_codecs}
-use Rattle.zarr_codecs_around.proofs.ArrayCodecs.{encodes_after, unencoded_after, unshaped_encoding, decodes_after, undecoded_after, unshaped_decoding}
+use Rattle.zarr_codecs_around.proofs.ArrayCodecs.{encodes_after, unencoded_after, unshaped_encoding, decodes_after, undecoded_after, unshaped_decoding, represents_after}
 use Rattle.zarr_codecs_around.proofs.Chains.{fits_with, decodes_with, undone_with}
 
 -- ---- shapes
@@ -113,6 +115,51 @@ undecoded_all (codec ∷ codecs) chain elements shape value e all h =
     let two = and_parts (array_codec_fits codec shape) (all_fit codecs (encoded_shape codec shape)) all in
     undecoded_after codec (with_array_codecs codecs chain) elements shape value e two.0 (undecoded_all codecs chain elements (encoded_shape codec shape) value e two.1 h)
 
+-- ---- codecs, and more of them
+
+pub with_more : (first last : List ArrayCodec) (chain : Chain) → with_array_codecs (first ++ last) chain ≡ with_array_codecs first (with_array_codecs last chain)
+with_more [] last chain = refl
+with_more (codec ∷ first) last chain = ap (after_array_codec codec) (with_more first last chain)
+
+pub shape_more : (first last : List ArrayCodec) (shape : List ℕ) → shape_after (first ++ last) shape ≡ shape_after last (shape_after first shape)
+shape_more [] last shape = refl
+shape_more (codec ∷ first) last shape = shape_more first last (encoded_shape codec shape)
+
+pub fit_more : (first last : List ArrayCodec) (shape : List ℕ) → all_fit (first ++ last) shape ≡ (all_fit first shape && all_fit last (shape_after first shape))
+fit_more [] last shape = refl
+fit_more (codec ∷ first) last shape =
+    ap (λ (b : Bool). array_codec_fits codec shape && b) (fit_more first last (encoded_shape codec shape))
+    ∙ and_again (array_codec_fits codec shape) (all_fit first (encoded_shape codec shape)) (all_fit last (shape_after first (encoded_shape codec shape)))
+
+-- elements that the last codecs moved back, and then the first
+pub undoes_more : (first last : List ArrayCodec) (elements : Elements) (shape : List ℕ) (found moved : ArrayBytes) (r : Result ArrayBytes CodecError) → UndoesAll last elements (shape_after first shape) found (Ok moved) → UndoesAll first elements shape moved r
+    → UndoesAll (first ++ last) elements shape found r
+undoes_more first last elements shape found moved r second one = λ chain value h.
+    subst (λ (whole : Chain). Decodes whole elements shape value r) (sym (with_more first last chain))
+    (one (with_array_codecs last chain) value (second chain value (subst (λ es. Decodes chain elements es value (Ok found)) (shape_more first last shape) h)))
+
+-- or that the last did not
+pub undoes_none : (first last : List ArrayCodec) (elements : Elements) (shape : List ℕ) (found : ArrayBytes) (e : CodecError) → all_fit first shape ≡ true → UndoesAll last elements (shape_after first shape) found (Err e)
+    → UndoesAll (first ++ last) elements shape found (Err e)
+undoes_none first last elements shape found e all second = λ chain value h.
+    subst (λ (whole : Chain). Decodes whole elements shape value (Err e)) (sym (with_more first last chain))
+    (undecoded_all first (with_array_codecs last chain) elements shape value e all (second chain value (subst (λ es. Decodes chain elements es value (Ok found)) (shape_more first last shape) h)))
+
+-- ---- sizes
+
+-- what a chain tells of the size of what it makes of the shape after array codecs
+pub represents_all : (codecs : List ArrayCodec) (chain : Chain) (type : DataType) (shape : List ℕ) (r : Result BytesRepresentation CodecError) → all_fit codecs shape ≡ true → RepresentsArray chain type (shape_after codecs shape) r
+    → RepresentsArray (with_array_codecs codecs chain) type shape r
+represents_all [] chain type shape r all h = h
+represents_all (codec ∷ codecs) chain type shape r all h =
+    let two = and_parts (array_codec_fits codec shape) (all_fit codecs (encoded_shape codec shape)) all in
+    represents_after codec (with_array_codecs codecs chain) type shape r two.0 (represents_all codecs chain type (encoded_shape codec shape) r two.1 h)
+
+pub unshaped_all : (codecs : List ArrayCodec) (chain : Chain) (type : DataType) (shape : List ℕ) (e : CodecError) → EncodesShapes codecs shape (Err e) → RepresentsArray (with_array_codecs codecs chain) type shape (Err e)
+unshaped_all codecs chain type shape error.Fit none = sym (never_before codecs chain type shape none)
+unshaped_all codecs chain type shape error.Memory h = tt
+unshaped_all codecs chain type shape e h = absurd h
+
 -- ---- with bytes codecs behind the chain
 
 -- an array that the array codecs do not suit
@@ -125,6 +172,10 @@ pub unshaped_decodes : (codecs : List ArrayCodec) (chain : Chain) (elements : El
 unshaped_decodes codecs chain elements shape value error.Fit none = fits_all codecs chain elements.type shape ∙ ap (λ (b : Bool). b && fits chain elements.type (shape_after codecs shape)) none
 unshaped_decodes codecs chain elements shape value error.Memory h = tt
 unshaped_decodes codecs chain elements shape value e h = absurd h
+
+pub undoes_unfit : (first last : List ArrayCodec) (elements : Elements) (shape : List ℕ) (found : ArrayBytes) (e : CodecError) → EncodesShapes first shape (Err e) → UndoesAll (first ++ last) elements shape found (Err e)
+undoes_unfit first last elements shape found e none = λ chain value h.
+    subst (λ (whole : Chain). Decodes whole elements shape value (Err e)) (sym (with_more first last chain)) (unshaped_decodes first (with_array_codecs last chain) elements shape value e none)
 
 -- what is made of elements that were moved, or not moved
 pub encodes_between : (codecs : List ArrayCodec) (chain : Chain) (after : List ByteCodec) (elements : Elements) (shape last : List ℕ) (payload : Payload) (moved : ArrayBytes) (r : Result (Vec ℕ Global) CodecError)

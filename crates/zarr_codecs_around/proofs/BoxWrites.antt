@@ -208,7 +208,7 @@ refused_turned codec chain elements shape region moved payload turned stored ref
     }
 
 -- the elements that the codec moved are as many values as the moved box has places
-turned_valid : (codec : ArrayCodec) (elements : Elements) (shape : List ℕ) (region moved : Region) (payload turned : Payload) (e : CodecError) → is_value elements.type elements.fill ≡ true → IsMovedBox codec shape region moved
+pub turned_valid : (codec : ArrayCodec) (elements : Elements) (shape : List ℕ) (region moved : Region) (payload turned : Payload) (e : CodecError) → is_value elements.type elements.fill ≡ true → IsMovedBox codec shape region moved
     → IsTurned codec elements region payload turned → IsInvalid elements.type turned (length (numbers_asked (encoded_shape codec shape) (in_box moved))) e → ⊥
 turned_valid codec elements shape region moved payload turned e fill b m why =
     let ks = source_places codec region.shape in

@@ -12,3 +12,6 @@ pub mod Picked
 pub mod BoxParts
 pub mod BoxWrites
 pub mod Kept
+pub mod Left
+pub mod MovedNumbers
+pub mod MovedBoxes

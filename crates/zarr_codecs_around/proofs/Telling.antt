@@ -4,7 +4,7 @@ use Rattle.zarr_codecs_meaning.specs.Types.{DataType, Elements}
 use Rattle.zarr_codecs_meaning.specs.Chains.{ArrayCodec, ByteCodec, Chain}
 use Rattle.zarr_codecs_meaning.specs.Chains.Chain.{then_bytes}
 use Rattle.zarr_codecs_meaning.specs.Chains.ArrayCodec.{transpose, reshape, squeeze}
-use Rattle.zarr_codecs_meaning.specs.Fits.{is_plain, representation_of}
+use Rattle.zarr_codecs_meaning.specs.Fits.{is_plain, is_too_long, representation_of, tells_too_long}
 use Rattle.zarr_codecs_meaning.specs.Partial.{encodes_in_part}
 use Rattle.zarr_codecs_meaning.specs.Payloads.{Payload}
 use Rattle.zarr_codecs_arrays.specs.declared.error.CodecError.{CodecError}
@@ -12,7 +12,7 @@ use Rattle.zarr_codecs_arrays.specs.declared.error.CodecError.TheVariants as err
 use Rattle.zarr_codecs_traits.specs.Capabilities.{decodes_parts, encodes_as_is, granularity}
 use Rattle.zarr_codecs_traits.specs.Indexers.{Asked, in_box, listed}
 use Rattle.zarr_codecs_traits.specs.PartEncoding.{EncodesAsked, encodes_ranges, takes_patches}
-use Rattle.zarr_codecs_traits.specs.Representations.{IsRepresented, RepresentsArray, is_too_long, known_size, tells_too_long}
+use Rattle.zarr_codecs_traits.specs.Representations.{IsRepresented, RepresentsArray, known_size}
 use Rattle.zarr_codecs_traits.specs.declared.bytes_representation.BytesRepresentation.{BytesRepresentation}
 use Rattle.zarr_codecs_around.specs.Codecs.{RepresentsAll, all_represented, any_too_long}
 use Rattle.zarr_codecs_around.specs.Views.{codecs_of, plain_before, with_array_codecs, with_codecs}

@@ -5,7 +5,8 @@ use Rattle.zarr_codecs_meaning.specs.Chains as chains
 use Rattle.zarr_codecs_meaning.specs.Chains.{ByteCodec}
 use Rattle.zarr_codecs_arrays.specs.declared.error.CodecError.{CodecError}
 use Rattle.zarr_codecs_arrays.specs.declared.error.CodecError.TheVariants as error
-use Rattle.zarr_codecs_traits.specs.Representations.{is_too_long, known_size}
+use Rattle.zarr_codecs_traits.specs.Representations.{known_size}
+use Rattle.zarr_codecs_meaning.specs.Fits.{is_too_long}
 use Rattle.zarr_codecs_traits.specs.declared.bytes_representation.BytesRepresentation.{BytesRepresentation}
 
 -- what codecs make of bytes, each of what the one before it made; None where one of them refuses

@@ -5,3 +5,5 @@ pub mod ThenBytes
 pub mod ArrayMetadata
 pub mod Copies
 pub mod Boxes
+pub mod MovedNumbers
+pub mod MovedBoxes

@@ -25,13 +25,14 @@ pub fn shape_after(
 ) -> Result<Vec<u64>, CodecError>
     ensures { EncodesShapes (codecs_of codecs.now) shape.now result }
 {
-    let Some((codec, others)) = codecs.split_first() else {
-        return Ok(shape.to_vec(alloc)?);
-    };
-    match codec.encoded_shape(alloc, shape) {
-        Ok(encoded) => shape_after(alloc, others, encoded.as_slice()),
-        Err(error) => Err(error),
+    let mut after = shape.to_vec(alloc)?;
+    for codec in codecs {
+        after = match codec.encoded_shape(alloc, after.as_slice()) {
+            Ok(encoded) => encoded,
+            Err(error) => return Err(error),
+        };
     }
+    Ok(after)
 }
 
 /// The elements of an array that array codecs suit, as they are after these.
@@ -46,20 +47,24 @@ pub fn move_all(
     ensures { MovesAll (codecs_of codecs.now) (elements_of elements.now) shape.now
         (payload_of bytes) result }
 {
-    let Some((codec, others)) = codecs.split_first() else {
-        return Ok(bytes);
-    };
-    let encoded = match codec.encoded_shape(alloc, shape) {
-        Ok(encoded) => encoded,
-        Err(error) => return Err(error),
-    };
-    match codec.encode(alloc, bytes, elements, shape) {
-        Ok(moved) => move_all(alloc, others, moved, elements, encoded.as_slice()),
-        Err(error) => Err(error),
+    let mut after = shape.to_vec(alloc)?;
+    let mut moved = bytes;
+    for codec in codecs {
+        let encoded = match codec.encoded_shape(alloc, after.as_slice()) {
+            Ok(encoded) => encoded,
+            Err(error) => return Err(error),
+        };
+        moved = match codec.encode(alloc, moved, elements, after.as_slice()) {
+            Ok(made) => made,
+            Err(error) => return Err(error),
+        };
+        after = encoded;
     }
+    Ok(moved)
 }
 
-/// The elements of an array that array codecs suit, of those that they are after these.
+/// The elements of an array that array codecs suit, of those that they are after these. The codecs
+/// are undone by halves, so that a long list of them goes no deeper than a short one.
 pub fn undo_all(
     alloc: Global,
     codecs: &[ArrayToArrayCodec],
@@ -73,12 +78,16 @@ pub fn undo_all(
     let Some((codec, others)) = codecs.split_first() else {
         return Ok(found);
     };
-    let encoded = match codec.encoded_shape(alloc, shape) {
-        Ok(encoded) => encoded,
+    if others.is_empty() {
+        return codec.decode(alloc, found, elements, shape);
+    }
+    let (first, last) = codecs.split_at(codecs.len() / 2);
+    let after = match shape_after(alloc, first, shape) {
+        Ok(after) => after,
         Err(error) => return Err(error),
     };
-    match undo_all(alloc, others, found, elements, encoded.as_slice()) {
-        Ok(moved) => codec.decode(alloc, moved, elements, shape),
+    match undo_all(alloc, last, found, elements, after.as_slice()) {
+        Ok(moved) => undo_all(alloc, first, moved, elements, shape),
         Err(error) => Err(error),
     }
 }

@@ -1,5 +1,5 @@
 //! Boxes of an array, as a codec between arrays moves them.
-ghost use Rattle.std.specs.Prelude.{◌≡◌, map, option_map, replicate, Some, true, IfOk};
+ghost use Rattle.std.specs.Prelude.{◌≡◌, map, replicate, Some, true, IfOk};
 ghost use Rattle.zarr_grids_boxes.specs.Subsets.{region_of};
 ghost use Rattle.zarr_codecs_meaning.specs.Places.{encoded_shape, squeezed};
 ghost use Rattle.zarr_codecs_traits.specs.Indexers.{shape_has};
@@ -31,26 +31,22 @@ pub(crate) fn takes_any_order<A: ArrayToBytesCodecTraits>(codec: &A) -> bool
     codec.partial_encoder_capability() || !codec.partial_decoder_capability()
 }
 
-/// The box of the encoded array that a box of an array becomes; `None` through a `reshape`, after
-/// which the places of a box need not be those of one. `Err` only where an allocation failed, and
-/// where the codec doesn't suit the array or the box doesn't lie in it.
+/// The box of the encoded array that a box of an array becomes. `Err` only where an allocation
+/// failed, where the codec doesn't suit the array or the box doesn't lie in it, and through a
+/// `reshape`, after which the places of a box need not be those of one.
 pub(crate) fn encoded_subset(
     alloc: Global,
     codec: &ArrayToArrayCodec,
     shape: &[u64],
     subset: &ArraySubset,
-) -> Result<Option<ArraySubset>, AllocError>
-    ensures { IfOk result (λ moved. option_map region_of moved
-        ≡ encoded_region (codec_of codec.now) shape.now (region_of subset.now)) }
+) -> Result<ArraySubset, AllocError>
+    ensures { IfOk result (λ moved. encoded_region (codec_of codec.now) shape.now
+        (region_of subset.now) ≡ Some (region_of moved)) }
 {
     match codec {
-        ArrayToArrayCodec::Transpose(codec) => {
-            Ok(Some(transposed_subset(alloc, codec, shape, subset)?))
-        }
-        ArrayToArrayCodec::Reshape(_) => Ok(None),
-        ArrayToArrayCodec::Squeeze(codec) => {
-            Ok(Some(squeezed_subset(alloc, *codec, shape, subset)?))
-        }
+        ArrayToArrayCodec::Transpose(codec) => transposed_subset(alloc, codec, shape, subset),
+        ArrayToArrayCodec::Reshape(_) => Err(AllocError),
+        ArrayToArrayCodec::Squeeze(codec) => squeezed_subset(alloc, *codec, shape, subset),
     }
 }
 

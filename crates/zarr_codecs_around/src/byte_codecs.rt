@@ -21,11 +21,11 @@ pub fn encode_all<B: BytesToBytesCodecTraits>(
 ) -> Result<Vec<u8>, CodecError>
     ensures { MakesBytes (all_encoded (map B.meaning codecs.now)) bytes.items result }
 {
-    let Some((codec, others)) = codecs.split_first() else {
-        return Ok(bytes);
-    };
-    let made = codec.encode(alloc, bytes.as_slice())?;
-    encode_all(alloc, others, made)
+    let mut made = bytes;
+    for codec in codecs {
+        made = codec.encode(alloc, made.as_slice())?;
+    }
+    Ok(made)
 }
 
 /// What the codecs make of a value of a chain before them, or why that chain made none.
@@ -54,11 +54,14 @@ pub fn decode_all<B: BytesToBytesCodecTraits>(
 ) -> Result<Vec<u8>, CodecError>
     ensures { UndoesBytes (all_decoded (map B.meaning codecs.now)) bytes.items result }
 {
-    let Some((codec, others)) = codecs.split_first() else {
-        return Ok(bytes);
-    };
-    let inside = decode_all(alloc, others, bytes)?;
-    codec.decode(alloc, inside.as_slice())
+    let mut inside = bytes;
+    for k in (0..codecs.len()).rev() {
+        inside = match codecs[k].decode(alloc, inside.as_slice()) {
+            Ok(undone) => undone,
+            Err(error) => return Err(error),
+        };
+    }
+    Ok(inside)
 }
 
 /// What is known of the size of what the codecs make, by what is known of the size of what the
@@ -69,11 +72,11 @@ pub fn represent_all<B: BytesToBytesCodecTraits>(
 ) -> Result<BytesRepresentation, CodecError>
     ensures { RepresentsAll (map B.meaning codecs.now) (known_size decoded) result }
 {
-    let Some((codec, others)) = codecs.split_first() else {
-        return Ok(decoded);
-    };
-    let encoded = codec.encoded_representation(decoded)?;
-    represent_all(others, encoded)
+    let mut known = decoded;
+    for codec in codecs {
+        known = codec.encoded_representation(known)?;
+    }
+    Ok(known)
 }
 
 /// Equal codecs. `Err` only where an allocation failed.

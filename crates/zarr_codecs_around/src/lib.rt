@@ -8,6 +8,8 @@ mod boxes;
 pub mod byte_codecs;
 pub mod byte_metadata;
 pub mod inner_codec;
+mod moved_boxes;
+mod moved_numbers;
 pub mod part_reading;
 pub mod part_writing;
 pub mod stored_parts;

@@ -13,15 +13,15 @@ ghost use Rattle.zarr_codecs_around.specs.Boxes.{takes_any_order};
 ghost use Rattle.zarr_codecs_around.specs.Views.{chain_after};
 
 use crate::array_codecs::AfterArrayCodecs;
-use crate::boxes::{BoxPart, encoded_subset, takes_any_order};
+use crate::boxes::{BoxPart, takes_any_order};
+use crate::moved_boxes::{box_after, split_boxed, undo_box};
+use crate::moved_numbers::move_numbers;
 use std::alloc::Global;
 use zarr_codecs_arrays::{ArrayBytes, CodecError};
 use zarr_codecs_bytes::part::ListedPart;
 use zarr_codecs_options::CodecOptions;
 use zarr_codecs_regions::{numbers_asked, test_asked};
-use zarr_codecs_traits::{
-    ArrayPart, ArrayToArrayCodecTraits, ArrayToBytesCodecTraits, BytesPartialDecoderTraits, Indexer,
-};
+use zarr_codecs_traits::{ArrayPart, ArrayToBytesCodecTraits, BytesPartialDecoderTraits, Indexer};
 use zarr_grids_boxes::walk::count_places;
 
 /// The elements at the places that are asked for, of the value that a source holds, each of which
@@ -55,7 +55,7 @@ pub fn decode_part_after<A: ArrayToBytesCodecTraits, D: BytesPartialDecoderTrait
     let Indexer::Subset(subset) = part.indexer else {
         return decode_asked_after(chain, alloc, source, part, options);
     };
-    if !takes_any_order(chain.rest) {
+    if chain.array_to_array.is_empty() || !takes_any_order(chain.rest) {
         return decode_asked_after(chain, alloc, source, part, options);
     }
     let boxed = BoxPart {
@@ -66,8 +66,8 @@ pub fn decode_part_after<A: ArrayToBytesCodecTraits, D: BytesPartialDecoderTrait
     decode_box_after(chain, alloc, source, boxed, options)
 }
 
-/// The elements of a box, of the value that a source holds. Of the codec the box is asked for that
-/// the box becomes; behind a `reshape` its places are, by their numbers.
+/// The elements of a box, of the value that a source holds. What comes after the codecs before a
+/// `reshape` is asked for the box that the box becomes through these.
 fn decode_box_after<A: ArrayToBytesCodecTraits, D: BytesPartialDecoderTraits>(
     chain: AfterArrayCodecs<'_, A>,
     alloc: Global,
@@ -90,48 +90,65 @@ fn decode_box_after<A: ArrayToBytesCodecTraits, D: BytesPartialDecoderTraits>(
         (in_box (region_of part.entry.subset.now)) }
     ensures follows { D.follows source.old source.new }
 {
-    let (elements, shape, subset) = (part.elements, part.shape, part.subset);
     let AfterArrayCodecs {
         array_to_array,
         rest,
     } = chain;
+    let (first, last) = split_boxed(array_to_array);
+    let place = match box_after(alloc, first, part) {
+        Ok(place) => place,
+        Err(error) => return Err(error),
+    };
+    let inner = BoxPart {
+        elements: part.elements,
+        shape: place.shape.as_slice(),
+        subset: &place.subset,
+    };
+    let left = AfterArrayCodecs {
+        array_to_array: last,
+        rest,
+    };
+    match decode_inner_box(left, alloc, source, inner, options) {
+        Ok(found) => undo_box(alloc, first, found, part),
+        Err(error) => Err(error),
+    }
+}
+
+/// The elements of a box, of the value that a source holds. What comes after the codecs is asked
+/// for the box itself, where there are none, and else for its places.
+fn decode_inner_box<A: ArrayToBytesCodecTraits, D: BytesPartialDecoderTraits>(
+    chain: AfterArrayCodecs<'_, A>,
+    alloc: Global,
+    source: &mut D,
+    part: BoxPart<'_>,
+    options: &CodecOptions,
+) -> Result<ArrayBytes, CodecError>
+    requires small { product part.shape.now < 2 ^ 63 }
+    ensures part { IsTrue (D.is_honest source.old) → DecodesPart
+        (chain_after A.meaning chain.entry) (elements_of part.entry.elements.now)
+        part.entry.shape.now (D.contents source.old) (in_box (region_of part.entry.subset.now))
+        result }
+    ensures refused { D.refused_calls source.new ≡
+        refused_after (D.refused_calls source.old) result }
+    ensures given { is_plain (chain_after A.meaning chain.entry) ≡ true →
+        IsTrue (D.is_honest source.old) → D.given_bytes source.new
+        ≤ D.given_bytes source.old + most_read (chain_after A.meaning chain.entry)
+        (elements_of part.entry.elements.now).type part.entry.shape.now (D.contents source.old)
+        (in_box (region_of part.entry.subset.now)) }
+    ensures follows { D.follows source.old source.new }
+{
+    let (elements, shape, subset) = (part.elements, part.shape, part.subset);
     let indexer = Indexer::Subset(subset);
     let all = ArrayPart {
         elements,
         shape,
         indexer,
     };
-    let Some((codec, others)) = array_to_array.split_first() else {
-        return rest.partial_decode(alloc, source, all, options);
-    };
-    let encoded = match codec.encoded_shape(alloc, shape) {
-        Ok(encoded) => encoded,
-        Err(error) => return Err(error),
-    };
-    let Some(moved) = encoded_subset(alloc, codec, shape, subset)? else {
-        let chain = AfterArrayCodecs {
-            array_to_array,
-            rest,
-        };
-        return decode_asked_after(chain, alloc, source, all, options);
-    };
-    let inner = BoxPart {
-        elements,
-        shape: encoded.as_slice(),
-        subset: &moved,
-    };
-    let after = AfterArrayCodecs {
-        array_to_array: others,
-        rest,
-    };
-    match decode_box_after(after, alloc, source, inner, options) {
-        Ok(found) => codec.decode(alloc, found, elements, subset.shape()),
-        Err(error) => Err(error),
-    }
+    decode_asked_after(chain, alloc, source, all, options)
 }
 
-/// The elements at the places that are asked for, of the value that a source holds, by the numbers
-/// of these places.
+/// The elements at the places that are asked for, of the value that a source holds. The array
+/// codecs move the numbers of these places.
 fn decode_asked_after<A: ArrayToBytesCodecTraits, D: BytesPartialDecoderTraits>(
     chain: AfterArrayCodecs<'_, A>,
     alloc: Global,
@@ -153,6 +170,13 @@ fn decode_asked_after<A: ArrayToBytesCodecTraits, D: BytesPartialDecoderTraits>(
         (asked_of part.entry.indexer) }
     ensures follows { D.follows source.old source.new }
 {
+    let AfterArrayCodecs {
+        array_to_array,
+        rest,
+    } = chain;
+    let Some((first, others)) = array_to_array.split_first() else {
+        return rest.partial_decode(alloc, source, part, options);
+    };
     let (elements, shape) = (part.elements, part.shape);
     let numbers = numbers_asked(alloc, shape, part.indexer)?;
     let listed = ListedPart {
@@ -160,55 +184,41 @@ fn decode_asked_after<A: ArrayToBytesCodecTraits, D: BytesPartialDecoderTraits>(
         shape,
         numbers: numbers.as_slice(),
     };
-    decode_listed_after(chain, alloc, source, listed, options)
+    let moved = match move_numbers(alloc, first, others, listed) {
+        Ok(moved) => moved,
+        Err(error) => return Err(error),
+    };
+    let inner = ListedPart {
+        elements,
+        shape: moved.shape.as_slice(),
+        numbers: moved.numbers.as_slice(),
+    };
+    decode_numbers(rest, alloc, source, inner, options)
 }
 
-/// The elements with some numbers, of the value that a source holds, which the codec, and array
-/// codecs before it, decode.
-fn decode_listed_after<A: ArrayToBytesCodecTraits, D: BytesPartialDecoderTraits>(
-    chain: AfterArrayCodecs<'_, A>,
+/// The elements with some numbers, of the value that a source holds, which the codec decodes.
+fn decode_numbers<A: ArrayToBytesCodecTraits, D: BytesPartialDecoderTraits>(
+    codec: &A,
     alloc: Global,
     source: &mut D,
     part: ListedPart<'_>,
     options: &CodecOptions,
 ) -> Result<ArrayBytes, CodecError>
-    requires { product part.shape.now < 2 ^ 63 }
-    ensures part { IsTrue (D.is_honest source.old) → GivesListed
-        (chain_after A.meaning chain.entry) (D.contents source.old) part.entry result }
+    ensures part { IsTrue (D.is_honest source.old) → GivesListed (A.meaning codec.now)
+        (D.contents source.old) part.entry result }
     ensures refused { D.refused_calls source.new ≡
         refused_after (D.refused_calls source.old) result }
-    ensures given { is_plain (chain_after A.meaning chain.entry) ≡ true →
+    ensures given { is_plain (A.meaning codec.now) ≡ true →
         IsTrue (D.is_honest source.old) → D.given_bytes source.new ≤ D.given_bytes source.old
-        + most_of_listed (chain_after A.meaning chain.entry) (D.contents source.old) part.entry }
+        + most_of_listed (A.meaning codec.now) (D.contents source.old) part.entry }
     ensures follows { D.follows source.old source.new }
 {
     let (elements, shape, numbers) = (part.elements, part.shape, part.numbers);
-    let AfterArrayCodecs {
-        array_to_array,
-        rest,
-    } = chain;
-    let Some((codec, others)) = array_to_array.split_first() else {
-        let indexer = Indexer::List(numbers);
-        let all = ArrayPart {
-            elements,
-            shape,
-            indexer,
-        };
-        return rest.partial_decode(alloc, source, all, options);
-    };
-    let encoded = match codec.encoded_shape(alloc, shape) {
-        Ok(encoded) => encoded,
-        Err(error) => return Err(error),
-    };
-    let moved = codec.encoded_numbers(alloc, shape, numbers)?;
-    let inner = ListedPart {
+    let indexer = Indexer::List(numbers);
+    let all = ArrayPart {
         elements,
-        shape: encoded.as_slice(),
-        numbers: moved.as_slice(),
+        shape,
+        indexer,
     };
-    let after = AfterArrayCodecs {
-        array_to_array: others,
-        rest,
-    };
-    decode_listed_after(after, alloc, source, inner, options)
+    codec.partial_decode(alloc, source, all, options)
 }

@@ -12,16 +12,16 @@ ghost use Rattle.zarr_codecs_traits.specs.Sources.{refused_after};
 ghost use Rattle.zarr_codecs_around.specs.Views.{chain_after};
 
 use crate::array_codecs::AfterArrayCodecs;
-use crate::boxes::{BoxPart, encoded_subset};
+use crate::boxes::BoxPart;
+use crate::moved_boxes::{MovedElements, move_box, split_boxed};
+use crate::moved_numbers::move_numbers;
 use crate::whole_arrays::fits_after;
 use std::alloc::Global;
 use zarr_codecs_arrays::{ArrayBytes, CodecError};
 use zarr_codecs_bytes::part::ListedPart;
 use zarr_codecs_options::CodecOptions;
 use zarr_codecs_regions::{numbers_asked, test_asked};
-use zarr_codecs_traits::{
-    ArrayPart, ArrayToArrayCodecTraits, ArrayToBytesCodecTraits, BytesPartialEncoderTraits, Indexer,
-};
+use zarr_codecs_traits::{ArrayPart, ArrayToBytesCodecTraits, BytesPartialEncoderTraits, Indexer};
 use zarr_grids_boxes::walk::count_places;
 
 /// Puts elements in the place of those at the places that are asked for, in the value that a source
@@ -65,6 +65,9 @@ pub fn encode_part_after<A: ArrayToBytesCodecTraits, E: BytesPartialEncoderTrait
     if count_places(shape).is_none() {
         return Err(CodecError::Size);
     }
+    if chain.array_to_array.is_empty() {
+        return encode_asked_after(chain, alloc, source, bytes, part, options);
+    }
     let Indexer::Subset(subset) = part.indexer else {
         return encode_asked_after(chain, alloc, source, bytes, part, options);
     };
@@ -85,8 +88,8 @@ pub fn encode_part_after<A: ArrayToBytesCodecTraits, E: BytesPartialEncoderTrait
     encode_box_after(chain, alloc, source, bytes, boxed, options)
 }
 
-/// Puts elements in the place of those of a box, in the value that a source holds: into the box
-/// that the box becomes; behind a `reshape` at its places, by their numbers.
+/// Puts elements in the place of those of a box, in the value that a source holds. What comes after
+/// the codecs before a `reshape` is given the box that the box becomes through these.
 fn encode_box_after<A: ArrayToBytesCodecTraits, E: BytesPartialEncoderTraits>(
     chain: AfterArrayCodecs<'_, A>,
     alloc: Global,
@@ -121,48 +124,77 @@ fn encode_box_after<A: ArrayToBytesCodecTraits, E: BytesPartialEncoderTraits>(
     ensures once { WritesOnce (E.accepted_writes source.old) (E.accepted_writes source.new) result }
     ensures rewrites { E.rewrites source.old source.new }
 {
-    let (elements, shape, subset) = (part.elements, part.shape, part.subset);
     let AfterArrayCodecs {
         array_to_array,
         rest,
     } = chain;
+    let (first, last) = split_boxed(array_to_array);
+    let moved = match move_box(alloc, first, bytes, part) {
+        Ok(moved) => moved,
+        Err(error) => return Err(error),
+    };
+    let MovedElements {
+        place,
+        bytes: turned,
+    } = moved;
+    let inner = BoxPart {
+        elements: part.elements,
+        shape: place.shape.as_slice(),
+        subset: &place.subset,
+    };
+    let left = AfterArrayCodecs {
+        array_to_array: last,
+        rest,
+    };
+    encode_inner_box(left, alloc, source, turned, inner, options)
+}
+
+/// Puts elements in the place of those of a box, in the value that a source holds. What comes after
+/// the codecs is given the box itself, where there are none, and else its places.
+fn encode_inner_box<A: ArrayToBytesCodecTraits, E: BytesPartialEncoderTraits>(
+    chain: AfterArrayCodecs<'_, A>,
+    alloc: Global,
+    source: &mut E,
+    bytes: ArrayBytes,
+    part: BoxPart<'_>,
+    options: &CodecOptions,
+) -> Result<(), CodecError>
+    requires small { product part.shape.now < 2 ^ 63 }
+    ensures ok { IsTrue (E.is_honest source.old) → OnOk result ((cells : List Cell)
+        × IsEncodedInto (chain_after A.meaning chain.entry)
+        (A.is_function chain.entry.rest.now) (elements_of part.entry.elements.now)
+        part.entry.shape.now
+        (in_box (region_of part.entry.subset.now)) (payload_of bytes) cells (E.contents source.old)
+        (E.contents source.new)) }
+    ensures placed { IsTrue (E.is_honest source.old) → OnOk result
+        (IsPlaced (chain_after A.meaning chain.entry) part.entry.shape.now
+        (E.contents source.old)) }
+    ensures err { IsTrue (E.is_honest source.old) →
+        OnErr result (E.contents source.new ≡ E.contents source.old) }
+    ensures cause { IsTrue (E.is_honest source.old) →
+        encodes_in_part (chain_after A.meaning chain.entry)
+        ≡ encodes_in_part (A.meaning chain.entry.rest.now) → NotEncodedInto
+        (chain_after A.meaning chain.entry)
+        (elements_of part.entry.elements.now) part.entry.shape.now
+        (in_box (region_of part.entry.subset.now)) (payload_of bytes) (E.contents source.old)
+        result }
+    ensures refused { E.refused_calls source.new ≡
+        refused_after (E.refused_calls source.old) result }
+    ensures once { WritesOnce (E.accepted_writes source.old) (E.accepted_writes source.new) result }
+    ensures rewrites { E.rewrites source.old source.new }
+{
+    let (elements, shape, subset) = (part.elements, part.shape, part.subset);
     let indexer = Indexer::Subset(subset);
     let all = ArrayPart {
         elements,
         shape,
         indexer,
     };
-    let Some((codec, others)) = array_to_array.split_first() else {
-        return rest.partial_encode(alloc, source, bytes, all, options);
-    };
-    let encoded = match codec.encoded_shape(alloc, shape) {
-        Ok(encoded) => encoded,
-        Err(error) => return Err(error),
-    };
-    let Some(moved) = encoded_subset(alloc, codec, shape, subset)? else {
-        let chain = AfterArrayCodecs {
-            array_to_array,
-            rest,
-        };
-        return encode_asked_after(chain, alloc, source, bytes, all, options);
-    };
-    let inner = BoxPart {
-        elements,
-        shape: encoded.as_slice(),
-        subset: &moved,
-    };
-    let after = AfterArrayCodecs {
-        array_to_array: others,
-        rest,
-    };
-    match codec.encode(alloc, bytes, elements, subset.shape()) {
-        Ok(turned) => encode_box_after(after, alloc, source, turned, inner, options),
-        Err(error) => Err(error),
-    }
+    encode_asked_after(chain, alloc, source, bytes, all, options)
 }
 
 /// Puts elements in the place of those at the places that are asked for, in the value that a source
-/// holds, by the numbers of these places.
+/// holds. The array codecs move the numbers of these places.
 fn encode_asked_after<A: ArrayToBytesCodecTraits, E: BytesPartialEncoderTraits>(
     chain: AfterArrayCodecs<'_, A>,
     alloc: Global,
@@ -195,6 +227,13 @@ fn encode_asked_after<A: ArrayToBytesCodecTraits, E: BytesPartialEncoderTraits>(
     ensures once { WritesOnce (E.accepted_writes source.old) (E.accepted_writes source.new) result }
     ensures rewrites { E.rewrites source.old source.new }
 {
+    let AfterArrayCodecs {
+        array_to_array,
+        rest,
+    } = chain;
+    let Some((first, others)) = array_to_array.split_first() else {
+        return rest.partial_encode(alloc, source, bytes, part, options);
+    };
     let (elements, shape) = (part.elements, part.shape);
     let numbers = numbers_asked(alloc, shape, part.indexer)?;
     let listed = ListedPart {
@@ -202,35 +241,38 @@ fn encode_asked_after<A: ArrayToBytesCodecTraits, E: BytesPartialEncoderTraits>(
         shape,
         numbers: numbers.as_slice(),
     };
-    encode_listed_after(chain, alloc, source, bytes, listed, options)
+    let moved = match move_numbers(alloc, first, others, listed) {
+        Ok(moved) => moved,
+        Err(error) => return Err(error),
+    };
+    let inner = ListedPart {
+        elements,
+        shape: moved.shape.as_slice(),
+        numbers: moved.numbers.as_slice(),
+    };
+    encode_numbers(rest, alloc, source, bytes, inner, options)
 }
 
 /// Puts elements in the place of those with some numbers, in the value that a source holds, which
-/// the codec, and array codecs before it, make: each is put where the array codecs move it.
-fn encode_listed_after<A: ArrayToBytesCodecTraits, E: BytesPartialEncoderTraits>(
-    chain: AfterArrayCodecs<'_, A>,
+/// the codec makes.
+fn encode_numbers<A: ArrayToBytesCodecTraits, E: BytesPartialEncoderTraits>(
+    codec: &A,
     alloc: Global,
     source: &mut E,
     bytes: ArrayBytes,
     part: ListedPart<'_>,
     options: &CodecOptions,
 ) -> Result<(), CodecError>
-    requires { product part.shape.now < 2 ^ 63 }
     ensures ok { IsTrue (E.is_honest source.old) → OnOk result ((cells : List Cell)
-        × IsEncodedInto (chain_after A.meaning chain.entry)
-        (A.is_function chain.entry.rest.now) (elements_of part.entry.elements.now)
-        part.entry.shape.now
+        × IsEncodedInto (A.meaning codec.now) (A.is_function codec.now)
+        (elements_of part.entry.elements.now) part.entry.shape.now
         (listed part.entry.numbers.now) (payload_of bytes) cells (E.contents source.old)
         (E.contents source.new)) }
     ensures placed { IsTrue (E.is_honest source.old) → OnOk result
-        (IsPlaced (chain_after A.meaning chain.entry) part.entry.shape.now
-        (E.contents source.old)) }
+        (IsPlaced (A.meaning codec.now) part.entry.shape.now (E.contents source.old)) }
     ensures err { IsTrue (E.is_honest source.old) →
         OnErr result (E.contents source.new ≡ E.contents source.old) }
-    ensures cause { IsTrue (E.is_honest source.old) →
-        encodes_in_part (chain_after A.meaning chain.entry)
-        ≡ encodes_in_part (A.meaning chain.entry.rest.now) → NotEncodedInto
-        (chain_after A.meaning chain.entry)
+    ensures cause { IsTrue (E.is_honest source.old) → NotEncodedInto (A.meaning codec.now)
         (elements_of part.entry.elements.now) part.entry.shape.now
         (listed part.entry.numbers.now) (payload_of bytes) (E.contents source.old) result }
     ensures refused { E.refused_calls source.new ≡
@@ -239,32 +281,11 @@ fn encode_listed_after<A: ArrayToBytesCodecTraits, E: BytesPartialEncoderTraits>
     ensures rewrites { E.rewrites source.old source.new }
 {
     let (elements, shape, numbers) = (part.elements, part.shape, part.numbers);
-    let AfterArrayCodecs {
-        array_to_array,
-        rest,
-    } = chain;
-    let Some((codec, others)) = array_to_array.split_first() else {
-        let indexer = Indexer::List(numbers);
-        let all = ArrayPart {
-            elements,
-            shape,
-            indexer,
-        };
-        return rest.partial_encode(alloc, source, bytes, all, options);
-    };
-    let encoded = match codec.encoded_shape(alloc, shape) {
-        Ok(encoded) => encoded,
-        Err(error) => return Err(error),
-    };
-    let moved = codec.encoded_numbers(alloc, shape, numbers)?;
-    let inner = ListedPart {
+    let indexer = Indexer::List(numbers);
+    let all = ArrayPart {
         elements,
-        shape: encoded.as_slice(),
-        numbers: moved.as_slice(),
+        shape,
+        indexer,
     };
-    let after = AfterArrayCodecs {
-        array_to_array: others,
-        rest,
-    };
-    encode_listed_after(after, alloc, source, bytes, inner, options)
+    codec.partial_encode(alloc, source, bytes, all, options)
 }

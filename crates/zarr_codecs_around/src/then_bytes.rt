@@ -14,7 +14,7 @@ use zarr_codecs_options::CodecOptions;
 use zarr_codecs_regions::encode_whole;
 use zarr_codecs_traits::{
     ArrayPart, ArrayToBytesCodecTraits, BytesPartialDecoderTraits, BytesPartialEncoderTraits,
-    BytesRepresentation, BytesToBytesCodecTraits, ValuePatch, WholeArray, read_value,
+    BytesRepresentation, BytesToBytesCodecTraits, ValuePatches, WholeArray, read_value,
 };
 use zarr_codecs_types::DataType;
 
@@ -179,7 +179,7 @@ impl<A: InnerCodec, B: BytesToBytesCodecTraits> ArrayToBytesCodecTraits for Then
         bytes: ArrayBytes,
         part: ArrayPart<'_>,
         options: &CodecOptions,
-    ) -> Result<Option<Vec<ValuePatch>>, CodecError> {
+    ) -> Result<Option<ValuePatches>, CodecError> {
         if !self.bytes_to_bytes.is_empty() {
             return Ok(None);
         }

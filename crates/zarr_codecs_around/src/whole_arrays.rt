@@ -13,9 +13,7 @@ use std::alloc::{AllocError, Global};
 use zarr_codecs_array_to_array::ArrayToArrayCodec;
 use zarr_codecs_arrays::{ArrayBytes, CodecError};
 use zarr_codecs_options::CodecOptions;
-use zarr_codecs_traits::{
-    ArrayToArrayCodecTraits, ArrayToBytesCodecTraits, BytesRepresentation, WholeArray,
-};
+use zarr_codecs_traits::{ArrayToBytesCodecTraits, BytesRepresentation, WholeArray};
 use zarr_codecs_types::DataType;
 
 /// Whether array codecs, and the codec after them, suit arrays of a data type and a shape. `Err`
@@ -100,11 +98,8 @@ pub fn represent_after<A: ArrayToBytesCodecTraits>(
     ensures { RepresentsArray (with_array_codecs (codecs_of codecs.now) (A.meaning rest.now))
         (type_of data_type.now) shape.now result }
 {
-    let Some((codec, others)) = codecs.split_first() else {
-        return rest.encoded_representation(alloc, data_type, shape);
-    };
-    match codec.encoded_shape(alloc, shape) {
-        Ok(encoded) => represent_after(rest, alloc, others, data_type, encoded.as_slice()),
+    match shape_after(alloc, codecs, shape) {
+        Ok(last) => rest.encoded_representation(alloc, data_type, last.as_slice()),
         Err(error) => Err(error),
     }
 }

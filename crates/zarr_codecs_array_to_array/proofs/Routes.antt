@@ -17,7 +17,7 @@ use Rattle.zarr_codecs_meaning.specs.Places.{gather, place_numbers, position_of,
 use Rattle.zarr_codecs_meaning.specs.Types.{Cell, Elements, DataType}
 use Rattle.zarr_codecs_meaning.proofs.ArrayCodecs.{array_codec_count}
 use Rattle.zarr_codecs_meaning.proofs.Covers.{zeros, length-zeros, place_is_index, ravel_place, places_at, is_order, transposed_index, untransposed_back, array_codec_covers}
-use Rattle.zarr_codecs_meaning.proofs.Once.{array_codec_once, covering_long}
+use Rattle.zarr_codecs_meaning.proofs.Once.{array_codec_once, product_moved}
 use Rattle.zarr_codecs_meaning.proofs.Positions.{among_at, among_range, position_found, position_read}
 use Rattle.zarr_codecs_arrays.specs.Outcomes.{Validates}
 use Rattle.zarr_codecs_arrays.specs.declared.array_bytes.ArrayBytes.{ArrayBytes}
@@ -69,22 +69,7 @@ map_more f [] i h = absurd (omega arith)
 map_more f (n ∷ ns) zero h = refl
 map_more f (n ∷ ns) (suc i) h = ap (λ ks. f n ∷ ks) (map_more f ns i (omega arith))
 
--- ---- an array codec keeps the number of places
-
-pub product_moved : (codec : ArrayCodec) (shape : List ℕ) → array_codec_fits codec shape ≡ true → product shape ≡ product (encoded_shape codec shape)
-product_moved codec shape fit =
-    let ns = source_places codec shape in
-    let count = product shape in
-    let back = undone_places codec shape in
-    let once = array_codec_once codec shape fit in
-    let many = array_codec_count codec shape fit in
-    let long : length back ≡ count = length-map (range_with_len 0 count) (λ n. position_of n ns) ∙ length-range_with_len 0 count in
-    let one = covering_long count ns (array_codec_covers codec shape fit) in
-    let two = covering_long (length ns) back (λ i h.
-    let n = get_or ns i 0 in
-    let below = once.below i h in
-    among_at back n i (omega (arith, below, long)) (get_or-map-range_with_len (λ k. position_of k ns) 0 count n n 0 below (omega arith) ∙ once.position i h)) in
-    omega (arith, one, two, many, long)
+-- ---- the places that array codecs move
 
 pub sources_below : (codec : ArrayCodec) (shape : List ℕ) → array_codec_fits codec shape ≡ true → are_below (product shape) (source_places codec shape) ≡ true
 sources_below codec shape fit = let once = array_codec_once codec shape fit in below_from (product shape) (source_places codec shape) once.below

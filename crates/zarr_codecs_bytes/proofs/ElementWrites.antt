@@ -1,6 +1,6 @@
 -- Elements that are written over those of a value, by ranges of its bytes.
-use Rattle.std.proofs.Common.{◌≡◌, ◌∙◌, ℕ, suc, ◌+◌, ◌*◌, ◌/◌, ◌%◌, ◌^◌, ◌<◌, ◌≤◌, true, false, List, [], ◌∷◌, ◌++◌, length, set, take, drop, refl, sym, ap, arith, append_assoc, length-append, length-drop, sum_by, take-append-drop, Result, Ok, Err, Vec, Global}
-use Rattle.std.specs.Prelude.{IfOk, nat_lt}
+use Rattle.std.proofs.Common.{◌≡◌, ◌∙◌, ℕ, suc, ◌+◌, ◌*◌, ◌/◌, ◌%◌, ◌^◌, ◌<◌, ◌≤◌, true, false, List, [], ◌∷◌, ◌++◌, length, set, take, drop, refl, sym, ap, arith, append_assoc, length-append, length-drop, take-append-drop}
+use Rattle.std.specs.Prelude.{nat_lt}
 use Rattle.std.specs.List.{range_with_len, flat_map, list_all, list_any}
 use Rattle.std.proofs.Math.Nat.{mul-le-mul_right, mul-mod_left, mul-div_left}
 use Rattle.std.proofs.Math.Seq.{set-append_seam}
@@ -12,11 +12,10 @@ use Rattle.zarr_codecs_meaning.specs.Payloads.{fixed_cells}
 use Rattle.zarr_codecs_meaning.specs.Types.{of_bytes}
 use Rattle.zarr_codecs_arrays.proofs.FixedCells.{fixed_cells-append, fixed_cells-cons, length-fixed_cells}
 use Rattle.zarr_codecs_traits.specs.Indexers.{put}
-use Rattle.zarr_codecs_traits.specs.Patches.{overwritten}
+use Rattle.zarr_codecs_traits.specs.Patches.{Patch, cut_patches, overwritten}
 use Rattle.zarr_codecs_traits.specs.declared.byte_range.ByteRange.{ByteRange}
-use Rattle.zarr_codecs_traits.specs.declared.value_patch.ValuePatch.{ValuePatch}
-use Rattle.zarr_codecs_bytes.specs.Lines.{bytes_of_lines, cut, ends_after, patch_bytes, patch_offsets, range_offsets, total_length}
-use Rattle.zarr_codecs_bytes.specs.Writing.{AreRangesOf, PutsElements}
+use Rattle.zarr_codecs_bytes.specs.Lines.{bytes_of_lines, ends_after, total_length}
+use Rattle.zarr_codecs_bytes.specs.Writing.{AreRangesOf, PutsElements, bytes_written}
 use Rattle.zarr_codecs_bytes.proofs.PartWriting.{patched_replaced, patches_near}
 use Rattle.zarr_codecs_bytes.proofs.Scattered.{length-overwritten, length-positions, neither, positions, positions_read, replaced, replaced_scatter, scatter, scatter_append, scatter_range, taken_range}
 
@@ -115,25 +114,25 @@ length-replaced size value (range ∷ ranges) content long within total =
     let rest : length (drop range.length content) ≡ total_length ranges = length-drop range.length content ∙ omega (arith, total) in
     length-replaced size (overwritten value range.offset front) ranges (drop range.length content) (length-overwritten value range.offset front (omega (arith, end, enough, long)) ∙ long) apart.1 rest
 
-cut_length : (ranges : List ByteRange) (content : List ℕ) → length content ≡ total_length ranges → sum_by (λ (bytes : List ℕ). length bytes) (cut ranges content) ≡ total_length ranges
+cut_length : (ranges : List ByteRange) (content : List ℕ) → length content ≡ total_length ranges → bytes_written (cut_patches ranges content) ≡ total_length ranges
 cut_length [] content total = refl
 cut_length (range ∷ ranges) content total =
-    let enough : length (take range.length content) ≡ range.length = length-take-le range.length content (omega (arith, total)) in
+    let front = take range.length content in
+    let enough : length front ≡ range.length = length-take-le range.length content (omega (arith, total)) in
     let rest : length (drop range.length content) ≡ total_length ranges = length-drop range.length content ∙ omega (arith, total) in
-    let others = cut ranges (drop range.length content) in
-    let split : sum_by (λ (bytes : List ℕ). length bytes) (take range.length content ∷ others) ≡ length (take range.length content) + sum_by (λ (bytes : List ℕ). length bytes) others = sum_by-cons (λ (bytes : List ℕ). length bytes) (take range.length content) others in
+    let others = cut_patches ranges (drop range.length content) in
+    let first : Patch = record { offset = range.offset; bytes = front } in
+    let split : bytes_written (first ∷ others) ≡ length front + bytes_written others = sum_by-cons (λ (patch : Patch). length patch.bytes) first others in
     split ∙ omega (arith, enough, cut_length ranges (drop range.length content) rest)
 
--- what is known of patches that were made of elements
-pub record AreMadeOf (width size count : ℕ) (numbers content : List ℕ) (ranges : List ByteRange) (patches : List ValuePatch) : Type 0 where
+-- what is known of elements that are written into ranges
+pub record AreMadeOf (width size count : ℕ) (numbers content : List ℕ) (ranges : List ByteRange) : Type 0 where
   pub some : 0 < width
   pub all : size ≡ count * width
   pub small : size < 2 ^ 63
   pub inside : list_all (λ n. nat_lt n count) numbers ≡ true
   pub long : length content ≡ length numbers * width
   pub found : AreRangesOf width size numbers ranges
-  pub offsets : patch_offsets patches ≡ range_offsets ranges
-  pub are : patch_bytes patches ≡ cut ranges content
 
 places_are : (width size count : ℕ) (numbers : List ℕ) (ranges : List ByteRange) → size ≡ count * width → list_all (λ n. nat_lt n count) numbers ≡ true → AreRangesOf width size numbers ranges → positions ranges ≡ element_places width numbers
 places_are width size count numbers ranges same inside h =
@@ -146,34 +145,16 @@ pub ranges_total : (width size count : ℕ) (numbers content : List ℕ) (ranges
 ranges_total width size count numbers content ranges same inside long h =
     long ∙ (sym (length_places width numbers) ∙ (ap length (sym (places_are width size count numbers ranges same inside h)) ∙ length-positions ranges))
 
-pub ranges_put : (width size count : ℕ) (numbers content : List ℕ) (ranges : List ByteRange) (patches : List ValuePatch) → AreMadeOf width size count numbers content ranges patches → PutsElements width size numbers content patches
-ranges_put width size count numbers content ranges patches h =
+pub ranges_put : (width size count : ℕ) (numbers content : List ℕ) (ranges : List ByteRange) → AreMadeOf width size count numbers content ranges → PutsElements width size numbers content (cut_patches ranges content)
+ranges_put width size count numbers content ranges h =
     let total = ranges_total width size count numbers content ranges h.all h.inside h.long h.found in
     let at = places_are width size count numbers ranges h.all h.inside h.found in
     record {
-      near = patches_near size ranges content patches h.small h.found.within total h.offsets h.are;
-      few = ap (sum_by (λ (bytes : List ℕ). length bytes)) h.are ∙ (cut_length ranges content total ∙ (sym total ∙ h.long));
-      long = λ value whole. ap length (patched_replaced size value ranges content patches whole h.found.within total h.offsets h.are) ∙ length-replaced size value ranges content whole h.found.within total;
+      near = patches_near size ranges content h.small h.found.within total;
+      few = cut_length ranges content total ∙ (sym total ∙ h.long);
+      long = λ value whole. ap length (patched_replaced size value ranges content whole h.found.within total) ∙ length-replaced size value ranges content whole h.found.within total;
       put = λ value whole.
-          ap (fixed_cells width) (patched_replaced size value ranges content patches whole h.found.within total h.offsets h.are
+          ap (fixed_cells width) (patched_replaced size value ranges content whole h.found.within total
           ∙ (replaced_scatter size value ranges content whole h.found.within total ∙ ap (λ ps. scatter value ps content) at))
           ∙ put_places width count numbers value content h.some (whole ∙ h.all) h.inside h.long;
     }
-
-pub patches_put : {E : Type 0} (width size count : ℕ) (numbers content : List ℕ) (ranges lent : List ByteRange) (r : Result (Vec ValuePatch Global) E) → lent ≡ ranges → 0 < width → size ≡ count * width → size < 2 ^ 63
-    → list_all (λ n. nat_lt n count) numbers ≡ true → length content ≡ length numbers * width → AreRangesOf width size numbers ranges → IfOk r (λ v. patch_offsets v.items ≡ range_offsets lent) → IfOk r (λ v. patch_bytes v.items ≡ cut lent content)
-    → IfOk r (λ patches. PutsElements width size numbers content patches.items)
-patches_put width size count numbers content ranges lent (Ok patches) same some all small inside long h offsets are =
-    ranges_put width size count numbers content ranges patches.items (
-    record {
-      some = some;
-      all = all;
-      small = small;
-      inside = inside;
-      long = long;
-      found = h;
-      offsets = offsets ∙ ap range_offsets same;
-      are = are ∙ ap (λ rs. cut rs content) same;
-    }
-    )
-patches_put width size count numbers content ranges lent (Err e) same some all small inside long h offsets are = tt

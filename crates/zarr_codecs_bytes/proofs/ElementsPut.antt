@@ -19,9 +19,8 @@ use Rattle.zarr_codecs_arrays.specs.Outcomes.{IsValid}
 use Rattle.zarr_codecs_arrays.proofs.FixedCells.{flat_map-fixed_cells}
 use Rattle.zarr_codecs_regions.proofs.Shown.{map_put, shown_cells, standing_decoded}
 use Rattle.zarr_codecs_traits.specs.Indexers.{Asked, are_inside, numbers_asked, put}
-use Rattle.zarr_codecs_traits.specs.Patches.{patched}
+use Rattle.zarr_codecs_traits.specs.Patches.{Patch, patched}
 use Rattle.zarr_codecs_traits.specs.PartWriting.{IsEncodedInto, cells_shown}
-use Rattle.zarr_codecs_traits.specs.declared.value_patch.ValuePatch.{ValuePatch}
 use Rattle.zarr_codecs_bytes.specs.Orders.{all_ordered}
 use Rattle.zarr_codecs_bytes.specs.Writing.{PutsElements}
 use Rattle.zarr_codecs_bytes.proofs.Decoding.{IsRead, decoded_made}
@@ -54,7 +53,7 @@ shown_elements order elements shape value some long =
     ∙ sym (map-map (shown order type) element (range_with_len 0 (length value / width))))
 
 -- what is known of elements that are written over those of a value
-pub record IsPutOver (order : Option Endianness) (elements : Elements) (shape : List ℕ) (asked : Asked) (given content : List ℕ) (cells : List Cell) (value : List ℕ) (patches : List ValuePatch) : Type 0 where
+pub record IsPutOver (order : Option Endianness) (elements : Elements) (shape : List ℕ) (asked : Asked) (given content : List ℕ) (cells : List Cell) (value : List ℕ) (patches : List Patch) : Type 0 where
   pub fit : fits (bytes order) elements.type [] ≡ true
   pub some : 0 < bytes_in (components elements.type)
   pub inside : are_inside shape asked ≡ true
@@ -104,7 +103,7 @@ stored_elements order elements shape value before fit some is =
     ∙ ap (fixed_cells width) (all_ordered_twice order parts (product shape) value some long))
 
 -- the updated elements are encoded to the value that was written
-encoded_over : (order : Option Endianness) (elements : Elements) (shape : List ℕ) (asked : Asked) (given content : List ℕ) (cells : List Cell) (value : List ℕ) (patches : List ValuePatch) (before : List Cell)
+encoded_over : (order : Option Endianness) (elements : Elements) (shape : List ℕ) (asked : Asked) (given content : List ℕ) (cells : List Cell) (value : List ℕ) (patches : List Patch) (before : List Cell)
     → IsPutOver order elements shape asked given content cells value patches → decoded (bytes order) elements shape value ≡ Some before → encoded (bytes order) elements shape (put (numbers_asked shape asked) cells before) ≡ Some (patched value patches)
 encoded_over order elements shape asked given content cells value patches before h is =
     let type = elements.type in
@@ -120,7 +119,7 @@ encoded_over order elements shape asked given content cells value patches before
     ∙ (ap (put ns (fixed_cells width content)) (stored_elements order elements shape value before h.fit h.some is) ∙ sym (h.puts.put value h.long))) in
     ap Some (sym (flat_map-map cell_bytes step (put ns cells before)) ∙ (ap (flat_map cell_bytes) made ∙ flat_map-fixed_cells width new h.some even))
 
-pub put_over : (order : Option Endianness) (elements : Elements) (shape : List ℕ) (asked : Asked) (given content : List ℕ) (cells : List Cell) (value : List ℕ) (patches : List ValuePatch)
+pub put_over : (order : Option Endianness) (elements : Elements) (shape : List ℕ) (asked : Asked) (given content : List ℕ) (cells : List Cell) (value : List ℕ) (patches : List Patch)
     → IsPutOver order elements shape asked given content cells value patches → IsEncodedInto (bytes order) true elements shape asked (fixed given) cells (Some value) (Some (patched value patches))
 put_over order elements shape asked given content cells value patches h =
     let type = elements.type in

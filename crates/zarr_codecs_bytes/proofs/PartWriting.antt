@@ -1,5 +1,5 @@
 -- The bytes of a part, written in ranges.
-use Rattle.std.proofs.Common.{◌≡◌, ◌∙◌, ℕ, suc, ◌+◌, ◌-◌, ◌*◌, ◌/◌, ◌%◌, ◌^◌, ◌<◌, ◌≤◌, Bool, true, false, ◌||◌, if◌then◌else◌, List, [], ◌∷◌, ◌++◌, length, map, get_or, take, drop, replicate, refl, sym, ap, subst, arith, Option, Some, Ok, Vec, Global, length-drop}
+use Rattle.std.proofs.Common.{◌≡◌, ◌∙◌, ℕ, suc, ◌+◌, ◌-◌, ◌*◌, ◌/◌, ◌%◌, ◌^◌, ◌<◌, ◌≤◌, Bool, true, false, ◌||◌, if◌then◌else◌, List, [], ◌∷◌, ◌++◌, length, map, get_or, take, drop, replicate, refl, sym, ap, subst, arith, Option, Some, Ok, length-drop}
 use Rattle.std.specs.Prelude.{nat_lt}
 use Rattle.std.specs.List.{range_with_len, flat_map, list_all, list_any}
 use Rattle.std.proofs.Math.Nat.{mul-mod_left, mul-div_left}
@@ -33,12 +33,12 @@ use Rattle.zarr_codecs_regions.proofs.Extracts.{element_bytes, bytes_of_place, p
 use Rattle.zarr_codecs_regions.proofs.InsideArray.{all_places, inside_places}
 use Rattle.zarr_codecs_traits.specs.Indexers.{shape_has, numbers_of}
 use Rattle.zarr_codecs_traits.specs.PartEncoding.{EncodesPart, cells_with_box}
-use Rattle.zarr_codecs_traits.specs.Patches.{any_too_far, overwritten, patched, written_at}
+use Rattle.zarr_codecs_traits.specs.Patches.{any_too_far, cut_patches, overwritten, patched, patches_in, written_at}
 use Rattle.zarr_codecs_traits.specs.declared.byte_range.ByteRange.{ByteRange}
-use Rattle.zarr_codecs_traits.specs.declared.value_patch.ValuePatch.{ValuePatch}
+use Rattle.zarr_codecs_traits.specs.declared.value_patch.ValuePatches.{ValuePatches}
 use Rattle.zarr_codecs_traits.proofs.PartValues.{whole_where_decoded}
 use Rattle.zarr_codecs_traits.specs.Sources.{bytes_in_ranges}
-use Rattle.zarr_codecs_bytes.specs.Lines.{ArePartRanges, cut, ends_after, patch_bytes, patch_offsets, range_offsets, total_length}
+use Rattle.zarr_codecs_bytes.specs.Lines.{ArePartRanges, ends_after, total_length}
 use Rattle.zarr_codecs_bytes.specs.Orders.{all_ordered}
 use Rattle.zarr_codecs_bytes.specs.Parts.{IsExtracted, PatchesPart, part_width}
 use Rattle.zarr_codecs_bytes.specs.declared.lines.PartRanges.{PartRanges}
@@ -52,54 +52,24 @@ use Rattle.zarr_codecs_bytes.proofs.Scattered.{length-overwritten, length-positi
 
 -- ---- chains with the caller's codecs
 
-abbrev tail_of : List (List ℕ) → List (List ℕ)
-tail_of [] = []
-tail_of (x ∷ xs) = xs
-
-abbrev numbers_after : List ℕ → List ℕ
-numbers_after [] = []
-numbers_after (x ∷ xs) = xs
-
--- the first of patches and of ranges
-record IsFirstPatch (value : List ℕ) (range : ByteRange) (ranges : List ByteRange) (content : List ℕ) (patch : ValuePatch) (patches : List ValuePatch) : Type 0 where
-  at_ : patch.offset ≡ range.offset
-  are : patch.bytes.items ≡ take range.length content
-  offsets : patch_offsets patches ≡ range_offsets ranges
-  others : patch_bytes patches ≡ cut ranges (drop range.length content)
-  long : length (take range.length content) ≡ range.length
-  rest : length (drop range.length content) ≡ total_length ranges
-
-first_patch : (value : List ℕ) (range : ByteRange) (ranges : List ByteRange) (content : List ℕ) (patch : ValuePatch) (patches : List ValuePatch) → length content ≡ total_length (range ∷ ranges) → patch_offsets (patch ∷ patches) ≡ range_offsets (range ∷ ranges)
-    → patch_bytes (patch ∷ patches) ≡ cut (range ∷ ranges) content → IsFirstPatch value range ranges content patch patches
-first_patch value range ranges content patch patches total offsets are = record {
-  at_ = ap (λ ns. get_or ns 0 0) offsets;
-  are = ap (λ nss. get_or nss 0 []) are;
-  offsets = ap numbers_after offsets;
-  others = ap tail_of are;
-  long = length-take-le range.length content (omega (arith, total));
-  rest = length-drop range.length content ∙ omega (arith, total);
-}
-
 written_within : (value : List ℕ) (offset : ℕ) (content : List ℕ) → offset + length content ≤ length value → written_at value offset content ≡ overwritten value offset content
 written_within value offset content within =
     let none : offset + length content - length value ≡ 0 = omega (arith, within) in
     ap (λ ns. overwritten ns offset content) (ap (λ n. value ++ replicate n 0) none ∙ append-nil value)
 
-pub patched_replaced : (size : ℕ) (value : List ℕ) (ranges : List ByteRange) (content : List ℕ) (patches : List ValuePatch) → length value ≡ size → list_any (ends_after size) ranges ≡ false → length content ≡ total_length ranges
-    → patch_offsets patches ≡ range_offsets ranges → patch_bytes patches ≡ cut ranges content → patched value patches ≡ replaced value ranges content
-patched_replaced size value [] content [] long within total offsets are = refl
-patched_replaced size value [] content (patch ∷ patches) long within total offsets are = cc
-patched_replaced size value (range ∷ ranges) content [] long within total offsets are = cc
-patched_replaced size value (range ∷ ranges) content (patch ∷ patches) long within total offsets are =
-    let first = first_patch value range ranges content patch patches total offsets are in
+pub patched_replaced : (size : ℕ) (value : List ℕ) (ranges : List ByteRange) (content : List ℕ) → length value ≡ size → list_any (ends_after size) ranges ≡ false → length content ≡ total_length ranges
+    → patched value (cut_patches ranges content) ≡ replaced value ranges content
+patched_replaced size value [] content long within total = refl
+patched_replaced size value (range ∷ ranges) content long within total =
     let front = take range.length content in
+    let others = drop range.length content in
+    let enough : length front ≡ range.length = length-take-le range.length content (omega (arith, total)) in
+    let rest : length others ≡ total_length ranges = length-drop range.length content ∙ omega (arith, total) in
     let apart = neither (ends_after size range) (list_any (ends_after size) ranges) within in
     let end = ltb-false size (range.offset + range.length) apart.0 in
-    let inside : range.offset + length front ≤ length value = omega (arith, end, first.long, long) in
-    let one : written_at value patch.offset patch.bytes.items ≡ overwritten value range.offset front =
-    ap (λ n. written_at value n patch.bytes.items) first.at_ ∙ (ap (written_at value range.offset) first.are ∙ written_within value range.offset front inside) in
-    ap (λ ns. patched ns patches) one
-    ∙ patched_replaced size (overwritten value range.offset front) ranges (drop range.length content) patches (length-overwritten value range.offset front inside ∙ long) apart.1 first.rest first.offsets first.others
+    let inside : range.offset + length front ≤ length value = omega (arith, end, enough, long) in
+    ap (λ ns. patched ns (cut_patches ranges others)) (written_within value range.offset front inside)
+    ∙ patched_replaced size (overwritten value range.offset front) ranges others (length-overwritten value range.offset front inside ∙ long) apart.1 rest
 
 not_less : (m n : ℕ) → (m < n → ⊥) → nat_lt m n ≡ false
 not_less m n h = at_test (nat_lt m n) refl where
@@ -107,18 +77,18 @@ not_less m n h = at_test (nat_lt m n) refl where
   at_test true e = absurd (h (ltb-true m n e))
   at_test false e = refl
 
-pub patches_near : (size : ℕ) (ranges : List ByteRange) (content : List ℕ) (patches : List ValuePatch) → size < 2 ^ 63 → list_any (ends_after size) ranges ≡ false → length content ≡ total_length ranges
-    → patch_offsets patches ≡ range_offsets ranges → patch_bytes patches ≡ cut ranges content → any_too_far patches ≡ false
-patches_near size ranges content [] small within total offsets are = refl
-patches_near size [] content (patch ∷ patches) small within total offsets are = cc
-patches_near size (range ∷ ranges) content (patch ∷ patches) small within total offsets are =
-    let first = first_patch [] range ranges content patch patches total offsets are in
+pub patches_near : (size : ℕ) (ranges : List ByteRange) (content : List ℕ) → size < 2 ^ 63 → list_any (ends_after size) ranges ≡ false → length content ≡ total_length ranges → any_too_far (cut_patches ranges content) ≡ false
+patches_near size [] content small within total = refl
+patches_near size (range ∷ ranges) content small within total =
+    let front = take range.length content in
+    let others = drop range.length content in
+    let enough : length front ≡ range.length = length-take-le range.length content (omega (arith, total)) in
+    let rest : length others ≡ total_length ranges = length-drop range.length content ∙ omega (arith, total) in
     let apart = neither (ends_after size range) (list_any (ends_after size) ranges) within in
     let end = ltb-false size (range.offset + range.length) apart.0 in
-    let many : length patch.bytes.items ≡ range.length = ap length first.are ∙ first.long in
-    let near : patch.offset + length patch.bytes.items < 2 ^ 63 = omega (arith, end, small, many, first.at_) in
-    let here = not_less (2 ^ 63 - 1) (patch.offset + length patch.bytes.items) (λ far. absurd (omega (arith, far, near))) in
-    ap (λ (b : Bool). b || any_too_far patches) here ∙ patches_near size ranges (drop range.length content) patches small apart.1 first.rest first.offsets first.others
+    let near : range.offset + length front < 2 ^ 63 = omega (arith, end, small, enough) in
+    let here = not_less (2 ^ 63 - 1) (range.offset + length front) (λ far. absurd (omega (arith, far, near))) in
+    ap (λ (b : Bool). b || any_too_far (cut_patches ranges others)) here ∙ patches_near size ranges others small apart.1 rest
 
 -- ---- the bytes of a box in those of an array
 
@@ -286,15 +256,13 @@ found_ranges part found some h =
       are = (h.are (range_with_len 0 size) (length-range_with_len 0 size ∙ sym h.size)).are nothing;
     }
 
--- what is known of patches that were made of them
-pub record AreMade (order : Option Endianness) (part : BoxPart) (found : PartRanges) (given content : List ℕ) (patches : List ValuePatch) : Type 0 where
+-- what is known of the elements that are written into them
+pub record AreMade (order : Option Endianness) (part : BoxPart) (found : PartRanges) (given content : List ℕ) : Type 0 where
   pub fit : fits (bytes order) (elements_of part.elements.now).type [] ≡ true
   pub some : 0 < part_width part
   pub many : length given ≡ product part.region.now.shape.items * part_width part
   pub ranges : ArePartRanges part found
   pub is : content ≡ all_ordered order (components (elements_of part.elements.now).type) given
-  pub offsets : patch_offsets patches ≡ range_offsets found.ranges.items
-  pub are : patch_bytes patches ≡ cut found.ranges.items content
 
 pub content_total : (order : Option Endianness) (part : BoxPart) (found : PartRanges) (given content : List ℕ) → 0 < part_width part → length given ≡ product part.region.now.shape.items * part_width part → ArePartRanges part found
     → content ≡ all_ordered order (components (elements_of part.elements.now).type) given → length content ≡ total_length found.ranges.items
@@ -302,18 +270,18 @@ content_total order part found given content some many ranges is =
     ap length is ∙ (length-all_ordered order (components (elements_of part.elements.now).type) (product part.region.now.shape.items) given some many
     ∙ sym (ranges_total (part_width part) part.shape.now (region_of part.region.now) found.ranges.items (found_ranges part found some ranges)))
 
-pub part_patched : (order : Option Endianness) (part : BoxPart) (found : PartRanges) (given content : List ℕ) (patches : List ValuePatch) → AreMade order part found given content patches → PatchesPart (bytes order) part given patches
-part_patched order part found given content patches h =
+pub part_patched : (order : Option Endianness) (part : BoxPart) (found : PartRanges) (given content : List ℕ) → AreMade order part found given content → PatchesPart (bytes order) part given (cut_patches found.ranges.items content)
+part_patched order part found given content h =
     let elements = elements_of part.elements.now in
     let shape = part.shape.now in
     let ranges = found.ranges.items in
     let total = content_total order part found given content h.some h.many h.ranges h.is in
     record {
-      near = patches_near found.size ranges content patches h.ranges.small h.ranges.within total h.offsets h.are;
+      near = patches_near found.size ranges content h.ranges.small h.ranges.within total;
       encodes = λ value before is.
           part_encoded order elements shape (region_of part.region.now) given ranges value before (record { fit = h.fit; ranges_are = found_ranges part found h.some h.ranges; many = h.many; is = is })
           ∙ ap Some (ap (replaced value ranges) (sym h.is)
-          ∙ sym (patched_replaced found.size value ranges content patches (value_length order elements shape value before is ∙ sym h.ranges.size) h.ranges.within total h.offsets h.are));
+          ∙ sym (patched_replaced found.size value ranges content (value_length order elements shape value before is ∙ sym h.ranges.size) h.ranges.within total));
     }
 
 -- as many elements as are valid have as many bytes
@@ -328,14 +296,14 @@ given_cells type given count cells fit valid =
     let many : length given / width ≡ count = sym (ap length w.is ∙ length-fixed_cells width given) ∙ valid.is.many in
     record { are = w.is; long = whole_length width given w.whole ∙ ap (λ n. n * width) many }
 
-pub part_encodes : (order : Option Endianness) (part : BoxPart) (given : List ℕ) (cells : List Cell) (patches : Vec ValuePatch Global) → fits (bytes order) (elements_of part.elements.now).type [] ≡ true
-    → IsValid (elements_of part.elements.now).type (fixed given) (product part.region.now.shape.items) cells → PatchesPart (bytes order) part given patches.items
+pub part_encodes : (order : Option Endianness) (part : BoxPart) (given : List ℕ) (cells : List Cell) (patches : ValuePatches) → fits (bytes order) (elements_of part.elements.now).type [] ≡ true
+    → IsValid (elements_of part.elements.now).type (fixed given) (product part.region.now.shape.items) cells → PatchesPart (bytes order) part given (patches_in patches)
     → EncodesPart (bytes order) true (elements_of part.elements.now) part.shape.now (region_of part.region.now) (fixed given) (Ok (Some patches))
 part_encodes order part given cells patches fit valid h =
     let elements = elements_of part.elements.now in
     let shape = part.shape.now in
     let g = given_cells elements.type given (product part.region.now.shape.items) cells (and_parts (is_fixed elements.type) (order_fits order (components elements.type)) fit).0 valid in
-    let encodes : (value : List ℕ) (before : List Cell) → decoded (bytes order) elements shape value ≡ Some before → encoded (bytes order) elements shape (cells_with_box shape elements.fill (region_of part.region.now) cells before) ≡ Some (patched value patches.items) =
+    let encodes : (value : List ℕ) (before : List Cell) → decoded (bytes order) elements shape value ≡ Some before → encoded (bytes order) elements shape (cells_with_box shape elements.fill (region_of part.region.now) cells before) ≡ Some (patched value (patches_in patches)) =
     λ value before is. ap (λ cs. encoded (bytes order) elements shape (cells_with_box shape elements.fill (region_of part.region.now) cs before)) g.are ∙ h.encodes value before is in (
       cells,
       record {

@@ -1,11 +1,10 @@
 -- The ranges of bytes in which elements stand.
-use Rattle.std.specs.Prelude.{◌≡◌, ℕ, ◌+◌, ◌*◌, ◌^◌, ◌<◌, List, [], ◌∷◌, Bool, false, length, map, take, drop, flat_map, nat_le, nat_lt}
+use Rattle.std.specs.Prelude.{◌≡◌, ℕ, ◌+◌, ◌*◌, ◌^◌, ◌<◌, List, [], ◌∷◌, Bool, false, length, take, drop, flat_map, nat_le, nat_lt}
 use Rattle.std.specs.List.{list_any, range_with_len}
 use Rattle.zarr_grids_boxes.specs.Boxes.{product}
 use Rattle.zarr_codecs_traits.specs.Indexers.{numbers_of}
 use Rattle.zarr_codecs_traits.specs.Sources.{bytes_in_ranges}
 use Rattle.zarr_codecs_traits.specs.declared.byte_range.ByteRange.{ByteRange}
-use Rattle.zarr_codecs_traits.specs.declared.value_patch.ValuePatch.{ValuePatch}
 use Rattle.zarr_codecs_bytes.specs.Parts.{HasPart, part_width}
 use Rattle.zarr_codecs_bytes.specs.declared.part.BoxPart.{BoxPart}
 use Rattle.zarr_codecs_bytes.specs.declared.lines.LineSizes.{LineSizes}
@@ -27,23 +26,6 @@ moved_by count range = record { offset = count + range.offset; length = range.le
 abbrev pub total_length : List ByteRange → ℕ
 total_length [] = 0
 total_length (range ∷ ranges) = range.length + total_length ranges
-
--- where ranges begin
-abbrev pub range_offsets : List ByteRange → List ℕ
-range_offsets ranges = map (λ (range : ByteRange). range.offset) ranges
-
--- bytes, cut into as many as each range has
-abbrev pub cut : List ByteRange → List ℕ → List (List ℕ)
-cut [] bytes = []
-cut (range ∷ ranges) bytes = take range.length bytes ∷ cut ranges (drop range.length bytes)
-
--- where patches begin
-abbrev pub patch_offsets : List ValuePatch → List ℕ
-patch_offsets patches = map (λ (patch : ValuePatch). patch.offset) patches
-
--- the bytes of patches
-abbrev pub patch_bytes : List ValuePatch → List (List ℕ)
-patch_bytes patches = map (λ (patch : ValuePatch). patch.bytes.items) patches
 
 -- whether a line that starts at the element with this number ends in the value
 abbrev pub line_ends_within : LineSizes → ℕ → Bool

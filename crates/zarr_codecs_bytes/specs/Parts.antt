@@ -17,8 +17,7 @@ use Rattle.zarr_codecs_traits.specs.Indexers.{in_box, listed, numbers_of}
 use Rattle.zarr_codecs_traits.specs.Outcomes.{DecodesPart}
 use Rattle.zarr_codecs_traits.specs.PartEncoding.{cells_with_box}
 use Rattle.zarr_codecs_traits.specs.ReadBytes.{most_of_numbers, most_read}
-use Rattle.zarr_codecs_traits.specs.Patches.{any_too_far, patched}
-use Rattle.zarr_codecs_traits.specs.declared.value_patch.ValuePatch.{ValuePatch}
+use Rattle.zarr_codecs_traits.specs.Patches.{Patch, any_too_far, patched}
 use Rattle.zarr_codecs_bytes.specs.declared.part.ListedPart.{ListedPart}
 use Rattle.zarr_codecs_bytes.specs.declared.part.BoxPart.{BoxPart}
 
@@ -49,7 +48,7 @@ pub record HasPart (part : BoxPart) (value extracted : List ℕ) : Type 0 where
   pub are : (other : Cell) → IsExtracted (part_width part) value part.shape.now (region_of part.region.now) other extracted
 
 -- patches that replace the elements of a part by others, which have these bytes: of a value that is decoded they make what the elements are then encoded to
-pub record PatchesPart (chain : Chain) (part : BoxPart) (given : List ℕ) (patches : List ValuePatch) : Type 0 where
+pub record PatchesPart (chain : Chain) (part : BoxPart) (given : List ℕ) (patches : List Patch) : Type 0 where
   pub near : any_too_far patches ≡ false
   pub encodes : (value : List ℕ) (before : List Cell) → decoded chain (elements_of part.elements.now) part.shape.now value ≡ Some before
       → encoded chain (elements_of part.elements.now) part.shape.now (cells_with_box part.shape.now (elements_of part.elements.now).fill (region_of part.region.now) (fixed_cells (part_width part) given) before) ≡ Some (patched value patches)

@@ -3,11 +3,10 @@ use Rattle.std.specs.Prelude.{◌≡◌, ℕ, ◌*◌, List, length, false, sum_
 use Rattle.std.specs.List.{list_any}
 use Rattle.zarr_codecs_meaning.specs.Payloads.{fixed_cells}
 use Rattle.zarr_codecs_traits.specs.Indexers.{put}
-use Rattle.zarr_codecs_traits.specs.Patches.{any_too_far, patched}
+use Rattle.zarr_codecs_traits.specs.Patches.{Patch, any_too_far, patched}
 use Rattle.zarr_codecs_traits.specs.declared.byte_range.ByteRange.{ByteRange}
-use Rattle.zarr_codecs_traits.specs.declared.value_patch.ValuePatch.{ValuePatch}
 use Rattle.zarr_codecs_traits.specs.Sources.{bytes_in_ranges}
-use Rattle.zarr_codecs_bytes.specs.Lines.{bytes_of_lines, ends_after, patch_bytes}
+use Rattle.zarr_codecs_bytes.specs.Lines.{bytes_of_lines, ends_after}
 
 -- ranges of a value of so many bytes have the bytes of the elements with these numbers, in their order
 pub record AreRangesOf (width size : ℕ) (numbers : List ℕ) (ranges : List ByteRange) : Type 0 where
@@ -15,11 +14,11 @@ pub record AreRangesOf (width size : ℕ) (numbers : List ℕ) (ranges : List By
   pub are : (value : List ℕ) → length value ≡ size → bytes_in_ranges value ranges ≡ bytes_of_lines width width value numbers
 
 -- how many bytes patches write
-abbrev pub bytes_written : List ValuePatch → ℕ
-bytes_written patches = sum_by length (patch_bytes patches)
+abbrev pub bytes_written : List Patch → ℕ
+bytes_written patches = sum_by (λ (patch : Patch). length patch.bytes) patches
 
 -- patches put elements, which have these bytes, in the place of those with these numbers, in any value of so many bytes; they write the bytes of these elements alone
-pub record PutsElements (width size : ℕ) (numbers content : List ℕ) (patches : List ValuePatch) : Type 0 where
+pub record PutsElements (width size : ℕ) (numbers content : List ℕ) (patches : List Patch) : Type 0 where
   pub near : any_too_far patches ≡ false
   pub few : bytes_written patches ≡ length numbers * width
   pub long : (value : List ℕ) → length value ≡ size → length (patched value patches) ≡ size

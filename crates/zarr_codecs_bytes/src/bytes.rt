@@ -13,7 +13,7 @@ use zarr_codecs_options::CodecOptions;
 use zarr_codecs_regions::{WholeValues, are_below, is_inside};
 use zarr_codecs_traits::{
     ArrayPart, ArrayToBytesCodecTraits, BytesPartialDecoderTraits, BytesPartialEncoderTraits,
-    BytesRepresentation, Indexer, ValuePatch,
+    BytesRepresentation, Indexer, ValuePatches,
 };
 use zarr_codecs_types::DataType;
 use zarr_grids_boxes::ArraySubset;
@@ -209,7 +209,7 @@ impl BytesCodec {
         bytes: ArrayBytes,
         array: ArrayPart<'_>,
         region: &ArraySubset,
-    ) -> Result<Option<Vec<ValuePatch>>, CodecError>
+    ) -> Result<Option<ValuePatches>, CodecError>
         ensures { EncodesPart (bytes_chain self) true (elements_of array.entry.elements.now)
             array.entry.shape.now (region_of region.now) (payload_of bytes) result }
     {
@@ -371,7 +371,7 @@ impl ArrayToBytesCodecTraits for BytesCodec {
         bytes: ArrayBytes,
         part: ArrayPart<'_>,
         _: &CodecOptions,
-    ) -> Result<Option<Vec<ValuePatch>>, CodecError> {
+    ) -> Result<Option<ValuePatches>, CodecError> {
         match part.indexer {
             Indexer::Subset(region) => self.encode_box(alloc, bytes, part, region),
             Indexer::List(_numbers) => Ok(None),

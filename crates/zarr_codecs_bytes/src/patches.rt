@@ -4,7 +4,7 @@ ghost use Rattle.zarr_grids_boxes.specs.Boxes.{product};
 ghost use Rattle.zarr_grids_boxes.specs.Subsets.{region_of};
 ghost use Rattle.zarr_codecs_arrays.specs.Views.{elements_of, payload_of};
 ghost use Rattle.zarr_codecs_traits.specs.PartEncoding.{EncodesPart};
-ghost use Rattle.zarr_codecs_bytes.specs.Lines.{cut, patch_bytes, patch_offsets, range_offsets, total_length};
+ghost use Rattle.zarr_codecs_traits.specs.Patches.{patches_in};
 ghost use Rattle.zarr_codecs_bytes.specs.Parts.{PatchesPart, fits_part, part_width};
 ghost use Rattle.zarr_codecs_bytes.specs.Views.{bytes_chain};
 
@@ -13,7 +13,7 @@ use crate::lines::{box_ranges, value_size};
 use crate::part::BoxPart;
 use std::alloc::{AllocError, Global};
 use zarr_codecs_arrays::{ArrayBytes, CodecError};
-use zarr_codecs_traits::{ByteRange, ValuePatch};
+use zarr_codecs_traits::ValuePatches;
 use zarr_grids_boxes::walk::count_places;
 
 /// The ranges to be written into a value of `bytes`, so that the elements of a part are replaced by
@@ -24,7 +24,7 @@ pub(crate) fn replace_part(
     codec: BytesCodec,
     bytes: ArrayBytes,
     part: BoxPart,
-) -> Result<Option<Vec<ValuePatch>>, CodecError>
+) -> Result<Option<ValuePatches>, CodecError>
     requires { fits_part (bytes_chain codec) part ≡ true }
     ensures { EncodesPart (bytes_chain codec) true (elements_of part.entry.elements.now)
         part.entry.shape.now (region_of part.entry.region.now) (payload_of bytes) result }
@@ -54,40 +54,19 @@ pub(crate) fn part_patches(
     bytes: Vec<u8>,
     part: BoxPart,
     size: u64,
-) -> Result<Vec<ValuePatch>, AllocError>
+) -> Result<ValuePatches, AllocError>
     requires fit { fits_part (bytes_chain codec) part ≡ true }
     requires positive { 0 < part_width part }
     requires long { length bytes.items ≡ product part.region.now.shape.items * part_width part }
     requires size { size ≡ product part.shape.now * part_width part }
     requires small { size < 2 ^ 63 }
     ensures { IfOk result
-        (λ patches. PatchesPart (bytes_chain codec) part.entry bytes.items patches.items) }
+        (λ patches. PatchesPart (bytes_chain codec) part.entry bytes.items (patches_in patches)) }
 {
     let found = box_ranges(alloc, part, size)?;
     let ordered = codec.ordered(alloc, part.elements.data_type(), bytes)?;
-    let patches = patches_of(alloc, found.ranges.as_slice(), ordered.as_slice())?;
-    Ok(patches)
-}
-
-/// Bytes that are to be written into ranges, in their order.
-pub(crate) fn patches_of(
-    alloc: Global,
-    ranges: &[ByteRange],
-    bytes: &[u8],
-) -> Result<Vec<ValuePatch>, AllocError>
-    requires { total_length ranges.now ≡ length bytes.now }
-    ensures offsets { IfOk result (λ v. patch_offsets v.items ≡ range_offsets ranges.now) }
-    ensures bytes { IfOk result (λ v. patch_bytes v.items ≡ cut ranges.now bytes.now) }
-{
-    let mut patches = Vec::with_capacity(alloc, ranges.len())?;
-    let mut rest = bytes;
-    for range in ranges {
-        let (first, others) = rest.split_at(range.length as usize);
-        patches.push(ValuePatch {
-            offset: range.offset,
-            bytes: Vec::from_slice(alloc, first)?,
-        })?;
-        rest = others;
-    }
-    Ok(patches)
+    Ok(ValuePatches {
+        ranges: found.ranges,
+        bytes: ordered,
+    })
 }

@@ -4,7 +4,7 @@ ghost use Rattle.zarr_grids_boxes.specs.Boxes.{product};
 ghost use Rattle.zarr_codecs_meaning.specs.Types.{Cell, bytes_in, components, is_fixed};
 ghost use Rattle.zarr_codecs_arrays.specs.Views.{elements_of, payload_of};
 ghost use Rattle.zarr_codecs_traits.specs.Indexers.{are_inside, asked_of, numbers_asked};
-ghost use Rattle.zarr_codecs_traits.specs.Patches.{any_too_far, patched};
+ghost use Rattle.zarr_codecs_traits.specs.Patches.{any_too_far, patched, patches_in};
 ghost use Rattle.zarr_codecs_traits.specs.PartWriting.{IsEncodedInto, NotEncodedInto, WritesOnce};
 ghost use Rattle.zarr_codecs_traits.specs.Sources.{refused_after};
 ghost use Rattle.zarr_codecs_regions.specs.Whole.{CanBePut};
@@ -15,13 +15,12 @@ use crate::bytes::BytesCodec;
 use crate::lines::{LineSizes, box_ranges};
 use crate::numbers::number_ranges;
 use crate::part::BoxPart;
-use crate::patches::patches_of;
 use crate::sizes::array_size;
 use std::alloc::{AllocError, Global};
 use zarr_codecs_arrays::{ArrayBytes, CodecError};
 use zarr_codecs_options::CodecOptions;
 use zarr_codecs_regions::{encode_whole, test_given};
-use zarr_codecs_traits::{ArrayPart, ByteRange, BytesPartialEncoderTraits, Indexer, ValuePatch};
+use zarr_codecs_traits::{ArrayPart, ByteRange, BytesPartialEncoderTraits, Indexer, ValuePatches};
 
 /// Puts elements in the place of those at the places that are asked for, as
 /// `ArrayToBytesCodecTraits::partial_encode` says. Of a value that stands nothing is read but its
@@ -88,7 +87,10 @@ fn write_over<E: BytesPartialEncoderTraits>(
     ensures rewrites { E.rewrites source.old source.new }
 {
     match asked_patches(alloc, codec, bytes, part, total) {
-        Ok(patches) => source.partial_encode(alloc, &patches),
+        Ok(patches) => {
+            let lent = patches.lend(alloc)?;
+            source.partial_encode(alloc, &lent)
+        }
         Err(error) => Err(error),
     }
 }
@@ -102,14 +104,15 @@ fn asked_patches(
     bytes: ArrayBytes,
     part: ArrayPart<'_>,
     total: u64,
-) -> Result<Vec<ValuePatch>, CodecError>
+) -> Result<ValuePatches, CodecError>
     requires given { CanBePut (bytes_chain codec) (elements_of part.elements.now) part.shape.now
         (asked_of part.indexer) (payload_of bytes) }
     ensures ok { (value : List ℕ) → length value ≡ total → IfOk result (λ patches.
         (cells : List Cell) × IsEncodedInto (bytes_chain codec) true
         (elements_of part.entry.elements.now) part.entry.shape.now (asked_of part.entry.indexer)
-        (payload_of bytes) cells (Some value) (Some (patched value patches.items))) }
-    ensures near { IfOk result (λ patches. any_too_far patches.items ≡ false) }
+        (payload_of bytes) cells (Some value)
+        (Some (patched value (patches_in patches)))) }
+    ensures near { IfOk result (λ patches. any_too_far (patches_in patches) ≡ false) }
     ensures cause { (value : List ℕ) → length value ≡ total → NotEncodedInto (bytes_chain codec)
         (elements_of part.entry.elements.now) part.entry.shape.now (asked_of part.entry.indexer)
         (payload_of bytes) (Some value) result }
@@ -126,7 +129,7 @@ fn asked_patches(
     match bytes {
         ArrayBytes::Fixed(bytes) => {
             let ordered = codec.ordered(alloc, data_type, bytes)?;
-            Ok(element_patches(alloc, part, size, ordered.as_slice())?)
+            Ok(element_patches(alloc, part, size, ordered)?)
         }
         ArrayBytes::Variable(_bytes, _offsets) => Err(CodecError::ExpectedFixedLengthBytes),
         ArrayBytes::Optional(_inner, _mask) => Err(CodecError::ExpectedFixedLengthBytes),
@@ -139,24 +142,27 @@ fn element_patches(
     alloc: Global,
     part: ArrayPart<'_>,
     size: u64,
-    content: &[u8],
-) -> Result<Vec<ValuePatch>, AllocError>
+    content: Vec<u8>,
+) -> Result<ValuePatches, AllocError>
     requires fixed { is_fixed (elements_of part.elements.now).type ≡ true }
     requires positive { 0 < bytes_in (components (elements_of part.elements.now).type) }
     requires inside { are_inside part.shape.now (asked_of part.indexer) ≡ true }
     requires size { size ≡
         product part.shape.now * bytes_in (components (elements_of part.elements.now).type) }
     requires small { size < 2 ^ 63 }
-    requires long { length content.now ≡
+    requires long { length content.items ≡
         length (numbers_asked part.shape.now (asked_of part.indexer))
         * bytes_in (components (elements_of part.elements.now).type) }
     ensures { IfOk result (λ patches. PutsElements
         (bytes_in (components (elements_of part.entry.elements.now).type)) size
-        (numbers_asked part.entry.shape.now (asked_of part.entry.indexer)) content.now
-        patches.items) }
+        (numbers_asked part.entry.shape.now (asked_of part.entry.indexer)) content.items
+        (patches_in patches)) }
 {
     let ranges = asked_ranges(alloc, part, size)?;
-    patches_of(alloc, ranges.as_slice(), content)
+    Ok(ValuePatches {
+        ranges,
+        bytes: content,
+    })
 }
 
 /// The ranges in which the elements at the places that are asked for stand, in their order, of a

@@ -6,13 +6,13 @@ use Rattle.zarr_grids_boxes.specs.Boxes.{product}
 use Rattle.zarr_codecs_meaning.specs.Types.{DataType, bool, bytes_in, components, inner_type, is_fixed, IsTooLarge}
 use Rattle.zarr_codecs_meaning.specs.Chains.{ArrayCodec, ByteCodec, Chain, Endianness}
 use Rattle.zarr_codecs_meaning.specs.Chains.Chain.{bytes, optional}
-use Rattle.zarr_codecs_meaning.specs.Fits.{array_codec_fits, fits, takes_each_shape}
+use Rattle.zarr_codecs_meaning.specs.Fits.{array_codec_fits, fits, takes_each_shape, tells_too_long}
 use Rattle.zarr_codecs_meaning.proofs.KeptOptions.{options_fit}
 use Rattle.zarr_codecs_packbits.specs.Told.{RefusesToldSizes}
 use Rattle.zarr_codecs_meaning.specs.Places.{encoded_shape}
 use Rattle.zarr_codecs_arrays.specs.declared.error.CodecError.{CodecError}
 use Rattle.zarr_codecs_arrays.specs.declared.error.CodecError.TheVariants as error
-use Rattle.zarr_codecs_traits.specs.Representations.{IsRepresented, RepresentsArray, known_size, tells_too_long}
+use Rattle.zarr_codecs_traits.specs.Representations.{IsRepresented, RepresentsArray, known_size}
 use Rattle.zarr_codecs_traits.specs.declared.bytes_representation.BytesRepresentation.{BytesRepresentation}
 use Rattle.zarr_codecs_around.specs.ArrayCodecs.{EncodesShapes, all_fit, shape_after}
 use Rattle.zarr_codecs_around.specs.Codecs.{RepresentsAll}

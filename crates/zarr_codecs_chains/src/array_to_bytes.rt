@@ -27,7 +27,7 @@ use zarr_codecs_packbits::PackBitsCodec;
 use zarr_codecs_regions::encode_whole;
 use zarr_codecs_traits::{
     ArrayPart, ArrayToBytesCodecTraits, BytesPartialDecoderTraits, BytesPartialEncoderTraits,
-    BytesRepresentation, BytesToBytesCodecTraits, ValuePatch, WholeArray,
+    BytesRepresentation, BytesToBytesCodecTraits, ValuePatches, WholeArray,
 };
 use zarr_codecs_types::DataType;
 use zarr_grids_metadata::{MetadataV3, PluginCreateError};
@@ -220,7 +220,7 @@ impl<B: BytesToBytesCodecTraits> ArrayToBytesCodecTraits for ArrayToBytesCodec<B
         bytes: ArrayBytes,
         part: ArrayPart<'_>,
         options: &CodecOptions,
-    ) -> Result<Option<Vec<ValuePatch>>, CodecError> {
+    ) -> Result<Option<ValuePatches>, CodecError> {
         match self {
             ArrayToBytesCodec::Bytes(codec) => codec.encode_patches(alloc, bytes, part, options),
             ArrayToBytesCodec::PackBits(codec) => codec.encode_patches(alloc, bytes, part, options),

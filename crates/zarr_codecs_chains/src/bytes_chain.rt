@@ -9,7 +9,7 @@ use zarr_codecs_options::CodecOptions;
 use zarr_codecs_regions::encode_whole;
 use zarr_codecs_traits::{
     ArrayPart, ArrayToBytesCodecTraits, BytesPartialDecoderTraits, BytesPartialEncoderTraits,
-    BytesRepresentation, BytesToBytesCodecTraits, ValuePatch, read_value,
+    BytesRepresentation, BytesToBytesCodecTraits, ValuePatches, read_value,
 };
 use zarr_codecs_types::DataType;
 
@@ -146,7 +146,7 @@ impl<B: BytesToBytesCodecTraits> ArrayToBytesCodecTraits for BytesChain<B> {
         bytes: ArrayBytes,
         part: ArrayPart<'_>,
         options: &CodecOptions,
-    ) -> Result<Option<Vec<ValuePatch>>, CodecError> {
+    ) -> Result<Option<ValuePatches>, CodecError> {
         if !self.bytes_to_bytes.is_empty() {
             return Ok(None);
         }

@@ -19,7 +19,7 @@ use zarr_codecs_bytes::BytesCodec;
 use zarr_codecs_options::CodecOptions;
 use zarr_codecs_traits::{
     ArrayPart, ArrayToBytesCodecTraits, BytesPartialDecoderTraits, BytesPartialEncoderTraits,
-    BytesRepresentation, BytesToBytesCodecTraits, ValuePatch, WholeArray,
+    BytesRepresentation, BytesToBytesCodecTraits, ValuePatches, WholeArray,
 };
 use zarr_codecs_types::DataType;
 use zarr_grids_metadata::{MetadataV3, PluginCreateError};
@@ -252,7 +252,7 @@ impl<B: BytesToBytesCodecTraits> ArrayToBytesCodecTraits for CodecChain<B> {
         bytes: ArrayBytes,
         part: ArrayPart<'_>,
         options: &CodecOptions,
-    ) -> Result<Option<Vec<ValuePatch>>, CodecError> {
+    ) -> Result<Option<ValuePatches>, CodecError> {
         if !self.array_to_array.is_empty() {
             return Ok(None);
         }

@@ -1,5 +1,5 @@
 -- What a fitting chain decodes are values of the type, whole or at places alone, whoever wrote the bytes.
-use Rattle.std.proofs.Common.{◌≡◌, ℕ, zero, suc, ◌+◌, ◌-◌, ◌*◌, ◌<◌, List, [], ◌∷◌, length, map, take, drop, replicate, slice_get, ap, ◌∙◌, sym, refl, arith, Option, Some, None, option_and_then, option_map, unwrap_or, Bool, true, false, ◌&&◌, ◌==◌, if◌then◌else◌, subst}
+use Rattle.std.proofs.Common.{◌≡◌, ℕ, zero, suc, ◌+◌, ◌-◌, ◌*◌, ◌<◌, List, [], ◌∷◌, length, map, take, drop, replicate, slice_get, ap, ◌∙◌, sym, refl, arith, Option, Some, option_and_then, option_map, unwrap_or, Bool, true, false, ◌&&◌, ◌==◌, if◌then◌else◌, subst}
 use Rattle.std.specs.Prelude.{nat_le, nat_lt}
 use Rattle.std.specs.List.{flat_map, list_all}
 use Rattle.std.proofs.lemmas.Bool.{and_parts}

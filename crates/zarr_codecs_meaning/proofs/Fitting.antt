@@ -10,7 +10,7 @@ use Rattle.zarr_codecs_meaning.specs.Chains.{Chain, Location}
 use Rattle.zarr_codecs_meaning.specs.Chains.Chain.{sharded}
 use Rattle.zarr_codecs_meaning.specs.Chains.Location.{at_start, at_end}
 use Rattle.zarr_codecs_meaning.specs.Places.{Part, parts_of, index_shape}
-use Rattle.zarr_codecs_meaning.specs.Fits.{fits, size_of, is_some_below, can_cut, divides}
+use Rattle.zarr_codecs_meaning.specs.Fits.{fits, size_of, has_index_size, is_some_below, can_cut, divides}
 use Rattle.zarr_codecs_meaning.specs.Encoding.{encoded, Pair, Piece, piece_of, pieces_of, stored_pieces, joined_slices, pairs_from, pair_cells, index_size, base_of, joined, shard_of}
 use Rattle.zarr_codecs_meaning.specs.Laws.{AreCells}
 use Rattle.zarr_codecs_meaning.proofs.Lists.{map_some, if_some, Each, each_passes}
@@ -30,10 +30,14 @@ some_below : (bound : ℕ) (o : Option ℕ) → is_some_below bound o ≡ true �
 some_below bound None h = cc
 some_below bound (Some n) h = (n, refl)
 
+-- an index that has a size has one below 2^63
+pub size_is_below : (index : Chain) (shape : List ℕ) → has_index_size index shape ≡ true → is_some_below (2 ^ 63) (size_of index uint64 shape) ≡ true
+size_is_below index shape h = (and_parts (is_some_below (2 ^ 63) (size_of index uint64 shape)) (nat_lt (8 * product shape) (2 ^ 63)) h).0
+
 pub fitted : (subchunk : List ℕ) (inner index : Chain) (location : Location) (elements : Elements) (shape : List ℕ) → fits (sharded subchunk inner index location) elements.type shape ≡ true → Fitted subchunk inner index elements shape
 fitted subchunk inner index location elements shape fit =
     let pairs_shape = index_shape shape subchunk in
-    let e = is_some_below (2 ^ 63) (size_of index uint64 pairs_shape) in
+    let e = has_index_size index pairs_shape in
     let d = fits index uint64 pairs_shape in
     let parts = list_all (λ (part : Part). fits inner elements.type part.shape) (parts_of shape subchunk) in
     let c = fits inner elements.type subchunk && parts in
@@ -45,7 +49,7 @@ fitted subchunk inner index location elements shape fit =
     let four = and_parts c (d && e) three.1 in
     let five = and_parts d e four.1 in
     let six = and_parts (fits inner elements.type subchunk) parts four.0 in
-    record { cuts = three.0; each = six.1; index_fits = five.0; sized = some_below (2 ^ 63) (size_of index uint64 pairs_shape) five.1 }
+    record { cuts = three.0; each = six.1; index_fits = five.0; sized = some_below (2 ^ 63) (size_of index uint64 pairs_shape) (size_is_below index pairs_shape five.1) }
 
 -- the pairs of a shard as the cells of its index
 pub pairs_are_cells : (shape subchunk : List ℕ) (pairs : List Pair) → AreWords pairs → length pairs ≡ length (parts_of shape subchunk) → AreCells (zero_filled uint64) (index_shape shape subchunk) (pair_cells pairs)

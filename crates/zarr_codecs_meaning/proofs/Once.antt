@@ -10,11 +10,11 @@ use Rattle.zarr_grids_boxes.proofs.Dimensions.{ravel_below}
 use Rattle.zarr_codecs_meaning.specs.Types.{Cell}
 use Rattle.zarr_codecs_meaning.specs.Chains.{ArrayCodec}
 use Rattle.zarr_codecs_meaning.specs.Chains.ArrayCodec.{transpose, reshape, squeeze}
-use Rattle.zarr_codecs_meaning.specs.Places.{gather, position_of, places_of, untransposed, source_places}
+use Rattle.zarr_codecs_meaning.specs.Places.{encoded_shape, gather, position_of, places_of, untransposed, source_places, undone_places}
 use Rattle.zarr_codecs_meaning.specs.Fits.{array_codec_fits, is_permutation}
-use Rattle.zarr_codecs_meaning.proofs.ArrayCodecs.{length-places_of}
+use Rattle.zarr_codecs_meaning.proofs.ArrayCodecs.{array_codec_count, length-places_of}
 use Rattle.zarr_codecs_meaning.proofs.Positions.{IsAmong, among_at, position_found, position_read}
-use Rattle.zarr_codecs_meaning.proofs.Covers.{zeros, place_is_index, ravel_place, place_ravel, places_at, IsOrder, is_order}
+use Rattle.zarr_codecs_meaning.proofs.Covers.{zeros, place_is_index, ravel_place, place_ravel, places_at, IsOrder, is_order, array_codec_covers}
 
 -- ---- as many numbers as are covered
 
@@ -179,3 +179,19 @@ array_codec_once (transpose order) shape fit =
     }
 array_codec_once (reshape entries) shape fit = range_once (product shape)
 array_codec_once squeeze shape fit = range_once (product shape)
+
+-- an array codec keeps the number of places
+pub product_moved : (codec : ArrayCodec) (shape : List ℕ) → array_codec_fits codec shape ≡ true → product shape ≡ product (encoded_shape codec shape)
+product_moved codec shape fit =
+    let ns = source_places codec shape in
+    let count = product shape in
+    let back = undone_places codec shape in
+    let once = array_codec_once codec shape fit in
+    let many = array_codec_count codec shape fit in
+    let long : length back ≡ count = length-map (range_with_len 0 count) (λ n. position_of n ns) ∙ length-range_with_len 0 count in
+    let one = covering_long count ns (array_codec_covers codec shape fit) in
+    let two = covering_long (length ns) back (λ i h.
+    let n = get_or ns i 0 in
+    let below = once.below i h in
+    among_at back n i (omega (arith, below, long)) (get_or-map-range_with_len (λ k. position_of k ns) 0 count n n 0 below (omega arith) ∙ once.position i h)) in
+    omega (arith, one, two, many, long)

@@ -114,6 +114,26 @@ abbrev pub is_some_below : ℕ → Option ℕ → Bool
 is_some_below bound None = false
 is_some_below bound (Some n) = nat_lt n bound
 
+-- whether a size is told, or the most that it can be, and that is 2^63 or more, which no value has
+abbrev pub is_too_long : BytesRepresentation → Bool
+is_too_long told = elim (bound_of told) [ None ↦ false | Some size ↦ nat_le (2 ^ 63) size ]
+
+-- whether one of the codecs of a chain, or of the chains inside of it, tells such a size of an array
+abbrev pub tells_too_long : Chain → DataType → List ℕ → Bool
+tells_too_long (bytes order) type shape = is_too_long (representation_of (bytes order) type shape)
+tells_too_long (packbits padding first last) type shape = is_too_long (representation_of (packbits padding first last) type shape)
+tells_too_long (vlen index «data» width location) type shape = false
+tells_too_long (optional mask values) type shape =
+    tells_too_long mask bool shape || (tells_too_long values (unwrap_or (inner_type type) type) (product shape ∷ []) || is_too_long (representation_of (optional mask values) type shape))
+tells_too_long (after_array_codec codec chain) type shape = tells_too_long chain type (encoded_shape codec shape)
+tells_too_long (then_bytes chain codec) type shape = tells_too_long chain type shape || is_too_long (representation_of (then_bytes chain codec) type shape)
+tells_too_long (sharded subchunk inner index location) type shape =
+    tells_too_long index uint64 (index_shape shape subchunk) || (list_any (λ (part : Part). tells_too_long inner type part.shape) (parts_of shape subchunk) || is_too_long (representation_of (sharded subchunk inner index location) type shape))
+
+-- whether a chain makes as many bytes of each index of a shape, fewer than 2^63, and the index's numbers have fewer than 2^63 bytes too, which are eight for each
+abbrev pub has_index_size : Chain → List ℕ → Bool
+has_index_size index shape = is_some_below (2 ^ 63) (size_of index uint64 shape) && nat_lt (8 * product shape) (2 ^ 63)
+
 -- ---- Fits
 
 -- a chain that holds neither array codecs nor shards does the same for each shape: the data chains of `vlen` and `optional` are given as many elements as there are
@@ -159,7 +179,7 @@ fits (after_array_codec codec chain) type shape = array_codec_fits codec shape &
 fits (then_bytes chain codec) type shape = fits chain type shape
 fits (sharded subchunk inner index location) type shape =
     divides shape subchunk && (not (is_some (inner_type type)) && (can_cut shape subchunk && ((fits inner type subchunk && list_all (λ (part : Part). fits inner type part.shape) (parts_of shape subchunk))
-    && (fits index uint64 (index_shape shape subchunk) && is_some_below (2 ^ 63) (size_of index uint64 (index_shape shape subchunk))))))
+    && (fits index uint64 (index_shape shape subchunk) && has_index_size index (index_shape shape subchunk)))))
 
 -- ---- What is kept
 

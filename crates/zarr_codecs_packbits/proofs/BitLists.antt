@@ -50,7 +50,7 @@ digits_append (suc a) b n =
     let e : suc a + b ≡ suc (a + b) = omega arith in
     ap (λ k. digits 2 k n) e ∙ ap (λ ds. n % 2 ∷ ds) (digits_append a b (n / 2) ∙ ap (λ k. digits 2 a (n / 2) ++ digits 2 b k) (halved a n))
 
-zero_digits : (k : ℕ) → digits 2 k 0 ≡ replicate k 0
+pub zero_digits : (k : ℕ) → digits 2 k 0 ≡ replicate k 0
 zero_digits zero = refl
 zero_digits (suc k) = ap (λ ds. 0 ∷ ds) (zero_digits k)
 
@@ -79,7 +79,7 @@ number_drop (suc n) (d ∷ ds) h = sym (halved n (d + 2 * number 2 ds)) ∙ (ap 
 
 -- ---- bytes
 
-same_bits : (count n : ℕ) → digits 2 count (n % 2 ^ count) ≡ digits 2 count n
+pub same_bits : (count n : ℕ) → digits 2 count (n % 2 ^ count) ≡ digits 2 count n
 same_bits count n =
     let ds = digits 2 count n in
     ap (digits 2 count) (sym (number_digits 2 count n (omega arith))) ∙ (ap (λ k. digits 2 k (number 2 ds)) (sym (length-digits 2 count n)) ∙ digits_number 2 ds (digits_below 2 count n (omega arith)))
@@ -95,9 +95,6 @@ bits_of_bits bytes = each-flat_map (λ b. b < 2) (digits 2 8) bytes (λ b. digit
 
 pub bits_drop : (n : ℕ) (bits : List ℕ) → are_bits bits ≡ true → are_bits (drop n bits) ≡ true
 bits_drop n bits h = are_bits_each (drop n bits) (each-drop (λ b. b < 2) n bits (each_bit bits h))
-
-pub bits_take : (n : ℕ) (bits : List ℕ) → are_bits bits ≡ true → are_bits (take n bits) ≡ true
-bits_take n bits h = are_bits_each (take n bits) (each-take (λ b. b < 2) n bits (each_bit bits h))
 
 -- one digit of several
 pub next_digit : (n rest : ℕ) → n < 8 → digits 2 (8 - n) rest ≡ rest % 2 ∷ digits 2 (8 - (n + 1)) (rest / 2)

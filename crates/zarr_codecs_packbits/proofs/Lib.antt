@@ -1,4 +1,5 @@
 pub mod BitLists
+pub mod Shifted
 pub mod Restored
 pub mod Turns
 pub mod PackedCells

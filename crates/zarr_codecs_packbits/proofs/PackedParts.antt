@@ -1,8 +1,7 @@
 -- The elements that are asked for of a packed array, of the bytes that their bits touch.
-use Rattle.std.proofs.Common.{◌≡◌, ◌∙◌, ℕ, zero, suc, ◌+◌, ◌*◌, ◌/◌, ◌%◌, ◌^◌, ◌<◌, ◌≤◌, List, [], ◌∷◌, ◌++◌, length, map, drop, flat_map, sum_by, ap, sym, refl, arith, Bool, true, false, ◌==◌, ◌&&◌, ◌||◌, Option, Some, None, Result, Ok, Err, Vec, Global, length-take}
-use Rattle.std.specs.Prelude.{IfOk, nat_le, nat_lt}
+use Rattle.std.proofs.Common.{◌≡◌, ◌∙◌, ℕ, zero, suc, ◌+◌, ◌*◌, ◌/◌, ◌%◌, ◌^◌, ◌<◌, ◌≤◌, List, [], ◌∷◌, ◌++◌, length, map, drop, flat_map, ap, sym, refl, arith, Bool, true, false, ◌==◌, ◌&&◌, ◌||◌, Option, Some, None, Result, Ok, Err, Vec, Global, length-append, length-take}
+use Rattle.std.specs.Prelude.{nat_le, nat_lt}
 use Rattle.std.specs.List.{list_all, list_any, range_with_len}
-use Rattle.std.specs.Option.{option_map_or}
 use Rattle.std.proofs.Math.Nat.{mul-mod_left, mul-le-mul_right, mul_comm}
 use Rattle.std.proofs.lemmas.Bool.{and_parts, eq-eqb, false≢true, le-leb, leb-true, le-ltb, lt-ltb, ltb-true}
 use Rattle.std.proofs.lemmas.List.FromFn.{get_or-map-range_with_len}
@@ -25,7 +24,7 @@ use Rattle.zarr_codecs_arrays.specs.declared.error.CodecError.TheVariants as err
 use Rattle.zarr_codecs_regions.proofs.AskedPlaces.{asked_places}
 use Rattle.zarr_codecs_traits.specs.Indexers.{Asked, are_inside, numbers_asked}
 use Rattle.zarr_codecs_traits.specs.Outcomes.{DecodesPart, IsPart}
-use Rattle.zarr_codecs_traits.specs.Sources.{RangesRefused, ReadRefused, any_past_end, bytes_at, ends_past, given_after, part_lists, parts_length, parts_of}
+use Rattle.zarr_codecs_traits.specs.Sources.{RangesRefused, ReadRefused, any_past_end, bytes_at, bytes_in_ranges, concat_of, ends_past, value_length}
 use Rattle.zarr_codecs_traits.specs.declared.byte_range.ByteRange.{ByteRange}
 use Rattle.zarr_codecs_packbits.specs.Packing.{element_in}
 use Rattle.zarr_codecs_packbits.specs.Spans.{ends_within, span_numbers, span_range, span_ranges, spans_numbers, total_length}
@@ -142,33 +141,29 @@ ranges_refused contents value ranges (Err error.Source) is within refused = tt
 ranges_refused contents value ranges (Err error.Memory) is within refused = tt
 ranges_refused contents value ranges (Err e) is within refused = absurd refused
 
-part_unread : (chain : Chain) (elements : Elements) (shape : List ℕ) (stored : Option (List ℕ)) (asked : Asked) (e : CodecError) → ReadRefused {A = Option (Vec (Vec ℕ Global) Global)} (Err e) → DecodesPart chain elements shape stored asked (Err e)
+part_unread : (chain : Chain) (elements : Elements) (shape : List ℕ) (stored : Option (List ℕ)) (asked : Asked) (e : CodecError) → ReadRefused {A = Option (Vec ℕ Global)} (Err e) → DecodesPart chain elements shape stored asked (Err e)
 part_unread chain elements shape stored asked error.Source refused = tt
 part_unread chain elements shape stored asked error.Memory refused = tt
 part_unread chain elements shape stored asked e refused = absurd refused
 
 -- ranges of spans that end within the value are refused only by the source, or for want of memory
 pub spans_unread : (chain : Chain) (elements : Elements) (shape : List ℕ) (stored : Option (List ℕ)) (asked : Asked) (contents : Option (List ℕ)) (value : List ℕ) (bits : ℕ) (spans : List Span) (ranges : List ByteRange) (e : CodecError) → contents ≡ Some value
-    → list_all (ends_within bits value) spans ≡ true → ranges ≡ span_ranges bits spans → RangesRefused {A = Option (Vec (Vec ℕ Global) Global)} contents ranges (Err e) → DecodesPart chain elements shape stored asked (Err e)
+    → list_all (ends_within bits value) spans ≡ true → ranges ≡ span_ranges bits spans → RangesRefused {A = Option (Vec ℕ Global)} contents ranges (Err e) → DecodesPart chain elements shape stored asked (Err e)
 spans_unread chain elements shape stored asked contents value bits spans ranges e is within are refused =
-    part_unread chain elements shape stored asked e (ranges_refused {A = Option (Vec (Vec ℕ Global) Global)} contents value ranges (Err e) is (ap (list_any (ends_past value)) are ∙ ranges_within bits value spans within) refused)
+    part_unread chain elements shape stored asked e (ranges_refused {A = Option (Vec ℕ Global)} contents value ranges (Err e) is (ap (list_any (ends_past value)) are ∙ ranges_within bits value spans within) refused)
 
-bytes_few : (value : List ℕ) (ranges : List ByteRange) → sum_by (λ (bytes : List ℕ). length bytes) (map (bytes_at value) ranges) ≤ total_length ranges
+bytes_few : (value : List ℕ) (ranges : List ByteRange) → length (bytes_in_ranges value ranges) ≤ total_length ranges
 bytes_few value [] = omega arith
 bytes_few value (range ∷ ranges) =
-    let size : List ℕ → ℕ = λ bytes. length bytes in
     let rest = bytes_few value ranges in
     let cut = length-take range.length (drop range.offset value) in
-    let one : sum_by size (map (bytes_at value) (range ∷ ranges)) ≡ 0 + length (bytes_at value range) + sum_by size (map (bytes_at value) ranges) = sum_by-append size (bytes_at value range ∷ []) (map (bytes_at value) ranges) in
+    let one = length-append (bytes_at value range) (bytes_in_ranges value ranges) in
     let two : total_length (range ∷ ranges) ≡ 0 + range.length + total_length ranges = sum_by-append (λ (r : ByteRange). r.length) (range ∷ []) ranges in
     omega (arith, rest, cut, one, two)
 
 -- as many bytes were given at most as the ranges have
-pub spans_given : (count : ℕ) (contents : Option (List ℕ)) (value : List ℕ) (ranges : List ByteRange) (result : Result (Option (Vec (Vec ℕ Global) Global)) CodecError) → contents ≡ Some value → IfOk result (λ found. part_lists found ≡ parts_of contents ranges)
-    → given_after count result ≤ count + total_length ranges
-spans_given count contents value ranges (Ok found) is read =
-    let same : part_lists found ≡ Some (map (bytes_at value) ranges) = read ∙ ap (λ (stored : Option (List ℕ)). parts_of stored ranges) is in
-    let long : parts_length found ≡ sum_by (λ (bytes : List ℕ). length bytes) (map (bytes_at value) ranges) = ap (λ (lists : Option (List (List ℕ))). option_map_or (λ parts. sum_by (λ (bytes : List ℕ). length bytes) parts) lists 0) same in
+pub spans_given : (old new : ℕ) (contents : Option (List ℕ)) (value : List ℕ) (ranges : List ByteRange) → contents ≡ Some value → new ≤ old + value_length (concat_of contents ranges) → new ≤ old + total_length ranges
+spans_given old new contents value ranges is most =
+    let same : value_length (concat_of contents ranges) ≡ length (bytes_in_ranges value ranges) = ap (λ (stored : Option (List ℕ)). value_length (concat_of stored ranges)) is in
     let few = bytes_few value ranges in
-    omega (arith, long, few)
-spans_given count contents value ranges (Err e) is read = omega arith
+    omega (arith, most, same, few)

@@ -1,19 +1,18 @@
 -- The elements of a span, of the bytes that their bits touch.
-use Rattle.std.proofs.Common.{◌≡◌, ◌∙◌, ℕ, zero, suc, ◌+◌, ◌-◌, ◌*◌, ◌/◌, ◌%◌, ◌<◌, ◌≤◌, List, [], ◌∷◌, ◌++◌, length, map, take, drop, get_or, replicate, flat_map, ap, sym, refl, arith, true, Option, Vec, Global, length-drop, length-take}
+use Rattle.std.proofs.Common.{◌≡◌, ◌∙◌, ℕ, zero, suc, ◌+◌, ◌-◌, ◌*◌, ◌/◌, ◌%◌, ◌<◌, ◌≤◌, List, [], ◌∷◌, ◌++◌, length, take, drop, get_or, replicate, flat_map, ap, ap₂, sym, refl, arith, true, Option, drop-cons, length-append, length-drop, length-take}
 use Rattle.std.specs.List.{list_all, range_with_len}
-use Rattle.std.proofs.lemmas.Bool.{and_parts}
-use Rattle.std.proofs.lemmas.List.{drop-drop, drop-take, get_or-map, length-map, take-append-le, take_all}
-use Rattle.std.proofs.lemmas.List.FromFn.{length-range_with_len}
-use Rattle.zarr_codecs_meaning.specs.Encoding.{element_of_bits, packed}
+use Rattle.std.proofs.lemmas.Bool.{and_parts, leb-true}
+use Rattle.std.proofs.lemmas.List.{drop-append-le, drop-drop, drop-take, drop_at, get_or-map, length-map, length-replicate, take-append-le, take_at}
+use Rattle.zarr_codecs_meaning.specs.Encoding.{element_of_bits}
 use Rattle.zarr_codecs_meaning.specs.Fits.{bits_in}
 use Rattle.zarr_codecs_meaning.specs.Types.{Component}
-use Rattle.zarr_codecs_meaning.proofs.Digits.{each-drop, each-take, unpacked_packed}
-use Rattle.zarr_codecs_traits.specs.Sources.{bytes_at, part_bytes}
+use Rattle.zarr_codecs_traits.specs.Sources.{bytes_at, bytes_in_ranges}
+use Rattle.zarr_codecs_traits.specs.declared.byte_range.ByteRange.{ByteRange}
 use Rattle.zarr_codecs_packbits.specs.Packing.{bytes_of, element_in}
 use Rattle.zarr_codecs_packbits.specs.Spans.{ends_within, span_numbers, span_range, span_ranges}
 use Rattle.zarr_codecs_packbits.specs.Turning.{bits_of}
 use Rattle.zarr_codecs_packbits.specs.declared.spans.Span.{Span}
-use Rattle.zarr_codecs_packbits.proofs.BitLists.{bits_of_bits, drop_bits, length-bits_of, take_bits}
+use Rattle.zarr_codecs_packbits.proofs.BitLists.{drop_bits, length-bits_of, take_bits}
 
 -- ---- parts of lists
 
@@ -64,14 +63,20 @@ pub record IsAligned (skip count : ℕ) (bytes made : List ℕ) : Type 0 where
   pub long : length made ≡ (count + 7) / 8
   pub are : take count (bits_of made) ≡ take count (drop skip (bits_of bytes))
 
-pub aligned_bits : (skip count : ℕ) (bytes made : List ℕ) → skip + count ≤ 8 * length bytes → made ≡ packed (take count (drop skip (bits_of bytes))) → IsAligned skip count bytes made
-aligned_bits skip count bytes made enough is =
-    let xs = take count (drop skip (bits_of bytes)) in
-    let many : length xs ≡ count = length-take count (drop skip (bits_of bytes)) ∙ (let left = length-drop skip (bits_of bytes) in omega (arith, left, length-bits_of bytes, enough)) in
-    let back = unpacked_packed xs (each-take (λ b. b < 2) count (drop skip (bits_of bytes)) (each-drop (λ b. b < 2) skip (bits_of bytes) (bits_of_bits bytes))) in
+pub aligned_bits : (skip count size : ℕ) (bytes made : List ℕ) → skip + count ≤ 8 * length bytes → size ≡ (count + 7) / 8 → bits_of made ≡ take (8 * size) (drop skip (bits_of bytes ++ replicate skip 0)) → IsAligned skip count bytes made
+aligned_bits skip count size bytes made enough many is =
+    let given = bits_of bytes in
+    let none : List ℕ = replicate skip 0 in
+    let whole = length-bits_of bytes in
+    let left = length-drop skip given in
+    let all : drop skip (given ++ none) ≡ drop skip given ++ none = drop-append-le skip given none (omega (arith, whole, enough)) in
+    let room : length (drop skip (given ++ none)) ≡ 8 * length bytes = ap length all ∙ (length-append (drop skip given) none ∙ (let zeros = length-replicate {A = ℕ} skip 0 in omega (arith, left, whole, zeros, enough))) in
+    let cut : 8 * length made ≡ 8 * size = sym (length-bits_of made) ∙ (ap length is ∙ (length-take (8 * size) (drop skip (given ++ none)) ∙ omega (arith, room, enough, many))) in
     record {
-      long = ap length is ∙ (length-map (range_with_len 0 ((length xs + 7) / 8)) _ ∙ (length-range_with_len 0 ((length xs + 7) / 8) ∙ ap (λ n. (n + 7) / 8) many));
-      are = ap (λ bs. take count (bits_of bs)) is ∙ (ap (take count) back.1 ∙ (take-append-le count xs (replicate back.0 0) (omega (arith, many)) ∙ take_all count xs (omega (arith, many))));
+      long = omega (arith, cut, many);
+      are = ap (take count) is
+          ∙ (take_take count (8 * size) (drop skip (given ++ none)) (omega (arith, many))
+          ∙ (ap (take count) all ∙ take-append-le count (drop skip given) none (omega (arith, left, whole, enough))));
     }
 
 -- ---- elements
@@ -111,19 +116,35 @@ unpacked_span first last parts value part given made span h same is =
 
 -- ---- the parts of spans
 
--- the part at the index of a span has the bytes that this touches
-pub part_at : (value : List ℕ) (bits : ℕ) (spans : List Span) (parts : List (Vec ℕ Global)) (i : ℕ) (part : Vec ℕ Global) (d : Span) → part_bytes parts ≡ map (bytes_at value) (span_ranges bits spans) → i < length spans → part ≡ get_or parts i part
-    → part.items ≡ bytes_at value (span_range bits (get_or spans i d))
-part_at value bits spans parts i part d same below found =
-    let ranges = span_ranges bits spans in
-    let many : length ranges ≡ length spans = length-map spans (span_range bits) in
-    let long : length parts ≡ length spans = sym (length-map parts (λ (p : Vec ℕ Global). p.items)) ∙ (ap (λ (bs : List (List ℕ)). length bs) same ∙ (length-map ranges (bytes_at value) ∙ many)) in
-    let left = get_or-map (λ (p : Vec ℕ Global). p.items) parts i part [] (omega (arith, below, long)) in
-    let right = get_or-map (bytes_at value) ranges i (span_range bits d) [] (omega (arith, below, many)) in
-    ap (λ (p : Vec ℕ Global). p.items) found
-    ∙ (sym left ∙ (ap (λ (bs : List (List ℕ)). get_or bs i []) same ∙ (right ∙ ap (bytes_at value) (get_or-map (span_range bits) spans i d (span_range bits d) below))))
-
 pub span_within : (value : List ℕ) (bits : ℕ) (spans : List Span) (i : ℕ) (d : Span) → list_all (ends_within bits value) spans ≡ true → i < length spans → ends_within bits value (get_or spans i d) ≡ true
 span_within value bits [] i d h below = absurd (omega (arith, below))
 span_within value bits (span ∷ spans) zero d h below = (and_parts (ends_within bits value span) (list_all (ends_within bits value) spans) h).0
 span_within value bits (span ∷ spans) (suc i) d h below = span_within value bits spans i d (and_parts (ends_within bits value span) (list_all (ends_within bits value) spans) h).1 (omega (arith, below))
+
+-- what is left of the bytes of ranges begins with those that a span touches
+pub record Begins (bits : ℕ) (value rest left : List ℕ) (range : ByteRange) (span : Span) : Type 0 where
+  pub within : range.length ≤ length rest
+  pub part : take range.length rest ≡ bytes_at value (span_range bits span)
+  pub others : drop range.length rest ≡ left
+
+pub next_part : (bits : ℕ) (value : List ℕ) (spans : List Span) (ranges : List ByteRange) (i : ℕ) (rest : List ℕ) (range e : ByteRange) (d : Span) → list_all (ends_within bits value) spans ≡ true → ranges ≡ span_ranges bits spans → i < length spans → range ≡ get_or ranges i e
+    → rest ≡ bytes_in_ranges value (drop i ranges) → Begins bits value rest (bytes_in_ranges value (drop (i + 1) ranges)) range (get_or spans i d)
+next_part bits value spans ranges i rest range e d within are below found is =
+    let span = get_or spans i d in
+    let same : get_or ranges i e ≡ span_range bits span = ap (λ rs. get_or rs i e) are ∙ get_or-map (span_range bits) spans i d e below in
+    let here : range ≡ span_range bits span = found ∙ same in
+    let many : length ranges ≡ length spans = ap (λ (rs : List ByteRange). length rs) are ∙ length-map spans (span_range bits) in
+    let one : suc i ≡ i + 1 = omega arith in
+    let first : drop i ranges ≡ span_range bits span ∷ drop (i + 1) ranges = drop-cons ranges i e (omega (arith, below, many)) ∙ ap₂ (λ r k. r ∷ drop k ranges) same one in
+    let part = bytes_at value (span_range bits span) in
+    let left = bytes_in_ranges value (drop (i + 1) ranges) in
+    let all : rest ≡ part ++ left = is ∙ ap (bytes_in_ranges value) first in
+    let end = leb-true ((span.start + span.count) * bits) (8 * length value) (span_within value bits spans i d within below) in
+    let l = lies_in_value bits value part span refl end in
+    let size : length part ≡ range.length = l.long ∙ ap (λ (r : ByteRange). r.length) (sym here) in
+    let whole : length rest ≡ length part + length left = ap length all ∙ length-append part left in
+    record {
+      within = omega (arith, size, whole);
+      part = ap (take range.length) all ∙ take_at part left range.length size;
+      others = ap (drop range.length) all ∙ drop_at part left range.length size;
+    }

@@ -5,7 +5,7 @@ use Rattle.zarr_codecs_meaning.specs.Chains.{Chain}
 use Rattle.zarr_codecs_meaning.specs.Types.{DataType}
 use Rattle.zarr_codecs_arrays.specs.declared.error.CodecError.{CodecError}
 use Rattle.zarr_codecs_arrays.specs.declared.error.CodecError.TheVariants as error
-use Rattle.zarr_codecs_traits.specs.Representations.{tells_too_long}
+use Rattle.zarr_codecs_meaning.specs.Fits.{tells_too_long}
 use Rattle.zarr_codecs_traits.specs.declared.bytes_representation.BytesRepresentation.{BytesRepresentation}
 
 -- of fewer than 2^63 elements the size is refused as too large only where one of 2^63 bytes or more is told, however many bytes the elements have in memory

@@ -1,53 +1,62 @@
-//! Bytes as bits, one in each `u8`, and bits as bytes.
-ghost use Rattle.std.specs.Prelude.{◌≡◌, ◌++◌, ◌≤◌, ◌<◌, ◌+◌, ◌*◌, ◌^◌, take, drop, get_or, length, true, IfNone, IfOk, IfSome, OnOk};
+//! Bytes as bits, one in each `u8`, bits as bytes, and bytes whose bits were moved.
+ghost use Rattle.std.specs.Prelude.{◌≡◌, ◌++◌, ◌≤◌, ◌<◌, ◌*◌, take, drop, get_or, length, replicate, true, OnOk};
 ghost use Rattle.zarr_codecs_meaning.specs.Encoding.{packed};
 ghost use Rattle.zarr_codecs_meaning.specs.Numbers.{digits, number};
 ghost use Rattle.zarr_codecs_packbits.specs.Turning.{are_bits, bits_of};
 
-use std::alloc::{AllocError, Global};
+use std::alloc::AllocError;
 
-/// The bits of bytes, eight for each, lowest first.
-pub(crate) fn bits_of(alloc: Global, bytes: &[u8]) -> Result<Vec<u8>, AllocError>
-    ensures { IfOk result (λ bits. bits.items ≡ bits_of bytes.now) }
+/// Puts the bits of bytes in place of what a vector has, eight for each, lowest first.
+pub(crate) fn put_bits(bits: &mut Vec<u8>, bytes: &[u8]) -> Result<(), AllocError>
+    ensures { OnOk result (bits.new.items ≡ bits_of bytes.now) }
 {
-    let mut bits = Vec::new(alloc);
+    bits.clear();
     for byte in bytes {
-        push_bits(&mut bits, *byte)?;
+        push_bits(bits, *byte)?;
     }
-    Ok(bits)
+    Ok(())
 }
 
-/// So many bits of bytes, from the bit `skip` on, as bytes that begin with them. Zeros fill the
-/// last one. `None` where there are fewer. While it works, each of the bits takes a byte.
-pub(crate) fn aligned(
-    alloc: Global,
+/// Puts so many bytes in place of what a vector has, whose bits are those of other bytes from the
+/// bit `skip` on. Zeros stand for the bits past the end.
+pub(crate) fn put_shifted(
+    made: &mut Vec<u8>,
     bytes: &[u8],
     skip: usize,
-    count: u128,
-) -> Result<Option<Vec<u8>>, AllocError>
+    count: usize,
+) -> Result<(), AllocError>
     requires skip { skip < 8 }
-    requires count { count < 2 ^ 66 }
-    ensures some { IfOk result
-        (λ found. IfSome found (λ made. skip + count ≤ 8 * length bytes.now)) }
-    ensures made { IfOk result (λ found. IfSome found
-        (λ made. made.items ≡ packed (take count (drop skip (bits_of bytes.now))))) }
-    ensures none { IfOk result (λ found. IfNone found (8 * length bytes.now < skip + count)) }
+    requires count { count ≤ length bytes.now }
+    ensures { OnOk result (bits_of made.new.items
+        ≡ take (8 * count) (drop skip (bits_of bytes.now ++ replicate skip 0))) }
 {
-    let bits = bits_of(alloc, bytes)?;
-    if skip as u128 + count > bits.len() as u128 {
-        return Ok(None);
+    made.clear();
+    for index in 0..count {
+        let (_before, rest) = bytes.split_at(index);
+        made.push(first_shifted(rest, skip))?;
     }
-    let mut made = Vec::new(alloc);
-    push_packed(&mut made, some_bits(&bits, skip, count as usize))?;
-    Ok(Some(made))
+    Ok(())
 }
 
-/// So many bits from an index on.
-fn some_bits(bits: &[u8], skip: usize, count: usize) -> &[u8]
-    requires { skip + count ≤ length bits.now }
-    ensures { result.now ≡ take count (drop skip bits.now) }
+/// The byte of eight bits of bytes, from the bit `skip` on. Zeros stand for those past the end.
+fn first_shifted(bytes: &[u8], skip: usize) -> u8
+    requires skip { skip < 8 }
+    requires some { 0 < length bytes.now }
+    ensures { digits 2 8 result
+        ≡ take 8 (drop skip (bits_of bytes.now ++ replicate skip 0)) }
 {
-    &bits[skip..skip + count]
+    let two = byte_at(bytes, 0) as u64 + 256 * byte_at(bytes, 1) as u64;
+    ((two >> skip) % 256) as u8
+}
+
+/// The byte at an index, or zero past the end.
+fn byte_at(bytes: &[u8], index: usize) -> u8
+    ensures { result ≡ get_or bytes.now index 0 }
+{
+    match bytes.get(index) {
+        Some(byte) => *byte,
+        None => 0,
+    }
 }
 
 /// Appends the bits of a byte.

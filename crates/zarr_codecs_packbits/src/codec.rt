@@ -11,7 +11,7 @@ use zarr_codecs_options::CodecOptions;
 use zarr_codecs_regions::{WholeValues, encode_whole, test_asked};
 use zarr_codecs_traits::{
     ArrayPart, ArrayToBytesCodecTraits, BytesPartialDecoderTraits, BytesPartialEncoderTraits,
-    BytesRepresentation, ValuePatch,
+    BytesRepresentation, ValuePatches,
 };
 use zarr_codecs_types::{Component, DataType};
 use zarr_grids_boxes::walk::count_places;
@@ -306,7 +306,7 @@ impl ArrayToBytesCodecTraits for PackBitsCodec {
         _: ArrayBytes,
         _: ArrayPart<'_>,
         _: &CodecOptions,
-    ) -> Result<Option<Vec<ValuePatch>>, CodecError> {
+    ) -> Result<Option<ValuePatches>, CodecError> {
         Ok(None)
     }
 

@@ -193,8 +193,8 @@ fn read_spans<D: BytesPartialDecoderTraits>(
         ≤ D.given_bytes source.old + total_length asked.now.ranges.items }
     ensures follows { D.follows source.old source.new }
 {
-    match source.partial_decode(alloc, &asked.ranges) {
-        Ok(Some(parts)) => match unpack_spans(alloc, bits, &asked.spans, &parts)? {
+    match source.partial_decode_concat(alloc, &asked.ranges) {
+        Ok(Some(found)) => match unpack_spans(alloc, bits, asked, &found)? {
             Some(bytes) => Ok(ArrayBytes::Fixed(bytes)),
             None => Err(CodecError::Damage),
         },

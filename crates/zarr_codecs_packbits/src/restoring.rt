@@ -1,36 +1,35 @@
 //! Elements of one byte, unpacked eight at a time.
-ghost use Rattle.std.specs.Prelude.{◌≡◌, ◌++◌, ◌≤◌, ◌*◌, length, IfOk, OnOk};
+ghost use Rattle.std.specs.Prelude.{◌≡◌, ◌++◌, ◌≤◌, ◌*◌, length, OnOk};
 ghost use Rattle.zarr_codecs_meaning.specs.Numbers.{digits, number};
 ghost use Rattle.zarr_codecs_packbits.specs.Packing.{bytes_restored};
 ghost use Rattle.zarr_codecs_packbits.specs.Turning.{bits_of};
 
 use crate::eights::word_of;
 use crate::kept::KeptBits;
-use std::alloc::{AllocError, Global};
+use std::alloc::AllocError;
 use zarr_codecs_types::Sign;
 
-/// So many elements of one byte, of bytes that their kept bits were packed to.
+/// Appends so many elements of one byte, of bytes that their kept bits were packed to.
 pub(crate) fn unpack_bytes(
-    alloc: Global,
+    bytes: &mut Vec<u8>,
     kept: KeptBits,
     count: u64,
     value: &[u8],
-) -> Result<Vec<u8>, AllocError>
+) -> Result<(), AllocError>
     requires { count * kept.count ≤ 8 * length value.now }
-    ensures { IfOk result
-        (λ bytes. bytes.items ≡ bytes_restored kept count (bits_of value.now)) }
+    ensures { OnOk result (bytes.new.items
+        ≡ bytes.old.items ++ bytes_restored kept count (bits_of value.now)) }
 {
-    let mut bytes = Vec::with_capacity(alloc, count as usize)?;
     let mut rest = value;
     let mut left = count;
     while left > 0 {
         let some = left.min(8);
         let (front, others) = rest.split_at(rest.len().min(kept.count));
-        push_restored(&mut bytes, kept, word_in(front), some)?;
+        push_restored(bytes, kept, word_in(front), some)?;
         rest = others;
         left -= some;
     }
-    Ok(bytes)
+    Ok(())
 }
 
 /// The number that at most eight bytes write, lowest first.

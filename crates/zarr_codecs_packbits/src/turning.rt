@@ -7,7 +7,7 @@ ghost use Rattle.zarr_codecs_meaning.specs.Fits.{bits_fit};
 ghost use Rattle.zarr_codecs_types.specs.Views.{component_of, components_of, sign_of};
 ghost use Rattle.zarr_codecs_packbits.specs.Turning.{are_bits, bit_above, bits_read, component_turned, element_bits_read, element_turned, turned};
 
-use std::alloc::{AllocError, Global};
+use std::alloc::AllocError;
 use zarr_codecs_types::{Component, Sign};
 
 /// Which way bits are turned: all of an element to those that are kept, or back.
@@ -42,27 +42,28 @@ impl Turn {
     }
 }
 
-/// So many elements turned, of their bits or of those that were kept of them.
-pub(crate) fn turned(
-    alloc: Global,
+/// Puts so many elements turned in place of what a vector has, of their bits or of those that were
+/// kept of them.
+pub(crate) fn put_turned(
+    out: &mut Vec<u8>,
     turn: Turn,
     parts: &[Component],
     count: u64,
     bits: &[u8],
-) -> Result<Vec<u8>, AllocError>
+) -> Result<(), AllocError>
     requires fit { list_all (bits_fit turn.first turn.last) (components_of parts.now) ≡ true }
     requires bits { are_bits bits.now ≡ true }
     requires enough { count * element_bits_read turn.way turn.first turn.last
         (components_of parts.now) ≤ length bits.now }
-    ensures { IfOk result (λ v. v.items ≡ turned turn.way turn.first turn.last
+    ensures { OnOk result (out.new.items ≡ turned turn.way turn.first turn.last
         (components_of parts.now) count bits.now) }
 {
-    let mut out = Vec::new(alloc);
+    out.clear();
     let mut rest = bits;
     for _element in 0..count {
-        rest = push_element(&mut out, turn, parts, rest)?;
+        rest = push_element(out, turn, parts, rest)?;
     }
-    Ok(out)
+    Ok(())
 }
 
 /// Appends the first element turned, and gives the bits after it.

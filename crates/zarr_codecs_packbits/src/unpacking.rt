@@ -1,71 +1,79 @@
 //! Spans of elements, of the bytes that their bits touch.
-ghost use Rattle.std.specs.Prelude.{◌≡◌, ◌*◌, ◌%◌, ℕ, List, map, true, IfOk};
+ghost use Rattle.std.specs.Prelude.{◌≡◌, ◌++◌, ◌*◌, ◌%◌, ℕ, List, true, IfOk};
 ghost use Rattle.std.specs.List.{list_all};
-ghost use Rattle.zarr_codecs_traits.specs.Sources.{bytes_at, part_bytes};
-ghost use Rattle.zarr_codecs_packbits.specs.Parts.{IsUnpacked};
+ghost use Rattle.zarr_codecs_traits.specs.Sources.{bytes_at, bytes_in_ranges};
+ghost use Rattle.zarr_codecs_packbits.specs.Parts.{IsUnpacked, unpacked_bytes};
 ghost use Rattle.zarr_codecs_packbits.specs.Spans.{ends_within, span_numbers, span_range, span_ranges, spans_numbers};
 
-use crate::bits::aligned;
-use crate::packing::unpack;
+use crate::bits::put_shifted;
+use crate::packing::{Unpacker, push_unpacked};
 use crate::part::PackedBits;
 use crate::sizes::kept_bits;
-use crate::spans::Span;
+use crate::spans::{Span, SpanRanges};
 use crate::turning::Way;
 use std::alloc::{AllocError, Global};
 
-/// The bytes of the elements of spans, of the bytes that the bits of each span touch. `None` where
-/// these are not as many.
+/// The bytes of the elements of spans, of the bytes that the bits of each span touch, one after
+/// another. `None` where these are not as many.
 pub(crate) fn unpack_spans(
     alloc: Global,
     packed: PackedBits,
-    spans: &[Span],
-    parts: &[Vec<u8>],
+    asked: &SpanRanges,
+    bytes: &[u8],
 ) -> Result<Option<Vec<u8>>, AllocError>
-    ensures { (value : List ℕ) → list_all (ends_within packed.entry.bits value) spans.now ≡ true
-        → part_bytes parts.now ≡ map (bytes_at value) (span_ranges packed.entry.bits spans.now)
-        → IfOk result (IsUnpacked packed.entry value (spans_numbers spans.now)) }
+    requires { asked.now.ranges.items ≡ span_ranges packed.bits asked.now.spans.items }
+    ensures { (value : List ℕ)
+        → list_all (ends_within packed.entry.bits value) asked.now.spans.items ≡ true
+        → bytes.now ≡ bytes_in_ranges value asked.now.ranges.items
+        → IfOk result (IsUnpacked packed.entry value (spans_numbers asked.now.spans.items)) }
 {
-    let mut bytes = Vec::new(alloc);
-    for index in 0..spans.len() {
-        let Some(part) = parts.get(index) else {
+    let mut made = Unpacker::with_capacity(alloc, bytes.len())?;
+    let mut shifted = Vec::new(alloc);
+    let mut rest = bytes;
+    for index in 0..asked.spans.len() {
+        let length = asked.ranges[index].length as usize;
+        if rest.len() < length {
             return Ok(None);
-        };
-        match unpack_span(alloc, packed, spans[index], part)? {
-            Some(elements) => bytes.extend_from_slice(&elements)?,
-            None => return Ok(None),
         }
+        let (part, others) = rest.split_at(length);
+        if !push_span(&mut made, &mut shifted, packed, asked.spans[index], part)? {
+            return Ok(None);
+        }
+        rest = others;
     }
-    Ok(Some(bytes))
+    Ok(Some(made.bytes))
 }
 
-/// The bytes of the elements of a span, of the bytes that their bits touch. `None` where these are
-/// not as many.
-fn unpack_span(
-    alloc: Global,
+/// Appends the bytes of the elements of a span, of the bytes that their bits touch, and says
+/// whether these are as many. Bits that don't begin at a byte are moved into a vector that is lent.
+fn push_span(
+    made: &mut Unpacker,
+    shifted: &mut Vec<u8>,
     packed: PackedBits,
     span: Span,
     part: &[u8],
-) -> Result<Option<Vec<u8>>, AllocError>
+) -> Result<bool, AllocError>
     ensures { (value : List ℕ) → ends_within packed.entry.bits value span ≡ true
         → part.now ≡ bytes_at value (span_range packed.entry.bits span)
-        → IfOk result (IsUnpacked packed.entry value (span_numbers span)) }
+        → IfOk result (λ done. (done ≡ true) × (made.new.bytes.items ≡ made.old.bytes.items
+        ++ unpacked_bytes packed.entry value (span_numbers span))) }
 {
     let skip = first_bit(span, packed.bits);
     let turn = packed.codec.turn(Way::Restore);
     let Some(count) = kept_bits(turn, packed.components, span.count) else {
-        return Ok(None);
+        return Ok(false);
     };
-    if skip == 0 && part.len() as u128 == (count + 7) / 8 {
-        let elements = unpack(alloc, packed.codec, packed.components, span.count, part)?;
-        return Ok(Some(elements));
+    let size = (count + 7) / 8;
+    if skip == 0 && part.len() as u128 == size {
+        push_unpacked(made, packed.codec, packed.components, span.count, part)?;
+        return Ok(true);
     }
-    match aligned(alloc, part, skip, count)? {
-        Some(bytes) => {
-            let elements = unpack(alloc, packed.codec, packed.components, span.count, &bytes)?;
-            Ok(Some(elements))
-        }
-        None => Ok(None),
+    if skip as u128 + count > 8 * part.len() as u128 {
+        return Ok(false);
     }
+    put_shifted(shifted, part, skip, size as usize)?;
+    push_unpacked(made, packed.codec, packed.components, span.count, shifted)?;
+    Ok(true)
 }
 
 /// Which bit of the first byte that a span touches is the first one of its elements.

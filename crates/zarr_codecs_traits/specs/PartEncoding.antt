@@ -1,6 +1,5 @@
 -- What is written into a value where some elements of its array are replaced.
-use Rattle.std.specs.Prelude.{◌≡◌, ℕ, ◌*◌, List, [], map, length, get_or, Option, Some, None, Result, Ok, Err, Vec, Bool, true, false, ◌&&◌, if◌then◌else◌, IsTrue}
-use Rattle.std.specs.declared.alloc.Global.{Global}
+use Rattle.std.specs.Prelude.{◌≡◌, ℕ, ◌*◌, List, [], map, length, get_or, Option, Some, None, Result, Ok, Err, Bool, true, false, ◌&&◌, if◌then◌else◌, IsTrue}
 use Rattle.zarr_grids_boxes.specs.Boxes.{Region, product, ravel, is_in_box}
 use Rattle.zarr_grids_boxes.specs.Walks.{number_in}
 use Rattle.zarr_codecs_meaning.specs.Chains.{Chain}
@@ -17,8 +16,8 @@ use Rattle.zarr_codecs_arrays.specs.Values.{takes_all_bytes}
 use Rattle.zarr_codecs_arrays.specs.declared.error.CodecError.{CodecError}
 use Rattle.zarr_codecs_arrays.specs.declared.error.CodecError.TheVariants as error
 use Rattle.zarr_codecs_traits.specs.Indexers.{Asked, in_box, listed, shape_has}
-use Rattle.zarr_codecs_traits.specs.Patches.{patched, any_too_far}
-use Rattle.zarr_codecs_traits.specs.declared.value_patch.ValuePatch.{ValuePatch}
+use Rattle.zarr_codecs_traits.specs.Patches.{Patch, any_too_far, patched, patches_in}
+use Rattle.zarr_codecs_traits.specs.declared.value_patch.ValuePatches.{ValuePatches}
 
 -- whether a chain encodes the elements of a box as ranges of bytes, which are the same whatever value they are written into: it is `bytes` alone
 abbrev pub encodes_ranges : Chain → Bool
@@ -56,7 +55,7 @@ cells_with_box shape other region given before =
     map (λ place. if is_in_box region.start region.shape place then get_or given (number_in region place) other else get_or before (ravel place shape) other) (places_of shape)
 
 -- ranges to be written into a value: it is then one of the elements of the array after those of a box were replaced
-pub record IsEncodedPart (chain : Chain) (exact : Bool) (elements : Elements) (shape : List ℕ) (region : Region) (payload : Payload) (cells : List Cell) (patches : List ValuePatch) : Type 0 where
+pub record IsEncodedPart (chain : Chain) (exact : Bool) (elements : Elements) (shape : List ℕ) (region : Region) (payload : Payload) (cells : List Cell) (patches : List Patch) : Type 0 where
   pub ranges : encodes_ranges chain ≡ true
   pub valid : IsValid elements.type payload (product region.shape) cells
   pub fit : fits chain elements.type shape ≡ true
@@ -66,8 +65,8 @@ pub record IsEncodedPart (chain : Chain) (exact : Bool) (elements : Elements) (s
   pub stands : is_lossless chain elements.type ≡ true → (value : List ℕ) (before : List Cell) → decoded chain elements shape value ≡ Some before → Stands chain elements shape (patched value patches) (cells_with_box shape elements.fill region cells before)
 
 -- the ranges to be written where the elements at the places of a box are replaced, or why there are none; the value is written whole exactly where the chain encodes no ranges
-abbrev pub EncodesPart : Chain → Bool → Elements → List ℕ → Region → Payload → Result (Option (Vec ValuePatch Global)) CodecError → Type 0
-EncodesPart chain exact elements shape region payload (Ok (Some patches)) = (cells : List Cell) × IsEncodedPart chain exact elements shape region payload cells patches.items
+abbrev pub EncodesPart : Chain → Bool → Elements → List ℕ → Region → Payload → Result (Option ValuePatches) CodecError → Type 0
+EncodesPart chain exact elements shape region payload (Ok (Some patches)) = (cells : List Cell) × IsEncodedPart chain exact elements shape region payload cells (patches_in patches)
 EncodesPart chain exact elements shape region payload (Ok None) = encodes_ranges chain ≡ false
 EncodesPart chain exact elements shape region payload (Err error.Fit) = fits chain elements.type shape ≡ false
 EncodesPart chain exact elements shape region payload (Err error.IncompatibleIndexer) = shape_has shape region ≡ false
@@ -76,7 +75,7 @@ EncodesPart chain exact elements shape region payload (Err error.Memory) = Unit 
 EncodesPart chain exact elements shape region payload (Err e) = (fits chain elements.type shape ≡ true) × IsInvalid elements.type payload (product region.shape) e
 
 -- the ranges to be written where the elements at the places that are asked for are replaced; where they are asked for by their numbers, the value is written whole
-abbrev pub EncodesAsked : Chain → Bool → Elements → List ℕ → Asked → Payload → Result (Option (Vec ValuePatch Global)) CodecError → Type 0
+abbrev pub EncodesAsked : Chain → Bool → Elements → List ℕ → Asked → Payload → Result (Option ValuePatches) CodecError → Type 0
 EncodesAsked chain exact elements shape (in_box region) payload result = EncodesPart chain exact elements shape region payload result
 EncodesAsked chain exact elements shape (listed numbers) payload (Ok None) = Unit {0}
 EncodesAsked chain exact elements shape (listed numbers) payload (Ok (Some patches)) = ⊥

@@ -6,7 +6,7 @@ use Rattle.zarr_codecs_meaning.specs.Chains as chains
 use Rattle.zarr_codecs_meaning.specs.Chains.{Chain}
 use Rattle.zarr_codecs_meaning.specs.Chains.BytesRepresentation.{fixed_size, bounded_size, unbounded_size}
 use Rattle.zarr_codecs_meaning.specs.Chains.Chain.{bytes, packbits, vlen, optional, after_array_codec, then_bytes, sharded}
-use Rattle.zarr_codecs_meaning.specs.Fits.{bound_of, fits, representation_of}
+use Rattle.zarr_codecs_meaning.specs.Fits.{fits, is_too_long, representation_of, tells_too_long}
 use Rattle.zarr_codecs_meaning.specs.Places.{Part, encoded_shape, index_shape, parts_of}
 use Rattle.zarr_codecs_meaning.specs.Types.{DataType, bool, uint64, inner_type, IsTooLarge}
 use Rattle.zarr_codecs_arrays.specs.declared.error.CodecError.{CodecError}
@@ -19,22 +19,6 @@ abbrev pub known_size : BytesRepresentation → chains.BytesRepresentation
 known_size (FixedSize size) = fixed_size size
 known_size (BoundedSize size) = bounded_size size
 known_size UnboundedSize = unbounded_size
-
--- whether a size is told, or the most that it can be, and that is 2^63 or more, which no value has
-abbrev pub is_too_long : chains.BytesRepresentation → Bool
-is_too_long told = elim (bound_of told) [ None ↦ false | Some size ↦ nat_le (2 ^ 63) size ]
-
--- whether one of the codecs of a chain, or of the chains inside of it, tells such a size of an array
-abbrev pub tells_too_long : Chain → DataType → List ℕ → Bool
-tells_too_long (bytes order) type shape = is_too_long (representation_of (bytes order) type shape)
-tells_too_long (packbits padding first last) type shape = is_too_long (representation_of (packbits padding first last) type shape)
-tells_too_long (vlen index «data» width location) type shape = false
-tells_too_long (optional mask values) type shape =
-    tells_too_long mask bool shape || (tells_too_long values (unwrap_or (inner_type type) type) (product shape ∷ []) || is_too_long (representation_of (optional mask values) type shape))
-tells_too_long (after_array_codec codec chain) type shape = tells_too_long chain type (encoded_shape codec shape)
-tells_too_long (then_bytes chain codec) type shape = tells_too_long chain type shape || is_too_long (representation_of (then_bytes chain codec) type shape)
-tells_too_long (sharded subchunk inner index location) type shape =
-    tells_too_long index uint64 (index_shape shape subchunk) || (list_any (λ (part : Part). tells_too_long inner type part.shape) (parts_of shape subchunk) || is_too_long (representation_of (sharded subchunk inner index location) type shape))
 
 -- what is told of a size, or that it is too long
 abbrev pub Represents : chains.BytesRepresentation → Result BytesRepresentation CodecError → Type 0

@@ -2,9 +2,8 @@
 use Rattle.std.specs.Prelude.{◌≡◌, ◌⊎◌, ℕ, ◌+◌, ◌-◌, ◌^◌, min, List, Option, Result, Ok, Err, IsTrue}
 use Rattle.zarr_codecs_arrays.specs.declared.error.CodecError.{CodecError}
 use Rattle.zarr_codecs_arrays.specs.declared.error.CodecError.TheVariants as error
-use Rattle.zarr_codecs_traits.specs.Patches.{any_too_far}
+use Rattle.zarr_codecs_traits.specs.Patches.{Patch, any_too_far}
 use Rattle.zarr_codecs_traits.specs.Sources.{ReadRefused, value_length}
-use Rattle.zarr_codecs_traits.specs.declared.value_patch.ValuePatch.{ValuePatch}
 
 -- the count of accepted writing calls after a call: one more where it was accepted (a count stands still at 2^128 - 1)
 abbrev pub accepted_after : {A : Type 0} → ℕ → Result A CodecError → ℕ
@@ -20,6 +19,6 @@ abbrev pub WriteRefused : {A : Type 0} → Result A CodecError → Type 0
 WriteRefused result = ReadRefused result
 
 -- why ranges are not written: one ends past 2^63 - 1 bytes, or the value is not written
-abbrev pub PatchesRefused : {A : Type 0} → List ValuePatch → Result A CodecError → Type 0
+abbrev pub PatchesRefused : {A : Type 0} → List Patch → Result A CodecError → Type 0
 PatchesRefused patches (Err error.Size) = IsTrue (any_too_far patches)
 PatchesRefused patches result = WriteRefused result

@@ -23,7 +23,7 @@ use crate::byte_source::BytesPartialDecoderTraits;
 use crate::byte_target::BytesPartialEncoderTraits;
 use crate::bytes_representation::BytesRepresentation;
 use crate::target::{ArrayBytesDecodeIntoTarget, put_all};
-use crate::value_patch::ValuePatch;
+use crate::value_patch::ValuePatches;
 use std::alloc::{AllocError, Global};
 use zarr_codecs_arrays::{ArrayBytes, CodecError, Elements};
 use zarr_codecs_options::CodecOptions;
@@ -188,7 +188,7 @@ pub trait ArrayToBytesCodecTraits: Sized + Drop {
         bytes: ArrayBytes,
         part: ArrayPart<'_>,
         options: &CodecOptions,
-    ) -> Result<Option<Vec<ValuePatch>>, CodecError>
+    ) -> Result<Option<ValuePatches>, CodecError>
         ensures { EncodesAsked (meaning self.now) (is_function self.now)
             (elements_of part.entry.elements.now) part.entry.shape.now
             (asked_of part.entry.indexer) (payload_of bytes) result };

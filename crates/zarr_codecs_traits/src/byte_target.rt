@@ -1,6 +1,6 @@
 //! Values that are written in part.
 ghost use Rattle.std.specs.Prelude.{◌≡◌, ℕ, Bool, Some, None, IsTrue, OnOk, OnErr};
-ghost use Rattle.zarr_codecs_traits.specs.Patches.{patched_contents};
+ghost use Rattle.zarr_codecs_traits.specs.Patches.{patched_contents, patches_of};
 ghost use Rattle.zarr_codecs_traits.specs.Sources.{refused_after};
 ghost use Rattle.zarr_codecs_traits.specs.Writes.{IsGivenByPatching, PatchesRefused, WriteRefused, accepted_after};
 
@@ -26,12 +26,17 @@ pub trait BytesPartialEncoderTraits: BytesPartialDecoderTraits {
     /// refused. No value counts as empty, and zeros come where a range begins past the end. `Size`
     /// where a range ends past 2^63 - 1 bytes; `Source` where the source refuses. No byte is given
     /// to do so, but where the source takes no ranges: then the value is given once, and set anew.
-    fn partial_encode(&mut self, alloc: Global, patches: &[ValuePatch]) -> Result<(), CodecError>
+    fn partial_encode(
+        &mut self,
+        alloc: Global,
+        patches: &[ValuePatch<'_>],
+    ) -> Result<(), CodecError>
         ensures ok { IsTrue (Self.is_honest self.old) → OnOk result (Self.contents self.new
-            ≡ Some (patched_contents (Self.contents self.old) patches.now)) }
+            ≡ Some (patched_contents (Self.contents self.old) (patches_of patches.now))) }
         ensures err { IsTrue (Self.is_honest self.old) →
             OnErr result (Self.contents self.new ≡ Self.contents self.old) }
-        ensures cause { IsTrue (Self.is_honest self.old) → PatchesRefused patches.now result }
+        ensures cause { IsTrue (Self.is_honest self.old) →
+            PatchesRefused (patches_of patches.now) result }
         ensures refused { Self.refused_calls self.new ≡
             refused_after (Self.refused_calls self.old) result }
         ensures given { IsTrue (writes_ranges self.old) →

@@ -32,5 +32,5 @@ pub use interval_source::IntervalSource;
 pub use memory_source::MemorySource;
 pub use target::{ArrayBytesDecodeIntoTarget, OptionalTarget};
 pub use target_bytes::TargetBytes;
-pub use value_patch::ValuePatch;
+pub use value_patch::{ValuePatch, ValuePatches};
 pub use whole::read_value;

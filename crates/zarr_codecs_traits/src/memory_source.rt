@@ -1,6 +1,6 @@
 //! A source of bytes in memory.
 ghost use Rattle.std.specs.Prelude.{◌≡◌, Some, true, false, OnOk, OnErr};
-ghost use Rattle.zarr_codecs_traits.specs.Patches.{any_too_far, patched_contents};
+ghost use Rattle.zarr_codecs_traits.specs.Patches.{any_too_far, patched_contents, patches_of};
 ghost use Rattle.zarr_codecs_traits.specs.Sources.{source_accepted, source_contents, source_given, source_length, value_bytes};
 
 use crate::byte_range::{ByteRange, any_ends_past, count_parts, read_concat, read_ranges};
@@ -132,7 +132,11 @@ impl BytesPartialEncoderTraits for MemorySource {
 
     ghost rewrites = { λ _ _. Unit {0} };
 
-    fn partial_encode(&mut self, alloc: Global, patches: &[ValuePatch]) -> Result<(), CodecError> {
+    fn partial_encode(
+        &mut self,
+        alloc: Global,
+        patches: &[ValuePatch<'_>],
+    ) -> Result<(), CodecError> {
         if any_too_far(patches) {
             return Err(CodecError::Size);
         }
@@ -167,11 +171,11 @@ impl BytesPartialEncoderTraits for MemorySource {
 fn patch_value(
     alloc: Global,
     value: &mut Option<Vec<u8>>,
-    patches: &[ValuePatch],
+    patches: &[ValuePatch<'_>],
 ) -> Result<(), AllocError>
-    requires { any_too_far patches.now ≡ false }
+    requires { any_too_far (patches_of patches.now) ≡ false }
     ensures ok { OnOk result (value_bytes value.new
-        ≡ Some (patched_contents (value_bytes value.old) patches.now)) }
+        ≡ Some (patched_contents (value_bytes value.old) (patches_of patches.now))) }
     ensures err { OnErr result (value_bytes value.new ≡ value_bytes value.old) }
 {
     match value {

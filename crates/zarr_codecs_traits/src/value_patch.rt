@@ -1,20 +1,49 @@
 //! Ranges of a value that are written.
 ghost use Rattle.std.specs.Prelude.{◌≡◌, ◌<◌, ◌+◌, ◌^◌, ◌≤◌, [], length, OnOk, IfOk, false, unwrap_or};
-ghost use Rattle.zarr_codecs_traits.specs.Patches.{any_ends_past, any_too_far, extended, overwritten, patched, written_at};
+ghost use Rattle.zarr_codecs_traits.specs.Patches.{any_ends_past, any_too_far, extended, overwritten, patched, patches_in, patches_of, written_at};
 ghost use Rattle.zarr_codecs_traits.specs.Sources.{value_lent};
 
+use crate::byte_range::ByteRange;
 use std::alloc::{AllocError, Global};
 
-/// Bytes to be written into a value from `offset` on.
-#[derive(Debug, Drop)]
-pub struct ValuePatch {
+/// Bytes to be written into a value from `offset` on. They are lent.
+#[derive(Clone, Copy, Debug)]
+pub struct ValuePatch<'a> {
     pub offset: u64,
+    pub bytes: &'a [u8],
+}
+
+/// Bytes to be written into ranges of a value: as many as the first range has into that one, and so
+/// on. No more are written than there are, and those past the last range are left out.
+#[derive(Debug, Drop)]
+pub struct ValuePatches {
+    pub ranges: Vec<ByteRange>,
     pub bytes: Vec<u8>,
 }
 
+impl ValuePatches {
+    /// What is written into each range, in their order.
+    pub fn lend(&self, alloc: Global) -> Result<Vec<ValuePatch<'_>>, AllocError>
+        ensures { IfOk result (λ patches. patches_of patches.items ≡ patches_in self.now) }
+    {
+        let mut patches = Vec::with_capacity(alloc, self.ranges.len())?;
+        let mut rest = self.bytes.as_slice();
+        for range in self.ranges.as_slice() {
+            let length = rest.len().min(range.length as usize);
+            let (bytes, others) = rest.split_at(length);
+            patches.push(ValuePatch {
+                offset: range.offset,
+                bytes,
+            })?;
+            rest = others;
+        }
+        Ok(patches)
+    }
+}
+
 /// Whether one of the ranges to write ends past 2^63 - 1 bytes.
-pub fn any_too_far(patches: &[ValuePatch]) -> bool
-    ensures { result ≡ any_too_far patches.now }
+pub fn any_too_far(patches: &[ValuePatch<'_>]) -> bool
+    ensures { result ≡ any_too_far (patches_of patches.now) }
 {
     for patch in patches {
         let Some(end) = patch.offset.checked_add(patch.bytes.len() as u64) else {
@@ -28,8 +57,8 @@ pub fn any_too_far(patches: &[ValuePatch]) -> bool
 }
 
 /// Whether one of the ranges to write ends past the end of a value of so many bytes.
-pub fn any_ends_past(patches: &[ValuePatch], len: usize) -> bool
-    ensures { result ≡ any_ends_past len patches.now }
+pub fn any_ends_past(patches: &[ValuePatch<'_>], len: usize) -> bool
+    ensures { result ≡ any_ends_past len (patches_of patches.now) }
 {
     for patch in patches {
         let Some(end) = patch.offset.checked_add(patch.bytes.len() as u64) else {
@@ -71,12 +100,12 @@ fn write_at(value: &mut Vec<u8>, offset: usize, bytes: &[u8]) -> Result<(), Allo
 }
 
 /// Writes ranges that lie in a value into it, one after another.
-pub fn overwrite_each(value: &mut [u8], patches: &[ValuePatch])
-    requires { any_ends_past (length value.old) patches.now ≡ false }
-    ensures { value.new ≡ patched value.old patches.now }
+pub fn overwrite_each(value: &mut [u8], patches: &[ValuePatch<'_>])
+    requires { any_ends_past (length value.old) (patches_of patches.now) ≡ false }
+    ensures { value.new ≡ patched value.old (patches_of patches.now) }
 {
     for patch in patches {
-        overwrite(value, patch.offset as usize, patch.bytes.as_slice());
+        overwrite(value, patch.offset as usize, patch.bytes);
     }
 }
 
@@ -84,18 +113,19 @@ pub fn overwrite_each(value: &mut [u8], patches: &[ValuePatch])
 pub fn patched(
     alloc: Global,
     old: Option<&[u8]>,
-    patches: &[ValuePatch],
+    patches: &[ValuePatch<'_>],
 ) -> Result<Vec<u8>, AllocError>
-    requires { any_too_far patches.now ≡ false }
+    requires { any_too_far (patches_of patches.now) ≡ false }
     ensures { IfOk result
-        (λ value. value.items ≡ patched (unwrap_or (value_lent old.entry) []) patches.now) }
+        (λ value. value.items ≡ patched (unwrap_or (value_lent old.entry) [])
+        (patches_of patches.now)) }
 {
     let mut value = match old {
         Some(old) => Vec::from_slice(alloc, old)?,
         None => Vec::new(alloc),
     };
     for patch in patches {
-        write_at(&mut value, patch.offset as usize, patch.bytes.as_slice())?;
+        write_at(&mut value, patch.offset as usize, patch.bytes)?;
     }
     Ok(value)
 }

@@ -92,7 +92,11 @@ impl WritableStorageTraits for TestStore {
         self.inner.set(key, value)
     }
 
-    fn set_partial(&mut self, key: &StoreKey, patches: &[ValuePatch]) -> Result<(), StorageError> {
+    fn set_partial(
+        &mut self,
+        key: &StoreKey,
+        patches: &[ValuePatch<'_>],
+    ) -> Result<(), StorageError> {
         self.patches = self.patches.wrapping_add(1);
         self.inner.set_partial(key, patches)
     }

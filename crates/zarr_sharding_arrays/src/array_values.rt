@@ -5,7 +5,7 @@ use zarr_codecs_arrays::{ArrayBytes, CodecError, Elements};
 use zarr_codecs_options::CodecOptions;
 use zarr_codecs_traits::{
     ArrayPart, ArrayToBytesCodecTraits, BytesPartialDecoderTraits, BytesPartialEncoderTraits,
-    BytesRepresentation, BytesToBytesCodecTraits, ValuePatch,
+    BytesRepresentation, BytesToBytesCodecTraits, ValuePatches,
 };
 use zarr_codecs_types::DataType;
 use zarr_sharding_codec::{ShardingCodecOptions, TakesShardingOptions};
@@ -143,7 +143,7 @@ impl<B: BytesToBytesCodecTraits> ArrayToBytesCodecTraits for ArrayChain<B> {
         bytes: ArrayBytes,
         part: ArrayPart<'_>,
         options: &CodecOptions,
-    ) -> Result<Option<Vec<ValuePatch>>, CodecError> {
+    ) -> Result<Option<ValuePatches>, CodecError> {
         match self {
             ArrayChain::Plain(chain) => chain.encode_patches(alloc, bytes, part, options),
             ArrayChain::Sharded(chain) => chain.encode_patches(alloc, bytes, part, options),

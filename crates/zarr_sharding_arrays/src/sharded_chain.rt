@@ -19,7 +19,7 @@ use zarr_codecs_options::CodecOptions;
 use zarr_codecs_regions::encode_whole;
 use zarr_codecs_traits::{
     ArrayPart, ArrayToBytesCodecTraits, BytesPartialDecoderTraits, BytesPartialEncoderTraits,
-    BytesRepresentation, BytesToBytesCodecTraits, ValuePatch, WholeArray,
+    BytesRepresentation, BytesToBytesCodecTraits, ValuePatches, WholeArray,
 };
 use zarr_codecs_types::DataType;
 use zarr_sharding_codec::ShardingCodec;
@@ -185,7 +185,7 @@ impl<B: BytesToBytesCodecTraits, I: InnerCodec> ArrayToBytesCodecTraits for Shar
         _: ArrayBytes,
         _: ArrayPart<'_>,
         _: &CodecOptions,
-    ) -> Result<Option<Vec<ValuePatch>>, CodecError> {
+    ) -> Result<Option<ValuePatches>, CodecError> {
         Ok(None)
     }
 
@@ -243,8 +243,10 @@ impl<B: BytesToBytesCodecTraits, I: InnerCodec> ArrayToBytesCodecTraits for Shar
 fn has_reshape(codecs: &[ArrayToArrayCodec]) -> bool
     ensures { result ≡ any_reshape (codecs_of codecs.now) }
 {
-    let Some((codec, others)) = codecs.split_first() else {
-        return false;
-    };
-    matches!(codec, ArrayToArrayCodec::Reshape(_)) || has_reshape(others)
+    for codec in codecs {
+        if matches!(codec, ArrayToArrayCodec::Reshape(_)) {
+            return true;
+        }
+    }
+    false
 }

@@ -1,7 +1,5 @@
 -- What is stored of one subchunk after new elements were put at places in it.
-use Rattle.std.proofs.Common.{◌≡◌, ◌∙◌, ℕ, ◌<◌, List, length, map, get_or, replicate, ap, sym, refl, subst, inl, inr, Bool, true, false, Option, Some, None, option_and_then, if◌then◌else◌, Result, Ok, Err, Vec, Global}
-use Rattle.std.specs.Prelude.{nat_lt}
-use Rattle.std.specs.List.{list_all}
+use Rattle.std.proofs.Common.{◌≡◌, ◌∙◌, ℕ, List, get_or, replicate, ap, sym, subst, inl, inr, Bool, true, false, Option, Some, None, option_and_then, if◌then◌else◌, Ok, Err, Vec, Global}
 use Rattle.zarr_grids_boxes.specs.Boxes.{product}
 use Rattle.zarr_codecs_meaning.specs.Chains.{Chain}
 use Rattle.zarr_codecs_meaning.specs.Decoding.{decoded, is_absent, slice_at}
@@ -14,7 +12,7 @@ use Rattle.zarr_codecs_meaning.specs.Types.{Cell, Elements, is_value}
 use Rattle.zarr_codecs_meaning.proofs.ArrayCodecs.{values_gathered}
 use Rattle.zarr_codecs_meaning.proofs.DecodedValues.{decoded_cells}
 use Rattle.zarr_codecs_meaning.proofs.Lists.{bind_some}
-use Rattle.zarr_codecs_arrays.specs.Outcomes.{IsCounted, IsValid}
+use Rattle.zarr_codecs_arrays.specs.Outcomes.{IsValid}
 use Rattle.zarr_codecs_arrays.specs.declared.error.CodecError.{CodecError}
 use Rattle.zarr_codecs_arrays.specs.declared.error.CodecError.TheVariants as error
 use Rattle.zarr_codecs_regions.proofs.Shown.{put_cells, stored_cells}

@@ -39,3 +39,4 @@ pub mod MetBox
 pub mod NumberedSubchunks
 pub mod BoxCuts
 pub mod BoxRead
+pub mod AsIs

@@ -1,5 +1,5 @@
 -- The subchunk that a place lies in, by its number.
-use Rattle.std.proofs.Common.{◌≡◌, ◌∙◌, ℕ, ◌+◌, ◌-◌, ◌*◌, ◌/◌, ◌%◌, ◌<◌, List, [], ◌∷◌, length, ap, sym, refl, subst, arith, Bool, true, ◌&&◌, ◌==◌}
+use Rattle.std.proofs.Common.{◌≡◌, ◌∙◌, ℕ, ◌+◌, ◌-◌, ◌*◌, ◌/◌, ◌%◌, ◌<◌, List, [], ◌∷◌, length, ap, sym, refl, subst, arith, true, ◌==◌}
 use Rattle.std.specs.Prelude.{nat_lt}
 use Rattle.std.proofs.lemmas.Bool.{and_parts, eqb-true, ltb-true}
 use Rattle.zarr_grids_boxes.specs.Boxes.{Region, place_at, product, ravel, each2, is_in_box, IsIndex}
@@ -8,7 +8,7 @@ use Rattle.zarr_grids_boxes.proofs.InBox.{place_at-number}
 use Rattle.zarr_grids_boxes.proofs.Places.{in_box_below}
 use Rattle.zarr_grids_boxes.proofs.Walking.{start_in_box}
 use Rattle.zarr_codecs_meaning.specs.Fits.{can_cut, divides}
-use Rattle.zarr_codecs_meaning.specs.Places.{Part, grid_of, parts_of}
+use Rattle.zarr_codecs_meaning.specs.Places.{Part, grid_of}
 use Rattle.zarr_codecs_meaning.proofs.Covers.{place_ravel, zeros}
 use Rattle.zarr_codecs_meaning.proofs.Parts.{block, inside, length-parts}
 use Rattle.zarr_codecs_regions.proofs.InsideArray.{inside_rank}

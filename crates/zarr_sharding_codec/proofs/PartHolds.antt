@@ -1,33 +1,25 @@
 -- A shard stands for the cells of its array after new ones were put, where it stood for those before.
-use Rattle.std.proofs.Common.{◌≡◌, ◌⊎◌, ◌∙◌, inl, inr, ℕ, zero, suc, ◌+◌, ◌*◌, ◌/◌, ◌<◌, ◌^◌, List, [], ◌∷◌, ◌++◌, length, map, get_or, set, replicate, ap, sym, refl, subst, arith, Bool, true, false, ◌&&◌, ◌==◌, Option, Some, None, IsTrue, MatchOption}
+use Rattle.std.proofs.Common.{◌≡◌, ◌⊎◌, ◌∙◌, inl, inr, ℕ, ◌<◌, List, [], ◌∷◌, length, get_or, set, ap, sym, refl, subst, arith, Bool, true, false, ◌==◌, Option, Some, None, IsTrue}
 use Rattle.std.specs.Prelude.{nat_lt}
 use Rattle.std.specs.List.{list_all}
-use Rattle.std.proofs.lemmas.Bool.{and_from, and_parts, eqb-true, eq-eqb}
-use Rattle.std.proofs.lemmas.List.{ext_get_or, get_or-map, get_or-set_same, get_or-set_other, length-map, length-replicate, length-set}
+use Rattle.std.proofs.lemmas.Bool.{eqb-true, eq-eqb}
+use Rattle.std.proofs.lemmas.List.{ext_get_or, get_or-set_same, get_or-set_other, length-map, length-set}
 use Rattle.zarr_grids_boxes.specs.Boxes.{product}
-use Rattle.zarr_codecs_meaning.specs.Chains.{Chain, Location, sharded}
-use Rattle.zarr_codecs_meaning.specs.Decoding.{decoded, is_absent}
-use Rattle.zarr_codecs_meaning.specs.Encoding.{Pair, Piece, absent_pair, base_of, index_size, piece_of, pieces_of}
+use Rattle.zarr_codecs_meaning.specs.Chains.{Chain}
+use Rattle.zarr_codecs_meaning.specs.Encoding.{Piece, piece_of, pieces_of}
 use Rattle.zarr_codecs_meaning.specs.Fits.{can_cut, divides, is_lossless}
-use Rattle.zarr_codecs_meaning.specs.Laws.{AreCells}
-use Rattle.zarr_codecs_meaning.specs.Places.{Part, gather, grid_of, index_shape, parts_of}
-use Rattle.zarr_codecs_meaning.specs.Standing.{ChunkStands, HasSlice, PieceStands, PiecesStand, SliceStands, Slices, StandsBy}
+use Rattle.zarr_codecs_meaning.specs.Places.{Part, gather, grid_of, parts_of}
+use Rattle.zarr_codecs_meaning.specs.Standing.{SliceStands, Slices}
 use Rattle.zarr_codecs_meaning.specs.Standing.Slices.{standing_slices, encoded_slices}
-use Rattle.zarr_codecs_meaning.specs.Types.{Cell, Elements, is_fill, uint64}
+use Rattle.zarr_codecs_meaning.specs.Types.{Cell, Elements}
 use Rattle.zarr_codecs_meaning.proofs.Parts.{length-parts, no_part}
-use Rattle.zarr_codecs_meaning.proofs.Shards.{fill_is_replicate}
 use Rattle.zarr_codecs_traits.specs.Indexers.{put}
-use Rattle.zarr_codecs_traits.specs.PartWriting.{ChunkTight}
-use Rattle.zarr_sharding_changes.specs.Changes.{Change, ChangesStand, SliceStandsBy, appended, pairs_after, pieces_after}
-use Rattle.zarr_sharding_places.specs.Locating.{subchunk_of}
-use Rattle.zarr_sharding_state.specs.Held.{HoldsPieces, IsOpened, are_absent}
-use Rattle.zarr_sharding_state.specs.Written.{IsChanged}
-use Rattle.zarr_sharding_state.proofs.Stands.{changed_holds, nothing_left, opened_holds}
+use Rattle.zarr_sharding_changes.specs.Changes.{Change, ChangesStand, SliceStandsBy, pieces_after}
 use Rattle.zarr_sharding_codec.specs.PartWriting.{AreChanged, AreUpdated, HasChange, IsUpdated, Put, Stored, cells_held, cells_put, given_in, numbers_in}
-use Rattle.zarr_sharding_codec.specs.Slices.{IsPieceStored, IsSlice}
-use Rattle.zarr_sharding_codec.proofs.EvenParts.{part_at, part_number}
-use Rattle.zarr_sharding_codec.proofs.PutPieces.{given_is, met_or_none, places_at, put_seen, same_seen, taken}
-use Rattle.zarr_sharding_codec.proofs.StoredLoop.{IsSubchunk, no_piece, piece_at, piece_number}
+use Rattle.zarr_sharding_codec.specs.Slices.{IsPieceStored}
+use Rattle.zarr_sharding_codec.proofs.EvenParts.{part_number}
+use Rattle.zarr_sharding_codec.proofs.PutPieces.{given_is, met_or_none, places_at, put_seen}
+use Rattle.zarr_sharding_codec.proofs.StoredLoop.{no_piece, piece_number}
 
 -- ---- what is put, in one subchunk
 

@@ -1,22 +1,20 @@
 -- Each place is read as before or as the new cell, also where another one can't be.
-use Rattle.std.proofs.Common.{◌≡◌, ◌⊎◌, ◌∙◌, inl, inr, ℕ, zero, suc, ◌+◌, ◌-◌, ◌/◌, ◌<◌, ◌≤◌, ◌^◌, List, [], ◌∷◌, ◌++◌, length, map, get_or, replicate, take, drop, ap, sym, refl, subst, arith, Bool, true, false, ◌&&◌, ◌==◌, Option, Some, None, option_and_then, unwrap_or, if◌then◌else◌, IsTrue, append_assoc, length-append}
-use Rattle.std.specs.Prelude.{nat_lt}
+use Rattle.std.proofs.Common.{◌≡◌, ◌∙◌, inl, inr, ℕ, zero, suc, ◌+◌, ◌-◌, ◌<◌, ◌^◌, List, [], ◌∷◌, ◌++◌, length, map, get_or, replicate, take, drop, ap, sym, refl, subst, arith, Bool, true, false, ◌==◌, Option, Some, None, option_and_then, unwrap_or, if◌then◌else◌, append_assoc, length-append}
 use Rattle.std.specs.List.{list_all}
-use Rattle.std.proofs.lemmas.Bool.{and_from, and_parts, cases_Bool, eqb-true}
-use Rattle.std.proofs.lemmas.List.{length-map}
+use Rattle.std.proofs.lemmas.Bool.{and_from, and_parts}
 use Rattle.zarr_grids_boxes.specs.Boxes.{product}
 use Rattle.zarr_codecs_meaning.specs.Chains.{Chain, Location, sharded}
 use Rattle.zarr_codecs_meaning.specs.Decoding.{cell_at, decoded, is_absent, slice_at}
 use Rattle.zarr_codecs_meaning.specs.Encoding.{Pair, absent_pair, base_of, index_size, pair_at, slice_bytes}
-use Rattle.zarr_codecs_meaning.specs.Fits.{can_cut, divides, fits, is_lossless}
+use Rattle.zarr_codecs_meaning.specs.Fits.{can_cut, divides, is_lossless}
 use Rattle.zarr_codecs_meaning.specs.Laws.{AreCells}
-use Rattle.zarr_codecs_meaning.specs.Places.{gather, index_shape, parts_of}
+use Rattle.zarr_codecs_meaning.specs.Places.{index_shape, parts_of}
 use Rattle.zarr_codecs_meaning.specs.Standing.{HasSlice}
 use Rattle.zarr_codecs_meaning.specs.Types.{Cell, Elements, is_fill, is_value, uint64}
 use Rattle.zarr_codecs_meaning.proofs.Fitting.{fitted}
 use Rattle.zarr_codecs_meaning.proofs.Meaning.{stands_decoded}
 use Rattle.zarr_codecs_meaning.proofs.Shards.{fill_is_replicate, is_present, slice_found}
-use Rattle.zarr_codecs_regions.proofs.Shown.{all_put, map_put, put_cells}
+use Rattle.zarr_codecs_regions.proofs.Shown.{map_put, put_cells}
 use Rattle.zarr_codecs_traits.specs.Indexers.{put}
 use Rattle.zarr_codecs_traits.specs.PartWriting.{cells_shown}
 use Rattle.zarr_sharding_changes.specs.Changes.{Change, appended, pairs_after}
@@ -26,10 +24,9 @@ use Rattle.zarr_sharding_places.specs.Locating.{subchunk_of}
 use Rattle.zarr_sharding_places.specs.Pieces.{piece_decoded}
 use Rattle.zarr_sharding_places.proofs.PutPlaces.{length-put}
 use Rattle.zarr_sharding_state.specs.Held.{IsOpened, are_absent, lies_between}
-use Rattle.zarr_sharding_state.specs.Written as written
 use Rattle.zarr_sharding_state.proofs.Counts.{changed_count}
 use Rattle.zarr_sharding_state.proofs.Reopened.{AllLie, IsSplitAfter, data_of, opened_ends, opened_lies, opened_split, pair_has_slice, reopened, split_after}
-use Rattle.zarr_sharding_codec.specs.PartWriting.{AreUpdated, HasChange, IsUpdated, Put, Stored, cells_held, cells_put, given_in, numbers_in, put_at, stored_in}
+use Rattle.zarr_sharding_codec.specs.PartWriting.{AreUpdated, HasChange, IsUpdated, Put, Stored, cells_put, given_in, numbers_in, put_at, stored_in}
 use Rattle.zarr_sharding_codec.specs.Reading.{place_decoded}
 use Rattle.zarr_sharding_codec.specs.Slices.{IsPieceStored}
 use Rattle.zarr_sharding_codec.proofs.ChangedPairs.{IsPairKept, IsPairNew, appended_split, pair_cases}

@@ -1,17 +1,16 @@
 -- The cells of what is stored, each read by itself, seen from the subchunks of a shard.
-use Rattle.std.proofs.Common.{◌≡◌, ◌∙◌, ℕ, zero, suc, ◌*◌, ◌<◌, List, [], ◌∷◌, length, map, get_or, replicate, ap, sym, refl, subst, arith, Bool, true, false, ◌&&◌, Option, Some, None, option_and_then, option_map, unwrap_or, if◌then◌else◌}
+use Rattle.std.proofs.Common.{◌≡◌, ◌∙◌, ℕ, zero, suc, ◌<◌, List, [], ◌∷◌, length, map, get_or, replicate, ap, sym, refl, arith, Bool, true, false, Option, Some, None, option_and_then, unwrap_or, if◌then◌else◌}
 use Rattle.std.specs.Prelude.{nat_lt}
-use Rattle.std.specs.List.{list_all, range_with_len}
 use Rattle.std.proofs.lemmas.Bool.{and_from, lt-ltb}
 use Rattle.std.proofs.lemmas.List.{ext_get_or, get_or-map, get_or-replicate, length-map}
 use Rattle.std.proofs.lemmas.List.FromFn.{get_or-map-range_with_len, length-map-range_with_len}
 use Rattle.zarr_grids_boxes.specs.Boxes.{product}
 use Rattle.zarr_codecs_meaning.specs.Chains.{Chain, Location, sharded}
 use Rattle.zarr_codecs_meaning.specs.Chunks.{chunk_part}
-use Rattle.zarr_codecs_meaning.specs.Decoding.{all_there, cell_at, decoded, is_absent, opens, part_decoded, slice_at}
+use Rattle.zarr_codecs_meaning.specs.Decoding.{all_there, cell_at, decoded, is_absent, opens, slice_at}
 use Rattle.zarr_codecs_meaning.specs.Encoding.{Pair, absent_pair}
 use Rattle.zarr_codecs_meaning.specs.Fits.{can_cut, divides, fits}
-use Rattle.zarr_codecs_meaning.specs.Places.{gather, index_shape, parts_of, place_numbers}
+use Rattle.zarr_codecs_meaning.specs.Places.{gather, index_shape, parts_of}
 use Rattle.zarr_codecs_meaning.specs.Types.{Cell, Elements}
 use Rattle.zarr_codecs_meaning.proofs.Lists.{bind_some, if_some, some_same}
 use Rattle.zarr_codecs_meaning.proofs.Parts.{index_product, no_part, part_counts}
@@ -22,11 +21,11 @@ use Rattle.zarr_sharding_places.specs.Pieces.{piece_decoded}
 use Rattle.zarr_sharding_places.proofs.PartPlaces.{place_below}
 use Rattle.zarr_sharding_places.proofs.ReadPieces.{piece_count}
 use Rattle.zarr_sharding_state.specs.Held.{IsOpened}
-use Rattle.zarr_sharding_codec.specs.Reading.{place_decoded, shard_cell, shard_cells}
+use Rattle.zarr_sharding_codec.specs.Reading.{place_decoded, shard_cell}
 use Rattle.zarr_sharding_codec.proofs.EvenParts.{whole_parts}
 use Rattle.zarr_sharding_codec.proofs.PartsRead.{part_is}
 use Rattle.zarr_sharding_codec.proofs.PlaceCells.{shard_place}
-use Rattle.zarr_sharding_codec.proofs.PutPieces.{Tells, place_tells, places_at, taken}
+use Rattle.zarr_sharding_codec.proofs.PutPieces.{place_tells, places_at, taken}
 use Rattle.zarr_codecs_meaning.proofs.Positions.{each_at}
 use Rattle.zarr_codecs_meaning.specs.Places.{Part}
 

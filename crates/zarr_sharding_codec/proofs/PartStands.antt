@@ -1,12 +1,12 @@
 -- What is stored after new cells were put stands for the updated array.
-use Rattle.std.proofs.Common.{◌≡◌, ◌⊎◌, ◌∙◌, inl, inr, ℕ, ◌+◌, ◌/◌, ◌<◌, ◌^◌, List, [], ◌∷◌, length, map, get_or, replicate, ap, sym, refl, subst, arith, Bool, true, false, Option, Some, None, IsTrue, MatchOption}
+use Rattle.std.proofs.Common.{◌≡◌, ◌∙◌, inl, inr, ℕ, ◌+◌, ◌<◌, ◌^◌, List, [], length, map, ap, sym, refl, subst, arith, Bool, true, Option, Some, None, IsTrue, MatchOption}
 use Rattle.std.specs.Prelude.{nat_lt}
 use Rattle.std.specs.List.{list_all}
 use Rattle.std.proofs.lemmas.Bool.{and_parts}
 use Rattle.zarr_grids_boxes.specs.Boxes.{product}
 use Rattle.zarr_codecs_meaning.specs.Chains.{Chain, Location, sharded}
 use Rattle.zarr_codecs_meaning.specs.Chunks.{chunk_decoded}
-use Rattle.zarr_codecs_meaning.specs.Encoding.{Pair, Piece, absent_pair, base_of, index_size, pieces_of}
+use Rattle.zarr_codecs_meaning.specs.Encoding.{Pair, Piece, base_of, index_size, pieces_of}
 use Rattle.zarr_codecs_meaning.specs.Fits.{can_cut, divides, fits, is_lossless}
 use Rattle.zarr_codecs_meaning.specs.Laws.{AreCells, IsLawfulChain}
 use Rattle.zarr_codecs_meaning.specs.Places.{gather, index_shape, parts_of}
@@ -18,14 +18,13 @@ use Rattle.zarr_codecs_regions.proofs.Shown.{put_cells, shown_cells, standing_de
 use Rattle.zarr_codecs_traits.specs.Indexers.{put}
 use Rattle.zarr_codecs_traits.specs.PartWriting.{ChunkTight, cells_shown, only_cell}
 use Rattle.zarr_sharding_changes.specs.Changes.{Change, SliceStandsBy, appended, pairs_after}
-use Rattle.zarr_sharding_places.specs.Pieces.{piece_decoded}
 use Rattle.zarr_sharding_state.specs.Held.{HoldsPieces, IsOpened, are_absent}
 use Rattle.zarr_sharding_state.specs.Written.{IsChanged}
 use Rattle.zarr_sharding_state.proofs.Stands.{changed_holds, nothing_left, opened_holds}
 use Rattle.zarr_sharding_codec.specs.PartWriting.{AreChanged, put_at, stored_in}
 use Rattle.zarr_sharding_codec.proofs.PartFill.{all_absent, filled_stand, none_present, pieces_fill, whole_fill}
 use Rattle.zarr_sharding_codec.proofs.PartHolds.{CanBe, IsGathered, changes_stand, pieces_are}
-use Rattle.zarr_sharding_codec.proofs.PartShown.{IsShardOpened, alone, piece_gathered, shown_back, shown_count}
+use Rattle.zarr_sharding_codec.proofs.PartShown.{IsShardOpened, piece_gathered, shown_back}
 use Rattle.zarr_sharding_codec.proofs.PutPieces.{places_at}
 use Rattle.zarr_sharding_codec.proofs.ShardSizes.{divides_fit}
 use Rattle.zarr_sharding_codec.proofs.StoredLoop.{inner_fit}

@@ -1,5 +1,5 @@
 -- A part of an array was written into its shard, or why it wasn't.
-use Rattle.std.proofs.Common.{◌≡◌, ◌⊎◌, ◌∙◌, inl, inr, ℕ, ◌+◌, ◌/◌, ◌<◌, ◌^◌, List, [], ◌∷◌, length, map, get_or, ◌-◌, ap, sym, subst, arith, Bool, true, Option, Some, None, unwrap_or, is_some, IsTrue, MatchOption, Result, Ok, Err}
+use Rattle.std.proofs.Common.{◌≡◌, ◌⊎◌, ◌∙◌, inl, inr, ℕ, ◌+◌, ◌/◌, ◌<◌, ◌^◌, List, [], ◌∷◌, length, map, get_or, ap, sym, subst, arith, Bool, true, Option, Some, None, unwrap_or, is_some, IsTrue, MatchOption, Result, Ok, Err}
 use Rattle.std.specs.Prelude.{nat_lt}
 use Rattle.std.specs.List.{list_all}
 use Rattle.std.proofs.lemmas.List.{length-map}

@@ -1,18 +1,18 @@
 -- New cells put at places of an array, seen from its subchunks.
-use Rattle.std.proofs.Common.{◌≡◌, ◌≢◌, ◌∙◌, ◌⊎◌, inl, inr, ℕ, zero, suc, ◌+◌, ◌<◌, List, [], ◌∷◌, length, map, get_or, set, cond, ap, sym, refl, arith, Bool, true, false, ◌&&◌, ◌==◌, if◌then◌else◌}
+use Rattle.std.proofs.Common.{◌≡◌, ◌≢◌, ◌∙◌, ◌⊎◌, inl, inr, ℕ, zero, suc, ◌+◌, ◌<◌, List, [], ◌∷◌, length, map, get_or, set, cond, ap, sym, refl, arith, Bool, true, false, ◌==◌, if◌then◌else◌}
 use Rattle.std.specs.Prelude.{nat_lt}
-use Rattle.std.specs.List.{filter, list_all, range_with_len}
+use Rattle.std.specs.List.{list_all, range_with_len}
 use Rattle.std.proofs.lemmas.Bool.{and_parts, eqb-true, eq-eqb, ltb-true}
-use Rattle.std.proofs.lemmas.List.{ext_get_or, get_or-map, get_or-set_same, get_or-set_other, length-map, length-set}
+use Rattle.std.proofs.lemmas.List.{ext_get_or, get_or-map, get_or-set_same, get_or-set_other, length-set}
 use Rattle.zarr_grids_boxes.specs.Boxes.{product}
 use Rattle.zarr_codecs_meaning.specs.Fits.{can_cut, divides}
-use Rattle.zarr_codecs_meaning.specs.Places.{Part, parts_of}
+use Rattle.zarr_codecs_meaning.specs.Places.{parts_of}
 use Rattle.zarr_codecs_meaning.specs.Types.{Cell}
 use Rattle.zarr_codecs_meaning.proofs.Parts.{no_part}
 use Rattle.zarr_codecs_meaning.proofs.PartsOnce.{number_in}
 use Rattle.zarr_codecs_traits.specs.Indexers.{put}
 use Rattle.zarr_sharding_places.specs.Groups.{places_in}
-use Rattle.zarr_sharding_places.specs.Locating.{asked_place, asked_places, inside_of, subchunk_of}
+use Rattle.zarr_sharding_places.specs.Locating.{inside_of, subchunk_of}
 use Rattle.zarr_sharding_places.specs.declared.locating.AskedPlace.{AskedPlace}
 use Rattle.zarr_sharding_places.proofs.PartPlaces.{IsPlace, place_below, place_held, places_apart}
 use Rattle.zarr_sharding_codec.specs.PartWriting.{given_in, insides, numbers_in, positions}

@@ -8,14 +8,14 @@ use Rattle.zarr_codecs_meaning.specs.Types.{DataType, inner_type, uint64, zero_f
 use Rattle.zarr_codecs_meaning.specs.Chains as chains
 use Rattle.zarr_codecs_meaning.specs.Chains.{Chain, Location, sharded}
 use Rattle.zarr_codecs_meaning.specs.Encoding.{index_size}
-use Rattle.zarr_codecs_meaning.specs.Fits.{at_most, bound_of, can_cut, divides, fits, fixed_of, representation_of, sum_of_bounds}
+use Rattle.zarr_codecs_meaning.specs.Fits.{at_most, bound_of, can_cut, divides, fits, fixed_of, is_too_long, representation_of, sum_of_bounds, tells_too_long}
 use Rattle.zarr_codecs_meaning.specs.Places.{Part, grid_of, index_shape, parts_of}
 use Rattle.zarr_codecs_meaning.proofs.Fitting.{fitted}
 use Rattle.zarr_codecs_meaning.proofs.Parts.{length-parts, no_part}
 use Rattle.zarr_codecs_meaning.proofs.Positions.{each_at}
 use Rattle.zarr_codecs_arrays.specs.declared.error.CodecError.{CodecError}
 use Rattle.zarr_codecs_arrays.specs.declared.error.CodecError.TheVariants as error
-use Rattle.zarr_codecs_traits.specs.Representations.{Represents, RepresentsArray, is_too_long, tells_too_long}
+use Rattle.zarr_codecs_traits.specs.Representations.{Represents, RepresentsArray}
 use Rattle.zarr_codecs_traits.specs.declared.bytes_representation.BytesRepresentation.{BytesRepresentation}
 use Rattle.zarr_codecs_traits.specs.declared.bytes_representation.BytesRepresentation.TheVariants as size_told
 use Rattle.zarr_sharding_index.specs.Stored.{index_fits}

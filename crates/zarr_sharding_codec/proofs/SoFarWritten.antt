@@ -1,16 +1,15 @@
 -- The subchunks of some places were updated.
-use Rattle.std.proofs.Common.{◌≡◌, ◌≢◌, ◌⊎◌, ◌∙◌, inl, inr, ℕ, zero, suc, ◌+◌, ◌-◌, ◌<◌, ◌≤◌, List, [], ◌∷◌, ◌++◌, length, map, get_or, cond, ap, sym, refl, subst, arith, Bool, true, false, ◌&&◌, ◌==◌, Option, Some, None, Result, Ok, Err, append_assoc, append-nil, length-append}
+use Rattle.std.proofs.Common.{◌≡◌, ◌≢◌, ◌∙◌, inl, inr, ℕ, suc, ◌+◌, ◌-◌, ◌<◌, ◌≤◌, List, [], ◌∷◌, ◌++◌, length, map, get_or, cond, ap, sym, refl, subst, arith, Bool, true, false, ◌==◌, None, Err, append_assoc, append-nil, length-append}
 use Rattle.std.specs.Prelude.{nat_lt}
-use Rattle.std.specs.List.{filter, list_all, range_with_len}
+use Rattle.std.specs.List.{filter, list_all}
 use Rattle.std.specs.List.Sorted.{IsNonDecreasingBy, IsPermutation}
 use Rattle.std.proofs.Math.ListN.{get_or-append}
 use Rattle.std.proofs.lemmas.Bool.{and_from, and_parts, cases_lt, eqb-true, eq-eqb, lt-ltb}
-use Rattle.std.proofs.lemmas.Grind.{StandsIn, in_moved}
+use Rattle.std.proofs.lemmas.Grind.{in_moved}
 use Rattle.std.proofs.lemmas.List.{get_or-append-add, get_or_default}
 use Rattle.std.proofs.lemmas.List.Elements.{filter-append}
 use Rattle.std.proofs.lemmas.List.FromFn.{get_or-map-range_with_len, length-map-range_with_len}
-use Rattle.zarr_grids_boxes.specs.Boxes.{product}
-use Rattle.zarr_codecs_meaning.specs.Places.{gather, parts_of}
+use Rattle.zarr_codecs_meaning.specs.Places.{gather}
 use Rattle.zarr_codecs_meaning.specs.Encoding.{absent_pair}
 use Rattle.zarr_codecs_meaning.specs.Refusals.{CodecRefuses, PassesIndex}
 use Rattle.zarr_codecs_meaning.specs.Types.{Cell, is_fill}
@@ -24,13 +23,13 @@ use Rattle.zarr_sharding_places.specs.Groups.{IsGroup, no_place, places_in}
 use Rattle.zarr_sharding_places.specs.Locating.{asked_place, asked_places, inside_of, subchunk_of}
 use Rattle.zarr_sharding_places.specs.Pieces.{piece_decoded}
 use Rattle.zarr_sharding_places.specs.declared.locating.AskedPlace.{AskedPlace}
-use Rattle.zarr_sharding_state.specs.Views.{change_of, changes_of, is_below}
+use Rattle.zarr_sharding_state.specs.Views.{is_below}
 use Rattle.zarr_sharding_state.specs.declared.writing.SliceChange.{SliceChange}
 use Rattle.zarr_sharding_codec.specs.PartWriting.{AreChanged, AreUpdated, HasChange, IsGroupUpdated, IsMet, IsUpdated, Put, Stored, UpdatesGroup, UpdatesSlices, cells_put, given_in, group_put, insides, number_at, numbers_in, positions}
 use Rattle.zarr_sharding_codec.specs.Slices.{IsPieceStored}
 use Rattle.zarr_sharding_codec.proofs.GroupsRead.{AskedShard, IsAskable, IsAsked, StandsAt, stands_at, subchunk_below}
 use Rattle.zarr_sharding_codec.proofs.PutPieces.{given_asked, insides_asked}
-use Rattle.zarr_sharding_codec.proofs.SoFarRead.{IsLeft, group_asked}
+use Rattle.zarr_sharding_codec.proofs.SoFarRead.{group_asked}
 
 -- ---- places that were cut off in front
 

@@ -2,7 +2,7 @@
 use Rattle.std.proofs.Common.{◌≡◌, ◌∙◌, ℕ, ◌-◌, ◌*◌, ◌<◌, List, length, replicate, ap, sym, arith, true}
 use Rattle.std.specs.List.{flat_map, range_with_len}
 use Rattle.std.proofs.lemmas.List.Folds.{flat_map-map}
-use Rattle.zarr_grids_boxes.specs.Boxes.{Region, each2, place_at, places, product, ravel}
+use Rattle.zarr_grids_boxes.specs.Boxes.{Region, each2, place_at, product}
 use Rattle.zarr_grids_boxes.specs.Laid.{HasWidth, laid, overlaid}
 use Rattle.zarr_grids_boxes.proofs.InBox.{ravel-place_at}
 use Rattle.zarr_grids_boxes.proofs.Places.{places_by_number}

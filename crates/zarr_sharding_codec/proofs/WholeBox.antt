@@ -1,8 +1,7 @@
 -- A box that is all of a subchunk.
-use Rattle.std.proofs.Common.{◌≡◌, ◌∙◌, ℕ, suc, ◌+◌, ◌<◌, List, [], ◌∷◌, length, get_or, map, ap, sym, refl, subst, arith, true}
-use Rattle.std.specs.List.{range_with_len}
+use Rattle.std.proofs.Common.{◌≡◌, ◌∙◌, ℕ, suc, ◌+◌, ◌<◌, List, [], ◌∷◌, length, get_or, ap, sym, refl, subst, arith, true}
 use Rattle.std.proofs.lemmas.List.FromFn.{fill_by_all, get_or-range_with_len, length-range_with_len}
-use Rattle.zarr_grids_boxes.specs.Boxes.{Region, product, place_at, places, ravel, each2, is_in_box}
+use Rattle.zarr_grids_boxes.specs.Boxes.{Region, product, place_at, ravel, each2, is_in_box}
 use Rattle.zarr_grids_boxes.specs.Cuts.{IsAtMost}
 use Rattle.zarr_codecs_meaning.specs.Places.{place_numbers}
 use Rattle.zarr_codecs_meaning.proofs.Covers.{ravel_place, zeros}

@@ -11,7 +11,7 @@ use Rattle.zarr_grids_boxes.specs.Boxes.{product}
 use Rattle.zarr_codecs_meaning.specs.Encoding.{absent_pair}
 use Rattle.zarr_codecs_meaning.specs.Places.{Part, gather, parts_of}
 use Rattle.zarr_codecs_meaning.specs.Types.{Cell}
-use Rattle.zarr_codecs_meaning.proofs.Lists.{Each, each_passes}
+use Rattle.zarr_codecs_meaning.proofs.Lists.{each_passes}
 use Rattle.zarr_codecs_meaning.proofs.Parts.{no_part, part_counts}
 use Rattle.zarr_codecs_meaning.proofs.Positions.{each_at}
 use Rattle.zarr_codecs_traits.specs.Indexers.{put}

@@ -1,21 +1,25 @@
 -- What is read of the subchunks of a shard.
 use Rattle.std.specs.Prelude.{◌≡◌, ℕ, Bool, true, false, List, length, map, replicate, Option, None, Some, option_and_then, if◌then◌else◌, Result, Ok, Err}
-use Rattle.zarr_grids_boxes.specs.Boxes.{product}
+use Rattle.zarr_grids_boxes.specs.Boxes.{Region, product}
 use Rattle.zarr_codecs_meaning.specs.Chains.{Chain, Location}
 use Rattle.zarr_codecs_meaning.specs.Decoding.{all_there, cell_at, cell_of_part, is_absent, slice_at}
 use Rattle.zarr_codecs_meaning.specs.Encoding.{Pair}
-use Rattle.zarr_codecs_meaning.specs.Payloads.{cells_in}
+use Rattle.zarr_codecs_meaning.specs.Payloads.{cells_in, fixed}
 use Rattle.zarr_codecs_meaning.specs.Places.{parts_of}
 use Rattle.zarr_codecs_meaning.specs.Types.{Cell, Elements, IsTooLarge}
 use Rattle.zarr_codecs_arrays.specs.Views.{payload_of}
 use Rattle.zarr_codecs_arrays.specs.declared.array_bytes.ArrayBytes.{ArrayBytes}
 use Rattle.zarr_codecs_arrays.specs.declared.error.CodecError.{CodecError}
 use Rattle.zarr_codecs_arrays.specs.declared.error.CodecError.TheVariants as error
+use Rattle.zarr_codecs_regions.specs.Updates.{put}
+use Rattle.zarr_codecs_traits.specs.Indexers.{numbers_of}
 use Rattle.zarr_sharding_index.specs.Held.{DecodesIndex}
 use Rattle.zarr_sharding_index.specs.Views.{pairs_of}
 use Rattle.zarr_sharding_index.specs.declared.held.FetchedIndex.{FetchedIndex}
 use Rattle.zarr_sharding_index.specs.declared.index.ShardIndex.{ShardIndex}
+use Rattle.zarr_sharding_places.specs.Boxed.{ShowsBoxes}
 use Rattle.zarr_sharding_places.specs.Pieces.{piece_decoded, shard_decoded}
+use Rattle.zarr_sharding_places.specs.declared.boxed.BoxedElements.{BoxedElements}
 use Rattle.zarr_sharding_state.specs.Held.{are_absent}
 
 -- elements are these cells, if there are any
@@ -23,6 +27,12 @@ pub record AreCells (elements : Elements) (found : Option (List Cell)) (bytes : 
   pub cells : List Cell
   pub is : found ≡ Some cells
   pub lists : cells_in elements.type (payload_of bytes) ≡ Some cells
+
+-- bytes are the elements of these cells as they stand in memory, if there are any
+pub record AreBytes (elements : Elements) (found : Option (List Cell)) (bytes : List ℕ) : Type 0 where
+  pub cells : List Cell
+  pub is : found ≡ Some cells
+  pub lists : cells_in elements.type (fixed bytes) ≡ Some cells
 
 -- elements of an array of this shape, which are these cells, or why there are none: there are no such cells, or they would be too many
 abbrev pub Lists : Elements → List ℕ → Option (List Cell) → Result ArrayBytes CodecError → Type 0
@@ -39,6 +49,12 @@ FillsPiece elements shape result = Lists elements shape (Some (replicate (produc
 -- the elements of a subchunk of this shape, or why there are none
 abbrev pub DecodesPiece : Chain → Elements → List ℕ → List ℕ → Pair → Result ArrayBytes CodecError → Type 0
 DecodesPiece inner elements value shape pair result = Lists elements shape (piece_decoded inner elements value shape pair) result
+
+-- the elements of an array of this shape after those of a subchunk, which are these cells, were put over the ones of a box, or why they weren't: there are no such cells, or they would be too many
+abbrev pub PutsPiece : Elements → List ℕ → Option (List Cell) → List ℕ → Region → BoxedElements → Result BoxedElements CodecError → Type 0
+PutsPiece elements subchunk found shape region all (Ok made) =
+    (cells : List Cell) × (found ≡ Some cells) × ((before : List Cell) → ShowsBoxes elements all before → length cells ≡ product region.shape → ShowsBoxes elements made (put (numbers_of shape region) cells before))
+PutsPiece elements subchunk found shape region all (Err e) = Lists elements subchunk found (Err e)
 
 -- the elements of the array of a shard whose index has these pairs, or why there are none
 abbrev pub DecodesPieces : Chain → Elements → List ℕ → List ℕ → List ℕ → List Pair → Result ArrayBytes CodecError → Type 0

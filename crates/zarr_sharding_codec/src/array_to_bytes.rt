@@ -10,7 +10,7 @@ use zarr_codecs_options::{CodecOptions, SubchunkWriteOrder};
 use zarr_codecs_regions::{encode_whole, test_asked};
 use zarr_codecs_traits::{
     ArrayPart, ArrayToBytesCodecTraits, BytesPartialDecoderTraits, BytesPartialEncoderTraits,
-    BytesRepresentation, ValuePatch, WholeArray,
+    BytesRepresentation, ValuePatches, WholeArray,
 };
 use zarr_codecs_types::DataType;
 use zarr_grids_boxes::walk::count_places;
@@ -150,7 +150,7 @@ impl<I: ArrayToBytesCodecTraits, X: IndexCodec> ArrayToBytesCodecTraits for Shar
         _: ArrayBytes,
         _: ArrayPart<'_>,
         _: &CodecOptions,
-    ) -> Result<Option<Vec<ValuePatch>>, CodecError> {
+    ) -> Result<Option<ValuePatches>, CodecError> {
         Ok(None)
     }
 

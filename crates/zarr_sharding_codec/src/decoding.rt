@@ -24,6 +24,14 @@ pub(crate) struct Shard<'a> {
     pub index: &'a ShardIndex,
 }
 
+/// The number of a subchunk of an array, and the box of its places there.
+#[derive(Clone, Copy)]
+struct PiecePlace<'a> {
+    array: WholeArray<'a>,
+    number: usize,
+    region: &'a ArraySubset,
+}
+
 impl<I: ArrayToBytesCodecTraits, X: ArrayToBytesCodecTraits> ShardingCodec<I, X> {
     ghost use Rattle.std.specs.Prelude.{◌≡◌, ◌<◌, length, get_or, true};
     ghost use Rattle.zarr_codecs_arrays.specs.Views.{elements_of};
@@ -31,11 +39,13 @@ impl<I: ArrayToBytesCodecTraits, X: ArrayToBytesCodecTraits> ShardingCodec<I, X>
     ghost use Rattle.zarr_codecs_meaning.specs.Fits.{fits};
     ghost use Rattle.zarr_codecs_meaning.specs.Places.{index_shape, parts_of};
     ghost use Rattle.zarr_codecs_types.specs.Views.{type_of};
-    ghost use Rattle.zarr_sharding_codec.specs.Reading.{DecodesIndexOf, DecodesPiece, DecodesPieces};
+    ghost use Rattle.zarr_grids_boxes.specs.Subsets.{region_of};
+    ghost use Rattle.zarr_sharding_codec.specs.Reading.{DecodesIndexOf, DecodesPiece, DecodesPieces, PutsPiece};
     ghost use Rattle.zarr_sharding_codec.specs.Views.{index_of, inner_of, place_of_index, shard_chain, subchunk_of};
     ghost use Rattle.zarr_sharding_index.specs.Held.{DecodesIndex};
     ghost use Rattle.zarr_sharding_index.specs.Stored.{index_fits};
     ghost use Rattle.zarr_sharding_index.specs.Views.{pairs_of};
+    ghost use Rattle.zarr_sharding_places.specs.Pieces.{piece_decoded};
 
     /// The index that a shard holds, of which this is the shape of the array. `Fit` where the codec
     /// doesn't suit the array; `Damage` where the value has fewer bytes than its index, or no index
@@ -119,13 +129,50 @@ impl<I: ArrayToBytesCodecTraits, X: ArrayToBytesCodecTraits> ShardingCodec<I, X>
         let mut region = ArraySubset::new_with_shape(alloc, edges.to_vec(alloc)?)?;
         for n in 0..count {
             let moved = move_to_subchunk(region, first, grid.as_slice(), count, n)?;
-            match self.decode_piece(alloc, shard, n as usize, array.elements, options) {
-                Ok(piece) => all = all.put(alloc, array, &moved, &piece)?,
+            let place = PiecePlace {
+                array,
+                number: n as usize,
+                region: &moved,
+            };
+            match self.put_piece(alloc, all, shard, place, options) {
+                Ok(made) => all = made,
                 Err(error) => return Err(error),
             }
             region = moved;
         }
         Ok(all.into_bytes(alloc, array.elements)?)
+    }
+
+    /// The elements of the array of a shard after those of one subchunk were put over the ones of
+    /// its box: straight from the value where its slice is these as they stand in memory. Errors as
+    /// those of `decode_piece`.
+    fn put_piece(
+        &self,
+        alloc: Global,
+        all: BoxedElements,
+        shard: Shard<'_>,
+        place: PiecePlace<'_>,
+        options: &CodecOptions,
+    ) -> Result<BoxedElements, CodecError>
+        requires fit { fits (I.meaning (inner_of self.now))
+            (elements_of place.array.elements.now).type (subchunk_of self.now) ≡ true }
+        requires below { place.number < length (pairs_of shard.index.now) }
+        ensures { PutsPiece (elements_of place.entry.array.elements.now) (subchunk_of self.now)
+            (piece_decoded (I.meaning (inner_of self.now))
+            (elements_of place.entry.array.elements.now) shard.entry.value.now
+            (subchunk_of self.now)
+            (get_or (pairs_of shard.entry.index.now) place.entry.number absent_pair))
+            place.entry.array.shape.now (region_of place.entry.region.now) all result }
+    {
+        let elements = place.array.elements;
+        let pair = shard.index.get(place.number);
+        if let Some(slice) = self.slice_as_is(shard.value, pair, elements) {
+            return Ok(all.put_bytes(alloc, place.array, place.region, slice)?);
+        }
+        match self.decode_piece(alloc, shard, place.number, elements, options) {
+            Ok(piece) => Ok(all.put(alloc, place.array, place.region, &piece)?),
+            Err(error) => Err(error),
+        }
     }
 
     /// The elements of the subchunk with this number: fill values where it is absent. `Damage`

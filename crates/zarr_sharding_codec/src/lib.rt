@@ -3,6 +3,7 @@
 #![tactic(auto)]
 
 mod array_to_bytes;
+mod as_is;
 mod assembling;
 pub mod box_reading;
 pub mod chain_metadata;

@@ -321,6 +321,9 @@ impl<I: ArrayToBytesCodecTraits, X: ArrayToBytesCodecTraits> ShardingCodec<I, X>
         ensures no_source { (count : ℕ) → refused_after count result ≡ count }
     {
         let shape = self.subchunk_shape.as_slice();
+        if self.is_as_is(slice.as_slice(), elements) {
+            return Ok(ArrayBytes::Fixed(slice));
+        }
         self.inner_codecs
             .decode(alloc, slice, elements, shape, options)
     }

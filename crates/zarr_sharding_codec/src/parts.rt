@@ -28,8 +28,8 @@ impl<I: ArrayToBytesCodecTraits, X: ArrayToBytesCodecTraits> ShardingCodec<I, X>
     }
 
     /// How many bytes the index of a shard has, where the codec suits arrays of a data type and a
-    /// shape, else `None`. `Err` where an allocation failed, or the index codec tells only that an
-    /// index or what one of its codecs makes is too large.
+    /// shape, else `None`. `Err` where an allocation failed, or a caller's bytes codec tells that it
+    /// makes 2^63 bytes or more of the index.
     pub fn index_size(
         &self,
         alloc: Global,

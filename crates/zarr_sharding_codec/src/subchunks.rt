@@ -234,7 +234,7 @@ fn gather_box(
 }
 
 /// How many bytes each element of an array has, of which so many bytes are all elements.
-fn whole_width(size: usize, array: WholeArray<'_>) -> Option<usize>
+pub(crate) fn whole_width(size: usize, array: WholeArray<'_>) -> Option<usize>
     ensures { IfSome result (λ width. (0 < width) × (size ≡ product array.entry.shape.now * width)
         × (byte_width (elements_of array.entry.elements.now).type ≡ Some width)) }
 {

@@ -6,7 +6,7 @@ use Rattle.zarr_grids_boxes.specs.Boxes.{product}
 use Rattle.zarr_codecs_meaning.specs.Chains.{BytesRepresentation, Chain, Location, fixed_size, bounded_size, unbounded_size}
 use Rattle.zarr_codecs_meaning.specs.Decoding.{decoded, index_bytes, pairs_in, pairs_of_cells}
 use Rattle.zarr_codecs_meaning.specs.Encoding.{Pair, Piece, base_of, encoded, index_size, joined, joined_slices, pair_cells, pairs_from, shard_of}
-use Rattle.zarr_codecs_meaning.specs.Fits.{fits, fixed_of, is_lossless, is_size_as, is_some_below, representation_of, size_of}
+use Rattle.zarr_codecs_meaning.specs.Fits.{fits, fixed_of, has_index_size, is_lossless, is_size_as, representation_of}
 use Rattle.zarr_codecs_meaning.specs.Laws.{AreCells, IsLawfulChain}
 use Rattle.zarr_codecs_meaning.specs.Places.{index_shape}
 use Rattle.zarr_codecs_meaning.specs.Standing.{ShardStands}
@@ -128,7 +128,7 @@ module _ (subchunk : List ℕ) (index : Chain) (location : Location) (shape valu
       let slices = joined_slices stored in
       let room = if_some (nat_lt (base + length slices) (2 ^ 64 - 1)) (option_map (λ (bytes : List ℕ). joined location bytes slices) (encoded index words pairs_shape (pair_cells pairs))) made is in
       let written = map_some (λ (bytes : List ℕ). joined location bytes slices) (encoded index words pairs_shape (pair_cells pairs)) made room.1 in
-      let fitting = (and_parts (fits index uint64 pairs_shape) (is_some_below (2 ^ 63) (size_of index uint64 pairs_shape)) fit).0 in
+      let fitting = (and_parts (fits index uint64 pairs_shape) (has_index_size index pairs_shape) fit).0 in
       let count : length (pair_cells pairs) ≡ product pairs_shape = length-pair_cells pairs ∙ (ap (λ n. 2 * n) (length-pairs_from stored base ∙ many_slices stored are) ∙ sym (index_product shape subchunk)) in
       let cells : AreCells words pairs_shape (pair_cells pairs) = record { fill = refl; values = pairs_are_values pairs; whole = count } in
       let stands = (laws_of index lawful).stands words pairs_shape written.0 (pair_cells pairs) fitting (inl lossless) cells written.1 in

@@ -3,4 +3,4 @@ pub mod PairBytes
 pub mod StoredAsIs
 pub mod StoredIndex
 pub mod HeldIndex
-pub mod TooLong
+pub mod Sizes

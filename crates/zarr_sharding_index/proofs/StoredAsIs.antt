@@ -1,20 +1,26 @@
 -- An index whose bytes are stored as they stand in memory.
-use Rattle.std.proofs.Common.{◌≡◌, ℕ, ◌*◌, ◌^◌, List, [], ◌∷◌, ◌++◌, length, ap, ◌∙◌, sym, refl, inl, append_assoc, Option, Some, None, Bool, true, ◌&&◌}
+use Rattle.std.proofs.Common.{◌≡◌, ℕ, ◌*◌, ◌%◌, List, [], ◌∷◌, ◌++◌, length, map, ap, ◌∙◌, sym, refl, arith, inl, append_assoc, Option, Some, None, option_map, Bool, true, false}
 use Rattle.std.specs.Prelude.{flat_map}
-use Rattle.std.proofs.lemmas.Bool.{and_parts}
+use Rattle.std.proofs.lemmas.Bool.{and_parts, ne_eqb}
 use Rattle.zarr_grids_boxes.specs.Boxes.{product}
 use Rattle.zarr_codecs_meaning.specs.Chains.{Chain, Endianness}
 use Rattle.zarr_codecs_meaning.specs.Chains.Chain.{bytes, packbits, vlen, optional, after_array_codec, then_bytes, sharded}
 use Rattle.zarr_codecs_meaning.specs.Chains.Endianness.{little, big}
+use Rattle.zarr_codecs_meaning.specs.Decoding.{all_there, decoded, element_at, pairs_of_cells}
 use Rattle.zarr_codecs_meaning.specs.Encoding.{Pair, encoded, index_size, ordered, pair_cells}
-use Rattle.zarr_codecs_meaning.specs.Fits.{fits, is_some_below, representation_of, size_of}
-use Rattle.zarr_codecs_meaning.specs.Laws.{AreCells, IsLawfulChain}
+use Rattle.zarr_codecs_meaning.specs.Fits.{fits, has_index_size, representation_of}
+use Rattle.zarr_codecs_meaning.specs.Laws.{AreCells}
 use Rattle.zarr_codecs_meaning.specs.Numbers.{word}
+use Rattle.zarr_codecs_meaning.specs.Payloads.{cells_in, fixed}
+use Rattle.zarr_codecs_meaning.specs.Places.{place_numbers}
 use Rattle.zarr_codecs_meaning.specs.Types.{cell_bytes, components, uint64, zero_filled}
+use Rattle.zarr_codecs_meaning.proofs.Lists.{some_same}
 use Rattle.zarr_codecs_meaning.proofs.Meaning.{laws_of, stands_decoded}
 use Rattle.zarr_codecs_meaning.proofs.Representations.{encoded_size}
 use Rattle.zarr_codecs_meaning.proofs.Shards.{length-pair_cells}
-use Rattle.zarr_sharding_index.specs.Stored.{AreStoredAsIs, IsIndexWritten, index_fits}
+use Rattle.zarr_codecs_arrays.proofs.FixedCells.{fixed_in-some}
+use Rattle.zarr_sharding_index.specs.Stored.{AreStoredAsIs, IsIndexRead, IsIndexWritten, index_fits}
+use Rattle.zarr_sharding_index.specs.Views.{pairs_of_bytes}
 use Rattle.zarr_codecs_traits.specs.Capabilities.{encodes_as_is}
 use Rattle.zarr_sharding_index.proofs.PairBytes.{length-pairs_bytes, pairs_bytes}
 use Rattle.zarr_sharding_index.proofs.StoredIndex.{fixed_long, index_below, pairs_are_values}
@@ -35,7 +41,7 @@ written : (order : Option Endianness) (exact : Bool) (shape value : List ℕ) (p
     → product shape ≡ 2 * length pairs → IsIndexWritten (bytes order) exact shape pairs value
 written order exact shape value pairs is as_is fit many =
     let chain = bytes order in
-    let fits_it = (and_parts (fits chain uint64 shape) (is_some_below (2 ^ 63) (size_of chain uint64 shape)) fit).0 in
+    let fits_it = (and_parts (fits chain uint64 shape) (has_index_size chain shape) fit).0 in
     let are : AreCells (zero_filled uint64) shape (pair_cells pairs) = record { fill = refl; values = pairs_are_values pairs; whole = length-pair_cells pairs ∙ sym many } in
     let made : encoded chain (zero_filled uint64) shape (pair_cells pairs) ≡ Some value = ap Some (in_memory_order order as_is pairs ∙ sym is) in
     record {
@@ -57,3 +63,37 @@ stored_as_is value pairs is (sharded subchunk inner index location) exact shape 
 -- how many bytes such an index has
 pub size_as_is : (index : Chain) (shape : List ℕ) (pairs : List Pair) → encodes_as_is index ≡ true → index_fits index shape ≡ true → product shape ≡ 2 * length pairs → index_size index shape ≡ 16 * length pairs
 size_as_is index shape pairs as_is fit many = sym (stored_as_is (pairs_bytes pairs) pairs refl index true shape as_is fit many).sized ∙ length-pairs_bytes pairs
+
+-- ---- read
+
+-- the pairs of the numbers that bytes are
+again : (value : List ℕ) → length value % 16 ≡ 0 → cells_in uint64 (fixed value) ≡ Some (pair_cells (pairs_of_bytes value)) → pairs_of_cells (pair_cells (pairs_of_bytes value)) ≡ pairs_of_bytes value
+again value whole cells =
+    let eights : length value % 8 ≡ 0 = omega (arith, whole) in
+    ap pairs_of_cells (some_same (sym cells ∙ fixed_in-some 8 value (omega arith) eights))
+
+-- as many bytes as the index has
+pub read_as_is : (index : Chain) (shape value : List ℕ) → encodes_as_is index ≡ true → index_fits index shape ≡ true → length value % 16 ≡ 0 → product shape ≡ 2 * length (pairs_of_bytes value)
+    → cells_in uint64 (fixed value) ≡ Some (pair_cells (pairs_of_bytes value)) → AreStoredAsIs (pairs_of_bytes value) value → IsIndexRead index shape value (pairs_of_bytes value)
+read_as_is (bytes order) shape value as_is fit whole many cells stored =
+    record {
+      is = ap (option_map pairs_of_cells) ((stored (bytes order) true shape as_is fit many).reads_back refl) ∙ ap Some (again value whole cells);
+      many = many;
+    }
+read_as_is (packbits padding first last) shape value as_is fit whole many cells stored = cc
+read_as_is (vlen index «data» width location) shape value as_is fit whole many cells stored = cc
+read_as_is (optional mask values) shape value as_is fit whole many cells stored = cc
+read_as_is (after_array_codec codec chain) shape value as_is fit whole many cells stored = cc
+read_as_is (then_bytes chain codec) shape value as_is fit whole many cells stored = cc
+read_as_is (sharded subchunk inner index location) shape value as_is fit whole many cells stored = cc
+
+-- more bytes, or fewer
+pub not_as_is : (index : Chain) (shape value : List ℕ) → encodes_as_is index ≡ true → (length value ≡ 8 * product shape → ⊥) → decoded index (zero_filled uint64) shape value ≡ None
+not_as_is (bytes order) shape value as_is other =
+    ap (λ (whole : Bool). elim whole [ true ↦ all_there (map (element_at order uint64 value) (place_numbers shape)) | false ↦ None ]) (ne_eqb (length value) (8 * product shape) other)
+not_as_is (packbits padding first last) shape value as_is other = cc
+not_as_is (vlen index «data» width location) shape value as_is other = cc
+not_as_is (optional mask values) shape value as_is other = cc
+not_as_is (after_array_codec codec chain) shape value as_is other = cc
+not_as_is (then_bytes chain codec) shape value as_is other = cc
+not_as_is (sharded subchunk inner index location) shape value as_is other = cc

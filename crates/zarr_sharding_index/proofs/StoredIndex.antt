@@ -9,7 +9,8 @@ use Rattle.zarr_codecs_meaning.specs.Chains as chains
 use Rattle.zarr_codecs_meaning.specs.Chains.{Chain}
 use Rattle.zarr_codecs_meaning.specs.Decoding.{pairs_of_cells}
 use Rattle.zarr_codecs_meaning.specs.Encoding.{Pair, encoded, index_size, pair_cells}
-use Rattle.zarr_codecs_meaning.specs.Fits.{fits, fixed_of, is_some_below, is_size_as, representation_of, size_of}
+use Rattle.zarr_codecs_meaning.specs.Fits.{fits, fixed_of, has_index_size, is_some_below, is_size_as, representation_of, size_of}
+use Rattle.zarr_codecs_meaning.proofs.Fitting.{size_is_below}
 use Rattle.zarr_codecs_meaning.specs.Laws.{AreCells, IsLawfulChain}
 use Rattle.zarr_codecs_meaning.specs.Numbers.{digits, number, word}
 use Rattle.zarr_codecs_meaning.specs.Payloads.{Payload, cells_in}
@@ -51,7 +52,7 @@ size_known (Some n) h = (n, refl, ltb-true n (2 ^ 63) h)
 
 pub index_below : (index : Chain) (shape : List ℕ) → index_fits index shape ≡ true → (size_of index uint64 shape ≡ Some (index_size index shape)) × (index_size index shape < 2 ^ 63)
 index_below index shape fit =
-    let known = size_known (size_of index uint64 shape) (and_parts (fits index uint64 shape) (is_some_below (2 ^ 63) (size_of index uint64 shape)) fit).1 in
+    let known = size_known (size_of index uint64 shape) (size_is_below index shape (and_parts (fits index uint64 shape) (has_index_size index shape) fit).1) in
     let is : index_size index shape ≡ known.0 = ap (λ (o : Option ℕ). unwrap_or o 0) known.1 in
     (known.1 ∙ ap Some (sym is), subst (λ n. n < 2 ^ 63) (sym is) known.2)
 
@@ -75,7 +76,7 @@ index_written index exact shape pairs payload (Ok value) lawful fit many room li
       sized = fixed_long (representation_of index uint64 shape) (index_size index shape) (length value.items) made.sized known.0;
     }
 index_written index exact shape pairs payload (Err error.Fit) lawful fit many room lists given =
-    let is = (and_parts (fits index uint64 shape) (is_some_below (2 ^ 63) (size_of index uint64 shape)) fit).0 in cc
+    let is = (and_parts (fits index uint64 shape) (has_index_size index shape) fit).0 in cc
 index_written index exact shape pairs payload (Err error.Codec) lawful fit many room lists given =
     subst (λ cells. CodecRefuses index (zero_filled uint64) shape cells) (some_same (sym given.1.valid.is.lists ∙ lists)) given.1.is
 index_written index exact shape pairs payload (Err error.Size) lawful fit many room lists (inl (inl large)) = absurd (omega (arith, large, many, room))

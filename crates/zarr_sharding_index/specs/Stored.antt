@@ -1,11 +1,11 @@
 -- How the index of a shard is stored.
-use Rattle.std.specs.Prelude.{◌≡◌, ℕ, ◌*◌, ◌^◌, List, length, Option, None, Some, option_map, Bool, true, false, ◌&&◌, Vec, Result, Ok, Err, IsTrue}
+use Rattle.std.specs.Prelude.{◌≡◌, ℕ, ◌*◌, List, length, Option, None, Some, option_map, Bool, true, false, ◌&&◌, Vec, Result, Ok, Err, IsTrue}
 use Rattle.std.specs.declared.alloc.Global.{Global}
 use Rattle.zarr_grids_boxes.specs.Boxes.{product}
 use Rattle.zarr_codecs_meaning.specs.Chains.{Chain}
 use Rattle.zarr_codecs_meaning.specs.Decoding.{decoded, pairs_of_cells}
 use Rattle.zarr_codecs_meaning.specs.Encoding.{Pair, encoded, index_size, pair_cells}
-use Rattle.zarr_codecs_meaning.specs.Fits.{fits, is_lossless, is_some_below, size_of}
+use Rattle.zarr_codecs_meaning.specs.Fits.{fits, has_index_size, is_lossless}
 use Rattle.zarr_codecs_meaning.specs.Refusals.{CodecRefuses, PassesIndex}
 use Rattle.zarr_codecs_meaning.specs.Types.{uint64, zero_filled}
 use Rattle.zarr_codecs_traits.specs.Capabilities.{encodes_as_is}
@@ -14,9 +14,9 @@ use Rattle.zarr_codecs_arrays.specs.declared.error.CodecError.TheVariants as err
 use Rattle.zarr_sharding_index.specs.declared.index.ShardIndex.{ShardIndex}
 use Rattle.zarr_sharding_index.specs.Views.{pairs_of}
 
--- whether a chain can write an index of this shape: it fits, and makes fewer than 2^63 bytes, always as many
+-- whether a chain can write an index of this shape: it fits, and makes fewer than 2^63 bytes, always as many; the numbers of the index have fewer as well
 abbrev pub index_fits : Chain → List ℕ → Bool
-index_fits index shape = fits index uint64 shape && is_some_below (2 ^ 63) (size_of index uint64 shape)
+index_fits index shape = fits index uint64 shape && has_index_size index shape
 
 -- how many bytes a chain makes of an index, where it can write one
 abbrev pub SizesIndex : Chain → List ℕ → Option ℕ → Type 0
@@ -52,3 +52,7 @@ ReadsIndex index shape bytes (Ok found) = IsIndexRead index shape bytes (pairs_o
 ReadsIndex index shape bytes (Err error.Damage) = decoded index (zero_filled uint64) shape bytes ≡ None
 ReadsIndex index shape bytes (Err error.Memory) = Unit {0}
 ReadsIndex index shape bytes (Err e) = ⊥
+
+-- the index that these bytes are to each chain that stores an index as it stands in memory, or why they are none
+abbrev pub ReadsAsIs : List ℕ → List ℕ → Result ShardIndex CodecError → Type 0
+ReadsAsIs shape bytes result = (index : Chain) → encodes_as_is index ≡ true → index_fits index shape ≡ true → ReadsIndex index shape bytes result

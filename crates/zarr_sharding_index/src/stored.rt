@@ -1,23 +1,25 @@
 //! The index of a shard as its codec stores it.
-ghost use Rattle.std.specs.Prelude.{◌≡◌, ◌*◌, ◌%◌, length, true, IfOk};
+ghost use Rattle.std.specs.Prelude.{◌≡◌, ◌*◌, ◌%◌, ◌^◌, length, nat_lt, true, IfOk};
 ghost use Rattle.zarr_grids_boxes.specs.Boxes.{product};
 ghost use Rattle.zarr_codecs_arrays.specs.Views.{elements_of};
 ghost use Rattle.zarr_codecs_meaning.specs.Types.{uint64, zero_filled};
-ghost use Rattle.zarr_sharding_index.specs.Stored.{SizesIndex, WritesIndex, ReadsIndex, index_fits};
+ghost use Rattle.zarr_sharding_index.specs.Stored.{SizesIndex, WritesIndex, ReadsAsIs, ReadsIndex, index_fits};
 ghost use Rattle.zarr_sharding_index.specs.Views.{pairs_of};
 
 use crate::index::ShardIndex;
+use crate::numbers::count_pairs;
 use std::alloc::{AllocError, Global};
 use zarr_codecs_arrays::{CodecError, Elements};
 use zarr_codecs_options::CodecOptions;
 use zarr_codecs_traits::{ArrayToBytesCodecTraits, BytesRepresentation};
 use zarr_codecs_types::FillValue;
 use zarr_codecs_types::data_type::uint64;
+use zarr_grids_boxes::walk::count_places;
 
 /// How many bytes a codec makes of an index of this shape. `None` where it doesn't suit the index,
-/// or doesn't make fewer than 2^63 bytes of each, always as many. `Err` where an allocation failed,
-/// and where a codec other than `bytes`, alone or after array codecs, tells only that its array, or
-/// what one of its codecs makes, is too large.
+/// or doesn't make fewer than 2^63 bytes of each, always as many, or where the index's numbers have
+/// 2^63 bytes or more. `Err` where an allocation failed, and where a caller's bytes codec inside
+/// tells that it makes 2^63 bytes or more of the index.
 pub fn index_size<X: ArrayToBytesCodecTraits>(
     alloc: Global,
     codec: &X,
@@ -25,6 +27,9 @@ pub fn index_size<X: ArrayToBytesCodecTraits>(
 ) -> Result<Option<u64>, AllocError>
     ensures { IfOk result (SizesIndex (X.meaning codec.now) shape.now) }
 {
+    if !have_few_bytes(shape) {
+        return Ok(None);
+    }
     match codec.encoded_representation(alloc, &uint64(), shape) {
         Ok(BytesRepresentation::FixedSize(size)) => {
             if size < 1 << 63 {
@@ -35,8 +40,17 @@ pub fn index_size<X: ArrayToBytesCodecTraits>(
         }
         Ok(_) => Ok(None),
         Err(CodecError::Fit) => Ok(None),
-        Err(CodecError::Size) if codec.partial_encoder_capability() => Ok(None),
         Err(_) => Err(AllocError),
+    }
+}
+
+/// Whether the numbers of an index of this shape have fewer than 2^63 bytes.
+fn have_few_bytes(shape: &[u64]) -> bool
+    ensures { result ≡ nat_lt (8 * product shape.now) (2 ^ 63) }
+{
+    match count_places(shape) {
+        Some(count) => count < 1 << 60,
+        None => false,
     }
 }
 
@@ -54,6 +68,9 @@ pub fn write_index<X: ArrayToBytesCodecTraits>(
     ensures { WritesIndex (X.meaning codec.now) (X.is_function codec.now) shape.now
         (pairs_of index) result }
 {
+    if codec.encodes_as_is() {
+        return Ok(index.into_bytes());
+    }
     let elements = numbers(alloc)?;
     codec.encode(alloc, index.into_numbers(), &elements, shape, options)
 }
@@ -70,12 +87,30 @@ pub fn read_index<X: ArrayToBytesCodecTraits>(
     requires even { product shape.now % 2 ≡ 0 }
     ensures { ReadsIndex (X.meaning codec.now) shape.now bytes.items result }
 {
+    if codec.encodes_as_is() {
+        return index_as_is(bytes, shape);
+    }
     let elements = numbers(alloc)?;
     match codec.decode(alloc, bytes, &elements, shape, options) {
         Ok(pairs) => Ok(ShardIndex::from_numbers(pairs)?),
         Err(CodecError::Damage) => Err(CodecError::Damage),
         Err(_) => Err(CodecError::Memory),
     }
+}
+
+/// The index of this shape whose bytes these are, as they stand in memory. `Damage` where they are
+/// more or fewer.
+fn index_as_is(bytes: Vec<u8>, shape: &[u64]) -> Result<ShardIndex, CodecError>
+    requires { product shape.now % 2 ≡ 0 }
+    ensures { ReadsAsIs shape.now bytes.items result }
+{
+    let Some(count) = count_places(shape) else {
+        return Err(CodecError::Damage);
+    };
+    if bytes.len() % 16 != 0 || count / 2 != count_pairs(bytes.as_slice()) as u64 {
+        return Err(CodecError::Damage);
+    }
+    Ok(ShardIndex::from_bytes(bytes))
 }
 
 /// The elements of an index: numbers of 64 bits, which fill with zero.

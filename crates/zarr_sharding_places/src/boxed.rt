@@ -1,7 +1,7 @@
 //! Elements of an array while those of boxes of it are put over them.
 ghost use Rattle.std.specs.Prelude.{◌≡◌, List, length, replicate, Some, IfOk};
 ghost use Rattle.zarr_codecs_arrays.specs.Views.{elements_of, payload_of};
-ghost use Rattle.zarr_codecs_meaning.specs.Payloads.{cells_in};
+ghost use Rattle.zarr_codecs_meaning.specs.Payloads.{cells_in, fixed};
 ghost use Rattle.zarr_codecs_meaning.specs.Types.{Cell};
 ghost use Rattle.zarr_codecs_regions.specs.Updates.{put};
 ghost use Rattle.zarr_codecs_traits.specs.Indexers.{numbers_of};
@@ -63,24 +63,50 @@ impl BoxedElements {
             (λ all. ShowsBoxes (elements_of array.entry.elements.now) all
             (put (numbers_of array.entry.shape.now (region_of region.now)) others before)) }
     {
-        if !is_inside(array.shape, region) || count_places(array.shape).is_none() {
-            return Err(AllocError);
-        }
         match self {
             BoxedElements::Fixed(bytes) => match given {
                 ArrayBytes::Fixed(given) => {
-                    let (given, data_type) = (given.as_slice(), array.elements.data_type());
-                    let made = put_fixed(alloc, bytes, array.shape, given, region, data_type)?;
-                    Ok(BoxedElements::Fixed(made))
+                    let all = BoxedElements::Fixed(bytes);
+                    all.put_bytes(alloc, array, region, given.as_slice())
                 }
                 _ => Err(AllocError),
             },
             BoxedElements::Placed(all) => {
+                if !is_inside(array.shape, region) || count_places(array.shape).is_none() {
+                    return Err(AllocError);
+                }
                 let at = numbers_asked(alloc, array.shape, Indexer::Subset(region))?;
                 let made = all.put(alloc, at.as_slice(), given, array.elements)?;
                 Ok(BoxedElements::Placed(made))
             }
         }
+    }
+
+    /// The elements of the array after others of one size, of which these are the bytes, were put
+    /// over those of a box of it, row-major. `Err` as in `put`, and where the elements aren't of
+    /// one size.
+    pub fn put_bytes(
+        self,
+        alloc: Global,
+        array: WholeArray<'_>,
+        region: &ArraySubset,
+        given: &[u8],
+    ) -> Result<BoxedElements, AllocError>
+        ensures { (before others : List Cell)
+            → ShowsBoxes (elements_of array.entry.elements.now) self before
+            → cells_in (elements_of array.entry.elements.now).type (fixed given.now) ≡ Some others
+            → IfOk result (λ all. ShowsBoxes (elements_of array.entry.elements.now) all
+            (put (numbers_of array.entry.shape.now (region_of region.now)) others before)) }
+    {
+        let BoxedElements::Fixed(bytes) = self else {
+            return Err(AllocError);
+        };
+        if !is_inside(array.shape, region) {
+            return Err(AllocError);
+        }
+        let data_type = array.elements.data_type();
+        let made = put_fixed(alloc, bytes, array.shape, given, region, data_type)?;
+        Ok(BoxedElements::Fixed(made))
     }
 
     /// The elements, in order. `Err` only where an allocation failed.

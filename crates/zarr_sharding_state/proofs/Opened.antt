@@ -1,25 +1,24 @@
 -- A shard is known by its fetched index.
-use Rattle.std.proofs.Common.{◌≡◌, ◌⊎◌, inl, inr, ℕ, ◌+◌, ◌-◌, ◌*◌, ◌/◌, ◌%◌, ◌^◌, ◌<◌, ◌≤◌, min, List, length, take, drop, ap, ◌∙◌, sym, refl, subst, arith, Option, Some, None, option_map, Bool, true, false, if◌then◌else◌, length-drop, Result, Ok, Err, IfErr}
+use Rattle.std.proofs.Common.{◌≡◌, inl, inr, ℕ, ◌+◌, ◌-◌, ◌<◌, List, length, ap, ◌∙◌, sym, subst, arith, Option, Some, None, option_map, Bool, false, if◌then◌else◌, length-drop, Result, Ok, Err, IfErr}
 use Rattle.std.specs.Prelude.{nat_le}
 use Rattle.std.specs.List.{list_all}
 use Rattle.std.proofs.lemmas.Bool.{leb-true, lt-leb}
 use Rattle.std.proofs.lemmas.List.{length-take}
-use Rattle.zarr_grids_boxes.specs.Boxes.{product}
 use Rattle.zarr_codecs_meaning.specs.Chains.{Chain, Location}
 use Rattle.zarr_codecs_meaning.specs.Chains.Location.{at_start, at_end}
 use Rattle.zarr_codecs_meaning.specs.Decoding.{decoded, index_bytes, pairs_of_cells}
-use Rattle.zarr_codecs_meaning.specs.Encoding.{Pair, base_of, index_size}
+use Rattle.zarr_codecs_meaning.specs.Encoding.{base_of, index_size}
 use Rattle.zarr_codecs_meaning.specs.Types.{uint64, zero_filled}
 use Rattle.zarr_codecs_meaning.proofs.Lists.{if_some, some_same}
 use Rattle.zarr_codecs_arrays.specs.declared.error.CodecError.{CodecError}
 use Rattle.zarr_codecs_arrays.specs.declared.error.CodecError.TheVariants as error
 use Rattle.zarr_sharding_changes.specs.Compaction.{data_in}
 use Rattle.zarr_sharding_index.specs.declared.held.FetchedIndex.{FetchedIndex}
-use Rattle.zarr_sharding_index.specs.Held.{FetchesIndex, IsFetched, held_pairs}
+use Rattle.zarr_sharding_index.specs.Held.{IsFetched, held_pairs}
 use Rattle.zarr_sharding_index.specs.Views.{pairs_of}
-use Rattle.zarr_sharding_state.specs.Held.{IsOpened, lies_between}
+use Rattle.zarr_sharding_state.specs.Held.{lies_between}
 use Rattle.zarr_sharding_state.specs.declared.known.KnownShard.{KnownShard}
-use Rattle.zarr_sharding_state.specs.Opened.{IsKnown, Misfits, OpenRefused, Opens, data_end}
+use Rattle.zarr_sharding_state.specs.Opened.{Misfits, OpenRefused, Opens, data_end}
 
 -- the data part ends where its bytes do
 data_ends : (location : Location) (size : ℕ) (value : List ℕ) (end : ℕ) → data_end location size (length value) ≡ Some end → end ≡ base_of location size + length (data_in location size value)

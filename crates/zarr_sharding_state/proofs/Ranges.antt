@@ -1,5 +1,5 @@
 -- Ranges that are written into a shard.
-use Rattle.std.proofs.Common.{◌≡◌, ℕ, ◌+◌, ◌-◌, ◌<◌, ◌≤◌, List, [], ◌∷◌, ◌++◌, length, ap, ◌∙◌, sym, refl, arith, inl, inr, take, drop, replicate, append_assoc, append-nil, length-append, length-drop}
+use Rattle.std.proofs.Common.{◌≡◌, ℕ, ◌+◌, ◌-◌, ◌≤◌, List, [], ◌++◌, length, ap, ◌∙◌, sym, refl, arith, inl, inr, take, drop, replicate, append_assoc, append-nil, length-append, length-drop}
 use Rattle.std.proofs.lemmas.Bool.{cases_lt}
 use Rattle.std.proofs.lemmas.List.{take_at, drop_at, drop_all, length-replicate}
 use Rattle.zarr_codecs_meaning.specs.Chains.{Location}

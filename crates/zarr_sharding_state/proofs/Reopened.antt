@@ -1,21 +1,20 @@
 -- What is known of a shard after changes are written is what opening it anew tells.
-use Rattle.std.proofs.Common.{◌≡◌, ◌⊎◌, ◌∙◌, inl, inr, ℕ, zero, suc, ◌+◌, ◌-◌, ◌≤◌, ◌<◌, ◌^◌, List, [], ◌∷◌, ◌++◌, length, get_or, set, take, drop, replicate, ap, sym, refl, subst, arith, Option, Some, None, option_map, unwrap_or, Bool, true, false, ◌&&◌, ◌||◌, ◌==◌, if◌then◌else◌, append_assoc, append-nil, length-append, length-drop, MatchOption}
+use Rattle.std.proofs.Common.{◌≡◌, ◌∙◌, inl, inr, ℕ, zero, suc, ◌+◌, ◌-◌, ◌≤◌, ◌<◌, ◌^◌, List, [], ◌∷◌, ◌++◌, length, get_or, set, take, drop, replicate, ap, sym, refl, subst, arith, Option, Some, None, option_map, Bool, true, false, ◌&&◌, ◌||◌, ◌==◌, if◌then◌else◌, length-append, length-drop}
 use Rattle.std.specs.Prelude.{nat_le}
 use Rattle.std.specs.List.{list_all}
-use Rattle.std.proofs.lemmas.Bool.{and_from, and_parts, cases_Bool, eqb-true, eq-eqb, le-leb, leb-true}
-use Rattle.std.proofs.lemmas.List.{get_or-set_same, get_or-set_other, length-set, length-take, take-append-drop}
+use Rattle.std.proofs.lemmas.Bool.{and_from, and_parts, cases_Bool, eqb-true, le-leb, leb-true}
+use Rattle.std.proofs.lemmas.List.{length-take, take-append-drop}
 use Rattle.zarr_codecs_meaning.specs.Chains.{Chain, Location}
 use Rattle.zarr_codecs_meaning.specs.Chains.Location.{at_start, at_end}
-use Rattle.zarr_codecs_meaning.specs.Decoding.{decoded, index_bytes, is_absent, pairs_in, pairs_of_cells, slice_at}
+use Rattle.zarr_codecs_meaning.specs.Decoding.{decoded, index_bytes, is_absent, pairs_in, pairs_of_cells}
 use Rattle.zarr_codecs_meaning.specs.Encoding.{Pair, absent_pair, base_of, index_size, joined, pair_at, pair_cells, slice_bytes}
 use Rattle.zarr_codecs_meaning.specs.Fits.{is_lossless}
 use Rattle.zarr_codecs_meaning.specs.Standing.{HasSlice}
 use Rattle.zarr_codecs_meaning.specs.Types.{uint64, zero_filled}
 use Rattle.zarr_codecs_meaning.proofs.Lists.{if_some}
-use Rattle.zarr_codecs_meaning.proofs.Shards.{AreWords, index_read, pairs_back, slice_found}
+use Rattle.zarr_codecs_meaning.proofs.Shards.{AreWords, index_read, pairs_back}
 use Rattle.zarr_sharding_changes.specs.Changes.{Change, appended, pairs_after}
 use Rattle.zarr_sharding_changes.specs.Compaction.{data_in}
-use Rattle.zarr_sharding_changes.proofs.Appending.{slice_grown}
 use Rattle.zarr_sharding_state.specs.Held.{IsOpened, are_absent, lies_between, shard_length}
 use Rattle.zarr_sharding_state.specs.Written.{IsAppended, IsChanged, with_slices}
 use Rattle.zarr_sharding_state.proofs.Counts.{changed_count}

@@ -1,12 +1,12 @@
 -- Laws of a shard in a source. Each is said of slices that stand for their subchunks' cells, and of slices that are what encoding writes.
-use Rattle.std.specs.Prelude.{◌≡◌, ℕ, ◌+◌, ◌-◌, ◌^◌, ◌<◌, List, length, Option, None, Some, Bool, true}
+use Rattle.std.specs.Prelude.{◌≡◌, ℕ, ◌+◌, ◌^◌, ◌<◌, List, length, Option, None, Some, Bool, true}
 use Rattle.std.specs.List.{list_all}
 use Rattle.zarr_codecs_meaning.specs.Chains.{Chain, Location}
 use Rattle.zarr_codecs_meaning.specs.Decoding.{decoded}
-use Rattle.zarr_codecs_meaning.specs.Encoding.{Pair, Piece, base_of, index_size}
+use Rattle.zarr_codecs_meaning.specs.Encoding.{Pair, Piece, index_size}
 use Rattle.zarr_codecs_meaning.specs.Fits.{is_lossless}
 use Rattle.zarr_codecs_meaning.specs.Standing.{Slices, ShardStands}
-use Rattle.zarr_codecs_meaning.specs.Types.{Cell, Elements, is_fill, uint64, zero_filled}
+use Rattle.zarr_codecs_meaning.specs.Types.{Elements, is_fill, uint64, zero_filled}
 use Rattle.zarr_sharding_changes.specs.Changes.{Change, ChangesStand, SliceStandsBy, appended, pairs_after, pieces_after}
 use Rattle.zarr_sharding_state.specs.Held.{HoldsPieces, IsOpened}
 use Rattle.zarr_sharding_state.specs.Written.{IsChanged}

@@ -1,15 +1,14 @@
 -- What one writing call makes of a shard.
-use Rattle.std.specs.Prelude.{◌≡◌, ◌⊎◌, ℕ, ◌+◌, ◌^◌, ◌≤◌, List, [], ◌∷◌, length, Option, None, Some, Bool, true, false, Result, Ok, Err, unwrap_or}
+use Rattle.std.specs.Prelude.{◌≡◌, ◌⊎◌, ℕ, ◌+◌, ◌^◌, ◌≤◌, List, [], length, Option, None, Some, Bool, true, false, Result, Ok, Err, unwrap_or}
 use Rattle.zarr_codecs_meaning.specs.Chains.{Chain, Location}
 use Rattle.zarr_codecs_meaning.specs.Chains.Location.{at_start, at_end}
-use Rattle.zarr_codecs_meaning.specs.Encoding.{Pair, base_of, index_size, joined, pair_cells}
+use Rattle.zarr_codecs_meaning.specs.Encoding.{Pair, base_of, index_size, pair_cells}
 use Rattle.zarr_codecs_meaning.specs.Refusals.{CodecRefuses, PassesIndex}
-use Rattle.zarr_codecs_meaning.specs.Types.{Cell, Elements, uint64, zero_filled}
+use Rattle.zarr_codecs_meaning.specs.Types.{uint64, zero_filled}
 use Rattle.zarr_codecs_arrays.specs.declared.error.CodecError.{CodecError}
 use Rattle.zarr_codecs_arrays.specs.declared.error.CodecError.TheVariants as error
 use Rattle.zarr_codecs_traits.specs.Patches.{written_at}
-use Rattle.zarr_codecs_traits.specs.declared.value_patch.ValuePatch.{ValuePatch}
-use Rattle.zarr_sharding_changes.specs.Changes.{Change, appended, pairs_after}
+use Rattle.zarr_sharding_changes.specs.Changes.{Change, appended}
 use Rattle.zarr_sharding_index.specs.Stored.{AreStoredAsIs, IsIndexWritten}
 use Rattle.zarr_sharding_state.specs.Held.{are_absent, shard_length}
 
@@ -17,13 +16,6 @@ use Rattle.zarr_sharding_state.specs.Held.{are_absent, shard_length}
 abbrev pub with_slices : Location → ℕ → List ℕ → List ℕ → List ℕ → List ℕ
 with_slices at_start end index_bytes slices value = written_at (written_at value 0 index_bytes) end slices
 with_slices at_end end index_bytes slices value = written_at (written_at value end slices) (end + length slices) index_bytes
-
--- the bytes of the index among the two ranges that are written
-abbrev pub index_patched : Location → List ValuePatch → List ℕ
-index_patched location [] = []
-index_patched at_start (first ∷ others) = first.bytes.items
-index_patched at_end (first ∷ []) = []
-index_patched at_end (first ∷ second ∷ others) = second.bytes.items
 
 -- a slice is appended, and the index is that of these pairs, stored as it is
 pub record IsAppendedAsIs (location : Location) (end : ℕ) (slice : List ℕ) (pairs : List Pair) (before after : Option (List ℕ)) : Type 0 where

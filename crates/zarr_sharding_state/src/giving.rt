@@ -36,7 +36,8 @@ impl KnownShard {
     ghost use Rattle.zarr_sharding_state.specs.Written.{AppendRefused, ChangesRefused, IsAppendedAsIs, IsChanged};
 
     /// Replaces the slices of some subchunks, as `write_slices` does, with its errors. The slice of
-    /// a change that is the only one isn't copied before it goes out.
+    /// a change that is the only one isn't copied before it goes out, and then neither is the
+    /// index, where its codec encodes elements as they stand in memory (`encodes_as_is`).
     pub fn write_given<X: ArrayToBytesCodecTraits, E: BytesPartialEncoderTraits>(
         &mut self,
         alloc: Global,

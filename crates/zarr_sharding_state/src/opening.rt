@@ -76,11 +76,8 @@ fn all_lie_between(index: &ShardIndex, base: u64, end: u64) -> bool
 fn lies_between(pair: ByteRange, base: u64, end: u64) -> bool
     ensures { result ≡ lies_between base end (pair_of pair) }
 {
-    if is_absent(pair) {
-        return true;
-    }
     match pair.offset.checked_add(pair.length) {
-        Some(last) => base <= pair.offset && last <= end,
-        None => false,
+        Some(last) if base <= pair.offset && last <= end => true,
+        _ => is_absent(pair),
     }
 }

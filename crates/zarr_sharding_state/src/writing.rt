@@ -1,14 +1,14 @@
 //! What replaces the slices of some subchunks.
 ghost use Rattle.std.specs.Prelude.{◌≡◌, ◌+◌, ◌^◌, ◌<◌, ◌≤◌, ◌∷◌, ℕ, List, [], Option, Some, length, true, unwrap_or, IfNone, IfOk, IfSome, IsTrue, OnErr, OnOk};
 ghost use Rattle.std.specs.List.{list_all};
-ghost use Rattle.zarr_codecs_traits.specs.Patches.{any_too_far, patched_contents};
+ghost use Rattle.zarr_codecs_traits.specs.Patches.{any_too_far, patched_contents, patches_of};
 ghost use Rattle.zarr_codecs_traits.specs.Sources.{refused_after};
 ghost use Rattle.zarr_codecs_traits.specs.Writes.{accepted_after};
 ghost use Rattle.zarr_sharding_changes.specs.Changes.{appended, pairs_after};
 ghost use Rattle.zarr_sharding_index.specs.Views.{location_of, pairs_of};
 ghost use Rattle.zarr_sharding_state.specs.Held.{are_absent, shard_length};
 ghost use Rattle.zarr_sharding_state.specs.Views.{changes_of, is_below};
-ghost use Rattle.zarr_sharding_state.specs.Written.{AppendRefused, index_patched, with_slices};
+ghost use Rattle.zarr_sharding_state.specs.Written.{AppendRefused, with_slices};
 
 use std::alloc::{AllocError, Global};
 use zarr_codecs_arrays::CodecError;
@@ -163,24 +163,26 @@ pub(crate) fn append_bytes<E: BytesPartialEncoderTraits>(
         accepted_after (E.accepted_writes source.old) result.0 }
     ensures rewrites { E.rewrites source.old source.new }
 {
-    let patches = slice_patches(location, end, bytes);
-    let written = source.partial_encode(alloc, &patches);
-    (written, into_index(location, patches))
+    let written = source.partial_encode(alloc, &slice_patches(location, end, &bytes));
+    (written, bytes.index)
 }
 
 /// The ranges to be written into a shard whose data part ends at `end`, so that slices are appended
 /// to it, and its index is replaced.
-fn slice_patches(location: ShardingIndexLocation, end: u64, bytes: ShardBytes) -> [ValuePatch; 2]
-    requires { end + length bytes.slices.items < 2 ^ 63 }
-    ensures patched { (contents : Option (List ℕ)) → patched_contents contents result
-        ≡ with_slices (location_of location) end bytes.index.items bytes.slices.items
+fn slice_patches(
+    location: ShardingIndexLocation,
+    end: u64,
+    bytes: &ShardBytes,
+) -> [ValuePatch<'_>; 2]
+    requires { end + length bytes.now.slices.items < 2 ^ 63 }
+    ensures patched { (contents : Option (List ℕ)) → patched_contents contents (patches_of result)
+        ≡ with_slices (location_of location) end bytes.now.index.items bytes.now.slices.items
         (unwrap_or contents []) }
-    ensures far { IsTrue (any_too_far result) → 2 ^ 63
-        ≤ shard_length (location_of location) (length bytes.index.items)
-        (end + length bytes.slices.items) }
-    ensures index { index_patched (location_of location) result ≡ bytes.index.items }
+    ensures far { IsTrue (any_too_far (patches_of result)) → 2 ^ 63
+        ≤ shard_length (location_of location) (length bytes.now.index.items)
+        (end + length bytes.now.slices.items) }
 {
-    let ShardBytes { index, slices } = bytes;
+    let (index, slices) = (bytes.index.as_slice(), bytes.slices.as_slice());
     let after = end + slices.len() as u64;
     match location {
         ShardingIndexLocation::Start => [
@@ -203,16 +205,5 @@ fn slice_patches(location: ShardingIndexLocation, end: u64, bytes: ShardBytes) -
                 bytes: index,
             },
         ],
-    }
-}
-
-/// The bytes of the index among the ranges of `slice_patches`.
-fn into_index(location: ShardingIndexLocation, patches: [ValuePatch; 2]) -> Vec<u8>
-    ensures { result.items ≡ index_patched (location_of location) patches }
-{
-    let [first, second] = patches;
-    match location {
-        ShardingIndexLocation::Start => first.bytes,
-        ShardingIndexLocation::End => second.bytes,
     }
 }

@@ -119,7 +119,11 @@ impl BytesPartialEncoderTraits for TestSource {
 
     ghost rewrites = { λ _ _. Unit {0} };
 
-    fn partial_encode(&mut self, alloc: Global, patches: &[ValuePatch]) -> Result<(), CodecError> {
+    fn partial_encode(
+        &mut self,
+        alloc: Global,
+        patches: &[ValuePatch<'_>],
+    ) -> Result<(), CodecError> {
         if self.refuses_write() {
             self.refused = self.refused.saturating_add(1);
             return Err(CodecError::Source);

@@ -1,4 +1,4 @@
-use Rattle.std.proofs.Common.{◌≡◌, ℕ, ◌-◌, ◌<◌, ◌≤◌, ◌++◌, length, get_or, take, drop}
+use Rattle.std.proofs.Common.{◌≡◌, ℕ, ◌-◌, ◌≤◌, ◌++◌, length, get_or, take, drop}
 use Rattle.zarr_grids_boxes.specs.Boxes.{each2}
 use Rattle.zarr_array_core.proofs.moving.lowered_by.Given as goal
 

@@ -1,11 +1,17 @@
-use Rattle.std.proofs.Common.{◌≡◌, ◌∙◌, List, ap, subst, true}
+use Rattle.std.proofs.Common.{◌≡◌, ◌∷◌, ◌∙◌, List, ap, sym, subst, true, Err}
 use Rattle.std.specs.Prelude.{OnOk}
+use Rattle.zarr_codecs_meaning.specs.Partial.{encodes_in_part}
 use Rattle.zarr_codecs_meaning.specs.Types.{Cell}
 use Rattle.zarr_codecs_arrays.specs.Views.{elements_of, payload_of}
 use Rattle.zarr_codecs_array_to_array.specs.Moving.{are_places}
+use Rattle.zarr_codecs_array_to_array.specs.Views.{codec_of}
+use Rattle.zarr_codecs_array_to_array.specs.declared.codec.ArrayToArrayCodec.{ArrayToArrayCodec}
 use Rattle.zarr_codecs_traits.specs.Indexers.{are_inside, asked_of, listed, numbers_asked}
-use Rattle.zarr_codecs_traits.specs.PartWriting.{IsEncodedInto, NotEncodedInto}
+use Rattle.zarr_codecs_traits.specs.PartWriting.{IsEncodedInto, IsPlaced, NotEncodedInto}
+use Rattle.zarr_codecs_around.specs.ArrayCodecs.{shape_after}
+use Rattle.zarr_codecs_around.specs.MovedNumbers.{numbers_after}
 use Rattle.zarr_codecs_around.specs.Views.{codecs_of, with_array_codecs}
+use Rattle.zarr_codecs_around.proofs.MovedNumbers.{placed_all, unmoved_all, unwritten_all, written_all}
 use Rattle.zarr_codecs_around.proofs.PartChains.{asked_places}
 use Rattle.zarr_codecs_around.proofs.WritingAfter.{on_written, unwritten_by_numbers, written_by_numbers}
 use Rattle.zarr_codecs_around.proofs.part_writing.encode_asked_after.Goals as goal
@@ -17,34 +23,79 @@ invariant_of-listed g c =
     let inside : are_inside shape asked ≡ true = c.requires.inside in
     record { inside = ap (are_places shape) (c.as_slice.ensures.value ∙ c.in_ok-numbers.ensures.numbers) ∙ asked_places shape asked inside }
 
+pub invariant_of-inner : goal.invariant_of-inner
+invariant_of-inner g c =
+    record { inside = ap (are_places c.as_slice-2.result.now) c.as_slice-3.ensures.value ∙ (ap (λ es. are_places es c.in-Ok.moved.numbers.items) c.as_slice-2.ensures.value ∙ c.in-Ok.ensures.inside) }
+
+pub returns-in-Err-clause-cause : goal.returns-in-Err-clause-cause
+returns-in-Err-clause-cause g c = λ honest same.
+    let rest = g.A.ArrayToBytesCodecTraits.meaning c.args.chain.rest.now in
+    let codecs = codec_of c.in-Some.first.now ∷ codecs_of c.in-Some.others.now in
+    let elements = elements_of c.args.part.elements.now in
+    let shape = c.args.part.shape.now in
+    let asked = asked_of c.args.part.indexer in
+    let payload = payload_of c.args.bytes in
+    let old = g.E.BytesPartialDecoderTraits.contents c.args.source.now in
+    let e = c.in-Err.error in
+    subst (λ (codecs : List ArrayToArrayCodec). NotEncodedInto {A = Unit {0}} (with_array_codecs (codecs_of codecs) rest) elements shape asked payload old (Err e)) (sym c.in-Some.ensures.cases.0)
+    (unmoved_all codecs rest elements shape c.as_slice.result.now asked payload old e c.in-Err.ensures)
+
 pub returns-clause-ok : goal.returns-clause-ok
 returns-clause-ok g c = λ honest.
     let E = g.E.BytesPartialDecoderTraits in
     let rest = g.A.ArrayToBytesCodecTraits.meaning c.args.chain.rest.now in
     let exact = g.A.ArrayToBytesCodecTraits.is_function c.args.chain.rest.now in
-    let chain = with_array_codecs (codecs_of c.args.chain.array_to_array.now) rest in
+    let codecs = codec_of c.in-Some.first.now ∷ codecs_of c.in-Some.others.now in
+    let chain = with_array_codecs codecs rest in
     let elements = elements_of c.args.part.elements.now in
     let shape = c.args.part.shape.now in
     let asked = asked_of c.args.part.indexer in
+    let numbers = numbers_asked shape asked in
     let payload = payload_of c.args.bytes in
     let old = E.contents c.args.source.now in
-    let new = E.contents c.encode_listed_after.new.source in
-    let r = c.encode_listed_after.result in
+    let new = E.contents c.encode_numbers.new.source in
+    let r = c.encode_numbers.result in
     let inside : are_inside shape asked ≡ true = c.requires.inside in
-    let at = subst (λ ns. OnOk r ((cells : List Cell) × IsEncodedInto chain exact elements shape (listed ns) payload cells old new)) (c.as_slice.ensures.value ∙ c.in_ok-numbers.ensures.numbers) (c.encode_listed_after.ensures.ok honest) in
-    on_written r ((cells : List Cell) × IsEncodedInto chain exact elements shape (listed (numbers_asked shape asked)) payload cells old new) ((cells : List Cell) × IsEncodedInto chain exact elements shape asked payload cells old new)
-    (λ w. (w.0, written_by_numbers chain exact elements shape asked payload w.0 old new inside w.1)) at
+    let told : c.as_slice.result.now ≡ numbers = c.as_slice.ensures.value ∙ c.in_ok-numbers.ensures.numbers in
+    let last : c.as_slice-2.result.now ≡ shape_after codecs shape = c.as_slice-2.ensures.value ∙ c.in-Ok.ensures.last_is in
+    let moved : c.as_slice-3.result.now ≡ numbers_after codecs shape numbers = c.as_slice-3.ensures.value ∙ (c.in-Ok.ensures.moved_are ∙ ap (numbers_after codecs shape) told) in
+    let found = subst (λ es. OnOk r ((cells : List Cell) × IsEncodedInto rest exact elements es (listed c.as_slice-3.result.now) payload cells old new)) last (c.encode_numbers.ensures.ok honest) in
+    let at = subst (λ ns. OnOk r ((cells : List Cell) × IsEncodedInto rest exact elements (shape_after codecs shape) (listed ns) payload cells old new)) moved found in
+    subst (λ (codecs : List ArrayToArrayCodec). OnOk r ((cells : List Cell) × IsEncodedInto (with_array_codecs (codecs_of codecs) rest) exact elements shape asked payload cells old new)) (sym c.in-Some.ensures.cases.0)
+    (on_written r ((cells : List Cell) × IsEncodedInto rest exact elements (shape_after codecs shape) (listed (numbers_after codecs shape numbers)) payload cells old new)
+    ((cells : List Cell) × IsEncodedInto chain exact elements shape asked payload cells old new)
+    (λ w. (w.0, written_by_numbers chain exact elements shape asked payload w.0 old new inside (written_all codecs rest exact elements shape numbers payload w.0 old new c.in-Ok.ensures.fit (asked_places shape asked inside) w.1))) at)
+
+pub returns-clause-placed : goal.returns-clause-placed
+returns-clause-placed g c = λ honest.
+    let rest = g.A.ArrayToBytesCodecTraits.meaning c.args.chain.rest.now in
+    let codecs = codec_of c.in-Some.first.now ∷ codecs_of c.in-Some.others.now in
+    let shape = c.args.part.shape.now in
+    let old = g.E.BytesPartialDecoderTraits.contents c.args.source.now in
+    let r = c.encode_numbers.result in
+    let last : c.as_slice-2.result.now ≡ shape_after codecs shape = c.as_slice-2.ensures.value ∙ c.in-Ok.ensures.last_is in
+    let found = subst (λ es. OnOk r (IsPlaced rest es old)) last (c.encode_numbers.ensures.placed honest) in
+    subst (λ (codecs : List ArrayToArrayCodec). OnOk r (IsPlaced (with_array_codecs (codecs_of codecs) rest) shape old)) (sym c.in-Some.ensures.cases.0)
+    (on_written r (IsPlaced rest (shape_after codecs shape) old) (IsPlaced (with_array_codecs codecs rest) shape old) (placed_all codecs rest shape old) found)
 
 pub returns-clause-cause : goal.returns-clause-cause
-returns-clause-cause g c = λ honest partly.
-    let E = g.E.BytesPartialDecoderTraits in
+returns-clause-cause g c = λ honest same.
     let rest = g.A.ArrayToBytesCodecTraits.meaning c.args.chain.rest.now in
-    let chain = with_array_codecs (codecs_of c.args.chain.array_to_array.now) rest in
+    let codecs = codec_of c.in-Some.first.now ∷ codecs_of c.in-Some.others.now in
+    let chain = with_array_codecs codecs rest in
     let elements = elements_of c.args.part.elements.now in
     let shape = c.args.part.shape.now in
     let asked = asked_of c.args.part.indexer in
+    let numbers = numbers_asked shape asked in
     let payload = payload_of c.args.bytes in
-    let old = E.contents c.args.source.now in
-    let r = c.encode_listed_after.result in
+    let old = g.E.BytesPartialDecoderTraits.contents c.args.source.now in
+    let r = c.encode_numbers.result in
     let inside : are_inside shape asked ≡ true = c.requires.inside in
-    unwritten_by_numbers chain elements shape asked payload old r inside (subst (λ ns. NotEncodedInto chain elements shape (listed ns) payload old r) (c.as_slice.ensures.value ∙ c.in_ok-numbers.ensures.numbers) (c.encode_listed_after.ensures.cause honest partly))
+    let told : c.as_slice.result.now ≡ numbers = c.as_slice.ensures.value ∙ c.in_ok-numbers.ensures.numbers in
+    let last : c.as_slice-2.result.now ≡ shape_after codecs shape = c.as_slice-2.ensures.value ∙ c.in-Ok.ensures.last_is in
+    let moved : c.as_slice-3.result.now ≡ numbers_after codecs shape numbers = c.as_slice-3.ensures.value ∙ (c.in-Ok.ensures.moved_are ∙ ap (numbers_after codecs shape) told) in
+    let partly = subst (λ (codecs : List ArrayToArrayCodec). encodes_in_part (with_array_codecs (codecs_of codecs) rest) ≡ encodes_in_part rest) c.in-Some.ensures.cases.0 same in
+    let found = subst (λ es. NotEncodedInto rest elements es (listed c.as_slice-3.result.now) payload old r) last (c.encode_numbers.ensures.cause honest) in
+    let at = subst (λ ns. NotEncodedInto rest elements (shape_after codecs shape) (listed ns) payload old r) moved found in
+    subst (λ (codecs : List ArrayToArrayCodec). NotEncodedInto (with_array_codecs (codecs_of codecs) rest) elements shape asked payload old r) (sym c.in-Some.ensures.cases.0)
+    (unwritten_by_numbers chain elements shape asked payload old r inside (unwritten_all codecs rest elements shape numbers payload old r c.in-Ok.ensures.fit (asked_places shape asked inside) partly at))

@@ -7,7 +7,7 @@ use Rattle.zarr_codecs_meaning.specs.Types.{bytes_in, components, is_fixed}
 use Rattle.zarr_codecs_arrays.specs.Outcomes.{IsValid}
 use Rattle.zarr_codecs_arrays.specs.Views.{elements_of, payload_of}
 use Rattle.zarr_codecs_traits.specs.Indexers.{asked_of, numbers_asked}
-use Rattle.zarr_codecs_traits.specs.Patches.{patched}
+use Rattle.zarr_codecs_traits.specs.Patches.{patched, patches_in}
 use Rattle.zarr_codecs_traits.specs.PartWriting.{IsEncodedInto}
 use Rattle.zarr_codecs_bytes.specs.Orders.{all_ordered}
 use Rattle.zarr_codecs_bytes.specs.Views.{bytes_chain, order_of}
@@ -27,7 +27,7 @@ element_patches-requires-clause-long c =
     let g = given_cells type c.in-Fixed.bytes.items count given.cells (and_parts (is_fixed type) (order_fits order (components type)) given.fit).0 valid in
     let some = subst (λ t. 0 < bytes_in (components t)) c.data_type-data_type.ensures c.in-Ok.ensures.some in
     let made = c.in_ok-ordered-in-Fixed.ensures ∙ ap (λ t. all_ordered order (components t) c.in-Fixed.bytes.items) c.data_type-data_type.ensures in
-    ap length (c.as_slice.ensures.value ∙ made) ∙ length-all_ordered order (components type) count c.in-Fixed.bytes.items some g.long
+    ap length made ∙ length-all_ordered order (components type) count c.in-Fixed.bytes.items some g.long
 
 pub returns-in_ok-element_patches-in-Fixed-clause-ok : goal.returns-in_ok-element_patches-in-Fixed-clause-ok
 returns-in_ok-element_patches-in-Fixed-clause-ok c = λ value long.
@@ -39,11 +39,11 @@ returns-in_ok-element_patches-in-Fixed-clause-ok c = λ value long.
     let order = option_map order_of c.args.codec.endian in
     let numbers = numbers_asked shape asked in
     let given = c.requires.given in
-    let patches = c.in_ok-element_patches-in-Fixed.field-0.items in
+    let patches = patches_in c.in_ok-element_patches-in-Fixed.field-0 in
     let content = c.in_ok-ordered-in-Fixed.ordered.items in
     let some = subst (λ t. 0 < bytes_in (components t)) c.data_type-data_type.ensures c.in-Ok.ensures.some in
     let size : c.in-Ok.size ≡ product shape * width = c.in-Ok.ensures.ok ∙ ap (λ t. product shape * bytes_in (components t)) c.data_type-data_type.ensures in
-    let put : PutsElements width c.in-Ok.size numbers content patches = subst (λ bs. PutsElements width c.in-Ok.size numbers bs patches) c.as_slice.ensures.value c.in_ok-element_patches-in-Fixed.ensures in (
+    let put : PutsElements width c.in-Ok.size numbers content patches = c.in_ok-element_patches-in-Fixed.ensures in (
       given.cells,
       subst (λ b. IsEncodedInto (bytes_chain c.args.codec) true elements shape asked (payload_of b) given.cells (Some value) (Some (patched value patches))) (sym c.in-Fixed.is)
           (put_over order elements shape asked c.in-Fixed.bytes.items content given.cells value patches (

@@ -1,4 +1,4 @@
-use Rattle.std.proofs.Common.{◌≡◌, ap, sym, ◌∙◌, false, option_map, unwrap_or, Option, List, Err, Vec, Global, ℕ}
+use Rattle.std.proofs.Common.{◌≡◌, ap, sym, ◌∙◌, false, option_map, unwrap_or, Option, List, Vec, Global, ℕ}
 use Rattle.zarr_codecs_arrays.specs.Views.{elements_of, payload_of}
 use Rattle.zarr_codecs_meaning.specs.Types.{Cell, is_fill}
 use Rattle.zarr_sharding_codec.proofs.StoredParts.{encodes_unrefused, piece_refused}

@@ -2,7 +2,8 @@ use Rattle.std.proofs.Common.{◌≡◌, ◌∙◌, ◌⊎◌, true, rules, IsTr
 use Rattle.zarr_grids_boxes.specs.Boxes.{Region, product}
 use Rattle.zarr_grids_boxes.specs.Subsets.{region_of}
 use Rattle.zarr_grids_overlay.specs.Overlays.{extent_of}
-use Rattle.zarr_codecs_traits.specs.Representations.{IsRepresented, tells_too_long}
+use Rattle.zarr_codecs_traits.specs.Representations.{IsRepresented}
+use Rattle.zarr_codecs_meaning.specs.Fits.{tells_too_long}
 use Rattle.zarr_codecs_meaning.specs.Types.{IsTooLarge}
 use Rattle.zarr_array_meaning.specs.Writing.{may_be_in_part}
 use Rattle.zarr_array_core.specs.Views.{document_of}

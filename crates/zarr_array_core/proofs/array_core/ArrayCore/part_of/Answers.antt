@@ -1,16 +1,15 @@
-use Rattle.std.proofs.Common.{◌≡◌, ◌∙◌, ◌≤◌, ℕ, List, Option, Some, None, Ok, Err, subst, sym, ap, refl}
+use Rattle.std.proofs.Common.{◌≡◌, ◌∙◌, ◌≤◌, ℕ, List, Option, Some, Ok, Err, subst, sym, ap}
 use Rattle.std.specs.FinMap.{get}
 use Rattle.zarr_grids_boxes.specs.Boxes.{Region, product}
-use Rattle.zarr_grids_boxes.specs.Cuts.{IsAtMost, overlapped, relative}
+use Rattle.zarr_grids_boxes.specs.Cuts.{IsAtMost, overlapped}
 use Rattle.zarr_grids_boxes.specs.Subsets.{region_of}
 use Rattle.zarr_codecs_arrays.specs.Outcomes.{IsCounted}
 use Rattle.zarr_codecs_arrays.specs.Views.{payload_of}
 use Rattle.zarr_codecs_arrays.specs.declared.array_bytes.ArrayBytes.{ArrayBytes}
 use Rattle.zarr_codecs_traits.specs.Indexers.{in_box}
 use Rattle.zarr_codecs_traits.specs.Outcomes.{IsPart}
-use Rattle.zarr_array_elements.proofs.Meeting.{IsMeeting}
 use Rattle.zarr_array_elements.proofs.Shared.{large_grows, shared_smaller}
-use Rattle.zarr_array_core.specs.Parts.{DecodesElements, ValueStops}
+use Rattle.zarr_array_core.specs.Parts.{DecodesElements}
 use Rattle.zarr_array_core.specs.Views.{document_of}
 use Rattle.zarr_array_core.proofs.SeenFrom.{later_start, sharing_ranks}
 use Rattle.zarr_array_core.proofs.Placed.{meets, decode_stops, part_counted}

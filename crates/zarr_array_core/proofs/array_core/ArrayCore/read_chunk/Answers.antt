@@ -8,7 +8,7 @@ use Rattle.zarr_grids_chunks.specs.Grids.{IsInGrid}
 use Rattle.zarr_codecs_arrays.specs.Views.{payload_of}
 use Rattle.zarr_array_meaning.specs.Chunks.{stored_at}
 use Rattle.zarr_array_elements.specs.Views.{cells_shown}
-use Rattle.zarr_array_elements.proofs.Meeting.{IsMeeting, shares_own}
+use Rattle.zarr_array_elements.proofs.Meeting.{shares_own}
 use Rattle.zarr_array_core.specs.Parts.{GivesChunk, IsChunkPart}
 use Rattle.zarr_array_core.specs.Views.{document_of, path_of}
 use Rattle.zarr_array_core.proofs.Placed.{meets, placed, ranks_alike, same_box}

@@ -1,10 +1,10 @@
-use Rattle.std.proofs.Common.{◌≡◌, ◌∙◌, ℕ, List, Option, Some, None, replicate, subst, rules}
+use Rattle.std.proofs.Common.{◌≡◌, ◌∙◌, ℕ, List, Option, Some, replicate, subst, rules}
 use Rattle.std.specs.FinMap.{get, insert}
 use Rattle.zarr_grids_boxes.specs.Boxes.{Region, product}
 use Rattle.zarr_grids_boxes.specs.Subsets.{region_of}
 use Rattle.zarr_grids_overlay.specs.Overlays.{extent_of}
 use Rattle.zarr_codecs_meaning.specs.Decoding.{decoded}
-use Rattle.zarr_codecs_traits.specs.Patches.{patched}
+use Rattle.zarr_codecs_traits.specs.Patches.{patched, patches_of}
 use Rattle.zarr_array_meaning.specs.Writing.{stores_fill}
 use Rattle.zarr_array_core.specs.ChunkValues.{MakesValue, with_value}
 use Rattle.zarr_array_core.specs.Views.{array_cells, document_of, is_exact}
@@ -23,7 +23,7 @@ returns-in-Some-2-clause-ok g c = λ honest.
     let new = g.S.ReadableStorageTraits.held c.set.new.store in
     let key = c.args.key.now in
     let size = c.in-Some.size in
-    let patches = c.args.patches.now in
+    let patches = patches_of c.args.patches.now in
     let value = c.as_slice.result.now in
     let fills : decoded document.chain document.elements c.shape.result.now (replicate size 0) ≡ Some (replicate (product c.shape.result.now) document.elements.fill) = let all = c.in-Some.ensures c.requires.takes in search rules in
     let here : decoded document.chain document.elements box.shape (replicate size 0) ≡ Some (replicate (product box.shape) document.elements.fill) =

@@ -1,4 +1,4 @@
-use Rattle.std.proofs.Common.{◌≡◌, ◌∙◌, ◌*◌, length, ap, sym, arith, Some}
+use Rattle.std.proofs.Common.{◌∙◌, ap, sym, arith}
 use Rattle.zarr_codecs_arrays.specs.Views.{payload_of}
 use Rattle.std.specs.List.{list_all}
 use Rattle.zarr_codecs_meaning.specs.Types.{is_value}

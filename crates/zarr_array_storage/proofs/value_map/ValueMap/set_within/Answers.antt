@@ -3,7 +3,7 @@ use Rattle.std.specs.FinMap as fin
 use Rattle.std.specs.Vec.{with_items}
 use Rattle.std.proofs.lemmas.List.{with_items_is}
 use Rattle.std.proofs.lemmas.Map.Text.{hash_map_updates_text}
-use Rattle.zarr_codecs_traits.specs.Patches.{patched}
+use Rattle.zarr_codecs_traits.specs.Patches.{patched, patches_of}
 use Rattle.zarr_array_storage.proofs.ValueMapLemmas.{found-map_of, insert-same, map_of, map_of-set}
 use Rattle.zarr_array_storage.proofs.value_map.ValueMap.set_within.Goals as goal
 
@@ -27,6 +27,6 @@ returns-clause-written c = λ _.
     map_of-set old new key written (hash_map_updates_text key old new _ ((c.get_mut.follows.holds written).3 (search rules)))
     ∙ ap (fin.insert (map_of old) key) (with_items_is value c.overwrite_each.new.value (search rules))
     ∙ ap (fin.insert (map_of old) key) c.overwrite_each.ensures
-    ∙ ap (λ bytes. fin.insert (map_of old) key (patched bytes c.args.patches.now)) c.as_mut_slice.ensures.value
-    ∙ ap (λ found. fin.insert (map_of old) key (patched (unwrap_or found []) c.args.patches.now)) (sym (found-map_of old key value c.in-Some.ensures.value))
-    ∙ ap (λ m. fin.insert m key (patched (unwrap_or (fin.get m key) []) c.args.patches.now)) c.self.view_is
+    ∙ ap (λ bytes. fin.insert (map_of old) key (patched bytes (patches_of c.args.patches.now))) c.as_mut_slice.ensures.value
+    ∙ ap (λ found. fin.insert (map_of old) key (patched (unwrap_or found []) (patches_of c.args.patches.now))) (sym (found-map_of old key value c.in-Some.ensures.value))
+    ∙ ap (λ m. fin.insert m key (patched (unwrap_or (fin.get m key) []) (patches_of c.args.patches.now))) c.self.view_is

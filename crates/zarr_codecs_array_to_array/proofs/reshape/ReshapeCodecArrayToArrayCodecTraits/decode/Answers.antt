@@ -4,7 +4,8 @@ use Rattle.zarr_codecs_meaning.specs.Places.{place_numbers, encoded_shape, undon
 use Rattle.zarr_codecs_arrays.specs.Views.{elements_of, payload_of}
 use Rattle.zarr_codecs_array_to_array.specs.Moving.{Gathers}
 use Rattle.zarr_codecs_array_to_array.specs.Views.{reshape_of}
-use Rattle.zarr_codecs_array_to_array.proofs.Routes.{gathers_moves, product_moved, undone_range, undone_below}
+use Rattle.zarr_codecs_meaning.proofs.Once.{product_moved}
+use Rattle.zarr_codecs_array_to_array.proofs.Routes.{gathers_moves, undone_range, undone_below}
 use Rattle.zarr_codecs_array_to_array.proofs.reshape.ReshapeCodecArrayToArrayCodecTraits.decode.Goals as goal
 
 pub returns : goal.returns

@@ -6,7 +6,8 @@ use Rattle.zarr_codecs_meaning.specs.Places.{place_numbers, undone_places}
 use Rattle.zarr_codecs_arrays.specs.Views.{elements_of, payload_of}
 use Rattle.zarr_codecs_array_to_array.specs.Moving.{picked_number, Gathers}
 use Rattle.zarr_codecs_array_to_array.specs.Views.{order_of}
-use Rattle.zarr_codecs_array_to_array.proofs.Routes.{gathers_moves, undone_picked, undone_below, product_moved}
+use Rattle.zarr_codecs_meaning.proofs.Once.{product_moved}
+use Rattle.zarr_codecs_array_to_array.proofs.Routes.{gathers_moves, undone_picked, undone_below}
 use Rattle.zarr_codecs_array_to_array.proofs.transpose.TransposeCodecArrayToArrayCodecTraits.decode.Goals as goal
 
 pub returns : goal.returns

@@ -6,7 +6,9 @@ use Rattle.zarr_codecs_meaning.specs.Places.{index_shape}
 use Rattle.zarr_codecs_traits.specs.Indexers.{asked_of, numbers_asked}
 use Rattle.zarr_sharding_changes.specs.Changes.{appended, pairs_after}
 use Rattle.zarr_sharding_codec.specs.PartWriting.{IsOf, put_at}
+use Rattle.zarr_sharding_codec.proofs.EncodedShard.{index_part}
 use Rattle.zarr_sharding_decoder.specs.Shards.{ShardOf}
+use Rattle.zarr_sharding_index.specs.Stored.{index_fits}
 use Rattle.zarr_sharding_index.specs.Views.{location_of}
 use Rattle.zarr_sharding_state.specs.States.{end_of, pairs_in}
 use Rattle.zarr_sharding_state.specs.Views.{changes_of}
@@ -35,6 +37,15 @@ update_asked-requires-clause-many g c =
 
 pub update_asked-requires-clause-small : goal.update_asked-requires-clause-small
 update_asked-requires-clause-small g c = c.args.self.now.small
+
+pub write_given-requires-clause-fit : goal.write_given-requires-clause-fit
+write_given-requires-clause-fit g c =
+    let self = c.args.self.now in
+    let codec = self.codec.now in
+    let meaning = g.X.ArrayToBytesCodecTraits.meaning in
+    let index = meaning codec.index_codecs in
+    ap (λ x. index_fits (meaning x) c.as_slice.result.now) c.index_codecs-codecs.ensures
+    ∙ (ap (index_fits index) (c.as_slice.ensures.value ∙ self.cut) ∙ index_part codec.subchunk_shape (g.I.ArrayToBytesCodecTraits.meaning codec.inner_codecs) index (location_of codec.index_location) (elements_of self.elements.now) self.shape.now self.fit)
 
 pub invariant_of-self : goal.invariant_of-self
 invariant_of-self g c =

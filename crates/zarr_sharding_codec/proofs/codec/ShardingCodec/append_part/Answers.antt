@@ -8,12 +8,11 @@ use Rattle.zarr_codecs_meaning.proofs.Parts.{index_product}
 use Rattle.zarr_codecs_arrays.specs.Outcomes.{IsValid}
 use Rattle.zarr_codecs_traits.specs.Indexers.{asked_of, numbers_asked}
 use Rattle.std.specs.Prelude.{◌&&◌}
-use Rattle.std.specs.List.{list_all}
 use Rattle.zarr_sharding_index.proofs.StoredIndex.{index_below}
 use Rattle.zarr_sharding_index.specs.Stored.{index_fits}
 use Rattle.zarr_sharding_index.specs.Views.{location_of}
 use Rattle.zarr_sharding_state.specs.States.{end_of, pairs_in}
-use Rattle.zarr_sharding_state.specs.Views.{changes_of, is_below}
+use Rattle.zarr_sharding_state.specs.Views.{changes_of}
 use Rattle.zarr_codecs_traits.specs.Sources.{refused_after}
 use Rattle.zarr_sharding_codec.specs.Appending.{accepted_by}
 use Rattle.zarr_sharding_codec.specs.Views.{is_row_major, makes_a_function}

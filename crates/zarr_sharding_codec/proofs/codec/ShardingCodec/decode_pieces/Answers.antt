@@ -20,8 +20,8 @@ grid_of-requires g c =
     let self = c.args.self.now in
     rank_fits self.subchunk_shape (g.I.ArrayToBytesCodecTraits.meaning self.inner_codecs) (g.X.ArrayToBytesCodecTraits.meaning self.index_codecs) (location_of self.index_location) (elements_of c.args.array.elements.now) c.args.array.shape.now c.requires.fit
 
-pub decode_piece-requires-clause-below : goal.decode_piece-requires-clause-below
-decode_piece-requires-clause-below g c =
+pub put_piece-requires-clause-below : goal.put_piece-requires-clause-below
+put_piece-requires-clause-below g c =
     let shape = c.args.array.shape.now in
     let subchunk = c.args.self.now.subchunk_shape in
     let count : c.in-Some.count ≡ product (grid_of shape subchunk) = c.in-Some.ensures.1 ∙ ap product (c.as_slice.ensures.value ∙ c.in_ok-grid.ensures) in
@@ -58,11 +58,11 @@ loop-n-preserved g c =
     let piece = c.in-Ok.ensures in
     let region = region_of c.in_ok-moved.moved in
     let numbers = numbers_of shape region in
-    let step = decode_step inner elements shape subchunk c.args.shard.value.now (pairs_of c.args.shard.index.now) n numbers before.0 piece.cells is are piece.is before.2 before.3 in
+    let step = decode_step inner elements shape subchunk c.args.shard.value.now (pairs_of c.args.shard.index.now) n numbers before.0 piece.0 is are piece.1 before.2 before.3 in
     let many = step.many ∙ length-numbers shape region (sym c.in_ok-moved.moved.same) in
     record {
       whole = c.in_ok-moved.ensures.shape ∙ c.loop-n.invariant.whole;
-      shown = (put numbers piece.cells before.0, c.in_ok-all-in-Ok.ensures before.0 piece.cells before.1 piece.lists many, step.whole, step.shows);
+      shown = (put numbers piece.0 before.0, piece.2 before.0 before.1 many, step.whole, step.shows);
     }
 
 pub returns : goal.returns

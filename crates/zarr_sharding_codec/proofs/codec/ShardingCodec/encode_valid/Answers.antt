@@ -5,6 +5,7 @@ use Rattle.zarr_codecs_meaning.specs.Encoding.{base_of, index_size, pairs_from}
 use Rattle.zarr_codecs_meaning.specs.Places.{index_shape}
 use Rattle.zarr_codecs_meaning.proofs.Parts.{index_product}
 use Rattle.zarr_codecs_meaning.proofs.Shards.{length-pairs_from}
+use Rattle.zarr_sharding_index.specs.Stored.{index_fits}
 use Rattle.zarr_sharding_index.specs.Views.{location_of}
 use Rattle.zarr_sharding_index.proofs.StoredIndex.{index_below}
 use Rattle.zarr_sharding_codec.specs.Assembled.{Assembles}
@@ -25,6 +26,13 @@ returns-in-Err-clause-encodes g c =
     let valid = c.requires.valid in
     pieces_refused self.subchunk_shape (g.I.ArrayToBytesCodecTraits.meaning self.inner_codecs) (g.X.ArrayToBytesCodecTraits.meaning self.index_codecs) (location_of self.index_location) (g.I.ArrayToBytesCodecTraits.is_function self.inner_codecs) (makes_a_function g.I.ArrayToBytesCodecTraits.is_function g.X.ArrayToBytesCodecTraits.is_function self)
     (elements_of c.args.array.elements.now) c.args.array.shape.now (base_of (location_of self.index_location) c.args.size) (payload_of c.args.bytes.now) valid.0 c.in-Err.error c.requires.fit valid.1 (c.in-Err.ensures valid.0 valid.1)
+
+pub assemble-requires-clause-fit : goal.assemble-requires-clause-fit
+assemble-requires-clause-fit g c =
+    let self = c.args.self.now in
+    let index = g.X.ArrayToBytesCodecTraits.meaning self.index_codecs in
+    let pairs = c.as_slice.ensures.value ∙ c.in_ok-pairs_shape-in-Ok.ensures in
+    ap (index_fits index) pairs ∙ index_part self.subchunk_shape (g.I.ArrayToBytesCodecTraits.meaning self.inner_codecs) index (location_of self.index_location) (elements_of c.args.array.elements.now) c.args.array.shape.now c.requires.fit
 
 pub assemble-requires-clause-many : goal.assemble-requires-clause-many
 assemble-requires-clause-many g c =

@@ -1,6 +1,5 @@
-use Rattle.std.proofs.Common.{◌≡◌, ◌∙◌, ap, sym, refl, subst, List, ℕ, Some, Err}
+use Rattle.std.proofs.Common.{◌∙◌, ap, sym, refl, subst, List, ℕ, Some, Err}
 use Rattle.zarr_codecs_arrays.specs.Views.{elements_of, payload_of}
-use Rattle.zarr_codecs_traits.specs.Sources.{refused_after}
 use Rattle.zarr_grids_boxes.specs.Boxes.{product}
 use Rattle.std.proofs.Common.{get_or}
 use Rattle.zarr_sharding_state.specs.States.{pairs_in}

@@ -1,8 +1,7 @@
-use Rattle.std.proofs.Common.{◌≡◌, ◌∙◌, ◌∷◌, ◌+◌, ◌<◌, ◌≤◌, ℕ, List, [], Option, Some, Err, Ok, IfSome, ap, sym, refl, subst, arith, length, nat_lt, true, unwrap_or}
+use Rattle.std.proofs.Common.{◌≡◌, ◌∙◌, ◌+◌, ◌≤◌, ℕ, List, [], Option, IfSome, ap, sym, refl, subst, arith, length, nat_lt, true, unwrap_or}
 use Rattle.std.specs.List.{list_all}
 use Rattle.zarr_codecs_arrays.specs.Outcomes.{IsValid}
 use Rattle.zarr_codecs_arrays.specs.Views.{elements_of, payload_of}
-use Rattle.zarr_codecs_meaning.specs.Types.{Cell}
 use Rattle.zarr_codecs_meaning.proofs.Fitting.{fitted}
 use Rattle.zarr_codecs_regions.proofs.AskedPlaces as regions
 use Rattle.zarr_codecs_traits.specs.Indexers.{asked_of, numbers_asked}

@@ -1,7 +1,6 @@
-use Rattle.std.proofs.Common.{◌≡◌, ◌∙◌, ap, sym, refl, subst, Option, List, ℕ, length, nat_lt, Err, true}
+use Rattle.std.proofs.Common.{◌≡◌, ◌∙◌, ap, sym, refl, subst, List, ℕ, nat_lt, Err, true}
 use Rattle.std.specs.List.{list_all}
 use Rattle.zarr_codecs_arrays.specs.Views.{elements_of, payload_of}
-use Rattle.zarr_codecs_traits.specs.Sources.{refused_after}
 use Rattle.zarr_grids_boxes.specs.Boxes.{product}
 use Rattle.zarr_sharding_places.specs.Groups.{no_place}
 use Rattle.std.proofs.Common.{get_or}

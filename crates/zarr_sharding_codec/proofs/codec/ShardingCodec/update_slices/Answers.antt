@@ -1,10 +1,9 @@
-use Rattle.std.proofs.Common.{◌≡◌, ◌∙◌, ◌++◌, ◌∷◌, ◌<◌, ℕ, List, [], Option, Err, Ok, IsTrue, ap, sym, refl, subst, arith, length, length-append, get_or, nat_lt, true, unwrap_or}
+use Rattle.std.proofs.Common.{◌∙◌, ◌∷◌, ◌<◌, ℕ, List, [], Option, Err, Ok, IsTrue, ap, sym, refl, subst, arith, length, length-append, get_or, unwrap_or}
 use Rattle.std.specs.List.{list_all}
 use Rattle.std.specs.List.Sorted.{IsNonDecreasingBy, IsPermutation}
 use Rattle.std.proofs.lemmas.List.{map-append}
-use Rattle.zarr_codecs_arrays.specs.Views.{elements_of, payload_of}
+use Rattle.zarr_codecs_arrays.specs.Views.{elements_of}
 use Rattle.zarr_codecs_meaning.proofs.Positions.{each_at}
-use Rattle.zarr_codecs_traits.specs.Sources.{refused_after}
 use Rattle.zarr_sharding_index.specs.Views.{location_of}
 use Rattle.zarr_sharding_places.specs.Groups.{no_place}
 use Rattle.zarr_sharding_places.specs.Locating.{asked_places}
@@ -12,7 +11,7 @@ use Rattle.zarr_sharding_places.specs.declared.locating.AskedPlace.{AskedPlace}
 use Rattle.zarr_sharding_state.specs.States.{end_of, pairs_in}
 use Rattle.zarr_sharding_state.specs.Views.{change_of, changes_of, is_below}
 use Rattle.zarr_sharding_state.specs.declared.writing.SliceChange.{SliceChange}
-use Rattle.zarr_sharding_codec.specs.PartWriting.{IsOf, UpdatesGroup, UpdatesSlices, stored_in}
+use Rattle.zarr_sharding_codec.specs.PartWriting.{IsOf, UpdatesGroup, stored_in}
 use Rattle.zarr_sharding_codec.proofs.GivenSoFar.{GivenSoFar, given_all, given_more, given_refused, none_given, rest_sorted, shard_asked}
 use Rattle.zarr_sharding_codec.proofs.GroupsRead.{AskedShard, IsAsked, insides_below, subchunk_below}
 use Rattle.zarr_sharding_codec.proofs.SoFarRead.{askable, group_asked}

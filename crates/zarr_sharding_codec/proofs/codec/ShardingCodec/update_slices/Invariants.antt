@@ -1,4 +1,4 @@
-use Rattle.std.proofs.Common.{◌≡◌, ◌∷◌, ℕ, List, [], length, unwrap_or, true, IsTrue}
+use Rattle.std.proofs.Common.{◌≡◌, List, [], length, unwrap_or, true, IsTrue}
 use Rattle.std.specs.List.{list_all}
 use Rattle.std.specs.List.Sorted.{IsNonDecreasingBy}
 use Rattle.zarr_codecs_arrays.specs.Outcomes.{IsValid}

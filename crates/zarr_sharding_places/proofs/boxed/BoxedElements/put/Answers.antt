@@ -11,16 +11,12 @@ use Rattle.zarr_sharding_places.specs.declared.boxed.BoxedElements.{BoxedElement
 use Rattle.zarr_sharding_places.proofs.BoxPuts.{length-numbers}
 use Rattle.zarr_sharding_places.proofs.boxed.BoxedElements.put.Goals as goal
 
-pub returns-in_ok-made-in-Fixed-given : goal.returns-in_ok-made-in-Fixed-given
-returns-in_ok-made-in-Fixed-given c = λ before others shown lists many.
+pub returns-in-Fixed-given : goal.returns-in-Fixed-given
+returns-in-Fixed-given c = λ before others shown lists many.
     let elements = elements_of c.args.array.elements.now in
-    let ns = numbers_of c.args.array.shape.now (region_of c.args.region.now) in
-    let is = c.data_type-data_type.ensures in
-    let old : cells_in elements.type (fixed c.in-Fixed.bytes.items) ≡ Some before = subst (λ (s : BoxedElements). ShowsBoxes elements s before) c.in-Fixed.is shown in
-    let new : cells_in elements.type (fixed c.as_slice-given.result.now) ≡ Some others =
-    ap (λ bs. cells_in elements.type (fixed bs)) c.as_slice-given.ensures.value ∙ (sym (ap (λ (b : ArrayBytes). cells_in elements.type (payload_of b)) c.in-Fixed-given.is) ∙ lists) in
-    let made = c.in_ok-made-in-Fixed-given.ensures before others (subst (λ t. cells_in t (fixed c.in-Fixed.bytes.items) ≡ Some before) (sym is) old) (subst (λ t. cells_in t (fixed c.as_slice-given.result.now) ≡ Some others) (sym is) new) in
-    subst (λ t. cells_in t (fixed c.in_ok-made-in-Fixed-given.made.items) ≡ Some (put ns others before)) is made
+    let new : cells_in elements.type (fixed c.as_slice.result.now) ≡ Some others =
+    ap (λ bs. cells_in elements.type (fixed bs)) c.as_slice.ensures.value ∙ (sym (ap (λ (b : ArrayBytes). cells_in elements.type (payload_of b)) c.in-Fixed-given.is) ∙ lists) in
+    c.put_bytes.ensures before others (subst (λ (s : BoxedElements). ShowsBoxes elements s before) c.in-Fixed.is shown) new
 
 pub returns-in_ok-made-in-Placed : goal.returns-in_ok-made-in-Placed
 returns-in_ok-made-in-Placed c = λ before others shown lists many.
@@ -28,6 +24,6 @@ returns-in_ok-made-in-Placed c = λ before others shown lists many.
     let shape = c.args.array.shape.now in
     let region = region_of c.args.region.now in
     let old : Shows elements c.in-Placed.all before = subst (λ (s : BoxedElements). ShowsBoxes elements s before) c.in-Placed.is shown in
-    let at : c.as_slice.result.now ≡ numbers_of shape region = c.as_slice.ensures.value ∙ c.in_ok-at-in-Placed.ensures.numbers in
+    let at : c.as_slice-in-Placed.result.now ≡ numbers_of shape region = c.as_slice-in-Placed.ensures.value ∙ c.in_ok-at-in-Placed.ensures.numbers in
     let count = ap length at ∙ length-numbers shape region (sym c.args.region.now.same) in
     subst (λ ns. Shows elements c.in_ok-made-in-Placed.made (put ns others before)) at (c.in_ok-made-in-Placed.ensures before others old lists (many ∙ sym count))

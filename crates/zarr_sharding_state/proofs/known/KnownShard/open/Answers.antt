@@ -1,4 +1,4 @@
-use Rattle.std.proofs.Common.{◌≡◌, ℕ, subst}
+use Rattle.std.proofs.Common.{subst}
 use Rattle.zarr_sharding_index.specs.Views.{location_of}
 use Rattle.zarr_sharding_state.specs.Opened.{Opens}
 use Rattle.zarr_sharding_state.proofs.Opened.{known_or_refused}

@@ -1,4 +1,4 @@
-use Rattle.std.proofs.Common.{◌≡◌, ◌*◌, ◌∙◌, List, ap, sym, length}
+use Rattle.std.proofs.Common.{◌*◌, ◌∙◌, List, ap, sym, length}
 use Rattle.zarr_codecs_meaning.specs.Encoding.{Pair}
 use Rattle.zarr_sharding_state.specs.States.{end_of, pairs_in}
 use Rattle.zarr_sharding_state.specs.Views.{changes_of}
