@@ -1,14 +1,14 @@
 //! Chains of codecs: read from their metadata and written as it, copied, and their values.
 
-use crate::elements::holding;
+use crate::elements::{expect_held, holding};
 use crate::stop::{Stop, expect};
 use crate::texts::read_point;
 use crate::types::{read_fill, read_type};
-use crate::values::{PutBox, Values, run as run_values};
+use crate::values::{PutBox, Values, put_box_by, run as run_values};
 use std::alloc::Global;
 use zarr_codecs::{
     ArraySubset, ArrayToBytesCodecTraits, BytesPartialDecoderTraits, CodecChain, CodecOptions,
-    CodecPartialDecoder, Elements, Indexer, MetadataV3, TargetBytes, WholeArray,
+    CodecPartialDecoder, Elements, Indexer, MemorySource, MetadataV3, TargetBytes, WholeArray,
 };
 use zarr_codecs_reverse::ReverseCodec;
 
@@ -32,7 +32,7 @@ const BIG: &str = r#"{"configuration":{"endian":"big"},"name":"bytes"}"#;
 
 const REVERSE: &str = r#""x-reverse""#;
 
-const CASES: [Case; 6] = [
+const CASES: [Case; 7] = [
     Case {
         codecs: &[
             r#"{"configuration":{"order":[1,0]},"name":"transpose"}"#,
@@ -67,6 +67,25 @@ const CASES: [Case; 6] = [
             found: &[2, 3],
             given: &[8, 9],
             left: &[1, 8, 9],
+        }],
+    },
+    // Three rows of four numbers, and a box of the last two rows without the last column.
+    Case {
+        codecs: &[
+            r#""squeeze""#,
+            r#"{"configuration":{"order":[1,0]},"name":"transpose"}"#,
+            r#""bytes""#,
+        ],
+        data_type: r#""uint8""#,
+        fill: "0",
+        shape: &[1, 3, 4],
+        value: &[1, 5, 9, 2, 6, 10, 3, 7, 11, 4, 8, 12],
+        swapped: &[2, 5, 9, 1, 6, 10, 3, 7, 11, 4, 8, 12],
+        boxes: &[PutBox {
+            ranges: &[0..1, 1..3, 0..3],
+            found: &[5, 6, 7, 9, 10, 11],
+            given: &[15, 16, 17, 19, 20, 21],
+            left: &[1, 15, 19, 2, 16, 20, 3, 17, 21, 4, 8, 12],
         }],
     },
     Case {
@@ -195,14 +214,14 @@ fn put_part<C: ArrayToBytesCodecTraits, D: BytesPartialDecoderTraits>(
 }
 
 /// They are put once more where memory ran out, which leaves the bytes.
-fn put_at_last<C: ArrayToBytesCodecTraits>(
+fn put_at_last(
     alloc: Global,
-    codec: &C,
+    chain: &Chain,
     array: WholeArray<'_>,
     value: &[u8],
 ) -> Result<(), Stop> {
     let mut source = holding(alloc, value)?;
-    let mut decoder = CodecPartialDecoder::new(codec, &mut source, array);
+    let mut decoder = chain.partial_decoder(&mut source, array);
     let mut bytes = [9, 9, 9, 9];
     match put_part(alloc, &mut decoder, &mut bytes) {
         Err(Stop::Short) => {
@@ -214,14 +233,37 @@ fn put_at_last<C: ArrayToBytesCodecTraits>(
     expect(bytes == [9, 2, 3, 9])
 }
 
-/// A chain of a row of three numbers.
-fn run_target(alloc: Global, case: &Case) -> Result<(), Stop> {
+/// A box is put by the encoder of a chain, and once more by the same one where memory ran out,
+/// which leaves the elements there.
+fn put_box_at_last(
+    alloc: Global,
+    chain: &Chain,
+    array: WholeArray<'_>,
+    source: &mut MemorySource,
+    put: PutBox<'_>,
+) -> Result<(), Stop> {
+    let mut encoder = chain.partial_encoder(source, array);
+    match put_box_by(alloc, &mut encoder, put) {
+        Err(Stop::Short) => put_box_by(alloc, &mut encoder, put),
+        said => said,
+    }
+}
+
+/// A chain of a row of three numbers, by its own decoder and its own encoder.
+fn run_row(alloc: Global, case: &Case) -> Result<(), Stop> {
     let elements = elements_of(alloc, case)?;
     let array = WholeArray {
         elements: &elements,
         shape: case.shape,
     };
-    put_at_last(alloc, &chain_of(alloc, case.codecs)?, array, case.value)
+    let chain = chain_of(alloc, case.codecs)?;
+    put_at_last(alloc, &chain, array, case.value)?;
+    for put in case.boxes {
+        let mut source = holding(alloc, case.value)?;
+        put_box_at_last(alloc, &chain, array, &mut source, *put)?;
+        expect_held(source, put.left)?;
+    }
+    Ok(())
 }
 
 /// Each chain.
@@ -229,5 +271,5 @@ pub(crate) fn run(alloc: Global) -> Result<(), Stop> {
     for case in CASES {
         run_case(alloc, &case)?;
     }
-    run_target(alloc, &CASES[1])
+    run_row(alloc, &CASES[1])
 }

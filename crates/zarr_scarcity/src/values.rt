@@ -113,7 +113,21 @@ fn swap<C: ArrayToBytesCodecTraits>(
     }
 }
 
-/// The elements of a box are read, and others are put in their place.
+/// The elements of a box are read by an encoder, and others are put in their place.
+pub(crate) fn put_box_by<C: ArrayToBytesCodecTraits, E: BytesPartialEncoderTraits>(
+    alloc: Global,
+    encoder: &mut CodecPartialEncoder<'_, C, E>,
+    put: PutBox<'_>,
+) -> Result<(), Stop> {
+    let options = CodecOptions::default();
+    let region = ArraySubset::new_with_ranges(alloc, put.ranges)?;
+    let found = encoder.partial_decode(alloc, Indexer::Subset(&region), &options)?;
+    expect_fixed(&found, put.found)?;
+    let given = ArrayBytes::Fixed(put.given.to_vec(alloc)?);
+    Ok(encoder.partial_encode(alloc, Indexer::Subset(&region), given, &options)?)
+}
+
+/// The same by the encoder of a codec into a source.
 fn put_box_in<C: ArrayToBytesCodecTraits, E: BytesPartialEncoderTraits>(
     alloc: Global,
     codec: &C,
@@ -121,13 +135,8 @@ fn put_box_in<C: ArrayToBytesCodecTraits, E: BytesPartialEncoderTraits>(
     source: &mut E,
     put: PutBox<'_>,
 ) -> Result<(), Stop> {
-    let options = CodecOptions::default();
-    let region = ArraySubset::new_with_ranges(alloc, put.ranges)?;
     let mut encoder = CodecPartialEncoder::new(codec, source, array);
-    let found = encoder.partial_decode(alloc, Indexer::Subset(&region), &options)?;
-    expect_fixed(&found, put.found)?;
-    let given = ArrayBytes::Fixed(put.given.to_vec(alloc)?);
-    Ok(encoder.partial_encode(alloc, Indexer::Subset(&region), given, &options)?)
+    put_box_by(alloc, &mut encoder, put)
 }
 
 /// They are put into the value that a source holds, and once more where memory runs out, which
