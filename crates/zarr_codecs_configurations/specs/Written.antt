@@ -20,19 +20,26 @@ abbrev pub location_name : Location → List ℕ
 location_name at_start = codes "start"
 location_name at_end = codes "end"
 
+-- the configuration of `vlen`, by what is written for its lists of codecs
+abbrev pub listed_vlen : Items → Items → ℕ → Location → Members
+listed_vlen index content width location =
+    put (codes "index_location") (string (location_name location)) (put (codes "index_data_type") (string (width_name width)) (put (codes "index_codecs") (array index) (put (codes "data_codecs") (array content) no_members)))
+
 -- the configuration of `vlen`
 abbrev pub vlen_members : VlenPoints → Members
-vlen_members given =
-    put (codes "index_location") (string (location_name given.location)) (put (codes "index_data_type") (string (width_name given.width))
-    (put (codes "index_codecs") (array (points_list given.index)) (put (codes "data_codecs") (array (points_list given.content)) no_members)))
+vlen_members given = listed_vlen (points_list given.index) (points_list given.content) given.width given.location
 
 -- the metadata of `vlen` under one of its names
 abbrev pub vlen_point : List ℕ → VlenPoints → ExtensionPoint
 vlen_point name given = configured name (vlen_members given)
 
+-- the configuration of `optional`, by what is written for its lists of codecs
+abbrev pub listed_optional : Items → Items → Members
+listed_optional mask content = put (codes "mask_codecs") (array mask) (put (codes "data_codecs") (array content) no_members)
+
 -- the configuration of `optional`
 abbrev pub optional_members : OptionalPoints → Members
-optional_members given = put (codes "mask_codecs") (array (points_list given.mask)) (put (codes "data_codecs") (array (points_list given.content)) no_members)
+optional_members given = listed_optional (points_list given.mask) (points_list given.content)
 
 -- the metadata of `optional` under one of its names
 abbrev pub optional_point : List ℕ → OptionalPoints → ExtensionPoint
