@@ -5,8 +5,8 @@ use Rattle.serde_json.specs.Data.{Data, null, boolean, number, string, array, ob
 use Rattle.serde_json.specs.Find.{get_member, as_array}
 use Rattle.zarr_grids_metadata.specs.ExtensionPoints.{ExtensionPoint, extension_point}
 use Rattle.zarr_grids_metadata.specs.Members.{has_only}
-use Rattle.zarr_grids_metadata.specs.Views.{point_of}
-use Rattle.zarr_grids_metadata.specs.declared.metadata.MetadataV3.{MetadataV3}
+use Rattle.zarr_grids_metadata.specs.Views.{point_view}
+use Rattle.zarr_grids_metadata.specs.declared.extension_point.ExtensionPoint as lent
 use Rattle.zarr_grids_metadata.proofs.PutLemmas.{depth_got}
 use Rattle.zarr_codecs_meaning.specs.Chains.{Chain, Location}
 use Rattle.zarr_codecs_metadata.specs.Chains.{ReadsCodecs, chain_of, listed_chain, point_depth, points_in}
@@ -181,14 +181,14 @@ optional_less ms v is =
 -- ---- metadata in parts
 
 -- what is left of metadata nests no deeper
-pub rest_less : (metadatas rest : List MetadataV3) (n : ℕ) → rest ≡ drop n metadatas → points_depth (map point_of rest) ≤ points_depth (map point_of metadatas)
+pub rest_less : (metadatas rest : List lent.ExtensionPoint) (n : ℕ) → rest ≡ drop n metadatas → points_depth (map point_view rest) ≤ points_depth (map point_view metadatas)
 rest_less metadatas rest n is =
-    let same : points_depth (map point_of rest) ≡ points_depth (drop n (map point_of metadatas)) = ap (λ (ms : List MetadataV3). points_depth (map point_of ms)) is ∙ ap points_depth (sym (drop-map point_of n metadatas)) in
-    let less = fewer_points n (map point_of metadatas) in
+    let same : points_depth (map point_view rest) ≡ points_depth (drop n (map point_view metadatas)) = ap (λ (ps : List lent.ExtensionPoint). points_depth (map point_view ps)) is ∙ ap points_depth (sym (drop-map point_view n metadatas)) in
+    let less = fewer_points n (map point_view metadatas) in
     omega arith
 
 -- nor does the first codec
-pub first_less : (metadatas others : List MetadataV3) (first : MetadataV3) → metadatas ≡ first ∷ others → point_depth (point_of first) ≤ points_depth (map point_of metadatas)
+pub first_less : (metadatas others : List lent.ExtensionPoint) (first : lent.ExtensionPoint) → metadatas ≡ first ∷ others → point_depth (point_view first) ≤ points_depth (map point_view metadatas)
 first_less metadatas others first is =
-    let same : points_depth (map point_of metadatas) ≡ max (point_depth (point_of first)) (points_depth (map point_of others)) = ap (λ (ms : List MetadataV3). points_depth (map point_of ms)) is in
+    let same : points_depth (map point_view metadatas) ≡ max (point_depth (point_view first)) (points_depth (map point_view others)) = ap (λ (ps : List lent.ExtensionPoint). points_depth (map point_view ps)) is in
     omega arith

@@ -4,8 +4,8 @@ use Rattle.std.proofs.lemmas.List.{drop-map, length-map}
 use Rattle.std.proofs.lemmas.Slice.Eq.{bytes_eq-Decides}
 use Rattle.serde_json.specs.Data.{Data, Members}
 use Rattle.zarr_grids_metadata.specs.ExtensionPoints.{ExtensionPoint, configuration_members}
-use Rattle.zarr_grids_metadata.specs.Views.{point_of}
-use Rattle.zarr_grids_metadata.specs.declared.metadata.MetadataV3.{MetadataV3}
+use Rattle.zarr_grids_metadata.specs.Views.{point_view}
+use Rattle.zarr_grids_metadata.specs.declared.extension_point.ExtensionPoint as lent
 use Rattle.zarr_codecs_meaning.specs.Chains.{ArrayCodec, ByteCodec, Chain}
 use Rattle.zarr_codecs_array_to_array.specs.Views.{codec_of}
 use Rattle.zarr_codecs_array_to_array.specs.declared.codec.ArrayToArrayCodec.{ArrayToArrayCodec}
@@ -190,23 +190,23 @@ array_codecs_read reads (point ∷ points) others (codec ∷ codecs) chain same 
 -- ---- what is read part by part
 
 -- the array codecs that metadata begins with, and the chain that the rest says
-pub chain_split : (reads : ReadsCodecs) (metadatas rest : List MetadataV3) (arrays : List ArrayToArrayCodec) (o : Option Chain) → codecs_of arrays ≡ array_codecs_of (map point_of metadatas) → rest ≡ drop (length arrays) metadatas
-    → bytes_chain_of reads (map point_of rest) ≡ o → chain_of reads (map point_of metadatas) ≡ option_map (with_array_codecs (codecs_of arrays)) o
+pub chain_split : (reads : ReadsCodecs) (metadatas rest : List lent.ExtensionPoint) (arrays : List ArrayToArrayCodec) (o : Option Chain) → codecs_of arrays ≡ array_codecs_of (map point_view metadatas) → rest ≡ drop (length arrays) metadatas
+    → bytes_chain_of reads (map point_view rest) ≡ o → chain_of reads (map point_view metadatas) ≡ option_map (with_array_codecs (codecs_of arrays)) o
 chain_split reads metadatas rest arrays o first after is =
-    let points = map point_of metadatas in
+    let points = map point_view metadatas in
     chain_begins reads points
     ∙ (ap (λ (codecs : List ArrayCodec). option_map (with_array_codecs codecs) (bytes_chain_of reads (drop (length codecs) points))) (sym first)
     ∙ (ap (λ (n : ℕ). option_map (with_array_codecs (codecs_of arrays)) (bytes_chain_of reads (drop n points))) (length-map arrays codec_of)
-    ∙ (ap (λ (ps : List ExtensionPoint). option_map (with_array_codecs (codecs_of arrays)) (bytes_chain_of reads ps)) (drop-map point_of (length arrays) metadatas ∙ ap (map point_of) (sym after))
+    ∙ (ap (λ (ps : List ExtensionPoint). option_map (with_array_codecs (codecs_of arrays)) (bytes_chain_of reads ps)) (drop-map point_view (length arrays) metadatas ∙ ap (map point_view) (sym after))
     ∙ ap (option_map (with_array_codecs (codecs_of arrays))) is)))
 
 -- the first codec is an array to bytes codec, and the others are the caller's
-pub bytes_split : {B : Type 0} (reads : ReadsCodecs) (meaning : B → ByteCodec) (metadatas others : List MetadataV3) (first : MetadataV3) (chain : Chain) (o : Option (List ByteCodec)) → metadatas ≡ first ∷ others
-    → array_to_bytes_in reads (point_of first) ≡ Some chain → codecs_in reads (map point_of others) ≡ o → bytes_chain_of reads (map point_of metadatas) ≡ option_map (with_codecs chain) o
+pub bytes_split : {B : Type 0} (reads : ReadsCodecs) (meaning : B → ByteCodec) (metadatas others : List lent.ExtensionPoint) (first : lent.ExtensionPoint) (chain : Chain) (o : Option (List ByteCodec)) → metadatas ≡ first ∷ others
+    → array_to_bytes_in reads (point_view first) ≡ Some chain → codecs_in reads (map point_view others) ≡ o → bytes_chain_of reads (map point_view metadatas) ≡ option_map (with_codecs chain) o
 bytes_split reads meaning metadatas others first chain o is said rest =
-    ap (λ (ms : List MetadataV3). bytes_chain_of reads (map point_of ms)) is ∙ (chain_read reads (point_of first) (map point_of others) chain said ∙ ap (option_map (with_codecs chain)) rest)
+    ap (λ (ps : List lent.ExtensionPoint). bytes_chain_of reads (map point_view ps)) is ∙ (chain_read reads (point_view first) (map point_view others) chain said ∙ ap (option_map (with_codecs chain)) rest)
 
 -- the first codec says nothing
-pub bytes_none : (reads : ReadsCodecs) (metadatas others : List MetadataV3) (first : MetadataV3) → metadatas ≡ first ∷ others → array_to_bytes_in reads (point_of first) ≡ None → bytes_chain_of reads (map point_of metadatas) ≡ None
+pub bytes_none : (reads : ReadsCodecs) (metadatas others : List lent.ExtensionPoint) (first : lent.ExtensionPoint) → metadatas ≡ first ∷ others → array_to_bytes_in reads (point_view first) ≡ None → bytes_chain_of reads (map point_view metadatas) ≡ None
 bytes_none reads metadatas others first is said =
-    ap (λ (ms : List MetadataV3). bytes_chain_of reads (map point_of ms)) is ∙ chain_unread reads (point_of first) (map point_of others) said
+    ap (λ (ps : List lent.ExtensionPoint). bytes_chain_of reads (map point_view ps)) is ∙ chain_unread reads (point_view first) (map point_view others) said

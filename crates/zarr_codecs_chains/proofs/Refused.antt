@@ -3,15 +3,15 @@ use Rattle.std.proofs.Common.{◌≡◌, ◌∙◌, ℕ, List, [], ◌∷◌, le
 use Rattle.std.specs.Prelude.{is_some, IfErr}
 use Rattle.std.proofs.lemmas.List.{drop-map, length-map}
 use Rattle.std.proofs.lemmas.Slice.Eq.{bytes_eq-Decides}
-use Rattle.serde_json.specs.Data.{Data, Members}
+use Rattle.serde_json.specs.Data.{Members}
 use Rattle.zarr_grids_metadata.specs.ExtensionPoints.{ExtensionPoint, configuration_members}
-use Rattle.zarr_grids_metadata.specs.Views.{point_of}
+use Rattle.zarr_grids_metadata.specs.Views.{point_view}
 use Rattle.zarr_grids_metadata.specs.declared.error.PluginCreateError.{PluginCreateError}
 use Rattle.zarr_grids_metadata.specs.declared.error.PluginCreateError.TheVariants as plugin
-use Rattle.zarr_grids_metadata.specs.declared.metadata.MetadataV3.{MetadataV3}
+use Rattle.zarr_grids_metadata.specs.declared.extension_point.ExtensionPoint as lent
 use Rattle.zarr_codecs_meaning.specs.Chains.{ArrayCodec, Chain}
 use Rattle.zarr_codecs_meaning.specs.Chains.Chain.{after_array_codec}
-use Rattle.zarr_codecs_metadata.specs.ArrayCodecs.{array_codec_in, names_squeeze}
+use Rattle.zarr_codecs_metadata.specs.ArrayCodecs.{array_codec_in}
 use Rattle.zarr_codecs_meaning.specs.Fits.{takes_each_shape}
 use Rattle.zarr_codecs_metadata.specs.Allowed.{allowed, has_no_array_codec, is_allowed}
 use Rattle.zarr_codecs_metadata.specs.Chains.{ReadsCodecs, allowed_chain, array_to_bytes_in, bytes_of, bytes_chain_of, chain_of, listed_chain, with_byte_codecs}
@@ -203,36 +203,36 @@ after_refused reads (point ∷ points) cause h = at (array_codec_in point) refl 
   at None is others h = h
 
 -- the rest of metadata after its codecs between arrays
-rest_points : (metadatas rest : List MetadataV3) (arrays : List ArrayToArrayCodec) → codecs_of arrays ≡ array_codecs_of (map point_of metadatas) → rest ≡ drop (length arrays) metadatas
-    → map point_of rest ≡ drop (length (array_codecs_of (map point_of metadatas))) (map point_of metadatas)
+rest_points : (metadatas rest : List lent.ExtensionPoint) (arrays : List ArrayToArrayCodec) → codecs_of arrays ≡ array_codecs_of (map point_view metadatas) → rest ≡ drop (length arrays) metadatas
+    → map point_view rest ≡ drop (length (array_codecs_of (map point_view metadatas))) (map point_view metadatas)
 rest_points metadatas rest arrays first after =
-    ap (map point_of) after
-    ∙ (sym (drop-map point_of (length arrays) metadatas)
-    ∙ ap (λ (n : ℕ). drop n (map point_of metadatas)) (sym (length-map arrays codec_of) ∙ ap length first))
+    ap (map point_view) after
+    ∙ (sym (drop-map point_view (length arrays) metadatas)
+    ∙ ap (λ (n : ℕ). drop n (map point_view metadatas)) (sym (length-map arrays codec_of) ∙ ap length first))
 
-pub rest_begins : (metadatas rest : List MetadataV3) (arrays : List ArrayToArrayCodec) → codecs_of arrays ≡ array_codecs_of (map point_of metadatas) → rest ≡ drop (length arrays) metadatas
-    → is_array_codec_misconfigured (map point_of metadatas) ≡ false → begins_with_array_codec (map point_of rest) ≡ false
-rest_begins metadatas rest arrays first after h = ap begins_with_array_codec (rest_points metadatas rest arrays first after) ∙ begins_without (map point_of metadatas) h
+pub rest_begins : (metadatas rest : List lent.ExtensionPoint) (arrays : List ArrayToArrayCodec) → codecs_of arrays ≡ array_codecs_of (map point_view metadatas) → rest ≡ drop (length arrays) metadatas
+    → is_array_codec_misconfigured (map point_view metadatas) ≡ false → begins_with_array_codec (map point_view rest) ≡ false
+rest_begins metadatas rest arrays first after h = ap begins_with_array_codec (rest_points metadatas rest arrays first after) ∙ begins_without (map point_view metadatas) h
 
-pub rest_refused : (reads : ReadsCodecs) (metadatas rest : List MetadataV3) (arrays : List ArrayToArrayCodec) (cause : PluginCreateError) → codecs_of arrays ≡ array_codecs_of (map point_of metadatas) → rest ≡ drop (length arrays) metadatas
-    → RefusedChain reads (map point_of rest) cause → RefusedChain reads (map point_of metadatas) cause
-rest_refused reads metadatas rest arrays cause first after h = after_refused reads (map point_of metadatas) cause (subst (λ ps. RefusedChain reads ps cause) (rest_points metadatas rest arrays first after) h)
+pub rest_refused : (reads : ReadsCodecs) (metadatas rest : List lent.ExtensionPoint) (arrays : List ArrayToArrayCodec) (cause : PluginCreateError) → codecs_of arrays ≡ array_codecs_of (map point_view metadatas) → rest ≡ drop (length arrays) metadatas
+    → RefusedChain reads (map point_view rest) cause → RefusedChain reads (map point_view metadatas) cause
+rest_refused reads metadatas rest arrays cause first after h = after_refused reads (map point_view metadatas) cause (subst (λ ps. RefusedChain reads ps cause) (rest_points metadatas rest arrays first after) h)
 
 -- the first codec of metadata, or one of the caller's codecs after it, is refused
-pub first_refused : (reads : ReadsCodecs) (metadatas others : List MetadataV3) (first : MetadataV3) (cause : PluginCreateError) → metadatas ≡ first ∷ others → begins_with_array_codec (map point_of metadatas) ≡ false
-    → RefusedCodec reads (point_of first) cause → RefusedChain reads (map point_of metadatas) cause
+pub first_refused : (reads : ReadsCodecs) (metadatas others : List lent.ExtensionPoint) (first : lent.ExtensionPoint) (cause : PluginCreateError) → metadatas ≡ first ∷ others → begins_with_array_codec (map point_view metadatas) ≡ false
+    → RefusedCodec reads (point_view first) cause → RefusedChain reads (map point_view metadatas) cause
 first_refused reads metadatas others first cause is begins refused =
-    let begun : names_array_codec (point_of first).name ≡ false = subst (λ (ms : List MetadataV3). begins_with_array_codec (map point_of ms) ≡ false) is begins in
-    subst (λ (ms : List MetadataV3). RefusedChain reads (map point_of ms) cause) (sym is) (refusals.RefusedChain.first (point_of first) (map point_of others) cause begun refused)
+    let begun : names_array_codec (point_view first).name ≡ false = subst (λ (ps : List lent.ExtensionPoint). begins_with_array_codec (map point_view ps) ≡ false) is begins in
+    subst (λ (ps : List lent.ExtensionPoint). RefusedChain reads (map point_view ps) cause) (sym is) (refusals.RefusedChain.first (point_view first) (map point_view others) cause begun refused)
 
-pub others_refused : (reads : ReadsCodecs) (metadatas others : List MetadataV3) (first : MetadataV3) (chain : Chain) (cause : PluginCreateError) → metadatas ≡ first ∷ others → begins_with_array_codec (map point_of metadatas) ≡ false
-    → array_to_bytes_in reads (point_of first) ≡ Some chain → codecs_in reads (map point_of others) ≡ None → RefusedChain reads (map point_of metadatas) cause
+pub others_refused : (reads : ReadsCodecs) (metadatas others : List lent.ExtensionPoint) (first : lent.ExtensionPoint) (chain : Chain) (cause : PluginCreateError) → metadatas ≡ first ∷ others → begins_with_array_codec (map point_view metadatas) ≡ false
+    → array_to_bytes_in reads (point_view first) ≡ Some chain → codecs_in reads (map point_view others) ≡ None → RefusedChain reads (map point_view metadatas) cause
 others_refused reads metadatas others first chain cause is begins said none =
-    let begun : names_array_codec (point_of first).name ≡ false = subst (λ (ms : List MetadataV3). begins_with_array_codec (map point_of ms) ≡ false) is begins in
-    subst (λ (ms : List MetadataV3). RefusedChain reads (map point_of ms) cause) (sym is) (refusals.RefusedChain.others (point_of first) (map point_of others) chain cause begun said none)
+    let begun : names_array_codec (point_view first).name ≡ false = subst (λ (ps : List lent.ExtensionPoint). begins_with_array_codec (map point_view ps) ≡ false) is begins in
+    subst (λ (ps : List lent.ExtensionPoint). RefusedChain reads (map point_view ps) cause) (sym is) (refusals.RefusedChain.others (point_view first) (map point_view others) chain cause begun said none)
 
 -- nothing is refused as what has no codec between arrays and bytes
-pub nothing_refused : (reads : ReadsCodecs) (metadatas : List MetadataV3) → length metadatas ≡ 0 → RefusedChain reads (map point_of metadatas) plugin.MetadataInvalid
+pub nothing_refused : (reads : ReadsCodecs) (metadatas : List lent.ExtensionPoint) → length metadatas ≡ 0 → RefusedChain reads (map point_view metadatas) plugin.MetadataInvalid
 nothing_refused reads [] none = refusals.RefusedChain.ends
 nothing_refused reads (metadata ∷ metadatas) none = absurd (cc)
 

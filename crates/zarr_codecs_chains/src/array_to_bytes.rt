@@ -293,7 +293,7 @@ fn read_allowed_codec<B: BytesToBytesCodecTraits>(
     ensures refused { IfErr result (λ e. e ≢ PluginCreateError.Memory →
         RefusesCodec B.reads (point_of metadata.now) e) }
 {
-    match read_codec(alloc, metadata) {
+    match read_codec(alloc, metadata.as_point()) {
         Ok(codec) => if codec_is_allowed(&codec) {
             Ok(codec)
         } else {

@@ -1,12 +1,15 @@
 //! Chains read from the metadata of their codecs.
+//!
+//! Metadata is lent to all levels of codecs, so that the work is as large as the metadata, however
+//! deep codecs nest.
 ghost use Rattle.std.specs.Prelude.{◌≡◌, ◌≢◌, ℕ, List, [], bytes_eq, codes, map, true, false, Option, Some, None, IfOk, IfErr};
 ghost use Rattle.zarr_grids_metadata.specs.ExtensionPoints.{configuration_members};
-ghost use Rattle.zarr_grids_metadata.specs.Views.{point_of};
+ghost use Rattle.zarr_grids_metadata.specs.Views.{point_of, point_view};
 ghost use Rattle.zarr_codecs_meaning.specs.Chains.{Chain};
 ghost use Rattle.zarr_codecs_metadata.specs.Chains.{allowed_chain, array_to_bytes_in, bytes_chain_of, bytes_in, chain_of, listed_chain};
 ghost use Rattle.zarr_codecs_metadata.specs.Sections.{names_optional, names_vlen, optional_of, vlen_of};
 ghost use Rattle.zarr_codecs_packbits.specs.Metadata.{packbits_in};
-ghost use Rattle.zarr_grids_metadata.specs.ExtensionPoints.{ExtensionPoint};
+ghost use Rattle.zarr_grids_metadata.specs.ExtensionPoints as points;
 ghost use Rattle.zarr_codecs_chains.specs.Names.{NameAll, Names, NamesChain, NamesOptional, NamesVlen, name_of_optional, name_of_vlen};
 ghost use Rattle.zarr_codecs_chains.specs.Reading.{leaf_in};
 ghost use Rattle.zarr_codecs_array_to_array.specs.Refusals.{cause_of};
@@ -21,14 +24,14 @@ use crate::chain::CodecChain;
 use crate::optional::OptionalCodec;
 use crate::vlen::VlenCodec;
 use std::alloc::{AllocError, Global};
-use zarr_codecs_around::array_metadata::{first_array_codecs, rest_after};
+use zarr_codecs_around::array_metadata::{first_array_codecs, points_of, rest_after};
 use zarr_codecs_around::byte_metadata::read_codecs;
 use zarr_codecs_array_to_array::CodecName;
 use zarr_codecs_bytes::BytesCodec;
-use zarr_codecs_configurations::{OptionalCodecConfiguration, VlenCodecConfiguration};
+use zarr_codecs_configurations::{LentOptionalConfiguration, LentVlenConfiguration};
 use zarr_codecs_packbits::PackBitsCodec;
 use zarr_codecs_traits::BytesToBytesCodecTraits;
-use zarr_grids_metadata::{MetadataV3, PluginCreateError};
+use zarr_grids_metadata::{ExtensionPoint, MetadataV3, PluginCreateError};
 
 /// The chain that metadata says, for metadata whose depth was tested, as a document's is. It
 /// refuses as `CodecChain::from_metadata` does, except for the `TooDeep` that comes there before
@@ -45,6 +48,23 @@ pub fn read_allowed<B: BytesToBytesCodecTraits>(
     ensures refused { IfErr result (λ e. e ≢ PluginCreateError.Memory →
         RefusesChain B.reads (map point_of codecs.now) e) }
 {
+    let points = points_of(alloc, codecs)?;
+    read_allowed_points(alloc, points.as_slice())
+}
+
+/// The chain that lent metadata says, where its array to array codecs may stand there.
+fn read_allowed_points<B: BytesToBytesCodecTraits>(
+    alloc: Global,
+    codecs: &[ExtensionPoint<'_>],
+) -> Result<CodecChain<B>, PluginCreateError>
+    ensures ok { IfOk result (λ chain.
+        allowed_chain B.reads (map point_view codecs.now) ≡ Some (meaning_of B.meaning chain)) }
+    ensures names { IfOk result (λ chain. NamesChain chain (map point_view codecs.now)) }
+    ensures err { IfErr result (λ e. e ≢ PluginCreateError.Memory →
+        allowed_chain B.reads (map point_view codecs.now) ≡ None) }
+    ensures refused { IfErr result (λ e. e ≢ PluginCreateError.Memory →
+        RefusesChain B.reads (map point_view codecs.now) e) }
+{
     match read_chain(alloc, codecs) {
         Ok(chain) => if is_allowed(&chain) {
             Ok(chain)
@@ -59,15 +79,15 @@ pub fn read_allowed<B: BytesToBytesCodecTraits>(
 #[cycle(reading)]
 pub(crate) fn read_chain<B: BytesToBytesCodecTraits>(
     alloc: Global,
-    codecs: &[MetadataV3],
+    codecs: &[ExtensionPoint<'_>],
 ) -> Result<CodecChain<B>, PluginCreateError>
     ensures ok { IfOk result (λ chain.
-        chain_of B.reads (map point_of codecs.now) ≡ Some (meaning_of B.meaning chain)) }
-    ensures names { IfOk result (λ chain. NamesChain chain (map point_of codecs.now)) }
+        chain_of B.reads (map point_view codecs.now) ≡ Some (meaning_of B.meaning chain)) }
+    ensures names { IfOk result (λ chain. NamesChain chain (map point_view codecs.now)) }
     ensures err { IfErr result (λ e. e ≢ PluginCreateError.Memory →
-        chain_of B.reads (map point_of codecs.now) ≡ None) }
+        chain_of B.reads (map point_view codecs.now) ≡ None) }
     ensures refused { IfErr result (λ e. e ≢ PluginCreateError.Memory →
-        RefusedChain B.reads (map point_of codecs.now) e) }
+        RefusedChain B.reads (map point_view codecs.now) e) }
 {
     let array_to_array = match first_array_codecs(alloc, codecs) {
         Ok(array_to_array) => array_to_array,
@@ -86,22 +106,22 @@ pub(crate) fn read_chain<B: BytesToBytesCodecTraits>(
 #[cycle(reading)]
 fn read_bytes_chain<B: BytesToBytesCodecTraits>(
     alloc: Global,
-    codecs: &[MetadataV3],
+    codecs: &[ExtensionPoint<'_>],
 ) -> Result<BytesChain<B>, PluginCreateError>
     ensures ok { IfOk result (λ chain.
-        bytes_chain_of B.reads (map point_of codecs.now) ≡ Some (bytes_meaning B.meaning chain)) }
+        bytes_chain_of B.reads (map point_view codecs.now) ≡ Some (bytes_meaning B.meaning chain)) }
     ensures names { IfOk result
-        (λ chain. NameAll [] (Names chain.array_to_bytes) (map point_of codecs.now)) }
+        (λ chain. NameAll [] (Names chain.array_to_bytes) (map point_view codecs.now)) }
     ensures err { IfErr result (λ e. e ≢ PluginCreateError.Memory →
-        bytes_chain_of B.reads (map point_of codecs.now) ≡ None) }
-    ensures refused { begins_with_array_codec (map point_of codecs.now) ≡ false
+        bytes_chain_of B.reads (map point_view codecs.now) ≡ None) }
+    ensures refused { begins_with_array_codec (map point_view codecs.now) ≡ false
         → IfErr result (λ e. e ≢ PluginCreateError.Memory →
-        RefusedChain B.reads (map point_of codecs.now) e) }
+        RefusedChain B.reads (map point_view codecs.now) e) }
 {
     let Some((first, others)) = codecs.split_first() else {
         return Err(PluginCreateError::MetadataInvalid);
     };
-    let array_to_bytes = match read_codec(alloc, first) {
+    let array_to_bytes = match read_codec(alloc, *first) {
         Ok(codec) => codec,
         Err(error) => return Err(error),
     };
@@ -118,44 +138,44 @@ fn read_bytes_chain<B: BytesToBytesCodecTraits>(
 #[cycle(reading)]
 pub(crate) fn read_codec<B: BytesToBytesCodecTraits>(
     alloc: Global,
-    metadata: &MetadataV3,
+    point: ExtensionPoint<'_>,
 ) -> Result<ArrayToBytesCodec<B>, PluginCreateError>
-    ensures ok { IfOk result (λ codec. array_to_bytes_in B.reads (point_of metadata.now)
+    ensures ok { IfOk result (λ codec. array_to_bytes_in B.reads (point_view point.entry)
         ≡ Some (codec_chain B.meaning codec)) }
-    ensures names { IfOk result (λ codec. Names codec (point_of metadata.now)) }
+    ensures names { IfOk result (λ codec. Names codec (point_view point.entry)) }
     ensures err { IfErr result (λ e. e ≢ PluginCreateError.Memory →
-        array_to_bytes_in B.reads (point_of metadata.now) ≡ None) }
+        array_to_bytes_in B.reads (point_view point.entry) ≡ None) }
     ensures refused { IfErr result (λ e. e ≢ PluginCreateError.Memory →
-        RefusedCodec B.reads (point_of metadata.now) e) }
+        RefusedCodec B.reads (point_view point.entry) e) }
 {
-    if names_vlen(metadata.name()) {
-        return boxed_vlen(alloc, read_vlen(alloc, metadata));
+    if names_vlen(point.name) {
+        return boxed_vlen(alloc, read_vlen(alloc, point));
     }
-    if names_optional(metadata.name()) {
-        return boxed_optional(alloc, read_optional(alloc, metadata));
+    if names_optional(point.name) {
+        return boxed_optional(alloc, read_optional(alloc, point));
     }
-    read_leaf(metadata)
+    read_leaf(alloc, point)
 }
 
 /// The codec `vlen` that the configuration in metadata gives.
 #[cycle(reading)]
 fn read_vlen<B: BytesToBytesCodecTraits>(
     alloc: Global,
-    metadata: &MetadataV3,
+    point: ExtensionPoint<'_>,
 ) -> Result<VlenCodec<B>, PluginCreateError>
     ensures ok { IfOk result (λ codec. vlen_of (listed_chain B.reads)
-        (configuration_members (point_of metadata.now).configuration)
+        (configuration_members (point_view point.entry).configuration)
         ≡ Some (vlen_chain B.meaning codec)) }
-    ensures names { names_vlen (point_of metadata.now).name ≡ true
-        → IfOk result (λ codec. NamesVlen codec (point_of metadata.now)) }
+    ensures names { names_vlen (point_view point.entry).name ≡ true
+        → IfOk result (λ codec. NamesVlen codec (point_view point.entry)) }
     ensures err { IfErr result (λ e. e ≢ PluginCreateError.Memory →
         vlen_of (listed_chain B.reads)
-        (configuration_members (point_of metadata.now).configuration) ≡ None) }
-    ensures refused { names_vlen (point_of metadata.now).name ≡ true
+        (configuration_members (point_view point.entry).configuration) ≡ None) }
+    ensures refused { names_vlen (point_view point.entry).name ≡ true
         → IfErr result (λ e. e ≢ PluginCreateError.Memory →
-        RefusedCodec B.reads (point_of metadata.now) e) }
+        RefusedCodec B.reads (point_view point.entry) e) }
 {
-    let configuration = match VlenCodecConfiguration::from_metadata(alloc, metadata) {
+    let configuration = match LentVlenConfiguration::read(alloc, point) {
         Ok(configuration) => configuration,
         Err(error) => return Err(error),
     };
@@ -169,7 +189,7 @@ fn read_vlen<B: BytesToBytesCodecTraits>(
             data_codecs,
             index_data_type: configuration.index_data_type,
             index_location: configuration.index_location,
-            name: vlen_name(metadata.name()),
+            name: vlen_name(point.name),
         }),
         Err(error) => Err(error),
     }
@@ -179,21 +199,21 @@ fn read_vlen<B: BytesToBytesCodecTraits>(
 #[cycle(reading)]
 fn read_optional<B: BytesToBytesCodecTraits>(
     alloc: Global,
-    metadata: &MetadataV3,
+    point: ExtensionPoint<'_>,
 ) -> Result<OptionalCodec<B>, PluginCreateError>
     ensures ok { IfOk result (λ codec. optional_of (listed_chain B.reads)
-        (configuration_members (point_of metadata.now).configuration)
+        (configuration_members (point_view point.entry).configuration)
         ≡ Some (optional_chain B.meaning codec)) }
-    ensures names { names_optional (point_of metadata.now).name ≡ true
-        → IfOk result (λ codec. NamesOptional codec (point_of metadata.now)) }
+    ensures names { names_optional (point_view point.entry).name ≡ true
+        → IfOk result (λ codec. NamesOptional codec (point_view point.entry)) }
     ensures err { IfErr result (λ e. e ≢ PluginCreateError.Memory →
         optional_of (listed_chain B.reads)
-        (configuration_members (point_of metadata.now).configuration) ≡ None) }
-    ensures refused { names_optional (point_of metadata.now).name ≡ true
+        (configuration_members (point_view point.entry).configuration) ≡ None) }
+    ensures refused { names_optional (point_view point.entry).name ≡ true
         → IfErr result (λ e. e ≢ PluginCreateError.Memory →
-        RefusedCodec B.reads (point_of metadata.now) e) }
+        RefusedCodec B.reads (point_view point.entry) e) }
 {
-    let configuration = match OptionalCodecConfiguration::from_metadata(alloc, metadata) {
+    let configuration = match LentOptionalConfiguration::read(alloc, point) {
         Ok(configuration) => configuration,
         Err(error) => return Err(error),
     };
@@ -205,7 +225,7 @@ fn read_optional<B: BytesToBytesCodecTraits>(
         Ok(data_codecs) => Ok(OptionalCodec {
             mask_codecs,
             data_codecs,
-            name: optional_name(metadata.name()),
+            name: optional_name(point.name),
         }),
         Err(error) => Err(error),
     }
@@ -219,12 +239,12 @@ fn boxed_vlen<B: BytesToBytesCodecTraits>(
     ensures ok { (said : Option Chain)
         → IfOk read (λ codec. said ≡ Some (vlen_chain B.meaning codec))
         → IfOk result (λ codec. said ≡ Some (codec_chain B.meaning codec)) }
-    ensures names { (point : ExtensionPoint) → IfOk read (λ codec. NamesVlen codec point)
+    ensures names { (point : points.ExtensionPoint) → IfOk read (λ codec. NamesVlen codec point)
         → IfOk result (λ codec. Names codec point) }
     ensures err { (said : Option Chain) →
         IfErr read (λ e. e ≢ PluginCreateError.Memory → said ≡ None)
         → IfErr result (λ e. e ≢ PluginCreateError.Memory → said ≡ None) }
-    ensures refused { (point : ExtensionPoint) →
+    ensures refused { (point : points.ExtensionPoint) →
         IfErr read (λ e. e ≢ PluginCreateError.Memory → RefusedCodec B.reads point e)
         → IfErr result (λ e. e ≢ PluginCreateError.Memory → RefusedCodec B.reads point e) }
 {
@@ -245,12 +265,12 @@ fn boxed_optional<B: BytesToBytesCodecTraits>(
     ensures ok { (said : Option Chain) →
         IfOk read (λ codec. said ≡ Some (optional_chain B.meaning codec))
         → IfOk result (λ codec. said ≡ Some (codec_chain B.meaning codec)) }
-    ensures names { (point : ExtensionPoint) → IfOk read (λ codec. NamesOptional codec point)
+    ensures names { (point : points.ExtensionPoint) → IfOk read (λ codec. NamesOptional codec point)
         → IfOk result (λ codec. Names codec point) }
     ensures err { (said : Option Chain) →
         IfErr read (λ e. e ≢ PluginCreateError.Memory → said ≡ None)
         → IfErr result (λ e. e ≢ PluginCreateError.Memory → said ≡ None) }
-    ensures refused { (point : ExtensionPoint) →
+    ensures refused { (point : points.ExtensionPoint) →
         IfErr read (λ e. e ≢ PluginCreateError.Memory → RefusedCodec B.reads point e)
         → IfErr result (λ e. e ≢ PluginCreateError.Memory → RefusedCodec B.reads point e) }
 {
@@ -265,34 +285,41 @@ fn boxed_optional<B: BytesToBytesCodecTraits>(
 
 /// The codec without chains inside of it that metadata describes: `bytes` or `packbits`.
 fn read_leaf<B: BytesToBytesCodecTraits>(
-    metadata: &MetadataV3,
+    alloc: Global,
+    point: ExtensionPoint<'_>,
 ) -> Result<ArrayToBytesCodec<B>, PluginCreateError>
     ensures ok { IfOk result
-        (λ codec. leaf_in (point_of metadata.now) ≡ Some (codec_chain B.meaning codec)) }
-    ensures names { IfOk result (λ codec. Names codec (point_of metadata.now)) }
-    ensures err { IfErr result (λ e. leaf_in (point_of metadata.now) ≡ None) }
-    ensures cause { IfErr result (λ e. e ≡ cause_of (names_leaf (point_of metadata.now).name)) }
+        (λ codec. leaf_in (point_view point.entry) ≡ Some (codec_chain B.meaning codec)) }
+    ensures names { IfOk result (λ codec. Names codec (point_view point.entry)) }
+    ensures err { IfErr result (λ e. e ≢ PluginCreateError.Memory
+        → leaf_in (point_view point.entry) ≡ None) }
+    ensures cause { IfErr result (λ e. e ≢ PluginCreateError.Memory
+        → e ≡ cause_of (names_leaf (point_view point.entry).name)) }
 {
-    if names_packbits(metadata.name()) {
-        return read_packbits(metadata);
+    if names_packbits(point.name) {
+        return read_packbits(alloc, point);
     }
-    if names_bytes(metadata.name()) {
-        return read_bytes(metadata);
+    if names_bytes(point.name) {
+        return read_bytes(alloc, point);
     }
     Err(PluginCreateError::NameUnsupported)
 }
 
 /// The codec `packbits` that metadata describes. `MetadataInvalid` where it describes none.
 fn read_packbits<B: BytesToBytesCodecTraits>(
-    metadata: &MetadataV3,
+    alloc: Global,
+    point: ExtensionPoint<'_>,
 ) -> Result<ArrayToBytesCodec<B>, PluginCreateError>
     ensures ok { IfOk result
-        (λ codec. packbits_in (point_of metadata.now) ≡ Some (codec_chain B.meaning codec)) }
-    ensures names { IfOk result (λ codec. Names codec (point_of metadata.now)) }
-    ensures err { IfErr result (λ e. packbits_in (point_of metadata.now) ≡ None) }
-    ensures cause { IfErr result (λ e. e ≡ PluginCreateError.MetadataInvalid) }
+        (λ codec. packbits_in (point_view point.entry) ≡ Some (codec_chain B.meaning codec)) }
+    ensures names { IfOk result (λ codec. Names codec (point_view point.entry)) }
+    ensures err { IfErr result (λ e. e ≢ PluginCreateError.Memory
+        → packbits_in (point_view point.entry) ≡ None) }
+    ensures cause { IfErr result
+        (λ e. e ≢ PluginCreateError.Memory → e ≡ PluginCreateError.MetadataInvalid) }
 {
-    match PackBitsCodec::from_metadata(metadata) {
+    let metadata = MetadataV3::from_point(alloc, point)?;
+    match PackBitsCodec::from_metadata(&metadata) {
         Ok(codec) => Ok(ArrayToBytesCodec::PackBits(codec)),
         Err(_none) => Err(PluginCreateError::MetadataInvalid),
     }
@@ -300,15 +327,19 @@ fn read_packbits<B: BytesToBytesCodecTraits>(
 
 /// The codec `bytes` that metadata describes. `MetadataInvalid` where it describes none.
 fn read_bytes<B: BytesToBytesCodecTraits>(
-    metadata: &MetadataV3,
+    alloc: Global,
+    point: ExtensionPoint<'_>,
 ) -> Result<ArrayToBytesCodec<B>, PluginCreateError>
     ensures ok { IfOk result
-        (λ codec. bytes_in (point_of metadata.now) ≡ Some (codec_chain B.meaning codec)) }
-    ensures names { IfOk result (λ codec. Names codec (point_of metadata.now)) }
-    ensures err { IfErr result (λ e. bytes_in (point_of metadata.now) ≡ None) }
-    ensures cause { IfErr result (λ e. e ≡ PluginCreateError.MetadataInvalid) }
+        (λ codec. bytes_in (point_view point.entry) ≡ Some (codec_chain B.meaning codec)) }
+    ensures names { IfOk result (λ codec. Names codec (point_view point.entry)) }
+    ensures err { IfErr result (λ e. e ≢ PluginCreateError.Memory
+        → bytes_in (point_view point.entry) ≡ None) }
+    ensures cause { IfErr result
+        (λ e. e ≢ PluginCreateError.Memory → e ≡ PluginCreateError.MetadataInvalid) }
 {
-    match BytesCodec::from_metadata(metadata) {
+    let metadata = MetadataV3::from_point(alloc, point)?;
+    match BytesCodec::from_metadata(&metadata) {
         Ok(codec) => Ok(ArrayToBytesCodec::Bytes(codec)),
         Err(_none) => Err(PluginCreateError::MetadataInvalid),
     }
