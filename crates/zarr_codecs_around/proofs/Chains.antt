@@ -24,11 +24,11 @@ pub fits_with : (chain : Chain) (codecs : List ByteCodec) (type : DataType) (sha
 fits_with chain [] type shape = refl
 fits_with chain (codec ∷ codecs) type shape = fits_with (then_bytes chain codec) codecs type shape
 
-passes_with : (chain : Chain) (codecs : List ByteCodec) (elements : Elements) (shape : List ℕ) (cells : List Cell) → PassesIndex chain elements shape cells → PassesIndex (with_codecs chain codecs) elements shape cells
+pub passes_with : (chain : Chain) (codecs : List ByteCodec) (elements : Elements) (shape : List ℕ) (cells : List Cell) → PassesIndex chain elements shape cells → PassesIndex (with_codecs chain codecs) elements shape cells
 passes_with chain [] elements shape cells h = h
 passes_with chain (codec ∷ codecs) elements shape cells h = passes_with (then_bytes chain codec) codecs elements shape cells h
 
-refuses_with : (chain : Chain) (codecs : List ByteCodec) (elements : Elements) (shape : List ℕ) (cells : List Cell) → CodecRefuses chain elements shape cells → CodecRefuses (with_codecs chain codecs) elements shape cells
+pub refuses_with : (chain : Chain) (codecs : List ByteCodec) (elements : Elements) (shape : List ℕ) (cells : List Cell) → CodecRefuses chain elements shape cells → CodecRefuses (with_codecs chain codecs) elements shape cells
 refuses_with chain [] elements shape cells h = h
 refuses_with chain (codec ∷ codecs) elements shape cells h = refuses_with (then_bytes chain codec) codecs elements shape cells (inl h)
 
@@ -63,7 +63,7 @@ refused_from chain codec codecs elements shape made cells None is e later = refu
 refused_from chain codec codecs elements shape made cells (Some more) is e later = later more e
 
 -- what codecs refuse that a chain made
-refused_by : (chain : Chain) (codecs : List ByteCodec) (elements : Elements) (shape made : List ℕ) (cells : List Cell) → encoded chain elements shape cells ≡ Some made → all_encoded codecs made ≡ None
+pub refused_by : (chain : Chain) (codecs : List ByteCodec) (elements : Elements) (shape made : List ℕ) (cells : List Cell) → encoded chain elements shape cells ≡ Some made → all_encoded codecs made ≡ None
     → CodecRefuses (with_codecs chain codecs) elements shape cells
 refused_by chain [] elements shape made cells is none = absurd (cc)
 refused_by chain (codec ∷ codecs) elements shape made cells is none =
