@@ -43,7 +43,7 @@ const BIG: &str = r#"{"configuration":{"endian":"big"},"name":"bytes"}"#;
 
 const REVERSE: &str = r#""x-reverse""#;
 
-const CASES: [Case; 7] = [
+const CASES: [Case; 8] = [
     Case {
         codecs: &[
             r#"{"configuration":{"order":[1,0]},"name":"transpose"}"#,
@@ -169,6 +169,32 @@ const CASES: [Case; 7] = [
             from: &[1..3],
             to: &[0..2],
             left: &[1, 0, 0, 0, 0, 0, 0, 0, 2, 0, 0, 0, 0, 0, 0, 0, 6, 7, 7],
+        }],
+    },
+    // Absent, one that is absent inside, and 9.
+    Case {
+        codecs: &[
+            r#"{"configuration":{"data_codecs":[{"configuration":{"data_codecs":["bytes"],"mask_codecs":["packbits"]},"name":"optional"}],"mask_codecs":["packbits"]},"name":"optional"}"#,
+        ],
+        data_type: r#"{"configuration":{"configuration":{"name":"uint8"},"name":"zarrs.optional"},"name":"zarrs.optional"}"#,
+        fill: "null",
+        shape: &[3],
+        value: &[
+            1, 0, 0, 0, 0, 0, 0, 0, 18, 0, 0, 0, 0, 0, 0, 0, 6, 1, 0, 0, 0, 0, 0, 0, 0, 1, 0, 0, 0,
+            0, 0, 0, 0, 2, 9,
+        ],
+        swapped: &[
+            1, 0, 0, 0, 0, 0, 0, 0, 18, 0, 0, 0, 0, 0, 0, 0, 5, 1, 0, 0, 0, 0, 0, 0, 0, 1, 0, 0, 0,
+            0, 0, 0, 0, 2, 9,
+        ],
+        boxes: &[],
+        moved: &[MovedBox {
+            from: &[2..3],
+            to: &[0..1],
+            left: &[
+                1, 0, 0, 0, 0, 0, 0, 0, 19, 0, 0, 0, 0, 0, 0, 0, 7, 1, 0, 0, 0, 0, 0, 0, 0, 2, 0, 0,
+                0, 0, 0, 0, 0, 5, 9, 9,
+            ],
         }],
     },
 ];
