@@ -1,7 +1,7 @@
 pub mod VlenDecoding
+pub mod OptionalEncoding
 pub mod OptionalDecoding
 pub mod VlenEncoding
-pub mod OptionalEncoding
 pub mod ReadsBack
 pub mod PartsOfWhole
 pub mod Told

@@ -1,39 +1,80 @@
--- Optional elements encoded by a mask and those that are present.
-use Rattle.std.proofs.Common.{◌≡◌, ◌∙◌, ℕ, zero, suc, ◌<◌, List, [], ◌∷◌, length, map, ap, sym, refl, subst, arith, true, inl, inr, Some, Ok, Err, Vec, Global, unwrap_or}
+-- Elements below a mask, of which some are encoded and decoded.
+use Rattle.std.proofs.Common.{◌≡◌, ◌∙◌, ℕ, zero, suc, ◌+◌, ◌<◌, List, [], ◌∷◌, length, map, ap, sym, refl, subst, arith, Bool, true, false, inl, inr, Option, Some, None, option_map, option_and_then, Result, Ok, Err, Vec, Global, unwrap_or, ◌==◌, if◌then◌else◌}
+use Rattle.std.specs.List.{filter, filter_map}
 use Rattle.zarr_grids_boxes.specs.Boxes.{product}
-use Rattle.zarr_codecs_meaning.specs.Chains.{Chain}
+use Rattle.zarr_codecs_meaning.specs.Chains.{ByteCodec, Chain}
 use Rattle.zarr_codecs_meaning.specs.Chains.Chain.{optional}
 use Rattle.zarr_codecs_meaning.specs.Encoding.{encoded, mask_cell, unless_none, with_mask}
 use Rattle.zarr_codecs_meaning.specs.Fits.{fits}
 use Rattle.zarr_codecs_meaning.specs.Laws.{IsLawfulChain, AreCells}
 use Rattle.zarr_codecs_meaning.specs.Payloads.{Payload}
-use Rattle.zarr_codecs_meaning.specs.Types.{DataType, bool, integer, custom, string, variable_bytes, optional_of, inner_type, Cell, is_value, Elements, zero_filled}
-use Rattle.zarr_codecs_meaning.proofs.KeptOptions.{options_fit}
+use Rattle.zarr_codecs_meaning.specs.Types.{DataType, bool, inner_type, Cell, is_value, Elements, zero_filled}
 use Rattle.zarr_codecs_meaning.proofs.Lists.{some_same}
 use Rattle.zarr_codecs_meaning.proofs.Meaning.{laws_of}
 use Rattle.zarr_codecs_meaning.proofs.Representations.{encoded_size}
 use Rattle.zarr_codecs_arrays.specs.Outcomes.{IsValid}
 use Rattle.zarr_codecs_arrays.specs.declared.error.CodecError.{CodecError}
 use Rattle.zarr_codecs_arrays.specs.declared.error.CodecError.TheVariants as error
-use Rattle.zarr_codecs_traits.specs.Outcomes.{Encodes}
+use Rattle.zarr_codecs_traits.specs.Outcomes.{Encodes, MakesBytes}
 use Rattle.zarr_codecs_sections.specs.Laws.{found_in}
+use Rattle.zarr_codecs_sections.specs.Marks.{AreMarked, chosen, count_ones}
 use Rattle.zarr_codecs_sections.proofs.Joined.{options_are_encoded, optional_is_refused}
-use Rattle.zarr_codecs_chains.specs.Inside.{MakesInner}
+use Rattle.zarr_codecs_around.specs.Codecs.{all_encoded}
+use Rattle.zarr_codecs_around.specs.Views.{with_codecs}
+use Rattle.zarr_codecs_around.proofs.Chains.{encoded_with, passes_with, refused_by, refuses_with}
+use Rattle.zarr_codecs_chains.specs.Inside.{MakesInner, MakesSome}
 
--- what is made of no elements is nothing, and what is made of some the chain makes
-pub some_made : (values : Chain) (inner : Elements) (count : ℕ) (found : List Cell) (back : Vec ℕ Global) → length found ≡ count → (count ≡ 0 → back.items ≡ []) → (0 < count → MakesInner values inner (count ∷ []) found (Ok back))
-    → unless_none found (encoded values inner (length found ∷ []) found) ≡ Some back.items
-some_made values inner count [] back same none some = ap Some (sym (none (sym same)))
-some_made values inner count (c ∷ cs) back same none some = ap (λ n. encoded values inner (n ∷ []) (c ∷ cs)) same ∙ some (omega (arith, same))
+-- ---- how many they are
 
-pub options_encodes : (mask values : Chain) (elements : Elements) (shape : List ℕ) (payload : Payload) (cells : List Cell) (front back : List ℕ) (value : Vec ℕ Global) → let chain = optional mask values in let inner = unwrap_or (inner_type elements.type) elements.type in
-    IsLawfulChain chain → is_value elements.type elements.fill ≡ true → fits chain elements.type shape ≡ true → IsValid elements.type payload (product shape) cells → encoded mask (zero_filled bool) shape (map mask_cell cells) ≡ Some front
-    → unless_none (found_in cells) (encoded values (zero_filled inner) (length (found_in cells) ∷ []) (found_in cells)) ≡ Some back → with_mask front back ≡ Some value.items → Encodes chain true elements shape payload (Ok value)
-options_encodes mask values elements shape payload cells front back value lawful fill fit valid front_is back_is joined =
-    let chain = optional mask values in
-    let inner = unwrap_or (inner_type elements.type) elements.type in
-    let whole : encoded chain elements shape cells ≡ Some value.items =
-    options_are_encoded (encoded mask (zero_filled bool) shape) (λ found. encoded values (zero_filled inner) (length found ∷ []) found) cells front back value.items front_is back_is joined in
+pub chosen_count : {A : Type 0} (marks : List ℕ) (xs : List A) → length xs ≡ length marks → length (chosen marks xs) ≡ count_ones marks
+chosen_count [] xs long = refl
+chosen_count (m ∷ ms) [] long = absurd (omega (arith, long))
+chosen_count (m ∷ ms) (x ∷ xs) long = by_mark (m == 1) (chosen_count ms xs (omega (arith, long))) where
+  by_mark : (b : Bool) → length (chosen ms xs) ≡ count_ones ms → length (if b then x ∷ chosen ms xs else chosen ms xs) ≡ length (if b then m ∷ filter (λ k. k == 1) ms else filter (λ k. k == 1) ms)
+  by_mark true same = ap suc same
+  by_mark false same = same
+
+-- those whose marks are 1 are as many as there are ones
+pub marked_count : (type : DataType) (marks : List ℕ) (cells : List Cell) (payload : Payload) → AreMarked type marks cells payload → length cells ≡ count_ones marks
+marked_count type marks cells payload h = sym (ap length h.are) ∙ chosen_count marks h.all h.many
+
+-- ---- encoding
+
+-- what codecs make of what a chain made
+pub makes_with : (chain : Chain) (codecs : List ByteCodec) (elements : Elements) (shape : List ℕ) (cells : List Cell) (made : List ℕ) (r : Result (Vec ℕ Global) CodecError) → encoded chain elements shape cells ≡ Some made → MakesBytes (all_encoded codecs) made r
+    → MakesInner (with_codecs chain codecs) elements shape cells r
+makes_with chain codecs elements shape cells made (Ok value) is h = encoded_with chain codecs elements shape cells ∙ (ap (option_and_then (all_encoded codecs)) is ∙ h)
+makes_with chain codecs elements shape cells made (Err error.Codec) is h = refused_by chain codecs elements shape made cells is h
+makes_with chain codecs elements shape cells made (Err error.Memory) is h = tt
+makes_with chain codecs elements shape cells made (Err e) is h = absurd h
+
+-- what a chain refuses, it refuses with codecs after it for the same reason
+pub unmade_with : (chain : Chain) (codecs : List ByteCodec) (elements : Elements) (shape : List ℕ) (cells : List Cell) (e : CodecError) → MakesInner chain elements shape cells (Err e) → MakesInner (with_codecs chain codecs) elements shape cells (Err e)
+unmade_with chain codecs elements shape cells error.Codec h = refuses_with chain codecs elements shape cells h
+unmade_with chain codecs elements shape cells error.Size h = passes_with chain codecs elements shape cells h
+unmade_with chain codecs elements shape cells error.Memory h = tt
+unmade_with chain codecs elements shape cells e h = absurd h
+
+-- nothing is made of no elements
+pub none_made : (chain : Chain) (type : DataType) (cells : List Cell) (value : Vec ℕ Global) → length cells ≡ 0 → value.items ≡ [] → MakesSome chain type cells (Ok value)
+none_made chain type [] value none is = ap Some (sym is)
+none_made chain type (c ∷ cells) value none is = absurd (omega (arith, none))
+
+-- of some elements that is made that the chain makes
+pub some_made : (chain : Chain) (type : DataType) (cells : List Cell) (count : ℕ) (r : Result (Vec ℕ Global) CodecError) → length cells ≡ count → 0 < count → MakesInner chain (zero_filled type) (count ∷ []) cells r → MakesSome chain type cells r
+some_made chain type cells count (Ok value) same some h = whole cells same (subst (λ n. encoded chain (zero_filled type) (n ∷ []) cells ≡ Some value.items) (sym same) h) where
+  whole : (cs : List Cell) → length cs ≡ count → encoded chain (zero_filled type) (length cs ∷ []) cs ≡ Some value.items → unless_none cs (encoded chain (zero_filled type) (length cs ∷ []) cs) ≡ Some value.items
+  whole [] none e = absurd (omega (arith, none, some))
+  whole (c ∷ cs) long e = e
+some_made chain type cells count (Err error.Codec) same some h = (subst (λ n. 0 < n) (sym same) some, subst (λ n. MakesInner chain (zero_filled type) (n ∷ []) cells (Err error.Codec)) (sym same) h)
+some_made chain type cells count (Err error.Size) same some h = (subst (λ n. 0 < n) (sym same) some, subst (λ n. MakesInner chain (zero_filled type) (n ∷ []) cells (Err error.Size)) (sym same) h)
+some_made chain type cells count (Err error.Memory) same some h = tt
+some_made chain type cells count (Err e) same some h = absurd h
+
+-- what is made of the elements of an array that the chain suits
+pub makes_encodes : (chain : Chain) (elements : Elements) (shape : List ℕ) (payload : Payload) (cells : List Cell) (r : Result (Vec ℕ Global) CodecError)
+    → IsLawfulChain chain → is_value elements.type elements.fill ≡ true → fits chain elements.type shape ≡ true → IsValid elements.type payload (product shape) cells → MakesInner chain elements shape cells r → Encodes chain true elements shape payload r
+makes_encodes chain elements shape payload cells (Ok value) lawful fill fit valid whole =
     let are : AreCells elements shape cells = record { fill = fill; values = valid.values; whole = valid.is.many } in (
       cells,
       record {
@@ -44,38 +85,34 @@ options_encodes mask values elements shape payload cells front back value lawful
         sized = encoded_size chain elements shape value.items cells lawful fit are whole;
       },
     )
+makes_encodes chain elements shape payload cells (Err error.Codec) lawful fill fit valid h = (cells, record { valid = valid; fit = fit; is = h })
+makes_encodes chain elements shape payload cells (Err error.Size) lawful fill fit valid h = inr (cells, record { valid = valid; fit = fit; is = h })
+makes_encodes chain elements shape payload cells (Err error.Memory) lawful fill fit valid h = tt
+makes_encodes chain elements shape payload cells (Err e) lawful fill fit valid h = absurd h
+
+-- ---- `optional`, by its mask and the elements that are present
+
+-- what it makes of them joined
+pub options_made : (mask values : Chain) (elements : Elements) (inner : DataType) (shape : List ℕ) (cells : List Cell) (front back value : Vec ℕ Global) → inner_type elements.type ≡ Some inner
+    → MakesInner mask (zero_filled bool) shape (map mask_cell cells) (Ok front) → MakesSome values inner (found_in cells) (Ok back) → with_mask front.items back.items ≡ Some value.items → MakesInner (optional mask values) elements shape cells (Ok value)
+options_made mask values elements inner shape cells front back value is front_is back_is joined =
+    let of_inner : unwrap_or (inner_type elements.type) elements.type ≡ inner = ap (λ o. unwrap_or o elements.type) is in
+    let found = found_in cells in
+    options_are_encoded (encoded mask (zero_filled bool) shape) (λ found. encoded values (zero_filled (unwrap_or (inner_type elements.type) elements.type)) (length found ∷ []) found) cells front.items back.items value.items front_is
+    (ap (λ t. unless_none found (encoded values (zero_filled t) (length found ∷ []) found)) of_inner ∙ back_is) joined
 
 -- what the chain of the mask refuses
-pub mask_unmade : (mask values : Chain) (elements : Elements) (shape : List ℕ) (payload : Payload) (cells : List Cell) (e : CodecError) → let chain = optional mask values in
-    fits chain elements.type shape ≡ true → IsValid elements.type payload (product shape) cells → MakesInner mask (zero_filled bool) shape (map mask_cell cells) (Err e) → Encodes chain true elements shape payload (Err e)
-mask_unmade mask values elements shape payload cells error.Codec fit valid h = (cells, record { valid = valid; fit = fit; is = (optional_is_refused mask values elements shape cells).mask_refuses h })
-mask_unmade mask values elements shape payload cells error.Size fit valid h = inr (cells, record { valid = valid; fit = fit; is = (optional_is_refused mask values elements shape cells).mask_passes h })
-mask_unmade mask values elements shape payload cells error.Memory fit valid h = tt
-mask_unmade mask values elements shape payload cells e fit valid h = absurd h
+pub mask_unmade : (mask values : Chain) (elements : Elements) (shape : List ℕ) (cells : List Cell) (e : CodecError) → MakesInner mask (zero_filled bool) shape (map mask_cell cells) (Err e) → MakesInner (optional mask values) elements shape cells (Err e)
+mask_unmade mask values elements shape cells error.Codec h = (optional_is_refused mask values elements shape cells).mask_refuses h
+mask_unmade mask values elements shape cells error.Size h = (optional_is_refused mask values elements shape cells).mask_passes h
+mask_unmade mask values elements shape cells error.Memory h = tt
+mask_unmade mask values elements shape cells e h = absurd h
 
 -- what the chain of the elements that are present refuses
-pub found_unmade : (mask values : Chain) (elements : Elements) (shape : List ℕ) (payload : Payload) (cells : List Cell) (e : CodecError) → let chain = optional mask values in let inner = unwrap_or (inner_type elements.type) elements.type in
-    fits chain elements.type shape ≡ true → IsValid elements.type payload (product shape) cells → 0 < length (found_in cells) → MakesInner values (zero_filled inner) (length (found_in cells) ∷ []) (found_in cells) (Err e) → Encodes chain true elements shape payload (Err e)
-found_unmade mask values elements shape payload cells error.Codec fit valid some h = (cells, record { valid = valid; fit = fit; is = (optional_is_refused mask values elements shape cells).found_refuses some h })
-found_unmade mask values elements shape payload cells error.Size fit valid some h = inr (cells, record { valid = valid; fit = fit; is = (optional_is_refused mask values elements shape cells).found_passes some h })
-found_unmade mask values elements shape payload cells error.Memory fit valid some h = tt
-found_unmade mask values elements shape payload cells e fit valid some h = absurd h
-
--- where there are not none, there are some
-pub some_there : (count : ℕ) → (count ≡ 0 → ⊥) → 0 < count
-some_there zero none = absurd (none refl)
-some_there (suc n) none = omega arith
-
--- what the elements that are present are, of a type that `optional` suits
-pub inner_found : (mask values : Chain) (elements inner : Elements) (shape : List ℕ) (type : DataType) → fits (optional mask values) elements.type shape ≡ true → Some type ≡ inner_type elements.type → inner ≡ zero_filled type
-    → inner ≡ zero_filled (unwrap_or (inner_type elements.type) elements.type)
-inner_found mask values elements inner shape type fit some is = is ∙ ap zero_filled (some_same (some ∙ (options_fit mask values elements.type shape fit).is))
-
--- optional elements are those of the type that is told optional
-pub optional_valid : (type inner : DataType) (payload : Payload) (count : ℕ) (cells : List Cell) → inner_type type ≡ Some inner → IsValid type payload count cells → IsValid (optional_of inner) payload count cells
-optional_valid bool inner payload count cells h valid = absurd (cc)
-optional_valid (integer sign width) inner payload count cells h valid = absurd (cc)
-optional_valid (custom parts) inner payload count cells h valid = absurd (cc)
-optional_valid string inner payload count cells h valid = absurd (cc)
-optional_valid variable_bytes inner payload count cells h valid = absurd (cc)
-optional_valid (optional_of type) inner payload count cells h valid = subst (λ t. IsValid (optional_of t) payload count cells) (some_same h) valid
+pub found_unmade : (mask values : Chain) (elements : Elements) (inner : DataType) (shape : List ℕ) (cells : List Cell) (e : CodecError) → inner_type elements.type ≡ Some inner → MakesSome values inner (found_in cells) (Err e) → MakesInner (optional mask values) elements shape cells (Err e)
+found_unmade mask values elements inner shape cells e is h = by_cause e (subst (λ t. MakesSome values t (found_in cells) (Err e)) (sym (ap (λ o. unwrap_or o elements.type) is)) h) where
+  by_cause : (e : CodecError) → MakesSome values (unwrap_or (inner_type elements.type) elements.type) (found_in cells) (Err e) → MakesInner (optional mask values) elements shape cells (Err e)
+  by_cause error.Codec h = (optional_is_refused mask values elements shape cells).found_refuses h.0 h.1
+  by_cause error.Size h = (optional_is_refused mask values elements shape cells).found_passes h.0 h.1
+  by_cause error.Memory h = tt
+  by_cause e h = absurd h

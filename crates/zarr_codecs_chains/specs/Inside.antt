@@ -11,6 +11,7 @@ use Rattle.zarr_codecs_arrays.specs.declared.array_bytes.ArrayBytes.{ArrayBytes}
 use Rattle.zarr_codecs_arrays.specs.declared.error.CodecError.{CodecError}
 use Rattle.zarr_codecs_arrays.specs.declared.error.CodecError.TheVariants as error
 use Rattle.zarr_codecs_sections.specs.Laws.{content_of}
+use Rattle.zarr_codecs_sections.specs.Marks.{AreMarked}
 use Rattle.zarr_codecs_sections.specs.Outcomes.{offsets_read}
 
 -- the elements that a section is decoded to, or that it is decoded to none
@@ -35,10 +36,21 @@ MakesInner chain elements shape cells (Err error.Size) = PassesIndex chain eleme
 MakesInner chain elements shape cells (Err error.Memory) = Unit {0}
 MakesInner chain elements shape cells (Err e) = ⊥
 
+-- what a chain makes of the elements of a section, which is nothing where there are none, or why it makes nothing
+abbrev pub MakesSome : Chain → DataType → List Cell → Result (Vec ℕ Global) CodecError → Type 0
+MakesSome chain type cells (Ok value) = unless_none cells (encoded chain (zero_filled type) (length cells ∷ []) cells) ≡ Some value.items
+MakesSome chain type cells (Err error.Codec) = (0 < length cells) × CodecRefuses chain (zero_filled type) (length cells ∷ []) cells
+MakesSome chain type cells (Err error.Size) = (0 < length cells) × PassesIndex chain (zero_filled type) (length cells ∷ []) cells
+MakesSome chain type cells (Err error.Memory) = Unit {0}
+MakesSome chain type cells (Err e) = ⊥
+
 -- what a chain makes of the joined bytes of elements of variable length, or why it makes nothing
 abbrev pub MakesContent : Chain → List Cell → Result (Vec ℕ Global) CodecError → Type 0
-MakesContent chain cells (Ok value) = unless_none (content_of cells) (encoded chain (zero_filled uint8) (length (content_of cells) ∷ []) (content_of cells)) ≡ Some value.items
-MakesContent chain cells (Err error.Codec) = (0 < length (content_of cells)) × CodecRefuses chain (zero_filled uint8) (length (content_of cells) ∷ []) (content_of cells)
-MakesContent chain cells (Err error.Size) = (0 < length (content_of cells)) × PassesIndex chain (zero_filled uint8) (length (content_of cells) ∷ []) (content_of cells)
-MakesContent chain cells (Err error.Memory) = Unit {0}
-MakesContent chain cells (Err e) = ⊥
+MakesContent chain cells result = MakesSome chain uint8 (content_of cells) result
+
+-- the elements that a section is decoded to, put to where marks are 1, or that it is decoded to none
+abbrev pub FindsMarked : Option (List Cell) → DataType → List ℕ → Result ArrayBytes CodecError → Type 0
+FindsMarked found type marks (Ok bytes) = (cells : List Cell) × (found ≡ Some cells) × AreMarked type marks cells (payload_of bytes)
+FindsMarked found type marks (Err error.Damage) = found ≡ None
+FindsMarked found type marks (Err error.Memory) = Unit {0}
+FindsMarked found type marks (Err e) = ⊥

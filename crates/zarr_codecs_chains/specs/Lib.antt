@@ -6,3 +6,4 @@ pub mod Parts
 pub mod Names
 pub mod Configured
 pub mod Refusals
+pub mod Chosen

@@ -1,30 +1,35 @@
 //! Elements encoded by a chain, and by the chains inside of it.
-ghost use Rattle.std.specs.Prelude.{◌≡◌, ◌+◌, ◌<◌, ◌^◌, ℕ, List, [], ◌∷◌, true, IsTrue, IsOkAnd};
+ghost use Rattle.std.specs.Prelude.{◌≡◌, ◌+◌, ◌<◌, ◌^◌, ℕ, List, [], ◌∷◌, Some, length, true, IsTrue};
 ghost use Rattle.zarr_grids_boxes.specs.Boxes.{product};
-ghost use Rattle.zarr_codecs_meaning.specs.Fits.{fits};
+ghost use Rattle.zarr_codecs_meaning.specs.Chains.{Chain};
+ghost use Rattle.zarr_codecs_meaning.specs.Fits.{fits, takes_each_shape};
+ghost use Rattle.zarr_codecs_meaning.specs.Payloads.{Payload};
 ghost use Rattle.zarr_codecs_meaning.specs.Types as types;
 ghost use Rattle.zarr_codecs_meaning.specs.Types.{is_value, IsTooLarge};
 ghost use Rattle.zarr_codecs_types.specs.Views.{type_of};
 ghost use Rattle.zarr_codecs_arrays.specs.Outcomes.{IsValid};
 ghost use Rattle.zarr_codecs_arrays.specs.Views.{payload_of, elements_of};
 ghost use Rattle.zarr_codecs_traits.specs.Outcomes.{Encodes};
-ghost use Rattle.zarr_codecs_sections.specs.Outcomes.{IsContent};
+ghost use Rattle.zarr_codecs_sections.specs.Outcomes.{IsContent, IsSplit};
 ghost use Rattle.zarr_codecs_sections.specs.Views.{width_of};
-ghost use Rattle.zarr_codecs_chains.specs.Inside.{MakesContent, MakesInner};
+ghost use Rattle.zarr_codecs_chains.specs.Chosen.{AreChosen, AreCounted, MakesChosen, SuitsChosen, chosen_type};
+ghost use Rattle.zarr_codecs_chains.specs.Inside.{MakesContent, MakesInner, MakesSome};
 ghost use Rattle.zarr_codecs_chains.specs.Views.{codec_chain, meaning_of, optional_chain, vlen_chain};
 
 use crate::array_to_bytes::ArrayToBytesCodec;
 use crate::chain::CodecChain;
+use crate::chosen::{Chosen, choose};
 use crate::fitting::{fits_codec, fits_optional, fits_vlen};
 use crate::optional::OptionalCodec;
 use crate::vlen::VlenCodec;
 use std::alloc::Global;
 use zarr_codecs_around::array_codecs::{move_all, shape_after};
-use zarr_codecs_around::byte_codecs::encode_made;
+use zarr_codecs_around::byte_codecs::{encode_all, encode_made};
 use zarr_codecs_arrays::{ArrayBytes, CodecError, Elements};
 use zarr_codecs_options::CodecOptions;
 use zarr_codecs_sections::{
-    join_index, join_mask, joined_bytes, offset_elements, split_present, zero_filled,
+    SplitOptions, choose_elements, join_index, join_mask, joined_bytes, offset_elements,
+    split_chosen, split_options, zero_filled,
 };
 use zarr_codecs_traits::{ArrayToBytesCodecTraits, BytesToBytesCodecTraits, WholeArray};
 use zarr_codecs_types::DataType;
@@ -216,7 +221,18 @@ fn encode_inner<B: BytesToBytesCodecTraits>(
     if !is_small(array.elements.data_type(), array.shape) {
         return Err(CodecError::Memory);
     }
-    match encode_chain(chain, alloc, bytes, array, options) {
+    made_inside(encode_chain(chain, alloc, bytes, array, options))
+}
+
+/// What is made of an inner array, whose elements are valid and few.
+fn made_inside(made: Result<Vec<u8>, CodecError>) -> Result<Vec<u8>, CodecError>
+    ensures { (chain : Chain) (elements : types.Elements) (shape : List ℕ) (payload : Payload)
+        (cells : List types.Cell) → (IsTooLarge elements.type (product shape) → ⊥)
+        → IsValid elements.type payload (product shape) cells
+        → Encodes chain true elements shape payload made
+        → MakesInner chain elements shape cells result }
+{
+    match made {
         Ok(value) => Ok(value),
         Err(CodecError::Codec) => Err(CodecError::Codec),
         Err(CodecError::Size) => Err(CodecError::Size),
@@ -263,43 +279,48 @@ fn encode_optional<B: BytesToBytesCodecTraits>(
     if let Err(error) = bytes.validate(data_type, count) {
         return Err(error);
     }
-    encode_options(codec, alloc, bytes, array, options)
-}
-
-/// What `optional` makes of elements that it suits.
-#[cycle(encoding)]
-fn encode_options<B: BytesToBytesCodecTraits>(
-    codec: &OptionalCodec<B>,
-    alloc: Global,
-    bytes: ArrayBytes,
-    array: WholeArray<'_>,
-    options: &CodecOptions,
-) -> Result<Vec<u8>, CodecError>
-    ensures { (cells : List types.Cell) → fits (optional_chain B.meaning codec.now)
-        (elements_of array.entry.elements.now).type array.entry.shape.now ≡ true
-        → IsValid (elements_of array.entry.elements.now).type (payload_of bytes)
-        (product array.entry.shape.now) cells
-        → Encodes (optional_chain B.meaning codec.now) true
-        (elements_of array.entry.elements.now) array.entry.shape.now (payload_of bytes) result }
-{
-    let Some(inner) = array.elements.data_type().inner() else {
+    let Some(inner) = data_type.inner() else {
         return Err(CodecError::Fit);
     };
-    let inner = zero_filled(alloc, inner.try_clone(alloc)?)?;
-    let parts = split_present(alloc, bytes, &inner)?;
-    let count = parts.count;
-    let front = match encode_mask(codec, alloc, parts.mask, array.shape, options) {
+    let parts = split_options(alloc, bytes)?;
+    let shape = array.shape;
+    encode_parts(codec, alloc, parts, Masked { inner, shape }, options)
+}
+
+/// The inner type of optional elements, and the shape of their mask.
+#[derive(Clone, Copy)]
+struct Masked<'t, 's> {
+    inner: &'t DataType,
+    shape: &'s [u64],
+}
+
+/// What `optional` makes of elements that it suits, split.
+#[cycle(encoding)]
+fn encode_parts<B: BytesToBytesCodecTraits>(
+    codec: &OptionalCodec<B>,
+    alloc: Global,
+    parts: SplitOptions,
+    masked: Masked<'_, '_>,
+    options: &CodecOptions,
+) -> Result<Vec<u8>, CodecError>
+    ensures { (elements : types.Elements) (cells : List types.Cell)
+        → types.inner_type elements.type ≡ Some (type_of masked.entry.inner.now)
+        → takes_each_shape (meaning_of B.meaning codec.now.data_codecs) ≡ true
+        → fits (meaning_of B.meaning codec.now.data_codecs) (type_of masked.entry.inner.now)
+        (0 ∷ []) ≡ true
+        → length cells ≡ product masked.entry.shape.now
+        → IsSplit (type_of masked.entry.inner.now) cells parts
+        → MakesInner (optional_chain B.meaning codec.now) elements masked.entry.shape.now cells
+        result }
+{
+    let SplitOptions { mask, marks, below } = parts;
+    let mask = ArrayBytes::Fixed(mask);
+    let front = match encode_mask(codec, alloc, mask, masked.shape, options) {
         Ok(front) => front,
         Err(error) => return Err(error),
     };
-    match encode_some(
-        &codec.data_codecs,
-        alloc,
-        parts.present,
-        &inner,
-        count,
-        options,
-    ) {
+    let chosen = choose(marks.as_slice(), masked.inner);
+    match encode_chosen(&codec.data_codecs, alloc, below, chosen, options) {
         Ok(back) => Ok(join_mask(alloc, front.as_slice(), back.as_slice())?),
         Err(error) => Err(error),
     }
@@ -327,29 +348,123 @@ fn encode_mask<B: BytesToBytesCodecTraits>(
     encode_inner(&codec.mask_codecs, alloc, mask, array, options)
 }
 
-/// What a chain makes of so many elements; nothing where there are none.
+/// What a chain that does the same for each shape makes of the elements that are encoded; nothing
+/// where there are none.
 #[cycle(encoding)]
-fn encode_some<B: BytesToBytesCodecTraits>(
+fn encode_chosen<B: BytesToBytesCodecTraits>(
     chain: &CodecChain<B>,
     alloc: Global,
     bytes: ArrayBytes,
-    elements: &Elements,
-    count: u64,
+    chosen: Chosen<'_, '_>,
     options: &CodecOptions,
 ) -> Result<Vec<u8>, CodecError>
-    ensures none { count ≡ 0 → IsOkAnd result (λ value. value.items ≡ []) }
-    ensures some { (cells : List types.Cell) → 0 < count
-        → IsValid (elements_of elements.now).type (payload_of bytes) count cells
-        → MakesInner (meaning_of B.meaning chain.now) (elements_of elements.now) (count ∷ [])
-        cells result }
+    requires { AreCounted chosen }
+    ensures { (cells : List types.Cell)
+        → SuitsChosen (meaning_of B.meaning chain.now) chosen.entry
+        → AreChosen chosen.entry cells (payload_of bytes)
+        → MakesSome (meaning_of B.meaning chain.now) (chosen_type chosen.entry) cells result }
 {
-    if count == 0 {
+    if chosen.count == 0 {
         return Ok(Vec::new(alloc));
     }
-    let shape = [count];
-    let array = WholeArray {
-        elements,
+    let codec = &chain.others.array_to_bytes;
+    match encode_chosen_by(codec, alloc, bytes, chosen, options) {
+        Ok(made) => encode_all(alloc, chain.others.bytes_to_bytes.as_slice(), made),
+        Err(error) => Err(error),
+    }
+}
+
+/// What an array to bytes codec makes of them that does the same for each shape.
+#[cycle(encoding)]
+fn encode_chosen_by<B: BytesToBytesCodecTraits>(
+    codec: &ArrayToBytesCodec<B>,
+    alloc: Global,
+    bytes: ArrayBytes,
+    chosen: Chosen<'_, '_>,
+    options: &CodecOptions,
+) -> Result<Vec<u8>, CodecError>
+    requires { AreCounted chosen }
+    ensures { (cells : List types.Cell)
+        → SuitsChosen (codec_chain B.meaning codec.now) chosen.entry
+        → AreChosen chosen.entry cells (payload_of bytes)
+        → MakesChosen (codec_chain B.meaning codec.now) chosen.entry cells result }
+{
+    match codec {
+        ArrayToBytesCodec::Bytes(codec) => encode_alone(codec, alloc, bytes, chosen, options),
+        ArrayToBytesCodec::PackBits(codec) => encode_alone(codec, alloc, bytes, chosen, options),
+        ArrayToBytesCodec::Vlen(codec) => encode_texts(codec, alloc, bytes, chosen, options),
+        ArrayToBytesCodec::Optional(codec) => { encode_below(codec, alloc, bytes, chosen, options) }
+    }
+}
+
+/// What a codec without chains inside of it makes of them, which it is given alone.
+fn encode_alone<C: ArrayToBytesCodecTraits>(
+    codec: &C,
+    alloc: Global,
+    bytes: ArrayBytes,
+    chosen: Chosen<'_, '_>,
+    options: &CodecOptions,
+) -> Result<Vec<u8>, CodecError>
+    requires { AreCounted chosen }
+    ensures { (cells : List types.Cell) → C.is_function codec.now ≡ true
+        → AreChosen chosen.entry cells (payload_of bytes)
+        → MakesChosen (C.meaning codec.now) chosen.entry cells result }
+{
+    let data_type = chosen.data_type;
+    let elements = zero_filled(alloc, data_type.try_clone(alloc)?)?;
+    let present = choose_elements(alloc, bytes, data_type, chosen.marks)?;
+    let shape = [chosen.count];
+    if !is_small(data_type, &shape) {
+        return Err(CodecError::Memory);
+    }
+    made_inside(codec.encode(alloc, present, &elements, &shape, options))
+}
+
+/// What `vlen` makes of them.
+#[cycle(encoding)]
+fn encode_texts<B: BytesToBytesCodecTraits>(
+    codec: &VlenCodec<B>,
+    alloc: Global,
+    bytes: ArrayBytes,
+    chosen: Chosen<'_, '_>,
+    options: &CodecOptions,
+) -> Result<Vec<u8>, CodecError>
+    requires { AreCounted chosen }
+    ensures { (cells : List types.Cell)
+        → SuitsChosen (vlen_chain B.meaning codec.now) chosen.entry
+        → AreChosen chosen.entry cells (payload_of bytes)
+        → MakesChosen (vlen_chain B.meaning codec.now) chosen.entry cells result }
+{
+    if chosen.count >= 1 << 63 || !is_small(chosen.data_type, &[chosen.count]) {
+        return Err(CodecError::Memory);
+    }
+    let present = choose_elements(alloc, bytes, chosen.data_type, chosen.marks)?;
+    made_inside(encode_sections(codec, alloc, present, chosen.count, options))
+}
+
+/// What `optional` makes of them.
+#[cycle(encoding)]
+fn encode_below<B: BytesToBytesCodecTraits>(
+    codec: &OptionalCodec<B>,
+    alloc: Global,
+    bytes: ArrayBytes,
+    chosen: Chosen<'_, '_>,
+    options: &CodecOptions,
+) -> Result<Vec<u8>, CodecError>
+    requires { AreCounted chosen }
+    ensures { (cells : List types.Cell)
+        → SuitsChosen (optional_chain B.meaning codec.now) chosen.entry
+        → AreChosen chosen.entry cells (payload_of bytes)
+        → MakesChosen (optional_chain B.meaning codec.now) chosen.entry cells result }
+{
+    let Some(inner) = chosen.data_type.inner() else {
+        return Err(CodecError::Memory);
+    };
+    let parts = split_chosen(alloc, bytes, chosen.marks)?;
+    let shape = [chosen.count];
+    let masked = Masked {
+        inner,
         shape: &shape,
     };
-    encode_inner(chain, alloc, bytes, array, options)
+    encode_parts(codec, alloc, parts, masked, options)
 }

@@ -1,5 +1,5 @@
 //! Which arrays a chain suits.
-ghost use Rattle.std.specs.Prelude.{◌≡◌, ◌<◌, ◌≤◌, ◌+◌, ◌^◌, IfOk, [], ◌∷◌, ◌&&◌};
+ghost use Rattle.std.specs.Prelude.{◌≡◌, ◌<◌, ◌≤◌, ◌+◌, ◌^◌, ℕ, List, IfOk, [], ◌∷◌, ◌&&◌, true};
 ghost use Rattle.zarr_grids_boxes.specs.Boxes.{product};
 ghost use Rattle.zarr_codecs_meaning.specs.Fits.{fits, takes_each_shape};
 ghost use Rattle.zarr_codecs_meaning.specs.Types.{integer, unsigned};
@@ -128,7 +128,6 @@ pub(crate) fn fits_optional<B: BytesToBytesCodecTraits>(
 }
 
 /// Whether a chain does the same for each shape, and suits arrays of a data type.
-#[cycle(fitting)]
 fn fits_each_shape<B: BytesToBytesCodecTraits>(
     chain: &CodecChain<B>,
     alloc: Global,
@@ -140,7 +139,82 @@ fn fits_each_shape<B: BytesToBytesCodecTraits>(
     if !takes_each_shape(chain) {
         return Ok(false);
     }
-    fits_chain(chain, alloc, data_type, &[0])
+    fits_alike(chain, alloc, data_type)
+}
+
+/// Whether a chain that does the same for each shape suits arrays of a data type. That those inside
+/// of it do the same isn't asked again.
+#[cycle(fitting_alike)]
+fn fits_alike<B: BytesToBytesCodecTraits>(
+    chain: &CodecChain<B>,
+    alloc: Global,
+    data_type: &DataType,
+) -> Result<bool, AllocError>
+    ensures { (shape : List ℕ) → takes_each_shape (meaning_of B.meaning chain.now) ≡ true
+        → IfOk result (λ fit. fit ≡ fits (meaning_of B.meaning chain.now)
+        (type_of data_type.now) shape) }
+{
+    codec_fits_alike(&chain.others.array_to_bytes, alloc, data_type)
+}
+
+/// Whether an array to bytes codec does that does the same for each shape.
+#[cycle(fitting_alike)]
+fn codec_fits_alike<B: BytesToBytesCodecTraits>(
+    codec: &ArrayToBytesCodec<B>,
+    alloc: Global,
+    data_type: &DataType,
+) -> Result<bool, AllocError>
+    ensures { (shape : List ℕ) → takes_each_shape (codec_chain B.meaning codec.now) ≡ true
+        → IfOk result
+        (λ fit. fit ≡ fits (codec_chain B.meaning codec.now) (type_of data_type.now) shape) }
+{
+    match codec {
+        ArrayToBytesCodec::Bytes(codec) => codec.fits(alloc, data_type, &[]),
+        ArrayToBytesCodec::PackBits(codec) => codec.fits(alloc, data_type, &[]),
+        ArrayToBytesCodec::Vlen(codec) => vlen_fits_alike(codec, alloc, data_type),
+        ArrayToBytesCodec::Optional(codec) => optional_fits_alike(codec, alloc, data_type),
+    }
+}
+
+/// Whether `vlen` does that does the same for each shape.
+#[cycle(fitting_alike)]
+fn vlen_fits_alike<B: BytesToBytesCodecTraits>(
+    codec: &VlenCodec<B>,
+    alloc: Global,
+    data_type: &DataType,
+) -> Result<bool, AllocError>
+    ensures { (shape : List ℕ) → takes_each_shape (vlen_chain B.meaning codec.now) ≡ true
+        → IfOk result
+        (λ fit. fit ≡ fits (vlen_chain B.meaning codec.now) (type_of data_type.now) shape) }
+{
+    if !data_type.is_variable() {
+        return Ok(false);
+    }
+    let offsets = codec.index_data_type.data_type();
+    if !fits_alike(&codec.index_codecs, alloc, &offsets)? {
+        return Ok(false);
+    }
+    fits_alike(&codec.data_codecs, alloc, &DataType::UInt8)
+}
+
+/// Whether `optional` does that does the same for each shape.
+#[cycle(fitting_alike)]
+fn optional_fits_alike<B: BytesToBytesCodecTraits>(
+    codec: &OptionalCodec<B>,
+    alloc: Global,
+    data_type: &DataType,
+) -> Result<bool, AllocError>
+    ensures { (shape : List ℕ) → takes_each_shape (optional_chain B.meaning codec.now) ≡ true
+        → IfOk result (λ fit. fit ≡ fits (optional_chain B.meaning codec.now)
+        (type_of data_type.now) shape) }
+{
+    let Some(inner) = data_type.inner() else {
+        return Ok(false);
+    };
+    if !fits_alike(&codec.mask_codecs, alloc, &DataType::Bool)? {
+        return Ok(false);
+    }
+    fits_alike(&codec.data_codecs, alloc, inner)
 }
 
 /// Whether a chain does the same for each shape: it holds no array to array codec, nor does a chain

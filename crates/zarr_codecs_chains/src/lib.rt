@@ -6,6 +6,7 @@ mod allowing;
 pub mod array_to_bytes;
 mod bytes_chain;
 pub mod chain;
+mod chosen;
 mod coders;
 mod copying;
 mod decoding;

@@ -1,16 +1,15 @@
 //! What a chain, and the chains inside of it, tell of the size of what they make.
-ghost use Rattle.std.specs.Prelude.{◌≡◌, ◌≢◌, [], ◌∷◌, Some, IfErr, true};
-ghost use Rattle.zarr_codecs_meaning.specs.Fits.{at_most, bound_of, sum_of_bounds, takes_each_shape};
+ghost use Rattle.std.specs.Prelude.{◌≡◌, [], ◌∷◌, Some, true};
+ghost use Rattle.zarr_codecs_meaning.specs.Fits.{at_most, bound_of, fits, sum_of_bounds, takes_each_shape};
 ghost use Rattle.zarr_codecs_packbits.specs.Told.{RefusesToldSizes};
 ghost use Rattle.zarr_codecs_types.specs.Views.{type_of};
 ghost use Rattle.zarr_codecs_traits.specs.Representations.{Represents, RepresentsArray, known_size};
-ghost use Rattle.zarr_codecs_chains.specs.Views.{codec_chain, meaning_of, optional_chain, vlen_chain};
+ghost use Rattle.zarr_codecs_chains.specs.Views.{codec_chain, meaning_of, optional_chain};
 
 use crate::array_to_bytes::ArrayToBytesCodec;
 use crate::chain::CodecChain;
-use crate::fitting::{fits_optional, fits_vlen};
+use crate::fitting::fits_codec;
 use crate::optional::OptionalCodec;
-use crate::vlen::VlenCodec;
 use std::alloc::Global;
 use zarr_codecs_around::array_codecs::shape_after;
 use zarr_codecs_around::byte_codecs::represent_all;
@@ -19,14 +18,31 @@ use zarr_codecs_traits::{ArrayToBytesCodecTraits, BytesRepresentation, BytesToBy
 use zarr_codecs_types::DataType;
 use zarr_grids_boxes::walk::count_places;
 
-/// What a chain tells of the size of the value of an array.
+/// What an array to bytes codec tells of the size of the value of an array.
+pub(crate) fn represent_codec<B: BytesToBytesCodecTraits>(
+    codec: &ArrayToBytesCodec<B>,
+    alloc: Global,
+    data_type: &DataType,
+    shape: &[u64],
+) -> Result<BytesRepresentation, CodecError>
+    ensures { RepresentsArray (codec_chain B.meaning codec.now) (type_of data_type.now) shape.now
+        result }
+{
+    if !fits_codec(codec, alloc, data_type, shape)? {
+        return Err(CodecError::Fit);
+    }
+    size_by_codec(codec, alloc, data_type, shape)
+}
+
+/// What a chain tells of it that suits the array.
 #[cycle(representing)]
-fn represent_chain<B: BytesToBytesCodecTraits>(
+fn size_by_chain<B: BytesToBytesCodecTraits>(
     chain: &CodecChain<B>,
     alloc: Global,
     data_type: &DataType,
     shape: &[u64],
 ) -> Result<BytesRepresentation, CodecError>
+    requires { fits (meaning_of B.meaning chain.now) (type_of data_type.now) shape.now ≡ true }
     ensures represents { RepresentsArray (meaning_of B.meaning chain.now) (type_of data_type.now)
         shape.now result }
     ensures told { takes_each_shape (meaning_of B.meaning chain.now) ≡ true
@@ -40,20 +56,21 @@ fn represent_chain<B: BytesToBytesCodecTraits>(
         Err(error) => return Err(error),
     };
     let codec = &chain.others.array_to_bytes;
-    match represent_codec(codec, alloc, data_type, last.as_slice()) {
+    match size_by_codec(codec, alloc, data_type, last.as_slice()) {
         Ok(size) => represent_all(others, size),
         Err(error) => Err(error),
     }
 }
 
-/// What an array to bytes codec tells of it.
+/// What an array to bytes codec tells of it that suits the array.
 #[cycle(representing)]
-pub(crate) fn represent_codec<B: BytesToBytesCodecTraits>(
+fn size_by_codec<B: BytesToBytesCodecTraits>(
     codec: &ArrayToBytesCodec<B>,
     alloc: Global,
     data_type: &DataType,
     shape: &[u64],
 ) -> Result<BytesRepresentation, CodecError>
+    requires { fits (codec_chain B.meaning codec.now) (type_of data_type.now) shape.now ≡ true }
     ensures represents { RepresentsArray (codec_chain B.meaning codec.now)
         (type_of data_type.now) shape.now result }
     ensures told { RefusesToldSizes (codec_chain B.meaning codec.now) (type_of data_type.now)
@@ -64,55 +81,38 @@ pub(crate) fn represent_codec<B: BytesToBytesCodecTraits>(
         ArrayToBytesCodec::PackBits(codec) => {
             codec.encoded_representation(alloc, data_type, shape)
         }
-        ArrayToBytesCodec::Vlen(codec) => represent_vlen(codec, alloc, data_type, shape),
-        ArrayToBytesCodec::Optional(codec) => represent_optional(codec, alloc, data_type, shape),
+        // The lengths of elements aren't known.
+        ArrayToBytesCodec::Vlen(_) => Ok(BytesRepresentation::UnboundedSize),
+        ArrayToBytesCodec::Optional(codec) => size_by_optional(codec, alloc, data_type, shape),
     }
 }
 
-/// What `vlen` tells of it: nothing, as the lengths of elements are not known.
-fn represent_vlen<B: BytesToBytesCodecTraits>(
-    codec: &VlenCodec<B>,
-    alloc: Global,
-    data_type: &DataType,
-    shape: &[u64],
-) -> Result<BytesRepresentation, CodecError>
-    ensures represents { RepresentsArray (vlen_chain B.meaning codec.now) (type_of data_type.now)
-        shape.now result }
-    ensures told { IfErr result (λ e. e ≢ CodecError.Size) }
-{
-    if !fits_vlen(codec, alloc, data_type, shape)? {
-        return Err(CodecError::Fit);
-    }
-    Ok(BytesRepresentation::UnboundedSize)
-}
-
-/// What `optional` tells of it: at most two lengths, the mask, and the data of all elements.
+/// What `optional` tells of it, where it suits the array: at most two lengths, the mask, and the
+/// data of all elements.
 #[cycle(representing)]
-fn represent_optional<B: BytesToBytesCodecTraits>(
+fn size_by_optional<B: BytesToBytesCodecTraits>(
     codec: &OptionalCodec<B>,
     alloc: Global,
     data_type: &DataType,
     shape: &[u64],
 ) -> Result<BytesRepresentation, CodecError>
+    requires { fits (optional_chain B.meaning codec.now) (type_of data_type.now) shape.now ≡ true }
     ensures represents { RepresentsArray (optional_chain B.meaning codec.now)
         (type_of data_type.now) shape.now result }
     ensures told { RefusesToldSizes (optional_chain B.meaning codec.now) (type_of data_type.now)
         shape.now result }
 {
-    if !fits_optional(codec, alloc, data_type, shape)? {
-        return Err(CodecError::Fit);
-    }
     let Some(count) = count_places(shape) else {
         return Err(CodecError::Size);
     };
     let Some(of_type) = data_type.inner() else {
-        return Err(CodecError::Fit);
+        return Err(CodecError::Memory);
     };
-    let mask = match represent_chain(&codec.mask_codecs, alloc, &DataType::Bool, shape) {
+    let mask = match size_by_chain(&codec.mask_codecs, alloc, &DataType::Bool, shape) {
         Ok(mask) => mask,
         Err(error) => return Err(error),
     };
-    match represent_chain(&codec.data_codecs, alloc, of_type, &[count]) {
+    match size_by_chain(&codec.data_codecs, alloc, of_type, &[count]) {
         Ok(values) => sum_of_sections(mask, values),
         Err(error) => Err(error),
     }

@@ -111,6 +111,8 @@ pub(crate) fn unpack(
         codec.last_bit (components_of parts.now) count
         (bits_of (without_padding (padding_of codec.padding) value.now))) }
 {
+    // An element has at least a bit of the value, so a number of them that the value can't hold
+    // asks for no memory.
     let room = (count as usize).min(value.len().saturating_mul(8));
     let mut made = Unpacker::with_capacity(alloc, room)?;
     push_unpacked(&mut made, codec, parts, count, value)?;

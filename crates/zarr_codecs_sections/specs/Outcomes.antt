@@ -1,8 +1,8 @@
 -- What calls that take apart and put together elements answer.
 use Rattle.std.specs.Prelude.{◌≡◌, ℕ, ◌+◌, ◌^◌, ◌≤◌, List, map, length, flat_map, Option, Some, None, Result, Ok, Err, true, nat_lt}
-use Rattle.std.specs.List.{filter_map}
+use Rattle.std.specs.List.{filter_map, list_all}
 use Rattle.zarr_codecs_meaning.specs.Numbers.{number}
-use Rattle.zarr_codecs_meaning.specs.Types.{DataType, bool, integer, unsigned, uint8, is_variable, Cell, of_bytes, cell_bytes}
+use Rattle.zarr_codecs_meaning.specs.Types.{DataType, bool, integer, unsigned, uint8, is_variable, is_value, Cell, of_bytes, cell_bytes}
 use Rattle.zarr_codecs_meaning.specs.Payloads.{Payload, fixed, cells_in}
 use Rattle.zarr_codecs_meaning.specs.Encoding.{last_number, number_cells, byte_cells, mask_cell, present_cell}
 use Rattle.zarr_codecs_meaning.specs.Decoding.{elements_of}
@@ -12,7 +12,8 @@ use Rattle.zarr_codecs_arrays.specs.Views.{payload_of}
 use Rattle.zarr_codecs_arrays.specs.declared.array_bytes.ArrayBytes.{ArrayBytes}
 use Rattle.zarr_codecs_arrays.specs.declared.error.CodecError.{CodecError}
 use Rattle.zarr_codecs_arrays.specs.declared.error.CodecError.TheVariants as error
-use Rattle.zarr_codecs_sections.specs.declared.masks.PresentElements.{PresentElements}
+use Rattle.zarr_codecs_sections.specs.Marks.{AreMarked}
+use Rattle.zarr_codecs_sections.specs.declared.splitting.SplitOptions.{SplitOptions}
 
 -- ---- `vlen`
 
@@ -50,7 +51,8 @@ Cuts offsets content None = elements_of (λ long. Some content) offsets ≡ None
 
 -- ---- `optional`
 
--- elements of an optional type are split into their mask and those that are present
-pub record IsSplit (inner : DataType) (cells : List Cell) (parts : PresentElements) : Type 0 where
-  pub mask : IsValid bool (payload_of parts.mask) (length cells) (map mask_cell cells)
-  pub present : IsValid inner (payload_of parts.present) parts.count (filter_map present_cell cells)
+-- the elements of an optional type that are encoded are split: their mask, and an element below for each mark, where those are present whose marks are 1; these are values
+pub record IsSplit (inner : DataType) (cells : List Cell) (parts : SplitOptions) : Type 0 where
+  pub mask : IsValid bool (fixed parts.mask.items) (length cells) (map mask_cell cells)
+  pub below : AreMarked inner parts.marks.items (filter_map present_cell cells) (payload_of parts.below)
+  pub values : list_all (is_value inner) (filter_map present_cell cells) ≡ true

@@ -49,7 +49,7 @@ pub trait ArrayToBytesCodecTraits: Sized + Drop {
         ensures { result ≡ is_function self.now };
 
     /// Whether the codec suits arrays of a data type and a shape. `Err` only where an allocation
-    /// failed.
+    /// failed, or a caller's codec tells 2^63 bytes or more of what it makes of a shard's index.
     fn fits(&self, alloc: Global, data_type: &DataType, shape: &[u64]) -> Result<bool, AllocError>
         ensures { IfOk result
             (λ fit. fit ≡ fits (meaning self.now) (type_of data_type.now) shape.now) };

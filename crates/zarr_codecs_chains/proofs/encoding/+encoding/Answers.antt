@@ -19,7 +19,6 @@ use Rattle.zarr_codecs_around.specs.ArrayCodecs.{EncodesShapes, MovesAll, all_fi
 use Rattle.zarr_codecs_around.specs.Views.{codecs_of, with_codecs}
 use Rattle.zarr_codecs_chains.specs.Views.{codec_chain, codec_lawful, lawful_of, meaning_of}
 use Rattle.zarr_codecs_around.proofs.AllArrayCodecs.{fits_between, unshaped_encodes, encodes_between, unmoved_between}
-use Rattle.zarr_codecs_chains.proofs.OptionalEncoding.{found_unmade, inner_found, mask_unmade, optional_valid, options_encodes, some_made, some_there}
 use Rattle.zarr_codecs_chains.proofs.VlenEncoding.{index_unmade, content_unmade}
 use Rattle.zarr_codecs_chains.proofs.encoding.+encoding.Goals as goal
 
@@ -131,73 +130,3 @@ encode_vlen-returns g t c =
     let fit : fits (vlen index content width location) elements.type shape ≡ true = ap (λ t. fits (vlen index content width location) t shape) (sym c.data_type-data_type.ensures) ∙ (sym c.in_ok-fits_vlen.ensures ∙ c.if-not-branch.false) in
     let valid = subst (λ t. IsValid t payload c.in-Some.count found.0) c.data_type-data_type.ensures found.1 in
     c.encode_sections.ensures elements shape found.0 (sym c.in-Some.ensures.1) c.args.array.elements.now.fills fit valid
-
-pub encode_options-returns-in-Err : goal.encode_options-returns-in-Err
-encode_options-returns-in-Err g t c = λ cells fit valid.
-    let meaning = g.B.BytesToBytesCodecTraits.meaning in
-    let own = c.args.codec.now in
-    let mask = meaning_of meaning own.mask_codecs in
-    let values = meaning_of meaning own.data_codecs in
-    let elements = elements_of c.args.array.elements.now in
-    let shape = c.args.array.shape.now in
-    let payload = payload_of c.args.bytes in
-    let inner = unwrap_or (inner_type elements.type) elements.type in
-    let type = c.in_ok-try_clone.ensures in
-    let some : Some (type_of c.in_ok-try_clone.field-0) ≡ inner_type elements.type = ap Some type ∙ (c.in-Some.ensures ∙ ap inner_type c.data_type.ensures) in
-    let inner_is : elements_of c.in_ok-inner.inner ≡ zero_filled inner = inner_found mask values elements (elements_of c.in_ok-inner.inner) shape (type_of c.in_ok-try_clone.field-0) fit some c.in_ok-inner.ensures in
-    let options = optional_valid elements.type inner payload (product shape) cells (options_fit mask values elements.type shape fit).is valid in
-    let split = c.in_ok-parts.ensures (product shape) cells (subst (λ (i : Elements). IsValid (optional_of i.type) payload (product shape) cells) (sym inner_is) options) in
-    let marks = subst (λ n. IsValid bool (payload_of c.in_ok-parts.parts.mask) n (map mask_cell cells)) valid.is.many split.mask in
-    mask_unmade mask values elements shape payload cells c.in-Err.error fit valid (c.in-Err.ensures (map mask_cell cells) marks)
-
-pub encode_options-returns-in-Ok-encode_some : goal.encode_options-returns-in-Ok-encode_some
-encode_options-returns-in-Ok-encode_some g t c = λ cells fit valid.
-    let meaning = g.B.BytesToBytesCodecTraits.meaning in
-    let own = c.args.codec.now in
-    let mask = meaning_of meaning own.mask_codecs in
-    let values = meaning_of meaning own.data_codecs in
-    let elements = elements_of c.args.array.elements.now in
-    let shape = c.args.array.shape.now in
-    let payload = payload_of c.args.bytes in
-    let inner = unwrap_or (inner_type elements.type) elements.type in
-    let type = c.in_ok-try_clone.ensures in
-    let some : Some (type_of c.in_ok-try_clone.field-0) ≡ inner_type elements.type = ap Some type ∙ (c.in-Some.ensures ∙ ap inner_type c.data_type.ensures) in
-    let inner_is : elements_of c.in_ok-inner.inner ≡ zero_filled inner = inner_found mask values elements (elements_of c.in_ok-inner.inner) shape (type_of c.in_ok-try_clone.field-0) fit some c.in_ok-inner.ensures in
-    let options = optional_valid elements.type inner payload (product shape) cells (options_fit mask values elements.type shape fit).is valid in
-    let split = c.in_ok-parts.ensures (product shape) cells (subst (λ (i : Elements). IsValid (optional_of i.type) payload (product shape) cells) (sym inner_is) options) in
-    let marks = subst (λ n. IsValid bool (payload_of c.in_ok-parts.parts.mask) n (map mask_cell cells)) valid.is.many split.mask in
-    let count = c.in_ok-parts.parts.count in
-    let found = found_in cells in
-    let same : length found ≡ count = split.present.is.many in
-    let front = c.in-Ok.front in
-    let back = c.in-Ok-encode_some.back in
-    let value = c.in_ok-join_mask-in-Ok-encode_some.field-0 in
-    let back_is = some_made values (zero_filled inner) count found back same c.in-Ok-encode_some.ensures.none
-    (λ here. subst (λ i. MakesInner values i (count ∷ []) found (Ok back)) inner_is (c.in-Ok-encode_some.ensures.some found here split.present)) in
-    let joined : with_mask front.items back.items ≡ Some value.items =
-    ap (λ xs. with_mask xs back.items) (sym c.as_slice.ensures.value) ∙ (ap (with_mask c.as_slice.result.now) (sym c.as_slice-in-Ok-encode_some.ensures.value) ∙ c.in_ok-join_mask-in-Ok-encode_some.ensures) in
-    let each = g.met.B.BytesToBytesCodecTraits.lawful in
-    options_encodes mask values elements shape payload cells front.items back.items value (lawful_of meaning each own.mask_codecs, lawful_of meaning each own.data_codecs) c.args.array.elements.now.fills fit valid (c.in-Ok.ensures (map mask_cell cells) marks) back_is joined
-
-pub encode_options-returns : goal.encode_options-returns
-encode_options-returns g t c = λ cells fit valid.
-    let meaning = g.B.BytesToBytesCodecTraits.meaning in
-    let own = c.args.codec.now in
-    let mask = meaning_of meaning own.mask_codecs in
-    let values = meaning_of meaning own.data_codecs in
-    let elements = elements_of c.args.array.elements.now in
-    let shape = c.args.array.shape.now in
-    let payload = payload_of c.args.bytes in
-    let inner = unwrap_or (inner_type elements.type) elements.type in
-    let type = c.in_ok-try_clone.ensures in
-    let some : Some (type_of c.in_ok-try_clone.field-0) ≡ inner_type elements.type = ap Some type ∙ (c.in-Some.ensures ∙ ap inner_type c.data_type.ensures) in
-    let inner_is : elements_of c.in_ok-inner.inner ≡ zero_filled inner = inner_found mask values elements (elements_of c.in_ok-inner.inner) shape (type_of c.in_ok-try_clone.field-0) fit some c.in_ok-inner.ensures in
-    let options = optional_valid elements.type inner payload (product shape) cells (options_fit mask values elements.type shape fit).is valid in
-    let split = c.in_ok-parts.ensures (product shape) cells (subst (λ (i : Elements). IsValid (optional_of i.type) payload (product shape) cells) (sym inner_is) options) in
-    let count = c.in_ok-parts.parts.count in
-    let found = found_in cells in
-    let same : length found ≡ count = split.present.is.many in
-    let e = c.in-Err-encode_some.error in
-    let here = some_there count c.in-Err-encode_some.ensures.none in
-    let made = subst (λ i. MakesInner values i (count ∷ []) found (Err e)) inner_is (c.in-Err-encode_some.ensures.some found here split.present) in
-    found_unmade mask values elements shape payload cells e fit valid (subst (λ n. 0 < n) (sym same) here) (subst (λ n. MakesInner values (zero_filled inner) (n ∷ []) found (Err e)) (sym same) made)

@@ -1,6 +1,6 @@
 use Rattle.std.proofs.Common.{◌≡◌, ◌≤◌, take}
 use Rattle.zarr_codecs_sections.specs.Marks.{count_ones}
-use Rattle.zarr_codecs_sections.proofs.masks.ones.Given as goal
+use Rattle.zarr_codecs_sections.proofs.masks.count_ones.Given as goal
 
 -- the ones so far, no more than there are numbers
 abbrev pub invariant-loop-mark : goal.invariant-loop-mark
