@@ -2,5 +2,8 @@ pub mod Layouts
 pub mod WordBytes
 pub mod OffsetNumbers
 pub mod CutElements
+pub mod Choices
 pub mod MaskCells
+pub mod ChosenCells
+pub mod SpreadCells
 pub mod Joined
