@@ -8,7 +8,7 @@ use Rattle.zarr_codecs_meaning.specs.Encoding.{encoded, mask_cell, unless_none, 
 use Rattle.zarr_codecs_meaning.specs.Fits.{fits}
 use Rattle.zarr_codecs_meaning.specs.Laws.{IsLawfulChain, AreCells}
 use Rattle.zarr_codecs_meaning.specs.Payloads.{Payload}
-use Rattle.zarr_codecs_meaning.specs.Types.{DataType, bool, inner_type, Cell, is_value, Elements, zero_filled}
+use Rattle.zarr_codecs_meaning.specs.Types.{DataType, bool, integer, custom, string, variable_bytes, optional_of, inner_type, Cell, is_value, Elements, zero_filled}
 use Rattle.zarr_codecs_meaning.proofs.Lists.{some_same}
 use Rattle.zarr_codecs_meaning.proofs.Meaning.{laws_of}
 use Rattle.zarr_codecs_meaning.proofs.Representations.{encoded_size}
@@ -23,6 +23,15 @@ use Rattle.zarr_codecs_around.specs.Codecs.{all_encoded}
 use Rattle.zarr_codecs_around.specs.Views.{with_codecs}
 use Rattle.zarr_codecs_around.proofs.Chains.{encoded_with, passes_with, refused_by, refuses_with}
 use Rattle.zarr_codecs_chains.specs.Inside.{MakesInner, MakesSome}
+
+-- a type with an inner one is optional
+pub optional_is : (type inner : DataType) → inner_type type ≡ Some inner → type ≡ optional_of inner
+optional_is bool inner h = absurd (cc)
+optional_is (integer sign width) inner h = absurd (cc)
+optional_is (custom parts) inner h = absurd (cc)
+optional_is string inner h = absurd (cc)
+optional_is variable_bytes inner h = absurd (cc)
+optional_is (optional_of type) inner h = ap optional_of (some_same h)
 
 -- ---- how many they are
 
