@@ -1,8 +1,8 @@
-use Rattle.std.proofs.Common.{◌≡◌, ◌∙◌, ◌+◌, ◌*◌, ◌<◌, List, [], ◌∷◌, length, map, ap, sym, subst, arith, true, false, Some, Ok, Err, unwrap_or}
+use Rattle.std.proofs.Common.{◌≡◌, ◌∙◌, ◌+◌, ◌*◌, ◌<◌, List, [], ◌∷◌, length, map, ap, sym, subst, arith, true, false, inr, Some, Ok, Err, unwrap_or}
 use Rattle.std.specs.List.{list_all}
 use Rattle.zarr_grids_boxes.specs.Boxes.{product}
 use Rattle.zarr_codecs_meaning.specs.Chains.Chain.{optional, vlen}
-use Rattle.zarr_codecs_meaning.specs.Encoding.{number_cells}
+use Rattle.zarr_codecs_meaning.specs.Encoding.{number_cells, with_index}
 use Rattle.zarr_codecs_meaning.specs.Fits.{fits}
 use Rattle.zarr_codecs_meaning.specs.Refusals.{offsets_of}
 use Rattle.zarr_codecs_meaning.specs.Types.{integer, unsigned, inner_type, is_value, zero_filled, IsTooLarge}
@@ -12,7 +12,9 @@ use Rattle.zarr_codecs_meaning.proofs.Zeros.{fits_each, zero_is_value}
 use Rattle.zarr_codecs_types.specs.Views.{type_of}
 use Rattle.zarr_codecs_arrays.specs.Outcomes.{IsValid}
 use Rattle.zarr_codecs_sections.specs.Marks.{AreMarked}
+use Rattle.zarr_codecs_sections.specs.Outcomes.{Indexes}
 use Rattle.zarr_codecs_sections.specs.Views.{width_of, location_of}
+use Rattle.zarr_codecs_sections.proofs.Joined.{vlen_is_refused}
 use Rattle.zarr_codecs_chains.specs.Inside.{MakesInner, MakesSome}
 use Rattle.zarr_codecs_chains.specs.Chosen.{SuitsChosen, chosen_type}
 use Rattle.zarr_codecs_arrays.specs.Views.{elements_of, payload_of}
@@ -25,7 +27,7 @@ use Rattle.zarr_codecs_chains.specs.Views.{codec_chain, codec_lawful, lawful_of,
 use Rattle.zarr_codecs_around.proofs.AllArrayCodecs.{fits_between, unshaped_encodes, encodes_between, unmoved_between}
 use Rattle.zarr_codecs_chains.proofs.Alone.{chain_alone, fits_alone, none_before, takes_alone}
 use Rattle.zarr_codecs_chains.proofs.OptionalEncoding.{makes_encodes, makes_with, marked_count, none_made, optional_is, some_made, unmade_with}
-use Rattle.zarr_codecs_chains.proofs.VlenEncoding.{index_unmade, content_unmade}
+use Rattle.zarr_codecs_chains.proofs.VlenEncoding.{content_unmade, index_unmade, vlen_encodes}
 use Rattle.zarr_codecs_chains.proofs.encoding.+encoding.Goals as goal
 
 pub encode_chain-returns-in-Err : goal.encode_chain-returns-in-Err
@@ -91,6 +93,20 @@ encode_chain-returns g t c =
     encodes_between (codecs_of before) chain after elements shape c.in-Ok.last.items (payload_of c.args.bytes) moved r moves made fit
     (subst (λ es. Encodes (with_codecs chain after) true elements es (payload_of moved) r) c.as_slice-2.ensures.value whole)
 
+pub encode_sections-returns-in-Err-Size : goal.encode_sections-returns-in-Err-Size
+encode_sections-returns-in-Err-Size g t c = λ elements shape cells same fill fit valid.
+    let meaning = g.B.BytesToBytesCodecTraits.meaning in
+    let own = c.args.codec.now in
+    let index = meaning_of meaning own.index_codecs in
+    let content = meaning_of meaning own.data_codecs in
+    let width = width_of own.index_data_type in
+    let location = location_of own.index_location in
+    let payload = payload_of c.args.bytes in
+    let whole = subst (λ n. IsValid elements.type payload n cells) (sym same) valid in
+    let variable = (vlen_fits index content width location elements.type shape fit).variable in
+    let far = subst (λ e. Indexes width cells (Err e)) c.in-Err-Size.field-0-is (c.in-Err-Size.ensures elements.type cells variable valid.is.lists) in
+    inr (cells, record { valid = whole; fit = fit; is = (vlen_is_refused index content width location elements shape cells).offset_passes far })
+
 pub encode_sections-returns-in-Err-encode_offsets : goal.encode_sections-returns-in-Err-encode_offsets
 encode_sections-returns-in-Err-encode_offsets g t c = λ elements shape cells same fill fit valid.
     let meaning = g.B.BytesToBytesCodecTraits.meaning in
@@ -107,6 +123,30 @@ encode_sections-returns-in-Err-encode_offsets g t c = λ elements shape cells sa
     let e = c.in-Err-encode_offsets.error in
     let refused = subst (λ n. MakesInner index (zero_filled (integer unsigned width)) ((n + 1) ∷ []) offsets (Err e)) (sym same) (c.in-Err-encode_offsets.ensures offsets counted) in
     index_unmade index content width location elements shape payload cells e fit whole refused
+
+pub encode_sections-returns-in-Ok-encode_content : goal.encode_sections-returns-in-Ok-encode_content
+encode_sections-returns-in-Ok-encode_content g t c = λ elements shape cells same fill fit valid.
+    let meaning = g.B.BytesToBytesCodecTraits.meaning in
+    let own = c.args.codec.now in
+    let index = meaning_of meaning own.index_codecs in
+    let content = meaning_of meaning own.data_codecs in
+    let width = width_of own.index_data_type in
+    let location = location_of own.index_location in
+    let payload = payload_of c.args.bytes in
+    let whole = subst (λ n. IsValid elements.type payload n cells) (sym same) valid in
+    let variable = (vlen_fits index content width location elements.type shape fit).variable in
+    let indexed = c.in-Ok.ensures elements.type cells variable valid.is.lists in
+    let offsets = number_cells width (offsets_of cells) in
+    let counted = subst (λ n. IsValid (integer unsigned width) (payload_of c.in-Ok.offsets) (n + 1) offsets) valid.is.many indexed.valid in
+    let front = c.in-Ok-encode_offsets.front in
+    let back = c.in-Ok-encode_content.back in
+    let value = c.in_ok-join_index-in-Ok-encode_content.field-0 in
+    let front_is = subst (λ n. MakesInner index (zero_filled (integer unsigned width)) ((n + 1) ∷ []) offsets (Ok front)) (sym same) (c.in-Ok-encode_offsets.ensures offsets counted) in
+    let back_is = c.in-Ok-encode_content.ensures cells (c.in_ok-content.ensures elements.type cells variable valid.is.lists) in
+    let joined : with_index location front.items back.items ≡ Some value.items =
+    ap (λ xs. with_index location xs back.items) (sym c.as_slice.ensures.value) ∙ (ap (with_index location c.as_slice.result.now) (sym c.as_slice-in-Ok-encode_content.ensures.value) ∙ c.in_ok-join_index-in-Ok-encode_content.ensures) in
+    let each = g.met.B.BytesToBytesCodecTraits.lawful in
+    vlen_encodes index content width location elements shape payload cells front.items back.items value (lawful_of meaning each own.index_codecs, lawful_of meaning each own.data_codecs) fill fit whole indexed.near front_is back_is joined
 
 pub encode_sections-returns : goal.encode_sections-returns
 encode_sections-returns g t c = λ elements shape cells same fill fit valid.
