@@ -1,10 +1,10 @@
 -- A chain that has no array codec before it.
-use Rattle.std.proofs.Common.{◌≡◌, ◌∙◌, ℕ, List, [], ◌∷◌, length, refl, true, false}
+use Rattle.std.proofs.Common.{◌≡◌, ◌∙◌, ℕ, List, [], ◌∷◌, length, map, refl, true, false}
 use Rattle.zarr_codecs_meaning.specs.Chains.{ByteCodec, Chain}
 use Rattle.zarr_codecs_meaning.specs.Fits.{fits, takes_each_shape}
 use Rattle.zarr_codecs_meaning.specs.Types.{DataType}
 use Rattle.zarr_codecs_array_to_array.specs.declared.codec.ArrayToArrayCodec.{ArrayToArrayCodec}
-use Rattle.zarr_codecs_around.specs.Views.{chain_between}
+use Rattle.zarr_codecs_around.specs.Views.{chain_between, with_codecs}
 use Rattle.zarr_codecs_around.proofs.AllArrayCodecs.{fits_between, never_takes, takes_between}
 
 -- it suits what the codec does, with bytes codecs behind it or without
@@ -24,3 +24,8 @@ none_before meaning (codec ∷ codecs) chain after takes = absurd (differ (never
 -- and its codec does the same for each shape
 pub takes_alone : {B : Type 0} (meaning : B → ByteCodec) (before : List ArrayToArrayCodec) (chain : Chain) (after : List B) → takes_each_shape (chain_between meaning before chain after) ≡ true → takes_each_shape chain ≡ true
 takes_alone meaning before chain after takes = takes_between meaning before chain after (none_before meaning before chain after takes) ∙ takes
+
+-- what it does is what the codec does with the bytes codecs behind it
+pub chain_alone : {B : Type 0} (meaning : B → ByteCodec) (before : List ArrayToArrayCodec) (chain : Chain) (after : List B) → length before ≡ 0 → with_codecs chain (map meaning after) ≡ chain_between meaning before chain after
+chain_alone meaning [] chain after none = refl
+chain_alone meaning (codec ∷ codecs) chain after none = absurd (cc)

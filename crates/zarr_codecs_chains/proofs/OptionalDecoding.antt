@@ -22,15 +22,6 @@ use Rattle.zarr_codecs_around.proofs.Chains.{decoded_with}
 use Rattle.zarr_codecs_chains.specs.Inside.{FindsInner, FindsMarked}
 use Rattle.zarr_codecs_chains.proofs.OptionalEncoding.{chosen_count}
 
--- a type with an inner one is optional
-pub optional_is : (type inner : DataType) → inner_type type ≡ Some inner → type ≡ optional_of inner
-optional_is bool inner h = absurd (cc)
-optional_is (integer sign width) inner h = absurd (cc)
-optional_is (custom parts) inner h = absurd (cc)
-optional_is string inner h = absurd (cc)
-optional_is variable_bytes inner h = absurd (cc)
-optional_is (optional_of type) inner h = ap optional_of (some_same h)
-
 -- what is found in the value of an array that the chain suits
 pub found_decodes : (chain : Chain) (elements : Elements) (shape value : List ℕ) (r : Result ArrayBytes CodecError) → fits chain elements.type shape ≡ true → FindsInner (decoded chain elements shape value) elements.type r → Decodes chain elements shape value r
 found_decodes chain elements shape value (Ok bytes) fit h = record { cells = h.0; fit = fit; lists = h.2; is = h.1 }
