@@ -1,14 +1,14 @@
 -- Chains around a shard read from the metadata of their codecs.
-use Rattle.std.proofs.Common.{◌≡◌, ◌∙◌, ◌⊎◌, ℕ, List, [], ◌∷◌, length, drop, map, codes, bytes_eq, Bool, true, false, if◌then◌else◌, ap, sym, subst, refl, inl, inr, Option, Some, None, option_map, option_and_then, Result, Ok, Err}
+use Rattle.std.proofs.Common.{◌≡◌, ◌∙◌, ◌⊎◌, ℕ, List, [], ◌∷◌, length, drop, map, codes, Bool, true, false, if◌then◌else◌, ap, sym, subst, refl, inl, inr, Option, Some, None, option_map, option_and_then, Result, Ok, Err}
 use Rattle.std.specs.Prelude.{IfOk, MatchOption}
 use Rattle.std.proofs.lemmas.Bool.{true≢false}
 use Rattle.std.proofs.lemmas.List.{drop-map, length-map}
 use Rattle.std.proofs.lemmas.Slice.Eq.{bytes_eq-Decides}
 use Rattle.zarr_grids_metadata.specs.ExtensionPoints.{ExtensionPoint, configuration_members}
-use Rattle.zarr_grids_metadata.specs.Views.{point_of}
+use Rattle.zarr_grids_metadata.specs.Views.{point_view}
 use Rattle.zarr_grids_metadata.specs.declared.error.PluginCreateError.{PluginCreateError}
 use Rattle.zarr_grids_metadata.specs.declared.error.PluginCreateError.TheVariants as plugin
-use Rattle.zarr_grids_metadata.specs.declared.metadata.MetadataV3.{MetadataV3}
+use Rattle.zarr_grids_metadata.specs.declared.extension_point.ExtensionPoint as lent
 use Rattle.zarr_codecs_meaning.specs.Chains.{ArrayCodec, ByteCodec, Chain}
 use Rattle.zarr_codecs_meaning.specs.Chains.Chain.{after_array_codec}
 use Rattle.zarr_codecs_metadata.specs.ArrayCodecs.{array_codec_in}
@@ -55,21 +55,21 @@ chain_begins reads codec (point ∷ points) = at (array_codec_in point) (chain_b
   at (Some first) rest = ap (option_map (after_array_codec first)) rest ∙ one_more first (array_codecs_of points) (bytes_chain_by reads codec (drop (length (array_codecs_of points)) points))
 
 -- the rest of metadata after them
-rest_points : (metadatas rest : List MetadataV3) (arrays : List ArrayToArrayCodec) → codecs_of arrays ≡ array_codecs_of (map point_of metadatas) → rest ≡ drop (length arrays) metadatas
-    → map point_of rest ≡ drop (length (array_codecs_of (map point_of metadatas))) (map point_of metadatas)
+rest_points : (metadatas rest : List lent.ExtensionPoint) (arrays : List ArrayToArrayCodec) → codecs_of arrays ≡ array_codecs_of (map point_view metadatas) → rest ≡ drop (length arrays) metadatas
+    → map point_view rest ≡ drop (length (array_codecs_of (map point_view metadatas))) (map point_view metadatas)
 rest_points metadatas rest arrays first after =
-    ap (map point_of) after
-    ∙ (sym (drop-map point_of (length arrays) metadatas)
-    ∙ ap (λ (n : ℕ). drop n (map point_of metadatas)) (sym (length-map arrays codec_of) ∙ ap length first))
+    ap (map point_view) after
+    ∙ (sym (drop-map point_view (length arrays) metadatas)
+    ∙ ap (λ (n : ℕ). drop n (map point_view metadatas)) (sym (length-map arrays codec_of) ∙ ap length first))
 
 -- the array codecs that metadata begins with, and the chain that the rest says
-pub chain_split : (reads : ReadsCodecs) (codec : ReadsCodec) (metadatas rest : List MetadataV3) (arrays : List ArrayToArrayCodec) (o : Option Chain) → codecs_of arrays ≡ array_codecs_of (map point_of metadatas) → rest ≡ drop (length arrays) metadatas
-    → bytes_chain_by reads codec (map point_of rest) ≡ o → chain_by reads codec (map point_of metadatas) ≡ option_map (with_array_codecs (codecs_of arrays)) o
+pub chain_split : (reads : ReadsCodecs) (codec : ReadsCodec) (metadatas rest : List lent.ExtensionPoint) (arrays : List ArrayToArrayCodec) (o : Option Chain) → codecs_of arrays ≡ array_codecs_of (map point_view metadatas) → rest ≡ drop (length arrays) metadatas
+    → bytes_chain_by reads codec (map point_view rest) ≡ o → chain_by reads codec (map point_view metadatas) ≡ option_map (with_array_codecs (codecs_of arrays)) o
 chain_split reads codec metadatas rest arrays o first after is =
-    let points = map point_of metadatas in
+    let points = map point_view metadatas in
     chain_begins reads codec points
     ∙ (ap (λ (ps : List ExtensionPoint). option_map (with_array_codecs (array_codecs_of points)) (bytes_chain_by reads codec ps)) (sym (rest_points metadatas rest arrays first after))
-    ∙ (ap (λ (codecs : List ArrayCodec). option_map (with_array_codecs codecs) (bytes_chain_by reads codec (map point_of rest))) (sym first)
+    ∙ (ap (λ (codecs : List ArrayCodec). option_map (with_array_codecs codecs) (bytes_chain_by reads codec (map point_view rest))) (sym first)
     ∙ ap (option_map (with_array_codecs (codecs_of arrays))) is))
 
 -- what follows them begins with none, where none is misconfigured
@@ -84,13 +84,13 @@ begins_without (point ∷ points) h = at (array_codec_in point) (λ rest. begins
   at (Some codec) others h = others h
   at None others h = h
 
-pub rest_begins : (metadatas rest : List MetadataV3) (arrays : List ArrayToArrayCodec) → codecs_of arrays ≡ array_codecs_of (map point_of metadatas) → rest ≡ drop (length arrays) metadatas
-    → is_array_codec_misconfigured (map point_of metadatas) ≡ false → begins_with_array_codec (map point_of rest) ≡ false
-rest_begins metadatas rest arrays first after h = ap begins_with_array_codec (rest_points metadatas rest arrays first after) ∙ begins_without (map point_of metadatas) h
+pub rest_begins : (metadatas rest : List lent.ExtensionPoint) (arrays : List ArrayToArrayCodec) → codecs_of arrays ≡ array_codecs_of (map point_view metadatas) → rest ≡ drop (length arrays) metadatas
+    → is_array_codec_misconfigured (map point_view metadatas) ≡ false → begins_with_array_codec (map point_view rest) ≡ false
+rest_begins metadatas rest arrays first after h = ap begins_with_array_codec (rest_points metadatas rest arrays first after) ∙ begins_without (map point_view metadatas) h
 
 -- what follows them is refused
-pub rest_refused : (reads : ReadsCodecs) (inner : ReadsInner) (refuses : RefusesInner) (metadatas rest : List MetadataV3) (arrays : List ArrayToArrayCodec) (cause : PluginCreateError) → codecs_of arrays ≡ array_codecs_of (map point_of metadatas)
-    → rest ≡ drop (length arrays) metadatas → RefusesFirst reads inner refuses (map point_of rest) cause → RefusesSharded reads inner refuses (map point_of metadatas) cause
+pub rest_refused : (reads : ReadsCodecs) (inner : ReadsInner) (refuses : RefusesInner) (metadatas rest : List lent.ExtensionPoint) (arrays : List ArrayToArrayCodec) (cause : PluginCreateError) → codecs_of arrays ≡ array_codecs_of (map point_view metadatas)
+    → rest ≡ drop (length arrays) metadatas → RefusesFirst reads inner refuses (map point_view rest) cause → RefusesSharded reads inner refuses (map point_view metadatas) cause
 rest_refused reads inner refuses metadatas rest arrays cause first after h = subst (λ ps. RefusesFirst reads inner refuses ps cause) (rest_points metadatas rest arrays first after) h
 
 -- ---- an array codec whose configuration is not one of its name's
@@ -141,34 +141,34 @@ misconfigured_none reads inner (point ∷ points) h = at (array_codec_in point) 
 -- ---- a shard and the caller's codecs after it
 
 -- the first codec is a shard, and the others are the caller's
-pub others_split : (reads : ReadsCodecs) (codec : ReadsCodec) (metadatas others : List MetadataV3) (first : MetadataV3) (chain : Chain) (o : Option (List ByteCodec)) → metadatas ≡ first ∷ others
-    → codec (point_of first) ≡ Some chain → codecs_in reads (map point_of others) ≡ o → bytes_chain_by reads codec (map point_of metadatas) ≡ option_map (with_codecs chain) o
+pub others_split : (reads : ReadsCodecs) (codec : ReadsCodec) (metadatas others : List lent.ExtensionPoint) (first : lent.ExtensionPoint) (chain : Chain) (o : Option (List ByteCodec)) → metadatas ≡ first ∷ others
+    → codec (point_view first) ≡ Some chain → codecs_in reads (map point_view others) ≡ o → bytes_chain_by reads codec (map point_view metadatas) ≡ option_map (with_codecs chain) o
 others_split reads codec metadatas others first chain o is said rest =
-    ap (λ (ms : List MetadataV3). bytes_chain_by reads codec (map point_of ms)) is
-    ∙ (ap (option_and_then (λ c. with_byte_codecs reads c (map point_of others))) said
-    ∙ (with_in reads chain (map point_of others) ∙ ap (option_map (with_codecs chain)) rest))
+    ap (λ (ps : List lent.ExtensionPoint). bytes_chain_by reads codec (map point_view ps)) is
+    ∙ (ap (option_and_then (λ c. with_byte_codecs reads c (map point_view others))) said
+    ∙ (with_in reads chain (map point_view others) ∙ ap (option_map (with_codecs chain)) rest))
 
 -- the first codec says nothing
-pub first_none : (reads : ReadsCodecs) (codec : ReadsCodec) (metadatas others : List MetadataV3) (first : MetadataV3) → metadatas ≡ first ∷ others → codec (point_of first) ≡ None → bytes_chain_by reads codec (map point_of metadatas) ≡ None
+pub first_none : (reads : ReadsCodecs) (codec : ReadsCodec) (metadatas others : List lent.ExtensionPoint) (first : lent.ExtensionPoint) → metadatas ≡ first ∷ others → codec (point_view first) ≡ None → bytes_chain_by reads codec (map point_view metadatas) ≡ None
 first_none reads codec metadatas others first is said =
-    ap (λ (ms : List MetadataV3). bytes_chain_by reads codec (map point_of ms)) is ∙ ap (option_and_then (λ c. with_byte_codecs reads c (map point_of others))) said
+    ap (λ (ps : List lent.ExtensionPoint). bytes_chain_by reads codec (map point_view ps)) is ∙ ap (option_and_then (λ c. with_byte_codecs reads c (map point_view others))) said
 
 -- there is none
-pub nothing_said : (reads : ReadsCodecs) (codec : ReadsCodec) (metadatas : List MetadataV3) → length metadatas ≡ 0 → bytes_chain_by reads codec (map point_of metadatas) ≡ None
+pub nothing_said : (reads : ReadsCodecs) (codec : ReadsCodec) (metadatas : List lent.ExtensionPoint) → length metadatas ≡ 0 → bytes_chain_by reads codec (map point_view metadatas) ≡ None
 nothing_said reads codec [] none = refl
 nothing_said reads codec (metadata ∷ metadatas) none = absurd (cc)
 
-pub nothing_refused : (reads : ReadsCodecs) (inner : ReadsInner) (refuses : RefusesInner) (metadatas : List MetadataV3) → length metadatas ≡ 0 → RefusesFirst reads inner refuses (map point_of metadatas) plugin.MetadataInvalid
+pub nothing_refused : (reads : ReadsCodecs) (inner : ReadsInner) (refuses : RefusesInner) (metadatas : List lent.ExtensionPoint) → length metadatas ≡ 0 → RefusesFirst reads inner refuses (map point_view metadatas) plugin.MetadataInvalid
 nothing_refused reads inner refuses [] none = refl
 nothing_refused reads inner refuses (metadata ∷ metadatas) none = absurd (cc)
 
 -- the first codec does not name an array codec
-pub first_begins : (metadatas others : List MetadataV3) (first : MetadataV3) → metadatas ≡ first ∷ others → begins_with_array_codec (map point_of metadatas) ≡ false → names_array_codec (point_of first).name ≡ false
-first_begins metadatas others first is begins = subst (λ (ms : List MetadataV3). begins_with_array_codec (map point_of ms) ≡ false) is begins
+pub first_begins : (metadatas others : List lent.ExtensionPoint) (first : lent.ExtensionPoint) → metadatas ≡ first ∷ others → begins_with_array_codec (map point_view metadatas) ≡ false → names_array_codec (point_view first).name ≡ false
+first_begins metadatas others first is begins = subst (λ (ps : List lent.ExtensionPoint). begins_with_array_codec (map point_view ps) ≡ false) is begins
 
-pub first_refused : (reads : ReadsCodecs) (inner : ReadsInner) (refuses : RefusesInner) (metadatas others : List MetadataV3) (first : MetadataV3) (cause : PluginCreateError) → metadatas ≡ first ∷ others
-    → RefusesFirst reads inner refuses (point_of first ∷ map point_of others) cause → RefusesFirst reads inner refuses (map point_of metadatas) cause
-first_refused reads inner refuses metadatas others first cause is refused = subst (λ (ms : List MetadataV3). RefusesFirst reads inner refuses (map point_of ms) cause) (sym is) refused
+pub first_refused : (reads : ReadsCodecs) (inner : ReadsInner) (refuses : RefusesInner) (metadatas others : List lent.ExtensionPoint) (first : lent.ExtensionPoint) (cause : PluginCreateError) → metadatas ≡ first ∷ others
+    → RefusesFirst reads inner refuses (point_view first ∷ map point_view others) cause → RefusesFirst reads inner refuses (map point_view metadatas) cause
+first_refused reads inner refuses metadatas others first cause is refused = subst (λ (ps : List lent.ExtensionPoint). RefusesFirst reads inner refuses (map point_view ps) cause) (sym is) refused
 
 -- ---- one shard
 

@@ -1,6 +1,6 @@
-use Rattle.std.proofs.Common.{◌≡◌, ◌∙◌, List, [], ◌∷◌, map, ap, sym, subst, Some, None}
-use Rattle.zarr_grids_metadata.specs.Views.{point_of}
-use Rattle.zarr_grids_metadata.specs.declared.metadata.MetadataV3.{MetadataV3}
+use Rattle.std.proofs.Common.{List, [], map, sym, subst, Some, None}
+use Rattle.zarr_grids_metadata.specs.Views.{point_view}
+use Rattle.zarr_grids_metadata.specs.declared.extension_point.ExtensionPoint as lent
 use Rattle.zarr_codecs_around.specs.ThenBytes.{codec_of}
 use Rattle.zarr_codecs_chains.specs.Names.{NameAll}
 use Rattle.zarr_codecs_chains.specs.Views.{meaning_of}
@@ -28,7 +28,7 @@ returns-in-Err-clause-refused g c = λ begins. λ other.
     let first = c.in-Some.first.now in
     let others = c.in-Some.others.now in
     let named = first_begins c.args.codecs.now others first c.in-Some.ensures.cases.0 begins in
-    first_refused reads i.reads i.refuses c.args.codecs.now others first c.in-Err.error c.in-Some.ensures.cases.0 (c.in-Err.ensures.refused named other (map point_of others))
+    first_refused reads i.reads i.refuses c.args.codecs.now others first c.in-Err.error c.in-Some.ensures.cases.0 (c.in-Err.ensures.refused named other (map point_view others))
 
 pub returns-in-Ok-read_codecs-clause-ok : goal.returns-in-Ok-read_codecs-clause-ok
 returns-in-Ok-read_codecs-clause-ok g c =
@@ -41,8 +41,8 @@ returns-in-Ok-read_codecs-clause-ok g c =
 pub returns-in-Ok-read_codecs-clause-names : goal.returns-in-Ok-read_codecs-clause-names
 returns-in-Ok-read_codecs-clause-names g c =
     let names = g.I.ChainOfMetadata.names in
-    let shard = subst (λ codec. NamesShard names codec (point_of c.in-Some.first.now)) (sym c.new.ensures.codec) c.in-Ok.ensures.names in
-    subst (λ (ms : List MetadataV3). NameAll [] (NamesShard names (codec_of c.new.result)) (map point_of ms)) (sym c.in-Some.ensures.cases.0) shard
+    let shard = subst (λ codec. NamesShard names codec (point_view c.in-Some.first.now)) (sym c.new.ensures.codec) c.in-Ok.ensures.names in
+    subst (λ (ps : List lent.ExtensionPoint). NameAll [] (NamesShard names (codec_of c.new.result)) (map point_view ps)) (sym c.in-Some.ensures.cases.0) shard
 
 pub returns-in-Err-read_codecs-clause-err : goal.returns-in-Err-read_codecs-clause-err
 returns-in-Err-read_codecs-clause-err g c = λ other.
@@ -57,5 +57,5 @@ returns-in-Err-read_codecs-clause-refused g c = λ begins. λ other.
     let first = c.in-Some.first.now in
     let others = c.in-Some.others.now in
     let chain = shard_chain g.I.ArrayToBytesCodecTraits.meaning (meaning_of b.meaning) c.in-Ok.shard in
-    let refused = others_refused b.reads i.reads i.refuses (point_of first) (map point_of others) chain c.in-Err-read_codecs.error c.in-Ok.ensures.ok (c.in-Err-read_codecs.ensures.err other) in
+    let refused = others_refused b.reads i.reads i.refuses (point_view first) (map point_view others) chain c.in-Err-read_codecs.error c.in-Ok.ensures.ok (c.in-Err-read_codecs.ensures.err other) in
     first_refused b.reads i.reads i.refuses c.args.codecs.now others first c.in-Err-read_codecs.error c.in-Some.ensures.cases.0 refused
