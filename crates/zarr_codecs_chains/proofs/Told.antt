@@ -123,13 +123,14 @@ values_told mask values type inner shape count e is same few told size =
     let long : tells_too_long values (unwrap_or (inner_type type) type) (product shape ∷ []) ≡ true = subst (λ n. tells_too_long values (unwrap_or (inner_type type) type) (n ∷ []) ≡ true) same (subst (λ t. tells_too_long values t (count ∷ []) ≡ true) (sym other) (told small size)) in
     or_second (tells_too_long mask bool shape) _ (or_first (tells_too_long values (unwrap_or (inner_type type) type) (product shape ∷ [])) _ long)
 
+-- a chain of elements suits as many as there are
+pub values_fit : (mask values : Chain) (type inner : DataType) (shape some : List ℕ) → fits (optional mask values) type shape ≡ true → inner_type type ≡ Some inner → fits values inner some ≡ true
+values_fit mask values type inner shape some fit is = subst (λ t. fits values t some ≡ true) (ap (λ o. unwrap_or o type) is) ((options_fit mask values type shape fit).values_fit some)
+
 -- what is refused of the elements
 pub values_refused : (mask values : Chain) (type inner : DataType) (shape : List ℕ) (count : ℕ) (e : CodecError) → fits (optional mask values) type shape ≡ true → inner_type type ≡ Some inner → count ≡ product shape → product shape < 2 ^ 63
     → RepresentsArray values inner (count ∷ []) (Err e) → RefusesToldSizes values inner (count ∷ []) (Err e) → RepresentsArray (optional mask values) type shape (Err e)
-values_refused mask values type inner shape count error.Fit fit is same few h told =
-    let o = options_fit mask values type shape fit in
-    let other : unwrap_or (inner_type type) type ≡ inner = ap (λ o. unwrap_or o type) is in
-    absurd (true≢false (sym (subst (λ t. fits values t (count ∷ []) ≡ true) other (o.values_fit (count ∷ []))) ∙ h))
+values_refused mask values type inner shape count error.Fit fit is same few h told = absurd (true≢false (sym (values_fit mask values type inner shape (count ∷ []) fit is) ∙ h))
 values_refused mask values type inner shape count error.Size fit is same few h told = inr (values_told mask values type inner shape count error.Size is same few told refl)
 values_refused mask values type inner shape count error.Memory fit is same few h told = tt
 values_refused mask values type inner shape count e fit is same few h told = absurd h
