@@ -6,13 +6,13 @@ use Rattle.zarr_grids_boxes.specs.Boxes.{product}
 use Rattle.zarr_codecs_meaning.specs.Types.{DataType, bool, bytes_in, components, inner_type, is_fixed, IsTooLarge}
 use Rattle.zarr_codecs_meaning.specs.Chains.{ArrayCodec, ByteCodec, Chain, Endianness}
 use Rattle.zarr_codecs_meaning.specs.Chains.Chain.{bytes, optional}
-use Rattle.zarr_codecs_meaning.specs.Fits.{array_codec_fits, fits, takes_each_shape, tells_too_long}
+use Rattle.zarr_codecs_meaning.specs.Fits.{array_codec_fits, at_most, bound_of, fits, is_too_long, representation_of, sum_of_bounds, takes_each_shape, tells_too_long}
 use Rattle.zarr_codecs_meaning.proofs.KeptOptions.{options_fit}
 use Rattle.zarr_codecs_packbits.specs.Told.{RefusesToldSizes}
 use Rattle.zarr_codecs_meaning.specs.Places.{encoded_shape}
 use Rattle.zarr_codecs_arrays.specs.declared.error.CodecError.{CodecError}
 use Rattle.zarr_codecs_arrays.specs.declared.error.CodecError.TheVariants as error
-use Rattle.zarr_codecs_traits.specs.Representations.{IsRepresented, RepresentsArray, known_size}
+use Rattle.zarr_codecs_traits.specs.Representations.{IsRepresented, Represents, RepresentsArray, known_size}
 use Rattle.zarr_codecs_traits.specs.declared.bytes_representation.BytesRepresentation.{BytesRepresentation}
 use Rattle.zarr_codecs_around.specs.ArrayCodecs.{EncodesShapes, all_fit, shape_after}
 use Rattle.zarr_codecs_around.specs.Codecs.{RepresentsAll}
@@ -123,13 +123,37 @@ values_told mask values type inner shape count e is same few told size =
     let long : tells_too_long values (unwrap_or (inner_type type) type) (product shape ∷ []) ≡ true = subst (λ n. tells_too_long values (unwrap_or (inner_type type) type) (n ∷ []) ≡ true) same (subst (λ t. tells_too_long values t (count ∷ []) ≡ true) (sym other) (told small size)) in
     or_second (tells_too_long mask bool shape) _ (or_first (tells_too_long values (unwrap_or (inner_type type) type) (product shape ∷ [])) _ long)
 
+-- a chain of elements suits as many as there are
+pub values_fit : (mask values : Chain) (type inner : DataType) (shape some : List ℕ) → fits (optional mask values) type shape ≡ true → inner_type type ≡ Some inner → fits values inner some ≡ true
+values_fit mask values type inner shape some fit is = subst (λ t. fits values t some ≡ true) (ap (λ o. unwrap_or o type) is) ((options_fit mask values type shape fit).values_fit some)
+
 -- what is refused of the elements
 pub values_refused : (mask values : Chain) (type inner : DataType) (shape : List ℕ) (count : ℕ) (e : CodecError) → fits (optional mask values) type shape ≡ true → inner_type type ≡ Some inner → count ≡ product shape → product shape < 2 ^ 63
     → RepresentsArray values inner (count ∷ []) (Err e) → RefusesToldSizes values inner (count ∷ []) (Err e) → RepresentsArray (optional mask values) type shape (Err e)
-values_refused mask values type inner shape count error.Fit fit is same few h told =
-    let o = options_fit mask values type shape fit in
-    let other : unwrap_or (inner_type type) type ≡ inner = ap (λ o. unwrap_or o type) is in
-    absurd (true≢false (sym (subst (λ t. fits values t (count ∷ []) ≡ true) other (o.values_fit (count ∷ []))) ∙ h))
+values_refused mask values type inner shape count error.Fit fit is same few h told = absurd (true≢false (sym (values_fit mask values type inner shape (count ∷ []) fit is) ∙ h))
 values_refused mask values type inner shape count error.Size fit is same few h told = inr (values_told mask values type inner shape count error.Size is same few told refl)
 values_refused mask values type inner shape count error.Memory fit is same few h told = tt
 values_refused mask values type inner shape count e fit is same few h told = absurd h
+
+-- what is told of the whole, by what is told of both sections
+sections_known : (mask values : Chain) (type inner : DataType) (shape : List ℕ) (count : ℕ) (one two : BytesRepresentation) → inner_type type ≡ Some inner → count ≡ product shape → IsRepresented mask bool shape one → IsRepresented values inner (count ∷ []) two
+    → at_most (sum_of_bounds (Some 16 ∷ bound_of (known_size one) ∷ bound_of (known_size two) ∷ [])) ≡ representation_of (optional mask values) type shape
+sections_known mask values type inner shape count one two is same first second =
+    let other : unwrap_or (inner_type type) type ≡ inner = ap (λ o. unwrap_or o type) is in
+    let known : known_size two ≡ representation_of values (unwrap_or (inner_type type) type) (product shape ∷ []) =
+    second.is ∙ (ap (λ t. representation_of values t (count ∷ [])) (sym other) ∙ ap (λ n. representation_of values (unwrap_or (inner_type type) type) (n ∷ [])) same) in
+    ap (λ k. at_most (sum_of_bounds (Some 16 ∷ bound_of k ∷ bound_of (known_size two) ∷ []))) first.is ∙ ap (λ k. at_most (sum_of_bounds (Some 16 ∷ bound_of (representation_of mask bool shape) ∷ bound_of k ∷ []))) known
+
+pub sections_represent : (mask values : Chain) (type inner : DataType) (shape : List ℕ) (count : ℕ) (one two : BytesRepresentation) (r : Result BytesRepresentation CodecError) → fits (optional mask values) type shape ≡ true → inner_type type ≡ Some inner → count ≡ product shape
+    → IsRepresented mask bool shape one → IsRepresented values inner (count ∷ []) two → Represents (at_most (sum_of_bounds (Some 16 ∷ bound_of (known_size one) ∷ bound_of (known_size two) ∷ []))) r → RepresentsArray (optional mask values) type shape r
+sections_represent mask values type inner shape count one two (Ok known) fit is same first second h = record { fit = fit; is = h ∙ sections_known mask values type inner shape count one two is same first second }
+sections_represent mask values type inner shape count one two (Err error.Size) fit is same first second h =
+    inr (or_second (tells_too_long mask bool shape) _ (or_second (tells_too_long values (unwrap_or (inner_type type) type) (product shape ∷ [])) _ (ap is_too_long (sym (sections_known mask values type inner shape count one two is same first second)) ∙ h)))
+sections_represent mask values type inner shape count one two (Err e) fit is same first second h = absurd h
+
+pub sections_told : (mask values : Chain) (type inner : DataType) (shape : List ℕ) (count : ℕ) (one two : BytesRepresentation) (r : Result BytesRepresentation CodecError) → inner_type type ≡ Some inner → count ≡ product shape
+    → IsRepresented mask bool shape one → IsRepresented values inner (count ∷ []) two → Represents (at_most (sum_of_bounds (Some 16 ∷ bound_of (known_size one) ∷ bound_of (known_size two) ∷ []))) r → RefusesToldSizes (optional mask values) type shape r
+sections_told mask values type inner shape count one two (Ok known) is same first second h = λ few. tt
+sections_told mask values type inner shape count one two (Err error.Size) is same first second h = λ few size.
+    or_second (tells_too_long mask bool shape) _ (or_second (tells_too_long values (unwrap_or (inner_type type) type) (product shape ∷ [])) _ (ap is_too_long (sym (sections_known mask values type inner shape count one two is same first second)) ∙ h))
+sections_told mask values type inner shape count one two (Err e) is same first second h = absurd h

@@ -42,10 +42,11 @@ fn size_by_chain<B: BytesToBytesCodecTraits>(
     data_type: &DataType,
     shape: &[u64],
 ) -> Result<BytesRepresentation, CodecError>
-    requires { fits (meaning_of B.meaning chain.now) (type_of data_type.now) shape.now ≡ true }
-    ensures represents { RepresentsArray (meaning_of B.meaning chain.now) (type_of data_type.now)
+    ensures represents { fits (meaning_of B.meaning chain.now) (type_of data_type.now) shape.now
+        ≡ true → RepresentsArray (meaning_of B.meaning chain.now) (type_of data_type.now)
         shape.now result }
-    ensures told { takes_each_shape (meaning_of B.meaning chain.now) ≡ true
+    ensures told { fits (meaning_of B.meaning chain.now) (type_of data_type.now) shape.now ≡ true
+        → takes_each_shape (meaning_of B.meaning chain.now) ≡ true
         → RefusesToldSizes (meaning_of B.meaning chain.now) (type_of data_type.now) shape.now
         result }
 {
@@ -70,11 +71,12 @@ fn size_by_codec<B: BytesToBytesCodecTraits>(
     data_type: &DataType,
     shape: &[u64],
 ) -> Result<BytesRepresentation, CodecError>
-    requires { fits (codec_chain B.meaning codec.now) (type_of data_type.now) shape.now ≡ true }
-    ensures represents { RepresentsArray (codec_chain B.meaning codec.now)
-        (type_of data_type.now) shape.now result }
-    ensures told { RefusesToldSizes (codec_chain B.meaning codec.now) (type_of data_type.now)
+    ensures represents { fits (codec_chain B.meaning codec.now) (type_of data_type.now) shape.now
+        ≡ true → RepresentsArray (codec_chain B.meaning codec.now) (type_of data_type.now)
         shape.now result }
+    ensures told { fits (codec_chain B.meaning codec.now) (type_of data_type.now) shape.now ≡ true
+        → RefusesToldSizes (codec_chain B.meaning codec.now) (type_of data_type.now) shape.now
+        result }
 {
     match codec {
         ArrayToBytesCodec::Bytes(codec) => codec.encoded_representation(alloc, data_type, shape),
@@ -96,10 +98,11 @@ fn size_by_optional<B: BytesToBytesCodecTraits>(
     data_type: &DataType,
     shape: &[u64],
 ) -> Result<BytesRepresentation, CodecError>
-    requires { fits (optional_chain B.meaning codec.now) (type_of data_type.now) shape.now ≡ true }
-    ensures represents { RepresentsArray (optional_chain B.meaning codec.now)
+    ensures represents { fits (optional_chain B.meaning codec.now) (type_of data_type.now)
+        shape.now ≡ true → RepresentsArray (optional_chain B.meaning codec.now)
         (type_of data_type.now) shape.now result }
-    ensures told { RefusesToldSizes (optional_chain B.meaning codec.now) (type_of data_type.now)
+    ensures told { fits (optional_chain B.meaning codec.now) (type_of data_type.now) shape.now
+        ≡ true → RefusesToldSizes (optional_chain B.meaning codec.now) (type_of data_type.now)
         shape.now result }
 {
     let Some(count) = count_places(shape) else {
