@@ -1,14 +1,13 @@
 -- Elements below a mask, of which some are encoded and decoded.
-use Rattle.std.proofs.Common.{◌≡◌, ◌∙◌, ℕ, zero, suc, ◌+◌, ◌<◌, List, [], ◌∷◌, length, map, ap, sym, refl, subst, arith, Bool, true, false, inl, inr, Option, Some, None, option_map, option_and_then, Result, Ok, Err, Vec, Global, unwrap_or, ◌==◌, if◌then◌else◌}
-use Rattle.std.specs.List.{filter, filter_map}
+use Rattle.std.proofs.Common.{◌≡◌, ◌∙◌, ℕ, suc, ◌<◌, List, [], ◌∷◌, length, ap, sym, refl, subst, arith, Bool, true, false, inl, inr, Some, option_and_then, Result, Ok, Err, Vec, Global, ◌==◌, if◌then◌else◌}
+use Rattle.std.specs.List.{filter}
 use Rattle.zarr_grids_boxes.specs.Boxes.{product}
 use Rattle.zarr_codecs_meaning.specs.Chains.{ByteCodec, Chain}
-use Rattle.zarr_codecs_meaning.specs.Chains.Chain.{optional}
-use Rattle.zarr_codecs_meaning.specs.Encoding.{encoded, mask_cell, unless_none, with_mask}
+use Rattle.zarr_codecs_meaning.specs.Encoding.{encoded, unless_none}
 use Rattle.zarr_codecs_meaning.specs.Fits.{fits}
 use Rattle.zarr_codecs_meaning.specs.Laws.{IsLawfulChain, AreCells}
 use Rattle.zarr_codecs_meaning.specs.Payloads.{Payload}
-use Rattle.zarr_codecs_meaning.specs.Types.{DataType, bool, inner_type, Cell, is_value, Elements, zero_filled}
+use Rattle.zarr_codecs_meaning.specs.Types.{DataType, bool, integer, custom, string, variable_bytes, optional_of, inner_type, Cell, is_value, Elements, zero_filled}
 use Rattle.zarr_codecs_meaning.proofs.Lists.{some_same}
 use Rattle.zarr_codecs_meaning.proofs.Meaning.{laws_of}
 use Rattle.zarr_codecs_meaning.proofs.Representations.{encoded_size}
@@ -16,13 +15,20 @@ use Rattle.zarr_codecs_arrays.specs.Outcomes.{IsValid}
 use Rattle.zarr_codecs_arrays.specs.declared.error.CodecError.{CodecError}
 use Rattle.zarr_codecs_arrays.specs.declared.error.CodecError.TheVariants as error
 use Rattle.zarr_codecs_traits.specs.Outcomes.{Encodes, MakesBytes}
-use Rattle.zarr_codecs_sections.specs.Laws.{found_in}
 use Rattle.zarr_codecs_sections.specs.Marks.{AreMarked, chosen, count_ones}
-use Rattle.zarr_codecs_sections.proofs.Joined.{options_are_encoded, optional_is_refused}
 use Rattle.zarr_codecs_around.specs.Codecs.{all_encoded}
 use Rattle.zarr_codecs_around.specs.Views.{with_codecs}
 use Rattle.zarr_codecs_around.proofs.Chains.{encoded_with, passes_with, refused_by, refuses_with}
 use Rattle.zarr_codecs_chains.specs.Inside.{MakesInner, MakesSome}
+
+-- a type with an inner one is optional
+pub optional_is : (type inner : DataType) → inner_type type ≡ Some inner → type ≡ optional_of inner
+optional_is bool inner h = absurd (cc)
+optional_is (integer sign width) inner h = absurd (cc)
+optional_is (custom parts) inner h = absurd (cc)
+optional_is string inner h = absurd (cc)
+optional_is variable_bytes inner h = absurd (cc)
+optional_is (optional_of type) inner h = ap optional_of (some_same h)
 
 -- ---- how many they are
 
@@ -89,30 +95,3 @@ makes_encodes chain elements shape payload cells (Err error.Codec) lawful fill f
 makes_encodes chain elements shape payload cells (Err error.Size) lawful fill fit valid h = inr (cells, record { valid = valid; fit = fit; is = h })
 makes_encodes chain elements shape payload cells (Err error.Memory) lawful fill fit valid h = tt
 makes_encodes chain elements shape payload cells (Err e) lawful fill fit valid h = absurd h
-
--- ---- `optional`, by its mask and the elements that are present
-
--- what it makes of them joined
-pub options_made : (mask values : Chain) (elements : Elements) (inner : DataType) (shape : List ℕ) (cells : List Cell) (front back value : Vec ℕ Global) → inner_type elements.type ≡ Some inner
-    → MakesInner mask (zero_filled bool) shape (map mask_cell cells) (Ok front) → MakesSome values inner (found_in cells) (Ok back) → with_mask front.items back.items ≡ Some value.items → MakesInner (optional mask values) elements shape cells (Ok value)
-options_made mask values elements inner shape cells front back value is front_is back_is joined =
-    let of_inner : unwrap_or (inner_type elements.type) elements.type ≡ inner = ap (λ o. unwrap_or o elements.type) is in
-    let found = found_in cells in
-    options_are_encoded (encoded mask (zero_filled bool) shape) (λ found. encoded values (zero_filled (unwrap_or (inner_type elements.type) elements.type)) (length found ∷ []) found) cells front.items back.items value.items front_is
-    (ap (λ t. unless_none found (encoded values (zero_filled t) (length found ∷ []) found)) of_inner ∙ back_is) joined
-
--- what the chain of the mask refuses
-pub mask_unmade : (mask values : Chain) (elements : Elements) (shape : List ℕ) (cells : List Cell) (e : CodecError) → MakesInner mask (zero_filled bool) shape (map mask_cell cells) (Err e) → MakesInner (optional mask values) elements shape cells (Err e)
-mask_unmade mask values elements shape cells error.Codec h = (optional_is_refused mask values elements shape cells).mask_refuses h
-mask_unmade mask values elements shape cells error.Size h = (optional_is_refused mask values elements shape cells).mask_passes h
-mask_unmade mask values elements shape cells error.Memory h = tt
-mask_unmade mask values elements shape cells e h = absurd h
-
--- what the chain of the elements that are present refuses
-pub found_unmade : (mask values : Chain) (elements : Elements) (inner : DataType) (shape : List ℕ) (cells : List Cell) (e : CodecError) → inner_type elements.type ≡ Some inner → MakesSome values inner (found_in cells) (Err e) → MakesInner (optional mask values) elements shape cells (Err e)
-found_unmade mask values elements inner shape cells e is h = by_cause e (subst (λ t. MakesSome values t (found_in cells) (Err e)) (sym (ap (λ o. unwrap_or o elements.type) is)) h) where
-  by_cause : (e : CodecError) → MakesSome values (unwrap_or (inner_type elements.type) elements.type) (found_in cells) (Err e) → MakesInner (optional mask values) elements shape cells (Err e)
-  by_cause error.Codec h = (optional_is_refused mask values elements shape cells).found_refuses h.0 h.1
-  by_cause error.Size h = (optional_is_refused mask values elements shape cells).found_passes h.0 h.1
-  by_cause error.Memory h = tt
-  by_cause e h = absurd h

@@ -1,18 +1,15 @@
 -- Elements of variable length encoded by an index and their joined bytes.
-use Rattle.std.proofs.Common.{◌≡◌, ◌∙◌, ℕ, ◌+◌, ◌^◌, List, [], ◌∷◌, length, ap, sym, refl, subst, true, inl, inr, Some, Result, Ok, Err, Vec, Global}
+use Rattle.std.proofs.Common.{◌≡◌, ℕ, ◌+◌, ◌^◌, List, [], ◌∷◌, length, true, inr, Some, Ok, Err, Vec, Global}
 use Rattle.std.specs.Prelude.{nat_lt}
 use Rattle.zarr_grids_boxes.specs.Boxes.{product}
 use Rattle.zarr_codecs_meaning.specs.Chains.{Chain, Location}
 use Rattle.zarr_codecs_meaning.specs.Chains.Chain.{vlen}
 use Rattle.zarr_codecs_meaning.specs.Encoding.{encoded, last_number, number_cells, unless_none, with_index}
 use Rattle.zarr_codecs_meaning.specs.Fits.{fits}
-use Rattle.zarr_codecs_meaning.specs.Laws.{IsLawfulChain, AreCells}
+use Rattle.zarr_codecs_meaning.specs.Laws.{IsLawfulChain}
 use Rattle.zarr_codecs_meaning.specs.Payloads.{Payload}
-use Rattle.zarr_codecs_meaning.specs.Refusals.{offsets_of, CodecRefuses, PassesIndex}
-use Rattle.zarr_codecs_meaning.specs.Types.{integer, unsigned, uint8, Cell, is_value, Elements, zero_filled, IsTooLarge}
-use Rattle.zarr_codecs_meaning.proofs.Lists.{some_same}
-use Rattle.zarr_codecs_meaning.proofs.Meaning.{laws_of}
-use Rattle.zarr_codecs_meaning.proofs.Representations.{encoded_size}
+use Rattle.zarr_codecs_meaning.specs.Refusals.{offsets_of}
+use Rattle.zarr_codecs_meaning.specs.Types.{integer, unsigned, uint8, Cell, is_value, Elements, zero_filled}
 use Rattle.zarr_codecs_arrays.specs.Outcomes.{IsValid}
 use Rattle.zarr_codecs_arrays.specs.declared.error.CodecError.{CodecError}
 use Rattle.zarr_codecs_arrays.specs.declared.error.CodecError.TheVariants as error
@@ -20,44 +17,16 @@ use Rattle.zarr_codecs_traits.specs.Outcomes.{Encodes}
 use Rattle.zarr_codecs_sections.specs.Laws.{content_of}
 use Rattle.zarr_codecs_sections.proofs.Joined.{variable_is_encoded, vlen_is_refused}
 use Rattle.zarr_codecs_chains.specs.Inside.{MakesContent, MakesInner}
+use Rattle.zarr_codecs_chains.proofs.OptionalEncoding.{makes_encodes}
 
--- ---- what a chain inside of a codec makes
-
-pub makes_ok : (chain : Chain) (elements : Elements) (shape : List ℕ) (payload : Payload) (cells : List Cell) (value : Vec ℕ Global) → IsValid elements.type payload (product shape) cells → Encodes chain true elements shape payload (Ok value)
-    → encoded chain elements shape cells ≡ Some value.items
-makes_ok chain elements shape payload cells value valid h =
-    let same : h.0 ≡ cells = some_same (sym h.1.valid.is.lists ∙ valid.is.lists) in
-    ap (encoded chain elements shape) (sym same) ∙ h.1.encodes refl
-
-pub makes_codec : (chain : Chain) (elements : Elements) (shape : List ℕ) (payload : Payload) (cells : List Cell) → IsValid elements.type payload (product shape) cells → Encodes chain true elements shape payload (Err error.Codec)
-    → CodecRefuses chain elements shape cells
-makes_codec chain elements shape payload cells valid h = subst (CodecRefuses chain elements shape) (some_same (sym h.1.valid.is.lists ∙ valid.is.lists)) h.1.is
-
-pub makes_size : (chain : Chain) (elements : Elements) (shape : List ℕ) (payload : Payload) (cells : List Cell) → IsValid elements.type payload (product shape) cells → (IsTooLarge elements.type (product shape) → ⊥)
-    → Encodes chain true elements shape payload (Err error.Size) → PassesIndex chain elements shape cells
-makes_size chain elements shape payload cells valid small (inl large) = absurd (small large)
-makes_size chain elements shape payload cells valid small (inr h) = subst (PassesIndex chain elements shape) (some_same (sym h.1.valid.is.lists ∙ valid.is.lists)) h.1.is
-
--- ---- `vlen`
-
+-- what it makes of them joined
 pub vlen_encodes : (index «data» : Chain) (width : ℕ) (location : Location) (elements : Elements) (shape : List ℕ) (payload : Payload) (cells : List Cell) (front back : List ℕ) (value : Vec ℕ Global) → let chain = vlen index «data» width location in
     IsLawfulChain chain → is_value elements.type elements.fill ≡ true → fits chain elements.type shape ≡ true → IsValid elements.type payload (product shape) cells → nat_lt (last_number 0 (offsets_of cells)) (2 ^ width) ≡ true
     → encoded index (zero_filled (integer unsigned width)) ((product shape + 1) ∷ []) (number_cells width (offsets_of cells)) ≡ Some front
     → unless_none (content_of cells) (encoded «data» (zero_filled uint8) (length (content_of cells) ∷ []) (content_of cells)) ≡ Some back → with_index location front back ≡ Some value.items → Encodes chain true elements shape payload (Ok value)
 vlen_encodes index «data» width location elements shape payload cells front back value lawful fill fit valid near front_is back_is joined =
-    let chain = vlen index «data» width location in
-    let whole : encoded chain elements shape cells ≡ Some value.items =
-    variable_is_encoded (encoded index (zero_filled (integer unsigned width)) ((product shape + 1) ∷ [])) (λ content. encoded «data» (zero_filled uint8) (length content ∷ []) content) width location cells front back value.items near front_is back_is joined in
-    let are : AreCells elements shape cells = record { fill = fill; values = valid.values; whole = valid.is.many } in (
-      cells,
-      record {
-        valid = valid;
-        fit = fit;
-        encodes = λ _. whole;
-        stands = λ lossless. (laws_of chain lawful).stands elements shape value.items cells fit (inl lossless) are whole;
-        sized = encoded_size chain elements shape value.items cells lawful fit are whole;
-      },
-    )
+    makes_encodes (vlen index «data» width location) elements shape payload cells (Ok value) lawful fill fit valid
+    (variable_is_encoded (encoded index (zero_filled (integer unsigned width)) ((product shape + 1) ∷ [])) (λ content. encoded «data» (zero_filled uint8) (length content ∷ []) content) width location cells front back value.items near front_is back_is joined)
 
 -- what the chain of the index refuses
 pub index_unmade : (index «data» : Chain) (width : ℕ) (location : Location) (elements : Elements) (shape : List ℕ) (payload : Payload) (cells : List Cell) (e : CodecError) → let chain = vlen index «data» width location in

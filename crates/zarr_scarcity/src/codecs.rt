@@ -6,6 +6,7 @@ use crate::texts::read_point;
 use crate::types::{read_fill, read_type};
 use crate::values::{PutBox, Values, put_box_by, run as run_values};
 use std::alloc::Global;
+use std::ops::Range;
 use zarr_codecs::{
     ArraySubset, ArrayToBytesCodecTraits, BytesPartialDecoderTraits, CodecChain, CodecOptions,
     CodecPartialDecoder, Elements, Indexer, MemorySource, MetadataV3, TargetBytes, WholeArray,
@@ -14,9 +15,18 @@ use zarr_codecs_reverse::ReverseCodec;
 
 type Chain = CodecChain<ReverseCodec>;
 
+/// The elements of one box of an array are put in the place of those of another one; the value
+/// then.
+#[derive(Clone, Copy)]
+struct MovedBox {
+    from: &'static [Range<u64>],
+    to: &'static [Range<u64>],
+    left: &'static [u8],
+}
+
 /// A chain, what the elements of an array are and its shape, a value that the chain makes of such
-/// elements, the value where the first two elements have changed places, and boxes that are put
-/// into it.
+/// elements, the value where the first two elements have changed places, boxes that are put into
+/// it, and boxes that are moved in it.
 #[derive(Clone, Copy)]
 struct Case {
     codecs: &'static [&'static str],
@@ -26,13 +36,14 @@ struct Case {
     value: &'static [u8],
     swapped: &'static [u8],
     boxes: &'static [PutBox<'static>],
+    moved: &'static [MovedBox],
 }
 
 const BIG: &str = r#"{"configuration":{"endian":"big"},"name":"bytes"}"#;
 
 const REVERSE: &str = r#""x-reverse""#;
 
-const CASES: [Case; 7] = [
+const CASES: [Case; 8] = [
     Case {
         codecs: &[
             r#"{"configuration":{"order":[1,0]},"name":"transpose"}"#,
@@ -50,6 +61,7 @@ const CASES: [Case; 7] = [
             given: &[5, 0, 6, 0],
             left: &[6, 0, 5, 0, 3, 0, 1, 0],
         }],
+        moved: &[],
     },
     Case {
         codecs: &[
@@ -68,6 +80,7 @@ const CASES: [Case; 7] = [
             given: &[8, 9],
             left: &[1, 8, 9],
         }],
+        moved: &[],
     },
     // Three rows of four numbers, and a box of the last two rows without the last column.
     Case {
@@ -87,6 +100,7 @@ const CASES: [Case; 7] = [
             given: &[15, 16, 17, 19, 20, 21],
             left: &[1, 15, 19, 2, 16, 20, 3, 17, 21, 4, 8, 12],
         }],
+        moved: &[],
     },
     Case {
         codecs: &[r#"{"configuration":{"padding_encoding":"first_byte"},"name":"packbits"}"#],
@@ -96,6 +110,11 @@ const CASES: [Case; 7] = [
         value: &[0, 0x78],
         swapped: &[0, 0x87],
         boxes: &[],
+        moved: &[MovedBox {
+            from: &[0..1],
+            to: &[1..2],
+            left: &[0, 0x88],
+        }],
     },
     // -8, 7, 1 and -1: of this value the bytes are read that are asked for.
     Case {
@@ -111,6 +130,7 @@ const CASES: [Case; 7] = [
             given: &[255, 2],
             left: &[0xf8, 0xf2],
         }],
+        moved: &[],
     },
     Case {
         codecs: &[
@@ -127,6 +147,13 @@ const CASES: [Case; 7] = [
             0, 0, 0, 0, 0, 0, 0, 12, 3, 0, 0, 0, 2, 0, 0, 0, 0, 0, 0, 0, 97, 99, 98,
         ],
         boxes: &[],
+        moved: &[MovedBox {
+            from: &[1..2],
+            to: &[0..1],
+            left: &[
+                0, 0, 0, 0, 0, 0, 0, 12, 4, 0, 0, 0, 2, 0, 0, 0, 0, 0, 0, 0, 99, 98, 99, 98,
+            ],
+        }],
     },
     Case {
         codecs: &[
@@ -138,6 +165,37 @@ const CASES: [Case; 7] = [
         value: &[1, 0, 0, 0, 0, 0, 0, 0, 2, 0, 0, 0, 0, 0, 0, 0, 5, 5, 7],
         swapped: &[1, 0, 0, 0, 0, 0, 0, 0, 2, 0, 0, 0, 0, 0, 0, 0, 6, 5, 7],
         boxes: &[],
+        moved: &[MovedBox {
+            from: &[1..3],
+            to: &[0..2],
+            left: &[1, 0, 0, 0, 0, 0, 0, 0, 2, 0, 0, 0, 0, 0, 0, 0, 6, 7, 7],
+        }],
+    },
+    // Absent, one that is absent inside, and 9.
+    Case {
+        codecs: &[
+            r#"{"configuration":{"data_codecs":[{"configuration":{"data_codecs":["bytes"],"mask_codecs":["packbits"]},"name":"optional"}],"mask_codecs":["packbits"]},"name":"optional"}"#,
+        ],
+        data_type: r#"{"configuration":{"configuration":{"name":"uint8"},"name":"zarrs.optional"},"name":"zarrs.optional"}"#,
+        fill: "null",
+        shape: &[3],
+        value: &[
+            1, 0, 0, 0, 0, 0, 0, 0, 18, 0, 0, 0, 0, 0, 0, 0, 6, 1, 0, 0, 0, 0, 0, 0, 0, 1, 0, 0, 0,
+            0, 0, 0, 0, 2, 9,
+        ],
+        swapped: &[
+            1, 0, 0, 0, 0, 0, 0, 0, 18, 0, 0, 0, 0, 0, 0, 0, 5, 1, 0, 0, 0, 0, 0, 0, 0, 1, 0, 0, 0,
+            0, 0, 0, 0, 2, 9,
+        ],
+        boxes: &[],
+        moved: &[MovedBox {
+            from: &[2..3],
+            to: &[0..1],
+            left: &[
+                1, 0, 0, 0, 0, 0, 0, 0, 19, 0, 0, 0, 0, 0, 0, 0, 7, 1, 0, 0, 0, 0, 0, 0, 0, 2, 0,
+                0, 0, 0, 0, 0, 0, 5, 9, 9,
+            ],
+        }],
     },
 ];
 
@@ -192,7 +250,48 @@ fn run_case(alloc: Global, case: &Case) -> Result<(), Stop> {
         compacted: &[],
         boxes: case.boxes,
     };
-    run_values(alloc, &chain_of(alloc, case.codecs)?, &values)
+    let chain = chain_of(alloc, case.codecs)?;
+    run_values(alloc, &chain, &values)?;
+    for moved in case.moved {
+        move_box(alloc, &chain, array, case.value, moved)?;
+    }
+    Ok(())
+}
+
+/// The elements of a box are read, and put in the place of those of another one.
+fn move_in(
+    alloc: Global,
+    chain: &Chain,
+    array: WholeArray<'_>,
+    source: &mut MemorySource,
+    moved: &MovedBox,
+) -> Result<(), Stop> {
+    let options = CodecOptions::default();
+    let from = ArraySubset::new_with_ranges(alloc, moved.from)?;
+    let to = ArraySubset::new_with_ranges(alloc, moved.to)?;
+    let mut encoder = chain.partial_encoder(source, array);
+    let found = encoder.partial_decode(alloc, Indexer::Subset(&from), &options)?;
+    Ok(encoder.partial_encode(alloc, Indexer::Subset(&to), found, &options)?)
+}
+
+/// They are put there in a value, and once more where memory ran out, which leaves it.
+fn move_box(
+    alloc: Global,
+    chain: &Chain,
+    array: WholeArray<'_>,
+    value: &[u8],
+    moved: &MovedBox,
+) -> Result<(), Stop> {
+    let mut source = holding(alloc, value)?;
+    match move_in(alloc, chain, array, &mut source, moved) {
+        Err(Stop::Short) => {
+            source = expect_held(source, value)?;
+            move_in(alloc, chain, array, &mut source, moved)?;
+        }
+        said => said?,
+    }
+    expect_held(source, moved.left)?;
+    Ok(())
 }
 
 /// The second and the third number of a row of three are put over two bytes of four.

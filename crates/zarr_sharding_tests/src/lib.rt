@@ -25,3 +25,5 @@ mod samples;
 mod source;
 #[cfg(test)]
 mod states;
+#[cfg(test)]
+mod thrice;

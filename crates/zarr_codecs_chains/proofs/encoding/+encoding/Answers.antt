@@ -1,26 +1,33 @@
-use Rattle.std.proofs.Common.{◌≡◌, ◌∙◌, ◌+◌, ◌<◌, List, [], ◌∷◌, length, map, ap, sym, subst, true, false, Some, Ok, Err, unwrap_or}
+use Rattle.std.proofs.Common.{◌≡◌, ◌∙◌, ◌+◌, List, [], ◌∷◌, length, map, ap, sym, subst, arith, true, false, inr, Some, Ok, Err, unwrap_or}
+use Rattle.std.specs.List.{list_all}
 use Rattle.zarr_grids_boxes.specs.Boxes.{product}
-use Rattle.zarr_codecs_meaning.specs.Chains.Chain.{vlen}
-use Rattle.zarr_codecs_meaning.specs.Encoding.{mask_cell, number_cells, with_mask}
+use Rattle.zarr_codecs_meaning.specs.Chains.Chain.{optional, vlen}
+use Rattle.zarr_codecs_meaning.specs.Encoding.{number_cells, with_index}
 use Rattle.zarr_codecs_meaning.specs.Fits.{fits}
 use Rattle.zarr_codecs_meaning.specs.Refusals.{offsets_of}
-use Rattle.zarr_codecs_meaning.specs.Types.{bool, integer, unsigned, optional_of, inner_type, Elements, zero_filled}
+use Rattle.zarr_codecs_meaning.specs.Types.{integer, unsigned, inner_type, is_value, zero_filled, IsTooLarge}
 use Rattle.zarr_codecs_meaning.proofs.KeptOptions.{options_fit}
 use Rattle.zarr_codecs_meaning.proofs.KeptVariable.{vlen_fits}
+use Rattle.zarr_codecs_meaning.proofs.Zeros.{fits_each, zero_is_value}
 use Rattle.zarr_codecs_types.specs.Views.{type_of}
 use Rattle.zarr_codecs_arrays.specs.Outcomes.{IsValid}
-use Rattle.zarr_codecs_sections.specs.Laws.{found_in}
+use Rattle.zarr_codecs_sections.specs.Marks.{AreMarked}
+use Rattle.zarr_codecs_sections.specs.Outcomes.{Indexes}
 use Rattle.zarr_codecs_sections.specs.Views.{width_of, location_of}
-use Rattle.zarr_codecs_chains.specs.Inside.{MakesInner}
+use Rattle.zarr_codecs_sections.proofs.Joined.{vlen_is_refused}
+use Rattle.zarr_codecs_chains.specs.Inside.{MakesInner, MakesSome}
+use Rattle.zarr_codecs_chains.specs.Chosen.{SuitsChosen, chosen_type}
 use Rattle.zarr_codecs_arrays.specs.Views.{elements_of, payload_of}
 use Rattle.zarr_codecs_array_to_array.specs.declared.codec.ArrayToArrayCodec.{ArrayToArrayCodec}
-use Rattle.zarr_codecs_traits.specs.Outcomes.{Encodes}
+use Rattle.zarr_codecs_traits.specs.Outcomes.{Encodes, MakesBytes}
+use Rattle.zarr_codecs_around.specs.Codecs.{all_encoded}
 use Rattle.zarr_codecs_around.specs.ArrayCodecs.{EncodesShapes, MovesAll, all_fit, shape_after}
 use Rattle.zarr_codecs_around.specs.Views.{codecs_of, with_codecs}
 use Rattle.zarr_codecs_chains.specs.Views.{codec_chain, codec_lawful, lawful_of, meaning_of}
 use Rattle.zarr_codecs_around.proofs.AllArrayCodecs.{fits_between, unshaped_encodes, encodes_between, unmoved_between}
-use Rattle.zarr_codecs_chains.proofs.OptionalEncoding.{found_unmade, inner_found, mask_unmade, optional_valid, options_encodes, some_made, some_there}
-use Rattle.zarr_codecs_chains.proofs.VlenEncoding.{index_unmade, content_unmade}
+use Rattle.zarr_codecs_chains.proofs.Alone.{chain_alone, fits_alone, none_before, takes_alone}
+use Rattle.zarr_codecs_chains.proofs.OptionalEncoding.{makes_encodes, makes_with, marked_count, none_made, optional_is, some_made, unmade_with}
+use Rattle.zarr_codecs_chains.proofs.VlenEncoding.{content_unmade, index_unmade, vlen_encodes}
 use Rattle.zarr_codecs_chains.proofs.encoding.+encoding.Goals as goal
 
 pub encode_chain-returns-in-Err : goal.encode_chain-returns-in-Err
@@ -86,6 +93,20 @@ encode_chain-returns g t c =
     encodes_between (codecs_of before) chain after elements shape c.in-Ok.last.items (payload_of c.args.bytes) moved r moves made fit
     (subst (λ es. Encodes (with_codecs chain after) true elements es (payload_of moved) r) c.as_slice-2.ensures.value whole)
 
+pub encode_sections-returns-in-Err-Size : goal.encode_sections-returns-in-Err-Size
+encode_sections-returns-in-Err-Size g t c = λ elements shape cells same fill fit valid.
+    let meaning = g.B.BytesToBytesCodecTraits.meaning in
+    let own = c.args.codec.now in
+    let index = meaning_of meaning own.index_codecs in
+    let content = meaning_of meaning own.data_codecs in
+    let width = width_of own.index_data_type in
+    let location = location_of own.index_location in
+    let payload = payload_of c.args.bytes in
+    let whole = subst (λ n. IsValid elements.type payload n cells) (sym same) valid in
+    let variable = (vlen_fits index content width location elements.type shape fit).variable in
+    let far = subst (λ e. Indexes width cells (Err e)) c.in-Err-Size.field-0-is (c.in-Err-Size.ensures elements.type cells variable valid.is.lists) in
+    inr (cells, record { valid = whole; fit = fit; is = (vlen_is_refused index content width location elements shape cells).offset_passes far })
+
 pub encode_sections-returns-in-Err-encode_offsets : goal.encode_sections-returns-in-Err-encode_offsets
 encode_sections-returns-in-Err-encode_offsets g t c = λ elements shape cells same fill fit valid.
     let meaning = g.B.BytesToBytesCodecTraits.meaning in
@@ -102,6 +123,30 @@ encode_sections-returns-in-Err-encode_offsets g t c = λ elements shape cells sa
     let e = c.in-Err-encode_offsets.error in
     let refused = subst (λ n. MakesInner index (zero_filled (integer unsigned width)) ((n + 1) ∷ []) offsets (Err e)) (sym same) (c.in-Err-encode_offsets.ensures offsets counted) in
     index_unmade index content width location elements shape payload cells e fit whole refused
+
+pub encode_sections-returns-in-Ok-encode_content : goal.encode_sections-returns-in-Ok-encode_content
+encode_sections-returns-in-Ok-encode_content g t c = λ elements shape cells same fill fit valid.
+    let meaning = g.B.BytesToBytesCodecTraits.meaning in
+    let own = c.args.codec.now in
+    let index = meaning_of meaning own.index_codecs in
+    let content = meaning_of meaning own.data_codecs in
+    let width = width_of own.index_data_type in
+    let location = location_of own.index_location in
+    let payload = payload_of c.args.bytes in
+    let whole = subst (λ n. IsValid elements.type payload n cells) (sym same) valid in
+    let variable = (vlen_fits index content width location elements.type shape fit).variable in
+    let indexed = c.in-Ok.ensures elements.type cells variable valid.is.lists in
+    let offsets = number_cells width (offsets_of cells) in
+    let counted = subst (λ n. IsValid (integer unsigned width) (payload_of c.in-Ok.offsets) (n + 1) offsets) valid.is.many indexed.valid in
+    let front = c.in-Ok-encode_offsets.front in
+    let back = c.in-Ok-encode_content.back in
+    let value = c.in_ok-join_index-in-Ok-encode_content.field-0 in
+    let front_is = subst (λ n. MakesInner index (zero_filled (integer unsigned width)) ((n + 1) ∷ []) offsets (Ok front)) (sym same) (c.in-Ok-encode_offsets.ensures offsets counted) in
+    let back_is = c.in-Ok-encode_content.ensures cells (c.in_ok-content.ensures elements.type cells variable valid.is.lists) in
+    let joined : with_index location front.items back.items ≡ Some value.items =
+    ap (λ xs. with_index location xs back.items) (sym c.as_slice.ensures.value) ∙ (ap (with_index location c.as_slice.result.now) (sym c.as_slice-in-Ok-encode_content.ensures.value) ∙ c.in_ok-join_index-in-Ok-encode_content.ensures) in
+    let each = g.met.B.BytesToBytesCodecTraits.lawful in
+    vlen_encodes index content width location elements shape payload cells front.items back.items value (lawful_of meaning each own.index_codecs, lawful_of meaning each own.data_codecs) fill fit whole indexed.near front_is back_is joined
 
 pub encode_sections-returns : goal.encode_sections-returns
 encode_sections-returns g t c = λ elements shape cells same fill fit valid.
@@ -132,72 +177,113 @@ encode_vlen-returns g t c =
     let valid = subst (λ t. IsValid t payload c.in-Some.count found.0) c.data_type-data_type.ensures found.1 in
     c.encode_sections.ensures elements shape found.0 (sym c.in-Some.ensures.1) c.args.array.elements.now.fills fit valid
 
-pub encode_options-returns-in-Err : goal.encode_options-returns-in-Err
-encode_options-returns-in-Err g t c = λ cells fit valid.
+pub encode_inner-returns : goal.encode_inner-returns
+encode_inner-returns g t c = λ cells valid.
     let meaning = g.B.BytesToBytesCodecTraits.meaning in
-    let own = c.args.codec.now in
-    let mask = meaning_of meaning own.mask_codecs in
-    let values = meaning_of meaning own.data_codecs in
     let elements = elements_of c.args.array.elements.now in
     let shape = c.args.array.shape.now in
-    let payload = payload_of c.args.bytes in
-    let inner = unwrap_or (inner_type elements.type) elements.type in
-    let type = c.in_ok-try_clone.ensures in
-    let some : Some (type_of c.in_ok-try_clone.field-0) ≡ inner_type elements.type = ap Some type ∙ (c.in-Some.ensures ∙ ap inner_type c.data_type.ensures) in
-    let inner_is : elements_of c.in_ok-inner.inner ≡ zero_filled inner = inner_found mask values elements (elements_of c.in_ok-inner.inner) shape (type_of c.in_ok-try_clone.field-0) fit some c.in_ok-inner.ensures in
-    let options = optional_valid elements.type inner payload (product shape) cells (options_fit mask values elements.type shape fit).is valid in
-    let split = c.in_ok-parts.ensures (product shape) cells (subst (λ (i : Elements). IsValid (optional_of i.type) payload (product shape) cells) (sym inner_is) options) in
-    let marks = subst (λ n. IsValid bool (payload_of c.in_ok-parts.parts.mask) n (map mask_cell cells)) valid.is.many split.mask in
-    mask_unmade mask values elements shape payload cells c.in-Err.error fit valid (c.in-Err.ensures (map mask_cell cells) marks)
+    c.made_inside.ensures (meaning_of meaning c.args.chain.now) elements shape (payload_of c.args.bytes) cells
+    (λ large. c.is_small.ensures c.if-not-is_small.false (subst (λ t. IsTooLarge t (product shape)) (sym c.data_type.ensures) large)) valid c.encode_chain.ensures
 
-pub encode_options-returns-in-Ok-encode_some : goal.encode_options-returns-in-Ok-encode_some
-encode_options-returns-in-Ok-encode_some g t c = λ cells fit valid.
+pub encode_optional-returns : goal.encode_optional-returns
+encode_optional-returns g t c =
     let meaning = g.B.BytesToBytesCodecTraits.meaning in
     let own = c.args.codec.now in
     let mask = meaning_of meaning own.mask_codecs in
     let values = meaning_of meaning own.data_codecs in
+    let chain = optional mask values in
+    let payload = payload_of c.args.bytes in
     let elements = elements_of c.args.array.elements.now in
     let shape = c.args.array.shape.now in
-    let payload = payload_of c.args.bytes in
-    let inner = unwrap_or (inner_type elements.type) elements.type in
-    let type = c.in_ok-try_clone.ensures in
-    let some : Some (type_of c.in_ok-try_clone.field-0) ≡ inner_type elements.type = ap Some type ∙ (c.in-Some.ensures ∙ ap inner_type c.data_type.ensures) in
-    let inner_is : elements_of c.in_ok-inner.inner ≡ zero_filled inner = inner_found mask values elements (elements_of c.in_ok-inner.inner) shape (type_of c.in_ok-try_clone.field-0) fit some c.in_ok-inner.ensures in
-    let options = optional_valid elements.type inner payload (product shape) cells (options_fit mask values elements.type shape fit).is valid in
-    let split = c.in_ok-parts.ensures (product shape) cells (subst (λ (i : Elements). IsValid (optional_of i.type) payload (product shape) cells) (sym inner_is) options) in
-    let marks = subst (λ n. IsValid bool (payload_of c.in_ok-parts.parts.mask) n (map mask_cell cells)) valid.is.many split.mask in
-    let count = c.in_ok-parts.parts.count in
-    let found = found_in cells in
-    let same : length found ≡ count = split.present.is.many in
-    let front = c.in-Ok.front in
-    let back = c.in-Ok-encode_some.back in
-    let value = c.in_ok-join_mask-in-Ok-encode_some.field-0 in
-    let back_is = some_made values (zero_filled inner) count found back same c.in-Ok-encode_some.ensures.none
-    (λ here. subst (λ i. MakesInner values i (count ∷ []) found (Ok back)) inner_is (c.in-Ok-encode_some.ensures.some found here split.present)) in
-    let joined : with_mask front.items back.items ≡ Some value.items =
-    ap (λ xs. with_mask xs back.items) (sym c.as_slice.ensures.value) ∙ (ap (with_mask c.as_slice.result.now) (sym c.as_slice-in-Ok-encode_some.ensures.value) ∙ c.in_ok-join_mask-in-Ok-encode_some.ensures) in
+    let count = c.in-Some.count in
+    let inner = type_of c.in-Some-inner.inner.now in
+    let cells = c.in_default-validate.ensures.0 in
+    let fit : fits chain elements.type shape ≡ true = ap (λ t. fits chain t shape) (sym c.data_type-data_type.ensures) ∙ (sym c.in_ok-fits_optional.ensures ∙ c.if-not-branch.false) in
+    let some : inner_type elements.type ≡ Some inner = sym (c.in-Some-inner.ensures ∙ ap inner_type c.data_type-data_type.ensures) in
+    let counted : IsValid elements.type payload count cells = subst (λ t. IsValid t payload count cells) c.data_type-data_type.ensures c.in_default-validate.ensures.1 in
+    let valid : IsValid elements.type payload (product shape) cells = subst (λ n. IsValid elements.type payload n cells) c.in-Some.ensures.1 counted in
+    let split = c.in_ok-parts.ensures inner count cells (subst (λ t. IsValid t payload count cells) (optional_is elements.type inner some) counted) in
+    let suits = options_fit mask values elements.type shape fit in
+    let values_fit = subst (λ t. fits values t (0 ∷ []) ≡ true) (ap (λ o. unwrap_or o elements.type) some) (suits.values_fit (0 ∷ [])) in
     let each = g.met.B.BytesToBytesCodecTraits.lawful in
-    options_encodes mask values elements shape payload cells front.items back.items value (lawful_of meaning each own.mask_codecs, lawful_of meaning each own.data_codecs) c.args.array.elements.now.fills fit valid (c.in-Ok.ensures (map mask_cell cells) marks) back_is joined
+    makes_encodes chain elements shape payload cells c.encode_parts.result (lawful_of meaning each own.mask_codecs, lawful_of meaning each own.data_codecs) c.args.array.elements.now.fills fit valid
+    (c.encode_parts.ensures elements cells some suits.takes values_fit valid.is.many split)
 
-pub encode_options-returns : goal.encode_options-returns
-encode_options-returns g t c = λ cells fit valid.
+pub encode_chosen-returns-then-chosen-eq0 : goal.encode_chosen-returns-then-chosen-eq0
+encode_chosen-returns-then-chosen-eq0 g t c = λ cells suits are.
+    let meaning = g.B.BytesToBytesCodecTraits.meaning in
+    let chosen = c.args.chosen in
+    let none : length cells ≡ 0 = marked_count (chosen_type chosen) chosen.marks.now cells (payload_of c.args.bytes) are.marked ∙ (sym c.requires ∙ c.if-chosen-eq0.true) in
+    none_made (meaning_of meaning c.args.chain.now) (chosen_type chosen) cells c.new.result none c.new.ensures.items
+
+pub encode_chosen-returns-in-Ok : goal.encode_chosen-returns-in-Ok
+encode_chosen-returns-in-Ok g t c = λ cells suits are.
+    let meaning = g.B.BytesToBytesCodecTraits.meaning in
+    let own = c.args.chain.now in
+    let before = own.array_to_array.items in
+    let chain = codec_chain meaning own.others.array_to_bytes in
+    let after = own.others.bytes_to_bytes.items in
+    let codecs = map meaning after in
+    let chosen = c.args.chosen in
+    let type = chosen_type chosen in
+    let count = chosen.count in
+    let r = c.encode_all.result in
+    let none = none_before meaning before chain after suits.takes in
+    let suited : SuitsChosen chain chosen = record { takes = takes_alone meaning before chain after suits.takes; fit = fits_alone meaning before chain after type (0 ∷ []) none ∙ suits.fit } in
+    let same : length cells ≡ count = marked_count type chosen.marks.now cells (payload_of c.args.bytes) are.marked ∙ sym c.requires in
+    let made = makes_with chain codecs (zero_filled type) (count ∷ []) cells c.in-Ok.made.items r (c.in-Ok.ensures cells suited are)
+    (subst (λ xs. MakesBytes (all_encoded (map meaning xs)) c.in-Ok.made.items r) c.as_slice.ensures.value c.encode_all.ensures) in
+    subst (λ x. MakesSome x type cells r) (chain_alone meaning before chain after none) (some_made (with_codecs chain codecs) type cells count r same (omega (arith, c.if-chosen-eq0.false)) made)
+
+pub encode_chosen-returns-in-Err : goal.encode_chosen-returns-in-Err
+encode_chosen-returns-in-Err g t c = λ cells suits are.
+    let meaning = g.B.BytesToBytesCodecTraits.meaning in
+    let own = c.args.chain.now in
+    let before = own.array_to_array.items in
+    let chain = codec_chain meaning own.others.array_to_bytes in
+    let after = own.others.bytes_to_bytes.items in
+    let codecs = map meaning after in
+    let chosen = c.args.chosen in
+    let type = chosen_type chosen in
+    let count = chosen.count in
+    let e = c.in-Err.error in
+    let none = none_before meaning before chain after suits.takes in
+    let suited : SuitsChosen chain chosen = record { takes = takes_alone meaning before chain after suits.takes; fit = fits_alone meaning before chain after type (0 ∷ []) none ∙ suits.fit } in
+    let same : length cells ≡ count = marked_count type chosen.marks.now cells (payload_of c.args.bytes) are.marked ∙ sym c.requires in
+    let made = unmade_with chain codecs (zero_filled type) (count ∷ []) cells e (c.in-Err.ensures cells suited are) in
+    subst (λ x. MakesSome x type cells (Err e)) (chain_alone meaning before chain after none) (some_made (with_codecs chain codecs) type cells count (Err e) same (omega (arith, c.if-chosen-eq0.false)) made)
+
+pub encode_texts-returns : goal.encode_texts-returns
+encode_texts-returns g t c = λ cells suits are.
+    let meaning = g.B.BytesToBytesCodecTraits.meaning in
+    let own = c.args.codec.now in
+    let chain = vlen (meaning_of meaning own.index_codecs) (meaning_of meaning own.data_codecs) (width_of own.index_data_type) (location_of own.index_location) in
+    let chosen = c.args.chosen in
+    let type = chosen_type chosen in
+    let count = chosen.count in
+    let payload = payload_of c.in_ok-present.present in
+    let one : product (count ∷ []) ≡ count = omega arith in
+    let valid : IsValid type payload count cells = subst (λ n. IsValid type payload n cells) (sym c.requires) (c.in_ok-present.ensures cells are.marked are.values) in
+    let fit : fits chain type (count ∷ []) ≡ true = fits_each chain type (0 ∷ []) (count ∷ []) suits.takes suits.fit in
+    c.made_inside.ensures chain (zero_filled type) (count ∷ []) payload cells (c.is_small.ensures c.if-not-is_small.false) (subst (λ n. IsValid type payload n cells) (sym one) valid)
+    (c.encode_sections.ensures (zero_filled type) (count ∷ []) cells one (zero_is_value type) fit valid)
+
+pub encode_below-returns : goal.encode_below-returns
+encode_below-returns g t c = λ cells suits are.
     let meaning = g.B.BytesToBytesCodecTraits.meaning in
     let own = c.args.codec.now in
     let mask = meaning_of meaning own.mask_codecs in
     let values = meaning_of meaning own.data_codecs in
-    let elements = elements_of c.args.array.elements.now in
-    let shape = c.args.array.shape.now in
+    let chosen = c.args.chosen in
+    let type = chosen_type chosen in
+    let count = chosen.count in
     let payload = payload_of c.args.bytes in
-    let inner = unwrap_or (inner_type elements.type) elements.type in
-    let type = c.in_ok-try_clone.ensures in
-    let some : Some (type_of c.in_ok-try_clone.field-0) ≡ inner_type elements.type = ap Some type ∙ (c.in-Some.ensures ∙ ap inner_type c.data_type.ensures) in
-    let inner_is : elements_of c.in_ok-inner.inner ≡ zero_filled inner = inner_found mask values elements (elements_of c.in_ok-inner.inner) shape (type_of c.in_ok-try_clone.field-0) fit some c.in_ok-inner.ensures in
-    let options = optional_valid elements.type inner payload (product shape) cells (options_fit mask values elements.type shape fit).is valid in
-    let split = c.in_ok-parts.ensures (product shape) cells (subst (λ (i : Elements). IsValid (optional_of i.type) payload (product shape) cells) (sym inner_is) options) in
-    let count = c.in_ok-parts.parts.count in
-    let found = found_in cells in
-    let same : length found ≡ count = split.present.is.many in
-    let e = c.in-Err-encode_some.error in
-    let here = some_there count c.in-Err-encode_some.ensures.none in
-    let made = subst (λ i. MakesInner values i (count ∷ []) found (Err e)) inner_is (c.in-Err-encode_some.ensures.some found here split.present) in
-    found_unmade mask values elements shape payload cells e fit valid (subst (λ n. 0 < n) (sym same) here) (subst (λ n. MakesInner values (zero_filled inner) (n ∷ []) found (Err e)) (sym same) made)
+    let inner = type_of c.in-Some.inner.now in
+    let some : inner_type type ≡ Some inner = sym c.in-Some.ensures in
+    let is_optional = optional_is type inner some in
+    let split = c.in_ok-parts.ensures inner cells (subst (λ t. AreMarked t chosen.marks.now cells payload) is_optional are.marked) (subst (λ t. list_all (is_value t) cells ≡ true) is_optional are.values) in
+    let within = options_fit mask values type (0 ∷ []) suits.fit in
+    let values_fit = subst (λ t. fits values t (0 ∷ []) ≡ true) (ap (λ o. unwrap_or o type) some) (within.values_fit (0 ∷ [])) in
+    let one : product (count ∷ []) ≡ count = omega arith in
+    let long : length cells ≡ product (count ∷ []) = marked_count type chosen.marks.now cells payload are.marked ∙ (sym c.requires ∙ sym one) in
+    c.encode_parts.ensures (zero_filled type) cells some within.takes values_fit long split
