@@ -1,18 +1,17 @@
 -- Optional elements decoded by a mask and those that are present.
-use Rattle.std.proofs.Common.{◌≡◌, ◌∙◌, ℕ, zero, suc, ◌<◌, List, [], ◌∷◌, length, map, replicate, ap, sym, refl, subst, arith, Option, Some, None, option_map, option_and_then, Result, Ok, Err, unwrap_or, Bool, true, false, if◌then◌else◌, ◌==◌}
+use Rattle.std.proofs.Common.{◌≡◌, ◌∙◌, ℕ, zero, suc, ◌<◌, List, [], ◌∷◌, length, map, replicate, ap, sym, refl, subst, arith, Option, Some, None, option_map, option_and_then, Result, Ok, Err, unwrap_or, Bool, true, if◌then◌else◌}
 use Rattle.std.specs.Prelude.{IfOk, IfErr}
 use Rattle.std.proofs.lemmas.Bool.{eq-eqb, ne_eqb}
 use Rattle.std.proofs.lemmas.List.{length-replicate}
 use Rattle.zarr_grids_boxes.specs.Boxes.{product}
 use Rattle.zarr_codecs_meaning.specs.Chains.{ByteCodec, Chain}
 use Rattle.zarr_codecs_meaning.specs.Chains.Chain.{optional}
-use Rattle.zarr_codecs_meaning.specs.Decoding.{count_present, decoded, masked_of, options_decoded, read_unless_none}
+use Rattle.zarr_codecs_meaning.specs.Decoding.{count_present, decoded, masked_of, read_unless_none}
 use Rattle.zarr_codecs_meaning.specs.Fits.{fits, takes_each_shape}
 use Rattle.zarr_codecs_meaning.specs.Keeping.{spread}
 use Rattle.zarr_codecs_meaning.specs.Payloads.{Payload, cells_in}
-use Rattle.zarr_codecs_meaning.specs.Types.{DataType, bool, integer, custom, string, variable_bytes, optional_of, inner_type, Cell, Elements, zero_filled}
+use Rattle.zarr_codecs_meaning.specs.Types.{DataType, bool, optional_of, inner_type, Cell, Elements, zero_filled}
 use Rattle.zarr_codecs_meaning.proofs.Counts.{decoded_count}
-use Rattle.zarr_codecs_meaning.proofs.Lists.{some_same}
 use Rattle.zarr_codecs_arrays.specs.Views.{payload_of}
 use Rattle.zarr_codecs_arrays.specs.declared.array_bytes.ArrayBytes.{ArrayBytes}
 use Rattle.zarr_codecs_arrays.specs.declared.error.CodecError.{CodecError}
@@ -23,7 +22,6 @@ use Rattle.zarr_codecs_sections.specs.Laws.{found_read}
 use Rattle.zarr_codecs_sections.specs.Marks.{AreMarked, chosen, count_ones}
 use Rattle.zarr_codecs_around.specs.Codecs.{all_decoded}
 use Rattle.zarr_codecs_around.specs.Views.{chain_between, with_codecs}
-use Rattle.zarr_codecs_around.proofs.AllArrayCodecs.{takes_between}
 use Rattle.zarr_codecs_around.proofs.Chains.{decoded_with}
 use Rattle.zarr_codecs_chains.specs.Inside.{FindsInner, FindsMarked}
 use Rattle.zarr_codecs_chains.proofs.OptionalEncoding.{chosen_count, optional_is}

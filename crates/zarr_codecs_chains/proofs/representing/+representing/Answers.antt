@@ -1,6 +1,5 @@
 use Rattle.std.proofs.Common.{rules, ◌≡◌, ◌<◌, ◌^◌, ◌∙◌, List, [], ◌∷◌, ap, map, sym, subst, true, Some, Ok, Err}
 use Rattle.zarr_grids_boxes.specs.Boxes.{product}
-use Rattle.zarr_codecs_meaning.specs.Chains.Chain.{optional}
 use Rattle.zarr_codecs_meaning.specs.Fits.{fits}
 use Rattle.zarr_codecs_meaning.specs.Types.{inner_type}
 use Rattle.zarr_codecs_meaning.proofs.KeptOptions.{options_fit}
