@@ -18,6 +18,7 @@ none_before meaning [] chain after takes = refl
 none_before meaning (codec ∷ codecs) chain after takes = absurd (differ (never_takes meaning (codec ∷ codecs) chain after (λ e. some e) ∙ takes)) where
   some : length (codec ∷ codecs) ≡ 0 → ⊥
   some e = cc
+
   differ : false ≡ true → ⊥
   differ e = cc
 
