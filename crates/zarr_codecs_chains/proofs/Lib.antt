@@ -1,4 +1,3 @@
-pub mod VlenDecoding
 pub mod OptionalEncoding
 pub mod OptionalDecoding
 pub mod VlenEncoding

@@ -1,5 +1,5 @@
 -- Indexes of 2^63 numbers and more, which chains suit alike.
-use Rattle.std.proofs.Common.{rules, ◌≡◌, ◌∙◌, ℕ, zero, suc, ◌+◌, ◌*◌, ◌^◌, ◌<◌, ◌≤◌, List, [], ◌∷◌, length, map, slice_index, Bool, true, false, ◌&&◌, ◌==◌, not, nat_lt, if◌then◌else◌, ap, sym, refl, arith}
+use Rattle.std.proofs.Common.{rules, ◌≡◌, ◌∙◌, ℕ, zero, suc, ◌+◌, ◌^◌, ◌<◌, ◌≤◌, List, [], ◌∷◌, length, map, Bool, true, false, ◌&&◌, ◌==◌, not, nat_lt, if◌then◌else◌, ap, sym, refl, arith}
 use Rattle.std.specs.List.{list_all, list_any, range_with_len}
 use Rattle.zarr_grids_boxes.specs.Boxes.{product}
 use Rattle.zarr_codecs_meaning.specs.Chains.{ArrayCodec, ByteCodec, Chain, ShapeEntry}
@@ -7,7 +7,6 @@ use Rattle.zarr_codecs_meaning.specs.Chains.ArrayCodec.{transpose, reshape, sque
 use Rattle.zarr_codecs_meaning.specs.Fits.{array_codec_fits, entry_fits, fits, is_permutation}
 use Rattle.zarr_codecs_meaning.specs.Places.{encoded_shape, known_product}
 use Rattle.zarr_codecs_meaning.specs.Types.{DataType, integer, unsigned}
-use Rattle.zarr_codecs_array_to_array.specs.declared.codec.ArrayToArrayCodec.{ArrayToArrayCodec}
 use Rattle.zarr_codecs_around.specs.Views.{codecs_of, with_array_codecs, with_codecs}
 use Rattle.zarr_codecs_chains.specs.Views.{codec_chain, meaning_of}
 use Rattle.zarr_codecs_chains.specs.declared.array_to_bytes.ArrayToBytesCodec.{ArrayToBytesCodec}

@@ -1,5 +1,5 @@
 -- Optional elements decoded by a mask and those that are present.
-use Rattle.std.proofs.Common.{◌≡◌, ◌∙◌, ℕ, zero, suc, ◌<◌, List, [], ◌∷◌, length, map, replicate, ap, sym, refl, subst, arith, Option, Some, None, option_map, option_and_then, Result, Ok, Err, unwrap_or, Bool, true, false, if◌then◌else◌}
+use Rattle.std.proofs.Common.{◌≡◌, ◌∙◌, ℕ, zero, suc, ◌<◌, List, [], ◌∷◌, length, map, replicate, ap, sym, refl, subst, arith, Option, Some, None, option_map, option_and_then, Result, Ok, Err, unwrap_or, Bool, true, if◌then◌else◌}
 use Rattle.std.specs.Prelude.{IfOk, IfErr}
 use Rattle.std.proofs.lemmas.Bool.{eq-eqb, ne_eqb}
 use Rattle.std.proofs.lemmas.List.{length-replicate}
@@ -22,10 +22,9 @@ use Rattle.zarr_codecs_sections.specs.Laws.{found_read}
 use Rattle.zarr_codecs_sections.specs.Marks.{AreMarked, chosen, count_ones}
 use Rattle.zarr_codecs_around.specs.Codecs.{all_decoded}
 use Rattle.zarr_codecs_around.specs.Views.{chain_between, with_codecs}
-use Rattle.zarr_codecs_around.proofs.AllArrayCodecs.{takes_between}
 use Rattle.zarr_codecs_around.proofs.Chains.{decoded_with}
 use Rattle.zarr_codecs_chains.specs.Inside.{FindsInner, FindsMarked}
-use Rattle.zarr_codecs_chains.proofs.OptionalEncoding.{chosen_count}
+use Rattle.zarr_codecs_chains.proofs.OptionalEncoding.{chosen_count, optional_is}
 
 -- what is found in the value of an array that the chain suits
 pub found_decodes : (chain : Chain) (elements : Elements) (shape value : List ℕ) (r : Result ArrayBytes CodecError) → fits chain elements.type shape ≡ true → FindsInner (decoded chain elements shape value) elements.type r → Decodes chain elements shape value r
@@ -41,12 +40,6 @@ pub unfound_marked : (found : Option (List Cell)) (type : DataType) (marks : Lis
 unfound_marked found type marks error.Damage h = h
 unfound_marked found type marks error.Memory h = tt
 unfound_marked found type marks e h = absurd h
-
--- nothing is spread by a mask where nothing is found
-pub unspread : (masks : List Cell) (found : Option (List Cell)) (one two : DataType) (marks : List ℕ) (e : CodecError) → FindsMarked found one marks (Err e) → FindsInner (option_map (spread masks) found) two (Err e)
-unspread masks found one two marks error.Damage h = ap (option_map (spread masks)) h
-unspread masks found one two marks error.Memory h = tt
-unspread masks found one two marks e h = absurd h
 
 pub product_one : (n : ℕ) → product (n ∷ []) ≡ n
 product_one n = grind arith
@@ -77,20 +70,15 @@ unfound_with : (chain : Chain) (codecs : List ByteCodec) (elements : Elements) (
 unfound_with chain codecs elements shape value h = decoded_with chain codecs elements shape value ∙ ap (option_and_then (decoded chain elements shape)) h
 
 -- the same of a chain that does the same for each shape, so that it has no array codecs
-pub found_between : {B : Type 0} (meaning : B → ByteCodec) (before : List ArrayToArrayCodec) (chain : Chain) (after : List B) (elements : Elements) (shape value inside : List ℕ) → takes_each_shape (chain_between meaning before chain after) ≡ true
+found_between : {B : Type 0} (meaning : B → ByteCodec) (before : List ArrayToArrayCodec) (chain : Chain) (after : List B) (elements : Elements) (shape value inside : List ℕ) → takes_each_shape (chain_between meaning before chain after) ≡ true
     → all_decoded (map meaning after) value ≡ Some inside → decoded chain elements shape inside ≡ decoded (chain_between meaning before chain after) elements shape value
 found_between meaning [] chain after elements shape value inside takes h = found_with chain (map meaning after) elements shape value inside h
 found_between meaning (codec ∷ codecs) chain after elements shape value inside takes h = absurd (cc)
 
-pub unfound_between : {B : Type 0} (meaning : B → ByteCodec) (before : List ArrayToArrayCodec) (chain : Chain) (after : List B) (elements : Elements) (shape value : List ℕ) → takes_each_shape (chain_between meaning before chain after) ≡ true
+unfound_between : {B : Type 0} (meaning : B → ByteCodec) (before : List ArrayToArrayCodec) (chain : Chain) (after : List B) (elements : Elements) (shape value : List ℕ) → takes_each_shape (chain_between meaning before chain after) ≡ true
     → all_decoded (map meaning after) value ≡ None → decoded (chain_between meaning before chain after) elements shape value ≡ None
 unfound_between meaning [] chain after elements shape value takes h = unfound_with chain (map meaning after) elements shape value h
 unfound_between meaning (codec ∷ codecs) chain after elements shape value takes h = absurd (cc)
-
--- its array to bytes codec does the same for each shape too
-pub takes_inside : {B : Type 0} (meaning : B → ByteCodec) (before : List ArrayToArrayCodec) (chain : Chain) (after : List B) → takes_each_shape (chain_between meaning before chain after) ≡ true → takes_each_shape chain ≡ true
-takes_inside meaning [] chain after takes = takes_between meaning [] chain after refl ∙ takes
-takes_inside meaning (codec ∷ codecs) chain after takes = absurd (cc)
 
 -- no codecs undo nothing
 pub undone_by_none : {B : Type 0} (meaning : B → ByteCodec) (after : List B) (value : List ℕ) → length after ≡ 0 → all_decoded (map meaning after) value ≡ Some value
@@ -100,7 +88,7 @@ undone_by_none meaning (codec ∷ codecs) value none = absurd (cc)
 -- ---- where there are none
 
 -- some elements are read by the chain
-pub read_some : (count : ℕ) (section : List ℕ) (read : List ℕ → Option (List Cell)) → (count ≡ 0 → ⊥) → read section ≡ read_unless_none count section read
+read_some : (count : ℕ) (section : List ℕ) (read : List ℕ → Option (List Cell)) → (count ≡ 0 → ⊥) → read section ≡ read_unless_none count section read
 read_some zero section read some = absurd (some refl)
 read_some (suc count) section read some = refl
 
@@ -128,13 +116,6 @@ read_nothing section read nothing = ap (λ (b : Bool). if b then Some [] else No
 read_damaged : (section : List ℕ) (read : List ℕ → Option (List Cell)) → 0 < length section → read_unless_none 0 section read ≡ None
 read_damaged section read some = ap (λ (b : Bool). if b then Some [] else None) (ne_eqb (length section) 0 (λ z. omega (arith, some, z)))
 
-pub none_found : (type : DataType) (section : List ℕ) (fill : Cell) (read : List ℕ → Option (List Cell)) (r : Result ArrayBytes CodecError) → IfOk r (λ made. cells_in type (payload_of made) ≡ Some (replicate 0 fill)) → IfOk r (λ _. length section ≡ 0)
-    → IfErr r (λ e. (e ≡ error.Memory → ⊥) → (e ≡ error.Damage) × (0 < length section)) → FindsInner (read_unless_none 0 section read) type r
-none_found type section fill read (Ok made) lists nothing cause = ([], read_nothing section read nothing, lists)
-none_found type section fill read (Err error.Damage) lists nothing cause = read_damaged section read (cause (λ is. cc)).1
-none_found type section fill read (Err error.Memory) lists nothing cause = tt
-none_found type section fill read (Err e) lists nothing cause = let h = (cause (λ is. cc)).0 in absurd (cc)
-
 chosen_none : (marks : List ℕ) (all : List Cell) → length all ≡ length marks → count_ones marks ≡ 0 → chosen marks all ≡ []
 chosen_none marks all many none = empty (chosen marks all) (chosen_count marks all many ∙ none) where
   empty : (xs : List Cell) → length xs ≡ 0 → xs ≡ []
@@ -157,18 +138,8 @@ none_marked type marks section count fill read (Err e) none same lists nothing c
 
 -- ---- `optional`, by its two sections
 
--- nothing is found where the value is too short
-pub unmasked : (mask values : Chain) (elements : Elements) (shape value : List ℕ) → masked_of value ≡ None → decoded (optional mask values) elements shape value ≡ None
-unmasked mask values elements shape value h =
-    let inner = zero_filled (unwrap_or (inner_type elements.type) elements.type) in
-    ap
-    (option_and_then
-    (λ (sections : List ℕ × List ℕ).
-    option_and_then (λ masks. option_map (spread masks) (read_unless_none (count_present masks) sections.1 (decoded values inner (count_present masks ∷ [])))) (decoded mask (zero_filled bool) shape sections.0)))
-    h
-
 -- the elements that are present are spread by the mask
-pub options_found : (mask values : Chain) (elements : Elements) (shape value front back : List ℕ) → masked_of value ≡ Some (front, back)
+options_found : (mask values : Chain) (elements : Elements) (shape value front back : List ℕ) → masked_of value ≡ Some (front, back)
     → decoded (optional mask values) elements shape value
     ≡ option_and_then (λ masks. option_map (spread masks) (found_read (λ count. decoded values (zero_filled (unwrap_or (inner_type elements.type) elements.type)) (count ∷ [])) masks back)) (decoded mask (zero_filled bool) shape front)
 options_found mask values elements shape value front back h =
@@ -180,18 +151,12 @@ options_found mask values elements shape value front back h =
     h
 
 -- with the mask that is found
-pub mask_found : (mask values : Chain) (elements : Elements) (inner : DataType) (shape value front back : List ℕ) (masks : List Cell) → masked_of value ≡ Some (front, back) → inner_type elements.type ≡ Some inner → decoded mask (zero_filled bool) shape front ≡ Some masks
+mask_found : (mask values : Chain) (elements : Elements) (inner : DataType) (shape value front back : List ℕ) (masks : List Cell) → masked_of value ≡ Some (front, back) → inner_type elements.type ≡ Some inner → decoded mask (zero_filled bool) shape front ≡ Some masks
     → option_map (spread masks) (found_read (λ count. decoded values (zero_filled inner) (count ∷ [])) masks back) ≡ decoded (optional mask values) elements shape value
 mask_found mask values elements inner shape value front back masks cut is h =
     let of = λ (t : DataType) (masks : List Cell). option_map (spread masks) (found_read (λ count. decoded values (zero_filled t) (count ∷ [])) masks back) in
     sym (options_found mask values elements shape value front back cut
     ∙ (ap (option_and_then (of (unwrap_or (inner_type elements.type) elements.type))) h ∙ ap (λ o. of (unwrap_or o elements.type) masks) is))
-
--- and nothing without one
-pub mask_unfound : (mask values : Chain) (elements : Elements) (shape value front back : List ℕ) → masked_of value ≡ Some (front, back) → decoded mask (zero_filled bool) shape front ≡ None → decoded (optional mask values) elements shape value ≡ None
-mask_unfound mask values elements shape value front back cut h =
-    options_found mask values elements shape value front back cut
-    ∙ ap (option_and_then (λ masks. option_map (spread masks) (found_read (λ count. decoded values (zero_filled (unwrap_or (inner_type elements.type) elements.type)) (count ∷ [])) masks back))) h
 
 -- what is found of each section is what is decoded
 pub options_decode : (mask values : Chain) (elements : Elements) (inner : DataType) (shape value front back : List ℕ) (masks : List Cell) (r : Result ArrayBytes CodecError)

@@ -1,11 +1,11 @@
 -- What chains tell of the sizes of what they make, by the chains inside of them.
-use Rattle.std.proofs.Common.{rules, ◌≡◌, ◌∙◌, ◌⊎◌, ℕ, ◌*◌, ◌^◌, ◌<◌, ◌≤◌, List, [], ◌∷◌, Bool, true, false, ◌||◌, ◌&&◌, nat_le, if◌then◌else◌, ap, sym, subst, refl, inl, inr, arith, Option, Some, None, Result, Ok, Err}
-use Rattle.std.specs.Prelude.{IfErr, IsTrue, MatchOption, unwrap_or}
+use Rattle.std.proofs.Common.{rules, ◌≡◌, ◌∙◌, ◌⊎◌, ℕ, ◌^◌, ◌<◌, List, [], ◌∷◌, Bool, true, false, ◌||◌, ◌&&◌, ap, sym, subst, refl, inl, inr, arith, Option, Some, None, Result, Ok, Err}
+use Rattle.std.specs.Prelude.{IfErr, IsTrue, unwrap_or}
 use Rattle.std.proofs.lemmas.Bool.{and_left, and_parts, true≢false}
 use Rattle.zarr_grids_boxes.specs.Boxes.{product}
-use Rattle.zarr_codecs_meaning.specs.Types.{DataType, bool, bytes_in, components, inner_type, is_fixed, IsTooLarge}
-use Rattle.zarr_codecs_meaning.specs.Chains.{ArrayCodec, ByteCodec, Chain, Endianness}
-use Rattle.zarr_codecs_meaning.specs.Chains.Chain.{bytes, optional}
+use Rattle.zarr_codecs_meaning.specs.Types.{DataType, bool, inner_type, IsTooLarge}
+use Rattle.zarr_codecs_meaning.specs.Chains.{ArrayCodec, ByteCodec, Chain}
+use Rattle.zarr_codecs_meaning.specs.Chains.Chain.{optional}
 use Rattle.zarr_codecs_meaning.specs.Fits.{array_codec_fits, at_most, bound_of, fits, is_too_long, representation_of, sum_of_bounds, takes_each_shape, tells_too_long}
 use Rattle.zarr_codecs_meaning.proofs.KeptOptions.{options_fit}
 use Rattle.zarr_codecs_packbits.specs.Told.{RefusesToldSizes}
@@ -50,21 +50,6 @@ mask_too_long mask values type shape (inr long) = inr (or_first (tells_too_long 
 or_second : (a b : Bool) → b ≡ true → (a || b) ≡ true
 or_second true b h = refl
 or_second false b h = h
-
--- `bytes` refuses few elements only where it tells too long a size
-bytes_too_large : (order : Option Endianness) (type : DataType) (shape : List ℕ) → product shape < 2 ^ 63 → IsTooLarge type (product shape) → tells_too_long (bytes order) type shape ≡ true
-bytes_too_large order type shape few (inl large) = absurd (omega (arith, few, large))
-bytes_too_large order type shape few (inr large) = at (is_fixed type) large where
-  at : (b : Bool) → MatchOption (if b then Some (bytes_in (components type)) else None) ⊥ (λ width. 2 ^ 63 ≤ product shape * width) → nat_le (2 ^ 63) (bytes_in (components type) * product shape) ≡ true
-  at true large = let turned : product shape * bytes_in (components type) ≡ bytes_in (components type) * product shape = omega arith in search (rules, large, turned)
-  at false large = absurd large
-
-pub bytes_told : (order : Option Endianness) (type : DataType) (shape : List ℕ) (r : Result BytesRepresentation CodecError) → RepresentsArray (bytes order) type shape r → RefusesToldSizes (bytes order) type shape r
-bytes_told order type shape (Ok known) h = λ few. tt
-bytes_told order type shape (Err e) h = λ few is. at few (subst (λ e. RepresentsArray (bytes order) type shape (Err e)) is h) where
-  at : product shape < 2 ^ 63 → IsTooLarge type (product shape) ⊎ IsTrue (tells_too_long (bytes order) type shape) → tells_too_long (bytes order) type shape ≡ true
-  at few (inl large) = bytes_too_large order type shape few large
-  at few (inr long) = long
 
 -- array codecs before a chain tell what it tells of the shape that they make
 pub tells_before : (codecs : List ArrayCodec) (chain : Chain) (type : DataType) (shape : List ℕ) → tells_too_long (with_array_codecs codecs chain) type shape ≡ tells_too_long chain type (shape_after codecs shape)

@@ -22,7 +22,8 @@ use Rattle.zarr_codecs_around.proofs.AllArrayCodecs.{fits_between, unshaped_deco
 use Rattle.zarr_codecs_chains.specs.Chosen.{chosen_type}
 use Rattle.zarr_codecs_chains.specs.Inside.{FindsInner, FindsMarked}
 use Rattle.zarr_codecs_chains.specs.Views.{codec_chain, meaning_of, vlen_chain}
-use Rattle.zarr_codecs_chains.proofs.OptionalDecoding.{below_found, decoded_ones, found_decodes, found_some, none_marked, options_decode, options_marked, product_one, takes_inside, undone_by_none, undone_some, unfound_marked}
+use Rattle.zarr_codecs_chains.proofs.Alone.{takes_alone}
+use Rattle.zarr_codecs_chains.proofs.OptionalDecoding.{below_found, decoded_ones, found_decodes, found_some, none_marked, options_decode, options_marked, product_one, undone_by_none, undone_some, unfound_marked}
 use Rattle.zarr_codecs_chains.proofs.decoding.+decoding.Goals as goal
 
 pub decode_chain-returns-in-Err : goal.decode_chain-returns-in-Err
@@ -145,7 +146,7 @@ decode_chosen-returns-then-is_empty g t c = λ takes.
     let taken = c.args.chosen in
     let section = c.args.section.now in
     let none : length after ≡ 0 = ap length (sym c.as_slice-codecs.ensures.value) ∙ eqb-true (length c.as_slice-codecs.result.now) 0 (sym c.is_empty.ensures ∙ c.if-is_empty.true) in
-    found_some meaning before chain after (chosen_type taken) taken.marks.now taken.count section section c.decode_chosen_by.result takes c.if-chosen-eq0.false (undone_by_none meaning after section none) (c.decode_chosen_by.ensures (takes_inside meaning before chain after takes))
+    found_some meaning before chain after (chosen_type taken) taken.marks.now taken.count section section c.decode_chosen_by.result takes c.if-chosen-eq0.false (undone_by_none meaning after section none) (c.decode_chosen_by.ensures (takes_alone meaning before chain after takes))
 
 pub decode_chosen-returns-in-Ok : goal.decode_chosen-returns-in-Ok
 decode_chosen-returns-in-Ok g t c = λ takes.
@@ -162,7 +163,7 @@ decode_chosen-returns-in-Ok g t c = λ takes.
     let given : c.in_ok-to_vec.field-0.items ≡ section = c.in_ok-to_vec.ensures.items_if_clones_equal (λ x y e. e) in
     let undone : all_decoded (map meaning after) section ≡ Some inside =
     ap (λ xs. all_decoded (map meaning xs) section) (sym c.as_slice-codecs.ensures.value) ∙ (ap (all_decoded (map meaning c.as_slice-codecs.result.now)) (sym given) ∙ c.in-Ok.ensures) in
-    let found = subst (λ v. FindsMarked (decoded chain (zero_filled type) (taken.count ∷ []) v) type taken.marks.now r) c.as_slice.ensures.value (c.decode_chosen_by-in-Ok.ensures (takes_inside meaning before chain after takes)) in
+    let found = subst (λ v. FindsMarked (decoded chain (zero_filled type) (taken.count ∷ []) v) type taken.marks.now r) c.as_slice.ensures.value (c.decode_chosen_by-in-Ok.ensures (takes_alone meaning before chain after takes)) in
     found_some meaning before chain after type taken.marks.now taken.count section inside r takes c.if-chosen-eq0.false undone found
 
 pub decode_chosen-returns-in-Err : goal.decode_chosen-returns-in-Err
