@@ -1,3 +1,4 @@
+pub mod Calls
 pub mod MemoryStores
 pub mod PartialDecoders
 pub mod PartialEncoders

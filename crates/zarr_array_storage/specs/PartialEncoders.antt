@@ -1,6 +1,6 @@
 -- The value at a key of a store, written in part.
 use base.Fml.{GName}
-use Rattle.std.specs.Prelude.{◌≡◌, List, ℕ}
+use Rattle.std.specs.Prelude.{◌≡◌, List, ℕ, Bool, Option, IsTrue}
 use Rattle.std.specs.FinMap.{remove}
 use Rattle.zarr_array_meaning.specs.StoreMaps.{StoreMap}
 use Rattle.zarr_codecs_arrays.specs.declared.error.CodecError.{CodecError}
@@ -26,7 +26,19 @@ key_behind encoder = decoders.key_behind encoder.source
 abbrev pub SameElsewhere : List ℕ → StoreMap → StoreMap → Type 0
 SameElsewhere key before after = remove before key ≡ remove after key
 
--- why a value isn't written where the store behind it refuses
+-- whether the second is the first after calls that read or write: at the same key of the same store, which, where it is honest, holds what it held at every other key
+abbrev pub SamePlace : {S : Type 0} → (S → StoreMap) → (S → Bool) → StoragePartialEncoder S → StoragePartialEncoder S → Type 0
+SamePlace held is_honest a b = (reference_behind a ≡ reference_behind b) × (key_behind a ≡ key_behind b) × (is_honest (store_behind a) ≡ is_honest (store_behind b)) × (IsTrue (is_honest (store_behind a)) → SameElsewhere (key_behind a) (held (store_behind a)) (held (store_behind b)))
+
+-- why the store refused a call, if it refused one since that was last asked
+abbrev pub refusal_behind : {S : Type 0} → StoragePartialEncoder S → Option StorageError
+refusal_behind encoder = decoders.refusal_behind encoder.source
+
+-- how many wrong byte ranges the store answered to calls that named none
+abbrev pub misplaced_behind : {S : Type 0} → StoragePartialEncoder S → ℕ
+misplaced_behind encoder = decoders.misplaced_behind encoder.source
+
+-- why ranges of a value aren't written where the store behind it refuses
 abbrev pub target_error : StorageError → CodecError
 target_error Io = codec.Source
 target_error (InvalidMetadata key text) = codec.Source

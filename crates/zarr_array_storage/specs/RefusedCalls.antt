@@ -1,6 +1,8 @@
 -- The store that refuses one call.
 use Rattle.std.specs.Prelude.{◌≡◌, ℕ, ◌-◌, Bool, true, false, ◌&&◌, ◌==◌, if◌then◌else◌, Result, IsErrOf, IsTrue}
 use Rattle.zarr_array_meaning.specs.StoreMaps.{counted}
+use Rattle.zarr_array_storage.specs.Calls as call
+use Rattle.zarr_array_storage.specs.Calls.{Call}
 use Rattle.zarr_array_storage.specs.declared.error.StorageError.{StorageError}
 use Rattle.zarr_array_storage.specs.declared.error.StorageError.TheVariants.{Io}
 use Rattle.zarr_array_storage.specs.declared.refusing_store.CallKind.{CallKind}
@@ -38,6 +40,20 @@ own_refused store = store.refused
 -- how many calls were refused before they reached the inner store, after a call of this kind
 abbrev pub own_refused_after : {S : Type 0} → RefusingStore S → CallKind → ℕ
 own_refused_after store kind = if refuses_next (countdown_of store) kind then counted (own_refused store) 1 else own_refused store
+
+-- which kind a call is of
+abbrev pub kind_of : Call → CallKind
+kind_of (call.get key answer) = Read
+kind_of (call.get_partial key ranges answer) = Read
+kind_of (call.size_key key answer) = Read
+kind_of (call.list answer) = Read
+kind_of (call.set key value answer) = Write
+kind_of (call.set_partial key patches answer) = Write
+kind_of (call.erase key answer) = Write
+
+-- a call that isn't the one that is refused was made of the inner store, once and with this answer
+abbrev pub HandsOn : {S : Type 0} → (S → Call → S → Type 0) → RefusingStore S → Call → RefusingStore S → Type 0
+HandsOn calls old made new = refuses_next (countdown_of old) (kind_of made) ≡ false → calls (inner_of old) made (inner_of new)
 
 -- a call of this kind was counted; if it is the one that is refused, it answers `Io`, and the inner store stays as it was
 pub record CountsCall {S A : Type 0} (old new : RefusingStore S) (kind : CallKind) (result : Result A StorageError) : Type 0 where

@@ -119,7 +119,7 @@ impl ReadableStorageTraits for MemoryStore {
 }
 
 impl WritableStorageTraits for MemoryStore {
-    ghost supports_set_partial = { λ _. true };
+    ghost supports_set_partial = { true };
 
     fn supports_set_partial(&self) -> bool {
         true

@@ -2,9 +2,10 @@
 ghost use Rattle.std.specs.Prelude.{◌≡◌, false, IsTrue, IfOk, OnOk, OnErr, length, option_map};
 ghost use Rattle.std.specs.FinMap as map;
 ghost use Rattle.zarr_array_meaning.specs.StoreMaps.{counted};
+ghost use Rattle.zarr_array_storage.specs.Calls as call;
 ghost use Rattle.zarr_array_storage.specs.Ranges.{any_past_end, parts_at, patched_at};
 ghost use Rattle.zarr_codecs_traits.specs.Patches.{any_too_far, patches_of};
-ghost use Rattle.zarr_array_storage.specs.RefusedCalls.{CountsCall, after_call, countdown_of, inner_of, own_refused, own_refused_after, refuses_next};
+ghost use Rattle.zarr_array_storage.specs.RefusedCalls.{CountsCall, HandsOn, after_call, countdown_of, inner_of, own_refused, own_refused_after, refuses_next};
 ghost use Rattle.zarr_array_storage.specs.Refusals.{OnByteRange, refused_after};
 ghost use Rattle.zarr_array_storage.specs.declared.refusing_store.CallKind.TheVariants.{Read, Write};
 ghost use Rattle.zarr_array_storage.specs.Stores.{HasBytesAt, parts_bytes, parts_size, value_bytes, value_size};
@@ -44,7 +45,8 @@ impl Countdown {
     }
 }
 
-/// A store that refuses one call with `Io`, and hands every other call on to an inner store.
+/// A store that refuses one call with `Io`, and hands every other call on to an inner store, by one
+/// call of that store, whose answer it gives.
 #[derive(Drop)]
 pub struct RefusingStore<S> {
     inner: S,
@@ -104,6 +106,8 @@ impl<S: ReadableStorageTraits> ReadableStorageTraits for RefusingStore<S> {
 
     ghost accepted_writes = { λ s. S.accepted_writes (inner_of s) };
 
+    ghost calls = { λ old call new. HandsOn S.calls old call new };
+
     fn get(&mut self, key: &StoreKey) -> Result<Option<Vec<u8>>, StorageError>
         ensures value { IsTrue (S.is_honest (inner_of self.old)) → IfOk result
             (λ found. value_bytes found ≡ map.get (S.held (inner_of self.old)) key.now) }
@@ -112,13 +116,14 @@ impl<S: ReadableStorageTraits> ReadableStorageTraits for RefusingStore<S> {
         ensures refused { counted (own_refused self.new) (S.refused_calls (inner_of self.new)) ≡
             refused_after
             (counted (own_refused self.old) (S.refused_calls (inner_of self.old))) result }
-        ensures byte_range { OnByteRange result ⊥ }
+        ensures byte_range { IsTrue (S.is_honest (inner_of self.old)) → OnByteRange result ⊥ }
         ensures given { IfOk result (λ found. S.given_bytes (inner_of self.new) ≡
             counted (S.given_bytes (inner_of self.old)) (value_size found)) }
         ensures none_given { OnErr result
             (S.given_bytes (inner_of self.new) ≡ S.given_bytes (inner_of self.old)) }
         ensures accepted { S.accepted_writes (inner_of self.new) ≡
             S.accepted_writes (inner_of self.old) }
+        ensures hands_on { HandsOn S.calls self.old (call.get key.now result) self.new }
         ensures counts { CountsCall self.old self.new Read result }
     {
         if self.refuses(CallKind::Read) {
@@ -149,6 +154,7 @@ impl<S: ReadableStorageTraits> ReadableStorageTraits for RefusingStore<S> {
             (S.given_bytes (inner_of self.new) ≡ S.given_bytes (inner_of self.old)) }
         ensures accepted { S.accepted_writes (inner_of self.new) ≡
             S.accepted_writes (inner_of self.old) }
+        ensures hands_on { HandsOn S.calls self.old (call.get_partial key.now ranges.now result) self.new }
         ensures counts { CountsCall self.old self.new Read result }
     {
         if self.refuses(CallKind::Read) {
@@ -167,10 +173,11 @@ impl<S: ReadableStorageTraits> ReadableStorageTraits for RefusingStore<S> {
         ensures refused { counted (own_refused self.new) (S.refused_calls (inner_of self.new)) ≡
             refused_after
             (counted (own_refused self.old) (S.refused_calls (inner_of self.old))) result }
-        ensures byte_range { OnByteRange result ⊥ }
+        ensures byte_range { IsTrue (S.is_honest (inner_of self.old)) → OnByteRange result ⊥ }
         ensures given { S.given_bytes (inner_of self.new) ≡ S.given_bytes (inner_of self.old) }
         ensures accepted { S.accepted_writes (inner_of self.new) ≡
             S.accepted_writes (inner_of self.old) }
+        ensures hands_on { HandsOn S.calls self.old (call.size_key key.now result) self.new }
         ensures counts { CountsCall self.old self.new Read result }
     {
         if self.refuses(CallKind::Read) {
@@ -187,10 +194,11 @@ impl<S: ReadableStorageTraits> ReadableStorageTraits for RefusingStore<S> {
         ensures refused { counted (own_refused self.new) (S.refused_calls (inner_of self.new)) ≡
             refused_after
             (counted (own_refused self.old) (S.refused_calls (inner_of self.old))) result }
-        ensures byte_range { OnByteRange result ⊥ }
+        ensures byte_range { IsTrue (S.is_honest (inner_of self.old)) → OnByteRange result ⊥ }
         ensures given { S.given_bytes (inner_of self.new) ≡ S.given_bytes (inner_of self.old) }
         ensures accepted { S.accepted_writes (inner_of self.new) ≡
             S.accepted_writes (inner_of self.old) }
+        ensures hands_on { HandsOn S.calls self.old (call.list result) self.new }
         ensures counts { CountsCall self.old self.new Read result }
     {
         if self.refuses(CallKind::Read) {
@@ -201,7 +209,7 @@ impl<S: ReadableStorageTraits> ReadableStorageTraits for RefusingStore<S> {
 }
 
 impl<S: WritableStorageTraits> WritableStorageTraits for RefusingStore<S> {
-    ghost supports_set_partial = { λ s. S.supports_set_partial (inner_of s) };
+    ghost supports_set_partial = { S.supports_set_partial };
 
     fn supports_set_partial(&self) -> bool {
         self.inner.supports_set_partial()
@@ -217,12 +225,13 @@ impl<S: WritableStorageTraits> WritableStorageTraits for RefusingStore<S> {
         ensures refused { counted (own_refused self.new) (S.refused_calls (inner_of self.new)) ≡
             refused_after
             (counted (own_refused self.old) (S.refused_calls (inner_of self.old))) result }
-        ensures byte_range { OnByteRange result ⊥ }
+        ensures byte_range { IsTrue (S.is_honest (inner_of self.old)) → OnByteRange result ⊥ }
         ensures given { S.given_bytes (inner_of self.new) ≡ S.given_bytes (inner_of self.old) }
         ensures accepted { OnOk result (S.accepted_writes (inner_of self.new) ≡
             counted (S.accepted_writes (inner_of self.old)) 1) }
         ensures none_accepted { OnErr result
             (S.accepted_writes (inner_of self.new) ≡ S.accepted_writes (inner_of self.old)) }
+        ensures hands_on { HandsOn S.calls self.old (call.set key.now value.now result) self.new }
         ensures counts { CountsCall self.old self.new Write result }
     {
         if self.refuses(CallKind::Write) {
@@ -254,6 +263,7 @@ impl<S: WritableStorageTraits> WritableStorageTraits for RefusingStore<S> {
             counted (S.accepted_writes (inner_of self.old)) 1) }
         ensures none_accepted { OnErr result
             (S.accepted_writes (inner_of self.new) ≡ S.accepted_writes (inner_of self.old)) }
+        ensures hands_on { HandsOn S.calls self.old (call.set_partial key.now (patches_of patches.now) result) self.new }
         ensures counts { CountsCall self.old self.new Write result }
     {
         if self.refuses(CallKind::Write) {
@@ -271,12 +281,13 @@ impl<S: WritableStorageTraits> WritableStorageTraits for RefusingStore<S> {
         ensures refused { counted (own_refused self.new) (S.refused_calls (inner_of self.new)) ≡
             refused_after
             (counted (own_refused self.old) (S.refused_calls (inner_of self.old))) result }
-        ensures byte_range { OnByteRange result ⊥ }
+        ensures byte_range { IsTrue (S.is_honest (inner_of self.old)) → OnByteRange result ⊥ }
         ensures given { S.given_bytes (inner_of self.new) ≡ S.given_bytes (inner_of self.old) }
         ensures accepted { OnOk result (S.accepted_writes (inner_of self.new) ≡
             counted (S.accepted_writes (inner_of self.old)) 1) }
         ensures none_accepted { OnErr result
             (S.accepted_writes (inner_of self.new) ≡ S.accepted_writes (inner_of self.old)) }
+        ensures hands_on { HandsOn S.calls self.old (call.erase key.now result) self.new }
         ensures counts { CountsCall self.old self.new Write result }
     {
         if self.refuses(CallKind::Write) {

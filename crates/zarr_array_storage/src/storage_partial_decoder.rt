@@ -1,6 +1,10 @@
 //! The value at a key of a store, read in part.
-ghost use Rattle.std.specs.Prelude.{◌≡◌};
-ghost use Rattle.zarr_array_storage.specs.PartialDecoders.{key_behind, reference_behind, source_error, store_behind};
+ghost use Rattle.std.specs.FinMap.{get};
+ghost use Rattle.std.specs.Prelude.{◌≡◌, IsTrue, IfOk, OnOk, Some, None, option_map, length, false};
+ghost use Rattle.zarr_array_meaning.specs.StoreMaps.{counted};
+ghost use Rattle.zarr_array_storage.specs.Calls as call;
+ghost use Rattle.zarr_array_storage.specs.PartialDecoders.{KeepsError, SameSource, key_behind, misplaced_after, misplaced_behind, reference_behind, refusal_behind, source_error, store_behind, whole_error};
+ghost use Rattle.zarr_codecs_traits.specs.Sources.{RangesRefused, ReadRefused, any_past_end, given_after, part_lists, parts_of, refused_after};
 
 use crate::error::StorageError;
 use crate::traits::ReadableStorageTraits;
@@ -16,6 +20,7 @@ pub struct StoragePartialDecoder<'a, S> {
     pub(crate) store: &'a mut S,
     pub(crate) key: &'a StoreKey,
     refusal: Option<StorageError>,
+    misplaced: u128,
 }
 
 impl<'a, S: ReadableStorageTraits> StoragePartialDecoder<'a, S> {
@@ -24,16 +29,21 @@ impl<'a, S: ReadableStorageTraits> StoragePartialDecoder<'a, S> {
         ensures same_reference { reference_behind result ≡ store.entry.ghost_name }
         ensures store { store_behind result ≡ store.old }
         ensures key { key_behind result ≡ key.now }
+        ensures none_refused { (refusal_behind result ≡ None) × (misplaced_behind result ≡ 0) }
     {
         StoragePartialDecoder {
             store,
             key,
             refusal: None,
+            misplaced: 0,
         }
     }
 
-    /// Why the store refused a call, if it refused one since this was last asked.
+    /// The error that the store answered, if it refused a call since this was last asked.
     pub fn take_refusal(&mut self) -> Option<StorageError>
+        ensures refusal { result ≡ refusal_behind self.old }
+        ensures taken { refusal_behind self.new ≡ None }
+        ensures misplaced { misplaced_behind self.new ≡ misplaced_behind self.old }
         ensures same_reference { reference_behind self.new ≡ reference_behind self.old }
         ensures store { store_behind self.new ≡ store_behind self.old }
         ensures key { key_behind self.new ≡ key_behind self.old }
@@ -43,15 +53,40 @@ impl<'a, S: ReadableStorageTraits> StoragePartialDecoder<'a, S> {
 
     /// Keeps why the store refused a call.
     pub(crate) fn keep(&mut self, error: StorageError)
+        ensures refusal { refusal_behind self.new ≡ Some error }
+        ensures misplaced { misplaced_behind self.new ≡ misplaced_behind self.old }
         ensures same_reference { reference_behind self.new ≡ reference_behind self.old }
         ensures store { store_behind self.new ≡ store_behind self.old }
         ensures key { key_behind self.new ≡ key_behind self.old }
     {
         self.refusal = Some(error);
     }
+
+    /// Keeps why the store refused a call that names no range, and tells what that is to a codec. A
+    /// wrong range, which no honest store answers to it, counts here.
+    pub(crate) fn keep_whole(&mut self, error: StorageError) -> CodecError
+        ensures cause { result ≡ whole_error error }
+        ensures refusal { refusal_behind self.new ≡ Some error }
+        ensures misplaced { misplaced_behind self.new
+            ≡ misplaced_after (misplaced_behind self.old) error }
+        ensures same_reference { reference_behind self.new ≡ reference_behind self.old }
+        ensures store { store_behind self.new ≡ store_behind self.old }
+        ensures key { key_behind self.new ≡ key_behind self.old }
+    {
+        let cause = match &error {
+            StorageError::Memory => CodecError::Memory,
+            StorageError::InvalidByteRange => {
+                self.misplaced = self.misplaced.saturating_add(1);
+                CodecError::Source
+            }
+            _ => CodecError::Source,
+        };
+        self.refusal = Some(error);
+        cause
+    }
 }
 
-/// Why a source isn't read where a store refuses.
+/// Why ranges aren't read where a store refuses.
 pub fn of_storage(error: &StorageError) -> CodecError
     ensures { result ≡ source_error error.now }
 {
@@ -71,26 +106,33 @@ impl<'a, S: ReadableStorageTraits> BytesPartialDecoderTraits for StoragePartialD
 
     ghost is_honest = { λ d. S.is_honest (store_behind d) };
 
-    ghost refused_calls = { λ d. S.refused_calls (store_behind d) };
+    ghost refused_calls = { λ d. counted (misplaced_behind d) (S.refused_calls (store_behind d)) };
 
     ghost given_bytes = { λ d. S.given_bytes (store_behind d) };
 
-    ghost follows = { λ a b. (reference_behind a ≡ reference_behind b)
-        × (key_behind a ≡ key_behind b) × (S.held (store_behind a) ≡ S.held (store_behind b))
-        × (S.is_honest (store_behind a) ≡ S.is_honest (store_behind b))
-        × (S.accepted_writes (store_behind a) ≡ S.accepted_writes (store_behind b)) };
+    ghost follows = { SameSource S.held S.is_honest S.accepted_writes };
 
     ghost held_bytes = { λ _. 0 };
 
-    #[tactic(auto, using(crate::proofs::PartialDecoderLemmas::source_counts, crate::proofs::PartialDecoderLemmas::source_refused))]
-    fn size(&mut self) -> Result<Option<u64>, CodecError> {
+    #[tactic(auto, using(crate::proofs::PartialDecoderLemmas::whole_counts, crate::proofs::PartialDecoderLemmas::whole_refused))]
+    fn size(&mut self) -> Result<Option<u64>, CodecError>
+        ensures size { IsTrue (S.is_honest (store_behind self.old)) → IfOk result (λ size.
+            size ≡ option_map length (get (S.held (store_behind self.old)) (key_behind self.old))) }
+        ensures cause { ReadRefused result }
+        ensures refused { counted (misplaced_behind self.new) (S.refused_calls (store_behind self.new))
+            ≡ refused_after (counted (misplaced_behind self.old)
+            (S.refused_calls (store_behind self.old))) result }
+        ensures given { S.given_bytes (store_behind self.new)
+            ≡ S.given_bytes (store_behind self.old) }
+        ensures follows { SameSource S.held S.is_honest S.accepted_writes self.old self.new }
+        ensures kept { KeepsError
+            (λ answer. S.calls (store_behind self.old)
+            (call.size_key (key_behind self.old) answer) (store_behind self.new))
+            (refusal_behind self.old) (refusal_behind self.new) result }
+    {
         match self.store.size_key(self.key) {
             Ok(size) => Ok(size),
-            Err(error) => {
-                let cause = of_storage(&error);
-                self.refusal = Some(error);
-                Err(cause)
-            }
+            Err(error) => Err(self.keep_whole(error)),
         }
     }
 
@@ -99,12 +141,30 @@ impl<'a, S: ReadableStorageTraits> BytesPartialDecoderTraits for StoragePartialD
         &mut self,
         alloc: Global,
         ranges: &[ByteRange],
-    ) -> Result<Option<Vec<Vec<u8>>>, CodecError> {
+    ) -> Result<Option<Vec<Vec<u8>>>, CodecError>
+        ensures parts { IsTrue (S.is_honest (store_behind self.old)) → IfOk result
+            (λ found. part_lists found
+            ≡ parts_of (get (S.held (store_behind self.old)) (key_behind self.old)) ranges.now) }
+        ensures in_range { IsTrue (S.is_honest (store_behind self.old)) → OnOk result (any_past_end
+            (get (S.held (store_behind self.old)) (key_behind self.old)) ranges.now ≡ false) }
+        ensures cause { IsTrue (S.is_honest (store_behind self.old)) → RangesRefused
+            (get (S.held (store_behind self.old)) (key_behind self.old)) ranges.now result }
+        ensures refused { counted (misplaced_behind self.new) (S.refused_calls (store_behind self.new))
+            ≡ refused_after (counted (misplaced_behind self.old)
+            (S.refused_calls (store_behind self.old))) result }
+        ensures given { S.given_bytes (store_behind self.new)
+            ≡ given_after (S.given_bytes (store_behind self.old)) result }
+        ensures follows { SameSource S.held S.is_honest S.accepted_writes self.old self.new }
+        ensures kept { KeepsError
+            (λ answer. S.calls (store_behind self.old)
+            (call.get_partial (key_behind self.old) ranges.now answer) (store_behind self.new))
+            (refusal_behind self.old) (refusal_behind self.new) result }
+    {
         match self.store.get_partial(self.key, ranges) {
             Ok(found) => Ok(found),
             Err(error) => {
                 let cause = of_storage(&error);
-                self.refusal = Some(error);
+                self.keep(error);
                 Err(cause)
             }
         }

@@ -1,12 +1,16 @@
 //! The value at a key of a store, written in part.
-ghost use Rattle.std.specs.Prelude.{◌≡◌, IsTrue, OnOk, OnErr};
+ghost use Rattle.std.specs.Prelude.{◌≡◌, IsTrue, OnOk, OnErr, Some, None};
 ghost use Rattle.std.specs.FinMap.{get, insert};
 ghost use Rattle.zarr_array_meaning.specs.StoreMaps.{counted};
-ghost use Rattle.zarr_array_storage.specs.PartialEncoders.{key_behind, reference_behind, store_behind, target_error};
+ghost use Rattle.zarr_array_storage.specs.Calls as call;
+ghost use Rattle.zarr_array_storage.specs.PartialDecoders.{KeepsError, SameSource};
+ghost use Rattle.zarr_array_storage.specs.PartialEncoders.{SamePlace, key_behind, misplaced_behind, reference_behind, refusal_behind, store_behind, target_error};
 ghost use Rattle.zarr_array_storage.specs.Ranges.{patched_at};
-ghost use Rattle.zarr_array_storage.specs.Refusals.{OnByteRange, refused_after};
-ghost use Rattle.zarr_codecs_traits.specs.Patches.{any_too_far, patches_of};
-ghost use Rattle.zarr_codecs_traits.specs.Writes.{IsGivenByPatching};
+ghost use Rattle.zarr_array_storage.specs.Refusals as storage;
+ghost use Rattle.zarr_array_storage.specs.Refusals.{OnByteRange};
+ghost use Rattle.zarr_codecs_traits.specs.Patches.{any_too_far, patched_contents, patches_of};
+ghost use Rattle.zarr_codecs_traits.specs.Sources.{refused_after};
+ghost use Rattle.zarr_codecs_traits.specs.Writes.{IsGivenByPatching, PatchesRefused, WriteRefused, accepted_after};
 
 use crate::error::StorageError;
 use crate::storage_partial_decoder::StoragePartialDecoder;
@@ -40,8 +44,12 @@ impl<'a, S: WritableStorageTraits> StoragePartialEncoder<'a, S> {
         }
     }
 
-    /// Why the store refused a call, if it refused one since this was last asked.
+    /// The error that the store answered, if it refused a call since this was last asked. Where the
+    /// store takes no ranges, it may be that of the range or the memory for which none was made.
     pub fn take_refusal(&mut self) -> Option<StorageError>
+        ensures refusal { result ≡ refusal_behind self.old }
+        ensures taken { refusal_behind self.new ≡ None }
+        ensures misplaced { misplaced_behind self.new ≡ misplaced_behind self.old }
         ensures same_store { reference_behind self.new ≡ reference_behind self.old }
         ensures store { store_behind self.new ≡ store_behind self.old }
         ensures key { key_behind self.new ≡ key_behind self.old }
@@ -49,9 +57,11 @@ impl<'a, S: WritableStorageTraits> StoragePartialEncoder<'a, S> {
         self.source.take_refusal()
     }
 
-    /// Keeps why the store refused to be written, and tells what that is to a codec.
+    /// Keeps why the store refused ranges, and tells what that is to a codec.
     fn refuse(&mut self, error: StorageError) -> CodecError
         ensures cause { result ≡ target_error error }
+        ensures refusal { refusal_behind self.new ≡ Some error }
+        ensures misplaced { misplaced_behind self.new ≡ misplaced_behind self.old }
         ensures same_store { reference_behind self.new ≡ reference_behind self.old }
         ensures store { store_behind self.new ≡ store_behind self.old }
         ensures key { key_behind self.new ≡ key_behind self.old }
@@ -62,7 +72,7 @@ impl<'a, S: WritableStorageTraits> StoragePartialEncoder<'a, S> {
     }
 }
 
-/// Why a value isn't written where a store refuses.
+/// Why ranges aren't written where a store refuses.
 fn of_storage(error: &StorageError) -> CodecError
     ensures { result ≡ target_error error.now }
 {
@@ -89,10 +99,10 @@ fn write_ranges<S: WritableStorageTraits>(
         OnErr result (S.held store.new ≡ S.held store.old) }
     ensures honest { S.is_honest store.new ≡ S.is_honest store.old }
     ensures refused { S.refused_calls store.new ≡
-        refused_after (S.refused_calls store.old) result }
+        storage.refused_after (S.refused_calls store.old) result }
     ensures byte_range { IsTrue (S.is_honest store.old) →
         OnByteRange result (IsTrue (any_too_far (patches_of patches.now))) }
-    ensures given { IsTrue (S.supports_set_partial store.old) →
+    ensures given { IsTrue S.supports_set_partial →
         S.given_bytes store.new ≡ S.given_bytes store.old }
     ensures given_once { IsTrue (S.is_honest store.old) → IsGivenByPatching
         (get (S.held store.old) key.now) (S.given_bytes store.old) (S.given_bytes store.new) }
@@ -100,6 +110,8 @@ fn write_ranges<S: WritableStorageTraits>(
         (S.accepted_writes store.new ≡ counted (S.accepted_writes store.old) 1) }
     ensures none_accepted { OnErr result
         (S.accepted_writes store.new ≡ S.accepted_writes store.old) }
+    ensures calls { IsTrue S.supports_set_partial → S.calls store.old
+        (call.set_partial key.now (patches_of patches.now) result) store.new }
 {
     if store.supports_set_partial() {
         return store.set_partial(key, patches);
@@ -123,15 +135,11 @@ impl<'a, S: WritableStorageTraits> BytesPartialDecoderTraits for StoragePartialE
 
     ghost is_honest = { λ e. S.is_honest (store_behind e) };
 
-    ghost refused_calls = { λ e. S.refused_calls (store_behind e) };
+    ghost refused_calls = { λ e. counted (misplaced_behind e) (S.refused_calls (store_behind e)) };
 
     ghost given_bytes = { λ e. S.given_bytes (store_behind e) };
 
-    ghost follows = { λ a b. (reference_behind a ≡ reference_behind b)
-        × (key_behind a ≡ key_behind b)
-        × (S.held (store_behind a) ≡ S.held (store_behind b))
-        × (S.is_honest (store_behind a) ≡ S.is_honest (store_behind b))
-        × (S.accepted_writes (store_behind a) ≡ S.accepted_writes (store_behind b)) };
+    ghost follows = { λ a b. SameSource S.held S.is_honest S.accepted_writes a.source b.source };
 
     ghost held_bytes = { λ _. 0 };
 
@@ -169,20 +177,36 @@ impl<'a, S: WritableStorageTraits> BytesPartialEncoderTraits for StoragePartialE
 
     ghost accepted_writes = { λ e. S.accepted_writes (store_behind e) };
 
-    ghost writes_ranges = { λ e. S.supports_set_partial (store_behind e) };
+    ghost writes_ranges = { λ _. S.supports_set_partial };
 
-    ghost rewrites = { λ a b. (reference_behind a ≡ reference_behind b)
-        × (key_behind a ≡ key_behind b)
-        × (S.is_honest (store_behind a) ≡ S.is_honest (store_behind b))
-        × (IsTrue (S.is_honest (store_behind a)) → SameElsewhere (key_behind a)
-        (S.held (store_behind a)) (S.held (store_behind b))) };
+    ghost rewrites = { SamePlace S.held S.is_honest };
 
     #[tactic(auto, using(crate::proofs::PartialEncoderLemmas::target_counts, crate::proofs::PartialEncoderLemmas::patches_refused, crate::proofs::PartialEncoderLemmas::get_inserted, crate::proofs::PartialEncoderLemmas::inserted_elsewhere))]
     fn partial_encode(
         &mut self,
         alloc: Global,
         patches: &[ValuePatch<'_>],
-    ) -> Result<(), CodecError> {
+    ) -> Result<(), CodecError>
+        ensures ok { IsTrue (S.is_honest (store_behind self.old)) → OnOk result (get (S.held (store_behind self.new)) (key_behind self.new)
+            ≡ Some (patched_contents (get (S.held (store_behind self.old)) (key_behind self.old)) (patches_of patches.now))) }
+        ensures err { IsTrue (S.is_honest (store_behind self.old)) →
+            OnErr result (get (S.held (store_behind self.new)) (key_behind self.new) ≡ get (S.held (store_behind self.old)) (key_behind self.old)) }
+        ensures cause { IsTrue (S.is_honest (store_behind self.old)) → PatchesRefused (patches_of patches.now) result }
+        ensures refused { counted (misplaced_behind self.new) (S.refused_calls (store_behind self.new))
+            ≡ refused_after (counted (misplaced_behind self.old)
+            (S.refused_calls (store_behind self.old))) result }
+        ensures given { IsTrue S.supports_set_partial → S.given_bytes (store_behind self.new)
+            ≡ S.given_bytes (store_behind self.old) }
+        ensures given_once { IsTrue (S.is_honest (store_behind self.old)) → IsGivenByPatching (get (S.held (store_behind self.old)) (key_behind self.old))
+            (S.given_bytes (store_behind self.old)) (S.given_bytes (store_behind self.new)) }
+        ensures accepted { S.accepted_writes (store_behind self.new)
+            ≡ accepted_after (S.accepted_writes (store_behind self.old)) result }
+        ensures rewrites { SamePlace S.held S.is_honest self.old self.new }
+        ensures kept { KeepsError
+            (λ answer. IsTrue S.supports_set_partial → S.calls (store_behind self.old)
+            (call.set_partial (key_behind self.old) (patches_of patches.now) answer) (store_behind self.new))
+            (refusal_behind self.old) (refusal_behind self.new) result }
+    {
         let key = self.source.key;
         match write_ranges(alloc, self.source.store, key, patches) {
             Ok(()) => Ok(()),
@@ -190,21 +214,55 @@ impl<'a, S: WritableStorageTraits> BytesPartialEncoderTraits for StoragePartialE
         }
     }
 
-    #[tactic(auto, using(crate::proofs::PartialEncoderLemmas::target_counts, crate::proofs::PartialEncoderLemmas::target_refused, crate::proofs::PartialEncoderLemmas::get_inserted, crate::proofs::PartialEncoderLemmas::inserted_elsewhere))]
-    fn set(&mut self, value: Vec<u8>) -> Result<(), CodecError> {
+    #[tactic(auto, using(crate::proofs::PartialDecoderLemmas::whole_counts, crate::proofs::PartialDecoderLemmas::whole_refused, crate::proofs::PartialEncoderLemmas::get_inserted, crate::proofs::PartialEncoderLemmas::inserted_elsewhere))]
+    fn set(&mut self, value: Vec<u8>) -> Result<(), CodecError>
+        ensures ok { IsTrue (S.is_honest (store_behind self.old)) → OnOk result (get (S.held (store_behind self.new)) (key_behind self.new) ≡ Some value.items) }
+        ensures err { IsTrue (S.is_honest (store_behind self.old)) →
+            OnErr result (get (S.held (store_behind self.new)) (key_behind self.new) ≡ get (S.held (store_behind self.old)) (key_behind self.old)) }
+        ensures cause { WriteRefused result }
+        ensures refused { counted (misplaced_behind self.new) (S.refused_calls (store_behind self.new))
+            ≡ refused_after (counted (misplaced_behind self.old)
+            (S.refused_calls (store_behind self.old))) result }
+        ensures given { S.given_bytes (store_behind self.new)
+            ≡ S.given_bytes (store_behind self.old) }
+        ensures accepted { S.accepted_writes (store_behind self.new)
+            ≡ accepted_after (S.accepted_writes (store_behind self.old)) result }
+        ensures rewrites { SamePlace S.held S.is_honest self.old self.new }
+        ensures kept { KeepsError
+            (λ answer. S.calls (store_behind self.old)
+            (call.set (key_behind self.old) value.items answer) (store_behind self.new))
+            (refusal_behind self.old) (refusal_behind self.new) result }
+    {
         let key = self.source.key;
         match self.source.store.set(key, &value) {
             Ok(()) => Ok(()),
-            Err(error) => Err(self.refuse(error)),
+            Err(error) => Err(self.source.keep_whole(error)),
         }
     }
 
-    #[tactic(auto, using(crate::proofs::PartialEncoderLemmas::target_counts, crate::proofs::PartialEncoderLemmas::target_refused, crate::proofs::PartialEncoderLemmas::get_removed, crate::proofs::PartialEncoderLemmas::removed_elsewhere))]
-    fn erase(&mut self) -> Result<(), CodecError> {
+    #[tactic(auto, using(crate::proofs::PartialDecoderLemmas::whole_counts, crate::proofs::PartialDecoderLemmas::whole_refused, crate::proofs::PartialEncoderLemmas::get_removed, crate::proofs::PartialEncoderLemmas::removed_elsewhere))]
+    fn erase(&mut self) -> Result<(), CodecError>
+        ensures ok { IsTrue (S.is_honest (store_behind self.old)) → OnOk result (get (S.held (store_behind self.new)) (key_behind self.new) ≡ None) }
+        ensures err { IsTrue (S.is_honest (store_behind self.old)) →
+            OnErr result (get (S.held (store_behind self.new)) (key_behind self.new) ≡ get (S.held (store_behind self.old)) (key_behind self.old)) }
+        ensures cause { WriteRefused result }
+        ensures refused { counted (misplaced_behind self.new) (S.refused_calls (store_behind self.new))
+            ≡ refused_after (counted (misplaced_behind self.old)
+            (S.refused_calls (store_behind self.old))) result }
+        ensures given { S.given_bytes (store_behind self.new)
+            ≡ S.given_bytes (store_behind self.old) }
+        ensures accepted { S.accepted_writes (store_behind self.new)
+            ≡ accepted_after (S.accepted_writes (store_behind self.old)) result }
+        ensures rewrites { SamePlace S.held S.is_honest self.old self.new }
+        ensures kept { KeepsError
+            (λ answer. S.calls (store_behind self.old)
+            (call.erase (key_behind self.old) answer) (store_behind self.new))
+            (refusal_behind self.old) (refusal_behind self.new) result }
+    {
         let key = self.source.key;
         match self.source.store.erase(key) {
             Ok(()) => Ok(()),
-            Err(error) => Err(self.refuse(error)),
+            Err(error) => Err(self.source.keep_whole(error)),
         }
     }
 

@@ -2,6 +2,8 @@
 ghost use Rattle.std.specs.Prelude.{◌≡◌, ℕ, Bool, false, IsTrue, IfOk, OnOk, OnErr, option_map, length};
 ghost use Rattle.std.specs.FinMap as map;
 ghost use Rattle.zarr_array_meaning.specs.StoreMaps.{StoreMap, counted};
+ghost use Rattle.zarr_array_storage.specs.Calls as call;
+ghost use Rattle.zarr_array_storage.specs.Calls.{Call};
 ghost use Rattle.zarr_array_storage.specs.Ranges.{any_past_end, parts_at, patched_at};
 ghost use Rattle.zarr_codecs_traits.specs.Patches.{any_too_far, patches_of};
 ghost use Rattle.zarr_array_storage.specs.Refusals.{OnByteRange, refused_after};
@@ -15,8 +17,8 @@ use zarr_grids_keys::StoreKey;
 /// one holds what it accepts, and reading changes nothing in what any store holds. Each call takes
 /// the store as `&mut`, so that it can count its refused calls (this project's profile).
 ///
-/// A call answers `Memory` where memory ran out, and `InvalidByteRange` only where its description
-/// says so. With any other error one more call is counted as refused.
+/// A call answers `Memory` where memory ran out. An honest store answers `InvalidByteRange` only
+/// where the call's description says so. With any other error one more call is counted as refused.
 pub trait ReadableStorageTraits {
     /// The value at each key. Of a store that isn't honest it says nothing.
     ghost held: { Self → StoreMap };
@@ -34,6 +36,11 @@ pub trait ReadableStorageTraits {
     /// How many of its writing calls were accepted.
     ghost accepted_writes: { Self → ℕ };
 
+    /// Whether a call with this answer may lead from the one store to the other. By it a store that
+    /// hands calls on says which call it made of the store behind it. Where a store says nothing
+    /// more of its calls, each may.
+    ghost calls: { Self → Call → Self → Type 0 } = { λ _ _ _. Unit {0} };
+
     /// The value at a key, or `None` where it has none.
     fn get(&mut self, key: &StoreKey) -> Result<Option<Vec<u8>>, StorageError>
         ensures value { IsTrue (is_honest self.old) →
@@ -41,11 +48,12 @@ pub trait ReadableStorageTraits {
         ensures held { held self.new ≡ held self.old }
         ensures honest { is_honest self.new ≡ is_honest self.old }
         ensures refused { refused_calls self.new ≡ refused_after (refused_calls self.old) result }
-        ensures byte_range { OnByteRange result ⊥ }
+        ensures byte_range { IsTrue (is_honest self.old) → OnByteRange result ⊥ }
         ensures given { IfOk result (λ found.
             given_bytes self.new ≡ counted (given_bytes self.old) (value_size found)) }
         ensures none_given { OnErr result (given_bytes self.new ≡ given_bytes self.old) }
-        ensures accepted { accepted_writes self.new ≡ accepted_writes self.old };
+        ensures accepted { accepted_writes self.new ≡ accepted_writes self.old }
+        ensures calls { calls self.old (call.get key.now result) self.new };
 
     /// The bytes of the value at a key in each range, or `None` where it has no value. It is
     /// refused with `InvalidByteRange` where a range ends past the end of the value.
@@ -66,7 +74,8 @@ pub trait ReadableStorageTraits {
         ensures given { IfOk result (λ found.
             given_bytes self.new ≡ counted (given_bytes self.old) (parts_size found)) }
         ensures none_given { OnErr result (given_bytes self.new ≡ given_bytes self.old) }
-        ensures accepted { accepted_writes self.new ≡ accepted_writes self.old };
+        ensures accepted { accepted_writes self.new ≡ accepted_writes self.old }
+        ensures calls { calls self.old (call.get_partial key.now ranges.now result) self.new };
 
     /// How many bytes the value at a key has, or `None` where it has no value.
     fn size_key(&mut self, key: &StoreKey) -> Result<Option<u64>, StorageError>
@@ -77,9 +86,10 @@ pub trait ReadableStorageTraits {
         ensures held { held self.new ≡ held self.old }
         ensures honest { is_honest self.new ≡ is_honest self.old }
         ensures refused { refused_calls self.new ≡ refused_after (refused_calls self.old) result }
-        ensures byte_range { OnByteRange result ⊥ }
+        ensures byte_range { IsTrue (is_honest self.old) → OnByteRange result ⊥ }
         ensures given { given_bytes self.new ≡ given_bytes self.old }
-        ensures accepted { accepted_writes self.new ≡ accepted_writes self.old };
+        ensures accepted { accepted_writes self.new ≡ accepted_writes self.old }
+        ensures calls { calls self.old (call.size_key key.now result) self.new };
 
     /// The keys that have a value, in the order of their bytes.
     fn list(&mut self) -> Result<Vec<StoreKey>, StorageError>
@@ -88,22 +98,24 @@ pub trait ReadableStorageTraits {
         ensures held { held self.new ≡ held self.old }
         ensures honest { is_honest self.new ≡ is_honest self.old }
         ensures refused { refused_calls self.new ≡ refused_after (refused_calls self.old) result }
-        ensures byte_range { OnByteRange result ⊥ }
+        ensures byte_range { IsTrue (is_honest self.old) → OnByteRange result ⊥ }
         ensures given { given_bytes self.new ≡ given_bytes self.old }
-        ensures accepted { accepted_writes self.new ≡ accepted_writes self.old };
+        ensures accepted { accepted_writes self.new ≡ accepted_writes self.old }
+        ensures calls { calls self.old (call.list result) self.new };
 }
 
 /// A store that can also be written (Zarr storage specification, "Abstract store interface"). A
 /// refused call changes nothing in what an honest store holds, and an accepted one changes no
 /// other key.
 pub trait WritableStorageTraits: ReadableStorageTraits {
-    /// Whether it takes ranges by `set_partial`.
-    ghost supports_set_partial: { Self → Bool };
+    /// Whether stores of this type take ranges by `set_partial`: the same for each of them, at all
+    /// times.
+    ghost supports_set_partial: { Bool };
 
     /// Whether the store takes ranges by `set_partial`. Where it doesn't, read the value, change it
     /// and use `set`.
     fn supports_set_partial(&self) -> bool
-        ensures { result ≡ supports_set_partial self.now };
+        ensures { result ≡ supports_set_partial };
 
     /// Puts a value at a key, in place of the one that was there.
     fn set(&mut self, key: &StoreKey, value: &[u8]) -> Result<(), StorageError>
@@ -114,12 +126,13 @@ pub trait WritableStorageTraits: ReadableStorageTraits {
         ensures honest { Self.is_honest self.new ≡ Self.is_honest self.old }
         ensures refused { Self.refused_calls self.new ≡
             refused_after (Self.refused_calls self.old) result }
-        ensures byte_range { OnByteRange result ⊥ }
+        ensures byte_range { IsTrue (Self.is_honest self.old) → OnByteRange result ⊥ }
         ensures given { Self.given_bytes self.new ≡ Self.given_bytes self.old }
         ensures accepted { OnOk result
             (Self.accepted_writes self.new ≡ counted (Self.accepted_writes self.old) 1) }
         ensures none_accepted { OnErr result
-            (Self.accepted_writes self.new ≡ Self.accepted_writes self.old) };
+            (Self.accepted_writes self.new ≡ Self.accepted_writes self.old) }
+        ensures calls { Self.calls self.old (call.set key.now value.now result) self.new };
 
     /// Writes several ranges into the value at a key, in their order: all, or none where it is
     /// refused. No value counts as empty, and zeros come where a range begins past the end. It is
@@ -145,7 +158,8 @@ pub trait WritableStorageTraits: ReadableStorageTraits {
         ensures accepted { OnOk result
             (Self.accepted_writes self.new ≡ counted (Self.accepted_writes self.old) 1) }
         ensures none_accepted { OnErr result
-            (Self.accepted_writes self.new ≡ Self.accepted_writes self.old) };
+            (Self.accepted_writes self.new ≡ Self.accepted_writes self.old) }
+        ensures calls { Self.calls self.old (call.set_partial key.now (patches_of patches.now) result) self.new };
 
     /// Takes the value at a key away. A key that has none is fine.
     fn erase(&mut self, key: &StoreKey) -> Result<(), StorageError>
@@ -156,12 +170,13 @@ pub trait WritableStorageTraits: ReadableStorageTraits {
         ensures honest { Self.is_honest self.new ≡ Self.is_honest self.old }
         ensures refused { Self.refused_calls self.new ≡
             refused_after (Self.refused_calls self.old) result }
-        ensures byte_range { OnByteRange result ⊥ }
+        ensures byte_range { IsTrue (Self.is_honest self.old) → OnByteRange result ⊥ }
         ensures given { Self.given_bytes self.new ≡ Self.given_bytes self.old }
         ensures accepted { OnOk result
             (Self.accepted_writes self.new ≡ counted (Self.accepted_writes self.old) 1) }
         ensures none_accepted { OnErr result
-            (Self.accepted_writes self.new ≡ Self.accepted_writes self.old) };
+            (Self.accepted_writes self.new ≡ Self.accepted_writes self.old) }
+        ensures calls { Self.calls self.old (call.erase key.now result) self.new };
 }
 
 /// A store that can be read and written. Each one that has the two traits above is such a store.
