@@ -27,7 +27,7 @@ pub(crate) fn put_value<S: WritableStorageTraits>(
         (S.held store.new ≡ with_value (S.held store.old) key.now (value_bytes value)) }
     ensures err { IsTrue (S.is_honest store.old) →
         OnErr result (S.held store.new ≡ S.held store.old) }
-    ensures stops { IfErr result IsErasureStop }
+    ensures stops { IsTrue (S.is_honest store.old) → IfErr result IsErasureStop }
     ensures honest { S.is_honest store.new ≡ S.is_honest store.old }
     ensures refused { S.refused_calls store.new ≡
         refused_after (S.refused_calls store.old) result }

@@ -73,7 +73,7 @@ impl<C: ArrayToBytesCodecTraits> ArrayCore<C> {
             (chunk_key (path_of self.now) (document_of C.meaning self.now).keys chunk.now)) }
         ensures err { IsTrue (S.is_honest store.old) →
             OnErr result (S.held store.new ≡ S.held store.old) }
-        ensures stops { IfErr result IsErasureStop }
+        ensures stops { IsTrue (S.is_honest store.old) → IfErr result IsErasureStop }
         ensures honest { S.is_honest store.new ≡ S.is_honest store.old }
         ensures refused { S.refused_calls store.new ≡
             refused_after (S.refused_calls store.old) result }

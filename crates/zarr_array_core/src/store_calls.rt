@@ -12,16 +12,16 @@ use crate::error::ChunkError;
 use zarr_array_storage::{ReadableStorageTraits, StorageError, ValuePatch, WritableStorageTraits};
 use zarr_grids_keys::StoreKey;
 
-/// Why a call over chunks stops where the store refuses for this reason.
+/// Why a call over chunks stops where the store refuses for this reason. A store that answers a
+/// wrong range to a call that names none isn't honest, and what it holds is taken as damaged.
 fn of_storage(error: StorageError) -> ChunkError
-    requires { IfByteRange error ⊥ }
-    ensures stops { IsErasureStop result }
+    ensures stops { IfByteRange error ⊥ → IsErasureStop result }
     ensures refused { (count : ℕ) → refused_with result count
         ≡ (if is_counted error then counted count 1 else count) }
 {
     match error {
         StorageError::Memory => ChunkError::Memory,
-        StorageError::InvalidByteRange => unreachable!(),
+        StorageError::InvalidByteRange => ChunkError::Damage,
         error => ChunkError::Storage(error),
     }
 }
@@ -33,7 +33,7 @@ pub(crate) fn get<S: ReadableStorageTraits>(
 ) -> Result<Option<Vec<u8>>, ChunkError>
     ensures value { IsTrue (S.is_honest store.old) →
         IfOk result (λ found. value_bytes found ≡ get (S.held store.old) key.now) }
-    ensures stops { IfErr result IsErasureStop }
+    ensures stops { IsTrue (S.is_honest store.old) → IfErr result IsErasureStop }
     ensures held { S.held store.new ≡ S.held store.old }
     ensures honest { S.is_honest store.new ≡ S.is_honest store.old }
     ensures refused { S.refused_calls store.new ≡
@@ -55,7 +55,7 @@ pub(crate) fn size_key<S: ReadableStorageTraits>(
         IfOk result (λ size. size ≡ option_map length (get (S.held store.old) key.now)) }
     ensures bytes { IsTrue (S.is_honest store.old) →
         OnOk result (HasBytesAt (S.held store.old) key.now) }
-    ensures stops { IfErr result IsErasureStop }
+    ensures stops { IsTrue (S.is_honest store.old) → IfErr result IsErasureStop }
     ensures held { S.held store.new ≡ S.held store.old }
     ensures honest { S.is_honest store.new ≡ S.is_honest store.old }
     ensures refused { S.refused_calls store.new ≡
@@ -78,7 +78,7 @@ pub(crate) fn set<S: WritableStorageTraits>(
         (S.held store.new ≡ insert (S.held store.old) key.now value.now) }
     ensures err { IsTrue (S.is_honest store.old) →
         OnErr result (S.held store.new ≡ S.held store.old) }
-    ensures stops { IfErr result IsErasureStop }
+    ensures stops { IsTrue (S.is_honest store.old) → IfErr result IsErasureStop }
     ensures honest { S.is_honest store.new ≡ S.is_honest store.old }
     ensures refused { S.refused_calls store.new ≡
         refused_after (S.refused_calls store.old) result }
@@ -90,8 +90,7 @@ pub(crate) fn set<S: WritableStorageTraits>(
     }
 }
 
-/// Writes ranges into the value at a key. A store that refuses them as too far on isn't honest, and
-/// what it holds is taken as damaged.
+/// Writes ranges into the value at a key.
 pub(crate) fn set_partial<S: WritableStorageTraits>(
     store: &mut S,
     key: &StoreKey,
@@ -111,7 +110,6 @@ pub(crate) fn set_partial<S: WritableStorageTraits>(
 {
     match store.set_partial(key, patches) {
         Ok(()) => Ok(()),
-        Err(StorageError::InvalidByteRange) => Err(ChunkError::Damage),
         Err(error) => Err(of_storage(error)),
     }
 }
@@ -125,7 +123,7 @@ pub(crate) fn erase<S: WritableStorageTraits>(
         (S.held store.new ≡ remove (S.held store.old) key.now) }
     ensures err { IsTrue (S.is_honest store.old) →
         OnErr result (S.held store.new ≡ S.held store.old) }
-    ensures stops { IfErr result IsErasureStop }
+    ensures stops { IsTrue (S.is_honest store.old) → IfErr result IsErasureStop }
     ensures honest { S.is_honest store.new ≡ S.is_honest store.old }
     ensures refused { S.refused_calls store.new ≡
         refused_after (S.refused_calls store.old) result }

@@ -1,4 +1,9 @@
 //! The value at a key of a store, as codecs read it.
+ghost use Rattle.std.specs.Prelude.{◌≡◌, ℕ, IsErr, if◌then◌else◌};
+ghost use Rattle.zarr_array_meaning.specs.StoreMaps.{counted};
+ghost use Rattle.zarr_array_storage.specs.Refusals.{IfByteRange, is_counted};
+ghost use Rattle.zarr_codecs_traits.specs.Sources.{ReadRefused, refused_after};
+
 use std::alloc::Global;
 use zarr_array_storage::storage_partial_decoder::of_storage;
 use zarr_array_storage::{ReadableStorageTraits, StorageError};
@@ -7,12 +12,27 @@ use zarr_codecs_traits::{ByteRange, BytesPartialDecoderTraits};
 use zarr_grids_keys::StoreKey;
 
 /// The value at a key of a store, of which codecs read the ranges that they need. Where the store
-/// refuses a call, `refusal` says why.
+/// refuses a call, `refusal` says why. A store that answers a wrong range when it is asked for a
+/// size isn't honest, and its value is taken as one of no byte, which no chunk is stored as.
 #[derive(Drop)]
 pub(crate) struct StoreSource<'a, S> {
     pub store: &'a mut S,
     pub key: &'a StoreKey,
     pub refusal: &'a mut Option<StorageError>,
+}
+
+/// What a source answers where the store refuses for this reason to tell a size.
+fn size_refused(error: &StorageError) -> Result<Option<u64>, CodecError>
+    ensures refused { IfByteRange error.now ⊥ → IsErr result }
+    ensures cause { ReadRefused result }
+    ensures counts { (count : ℕ) → refused_after count result
+        ≡ (if is_counted error.now then counted count 1 else count) }
+{
+    match error {
+        StorageError::Memory => Err(CodecError::Memory),
+        StorageError::InvalidByteRange => Ok(Some(0)),
+        _ => Err(CodecError::Source),
+    }
 }
 
 impl<'a, S: ReadableStorageTraits> BytesPartialDecoderTraits for StoreSource<'a, S> {
@@ -35,14 +55,13 @@ impl<'a, S: ReadableStorageTraits> BytesPartialDecoderTraits for StoreSource<'a,
 
     ghost held_bytes = { λ _. 0 };
 
-    #[tactic(auto, using(zarr_array_storage::proofs::PartialDecoderLemmas::source_counts, zarr_array_storage::proofs::PartialDecoderLemmas::source_refused))]
     fn size(&mut self) -> Result<Option<u64>, CodecError> {
         match self.store.size_key(self.key) {
             Ok(size) => Ok(size),
             Err(error) => {
-                let cause = of_storage(&error);
+                let answer = size_refused(&error);
                 *self.refusal = Some(error);
-                Err(cause)
+                answer
             }
         }
     }

@@ -73,17 +73,23 @@ impl<'a, S: ReadableStorageTraits> StoragePartialDecoder<'a, S> {
         ensures store { store_behind self.new ≡ store_behind self.old }
         ensures key { key_behind self.new ≡ key_behind self.old }
     {
-        let cause = match &error {
-            StorageError::Memory => CodecError::Memory,
-            StorageError::InvalidByteRange => {
-                self.misplaced = self.misplaced.saturating_add(1);
-                CodecError::Source
-            }
-            _ => CodecError::Source,
-        };
-        self.refusal = Some(error);
+        let cause = whole(&error);
+        if let StorageError::InvalidByteRange = &error {
+            self.misplaced = self.misplaced.saturating_add(1);
+        }
+        self.keep(error);
         cause
     }
+}
+
+/// Why a value isn't read or written where a store refuses a call that names no range.
+fn whole(error: &StorageError) -> CodecError
+    ensures { result ≡ whole_error error.now }
+{
+    if let StorageError::Memory = error {
+        return CodecError::Memory;
+    }
+    CodecError::Source
 }
 
 /// Why ranges aren't read where a store refuses.

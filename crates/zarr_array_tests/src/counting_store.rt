@@ -6,15 +6,14 @@ use zarr_grids_keys::StoreKey;
 
 /// A store in memory that counts its calls for one key, and takes ranges or none.
 #[derive(Drop)]
-pub(crate) struct CountingStore {
+pub(crate) struct CountingStore<const TAKES_RANGES: bool> {
     pub inner: MemoryStore,
-    pub takes_ranges: bool,
     pub reads: u64,
     pub sets: u64,
     pub patches: u64,
 }
 
-impl ReadableStorageTraits for CountingStore {
+impl<const TAKES_RANGES: bool> ReadableStorageTraits for CountingStore<TAKES_RANGES> {
     ghost use Rattle.std.specs.Prelude.{true};
 
     ghost held = { λ s. s.inner.held };
@@ -51,11 +50,11 @@ impl ReadableStorageTraits for CountingStore {
     }
 }
 
-impl WritableStorageTraits for CountingStore {
-    ghost supports_set_partial = { λ s. s.takes_ranges };
+impl<const TAKES_RANGES: bool> WritableStorageTraits for CountingStore<TAKES_RANGES> {
+    ghost supports_set_partial = { TAKES_RANGES };
 
     fn supports_set_partial(&self) -> bool {
-        self.takes_ranges
+        TAKES_RANGES
     }
 
     fn set(&mut self, key: &StoreKey, value: &[u8]) -> Result<(), StorageError> {

@@ -24,10 +24,11 @@ fn a(alloc: Global) -> Result<StoreKey, CodecError> {
 }
 
 /// A store with 1, 2, 3, 4 at `a`, which counts calls.
-fn counting(alloc: Global, takes_ranges: bool) -> Result<CountingStore, CodecError> {
+fn counting<const TAKES_RANGES: bool>(
+    alloc: Global,
+) -> Result<CountingStore<TAKES_RANGES>, CodecError> {
     Ok(CountingStore {
         inner: answered(four_bytes(alloc))?,
-        takes_ranges,
         reads: 0,
         sets: 0,
         patches: 0,
@@ -48,13 +49,19 @@ fn two_patches() -> [ValuePatch<'static>; 2] {
 }
 
 /// Writes the two patches into the value at a key.
-fn patch(alloc: Global, store: &mut CountingStore, key: &StoreKey) -> Result<(), CodecError> {
+fn patch<const TAKES_RANGES: bool>(
+    alloc: Global,
+    store: &mut CountingStore<TAKES_RANGES>,
+    key: &StoreKey,
+) -> Result<(), CodecError> {
     StoragePartialEncoder::new(store, key).partial_encode(alloc, &two_patches())
 }
 
 /// How many calls read, set and write parts for the two patches, where the value is right then.
-fn count(alloc: Global, takes_ranges: bool) -> Result<Option<(u64, u64, u64)>, CodecError> {
-    let (key, mut store) = (a(alloc)?, counting(alloc, takes_ranges)?);
+fn count<const TAKES_RANGES: bool>(
+    alloc: Global,
+) -> Result<Option<(u64, u64, u64)>, CodecError> {
+    let (key, mut store) = (a(alloc)?, counting::<TAKES_RANGES>(alloc)?);
     patch(alloc, &mut store, &key)?;
     let counts = (store.reads, store.sets, store.patches);
     let is_written = gets(&mut store, &key, Some(&[1, 7, 8, 8, 8]));
@@ -63,12 +70,12 @@ fn count(alloc: Global, takes_ranges: bool) -> Result<Option<(u64, u64, u64)>, C
 
 #[test]
 fn ranges_are_one_call_of_a_store_that_takes_them(rt: HostRuntime) {
-    assert!(rt; matches!(count(rt.alloc(), true), Ok(Some((0, 0, 1)))));
+    assert!(rt; matches!(count::<true>(rt.alloc()), Ok(Some((0, 0, 1)))));
 }
 
 #[test]
 fn a_store_that_takes_no_ranges_is_read_and_set(rt: HostRuntime) {
-    assert!(rt; matches!(count(rt.alloc(), false), Ok(Some((1, 1, 0)))));
+    assert!(rt; matches!(count::<false>(rt.alloc()), Ok(Some((1, 1, 0)))));
 }
 
 /// The size of a value that is replaced by one byte.

@@ -173,7 +173,7 @@ fn hold_stored<B: BytesToBytesCodecTraits, S: WritableStorageTraits>(
     ensures others { OnOk result (KeepsOtherArrays path.now arrays.old arrays.new) }
     ensures writes { IsTrue (S.is_honest store.old) → OnOk result (S.held store.new
         ≡ insert (S.held store.old) prepared.key prepared.text.items) }
-    ensures cause { IfErr result IsStoreCause }
+    ensures cause { IsTrue (S.is_honest store.old) → IfErr result IsStoreCause }
     ensures arrays { OnErr result (KeepsArrays arrays.old arrays.new) }
     ensures store { IsTrue (S.is_honest store.old) →
         OnErr result (S.held store.new ≡ S.held store.old) }
@@ -209,7 +209,7 @@ fn has_either<S: ReadableStorageTraits>(
         (λ found. IsTrue found → HasEither (S.held store.old) key.now older.now) }
     ensures none { IsTrue (S.is_honest store.old) → IfOk result
         (λ found. found ≡ false → HasNeither (S.held store.old) key.now older.now) }
-    ensures cause { IfErr result IsStoreCause }
+    ensures cause { IsTrue (S.is_honest store.old) → IfErr result IsStoreCause }
     ensures held { S.held store.new ≡ S.held store.old }
     ensures honest { S.is_honest store.new ≡ S.is_honest store.old }
     ensures calls { S.refused_calls store.new ≡ refused_by (S.refused_calls store.old) result }

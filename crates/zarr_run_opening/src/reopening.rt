@@ -193,7 +193,7 @@ fn document_beside<B: BytesToBytesCodecTraits, S: ReadableStorageTraits>(
     requires { IsTrue (is_node_path path.now) }
     ensures is { IsTrue (S.is_honest store.old) →
         IfOk result (IsStoredBeside B.meaning arrays.now path.now (S.held store.old)) }
-    ensures cause { IfErr result IsStoreCause }
+    ensures cause { IsTrue (S.is_honest store.old) → IfErr result IsStoreCause }
     ensures held { S.held store.new ≡ S.held store.old }
     ensures honest { S.is_honest store.new ≡ S.is_honest store.old }
     ensures calls { S.refused_calls store.new ≡ refused_by (S.refused_calls store.old) result }
@@ -214,7 +214,7 @@ fn stored_document<S: ReadableStorageTraits>(
     requires { IsTrue (is_node_path path.now) }
     ensures is { IsTrue (S.is_honest store.old) →
         IfOk result (IsStoredAt path.now (S.held store.old)) }
-    ensures cause { IfErr result IsStoreCause }
+    ensures cause { IsTrue (S.is_honest store.old) → IfErr result IsStoreCause }
     ensures held { S.held store.new ≡ S.held store.old }
     ensures honest { S.is_honest store.new ≡ S.is_honest store.old }
     ensures calls { S.refused_calls store.new ≡ refused_by (S.refused_calls store.old) result }

@@ -14,16 +14,16 @@ use zarr_array_storage::{ReadableStorageTraits, StorageError, WritableStorageTra
 use zarr_grids_keys::{DocumentName, StoreKey, document_key};
 use zarr_run_meaning::Cause;
 
-/// Why a command is refused where the store refuses for this reason.
+/// Why a command is refused where the store refuses for this reason. A store that answers a wrong
+/// range to a call that names none isn't honest, and what it holds is taken as damaged.
 fn cause_of_storage(error: StorageError) -> Cause
-    requires { IfByteRange error ⊥ }
-    ensures cause { IsStoreCause result }
+    ensures cause { IfByteRange error ⊥ → IsStoreCause result }
     ensures refused { (count : ℕ) → refused_after result count
         ≡ (if is_counted error then counted count 1 else count) }
 {
     match error {
         StorageError::Memory => Cause::Memory,
-        StorageError::InvalidByteRange => unreachable!(),
+        StorageError::InvalidByteRange => Cause::Damage,
         _ => Cause::Store,
     }
 }
@@ -35,7 +35,7 @@ pub(crate) fn get<S: ReadableStorageTraits>(
 ) -> Result<Option<Vec<u8>>, Cause>
     ensures value { IsTrue (S.is_honest store.old) →
         IfOk result (λ found. value_bytes found ≡ get (S.held store.old) key.now) }
-    ensures cause { IfErr result IsStoreCause }
+    ensures cause { IsTrue (S.is_honest store.old) → IfErr result IsStoreCause }
     ensures held { S.held store.new ≡ S.held store.old }
     ensures honest { S.is_honest store.new ≡ S.is_honest store.old }
     ensures refused { S.refused_calls store.new ≡ refused_by (S.refused_calls store.old) result }
@@ -56,7 +56,7 @@ pub(crate) fn set<S: WritableStorageTraits>(
         (S.held store.new ≡ insert (S.held store.old) key.now value.now) }
     ensures err { IsTrue (S.is_honest store.old) →
         OnErr result (S.held store.new ≡ S.held store.old) }
-    ensures cause { IfErr result IsStoreCause }
+    ensures cause { IsTrue (S.is_honest store.old) → IfErr result IsStoreCause }
     ensures honest { S.is_honest store.new ≡ S.is_honest store.old }
     ensures refused { S.refused_calls store.new ≡ refused_by (S.refused_calls store.old) result }
 {

@@ -82,7 +82,7 @@ impl ReadableStorageTraits for TestStore {
 impl WritableStorageTraits for TestStore {
     ghost use Rattle.std.specs.Prelude.{true};
 
-    ghost supports_set_partial = { λ _. true };
+    ghost supports_set_partial = { true };
 
     fn supports_set_partial(&self) -> bool {
         true
