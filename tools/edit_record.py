@@ -72,12 +72,12 @@ class Digests:
 
     def line_of(self, crate: Crate) -> str:
         """What the record says of a crate, behind its name, where all its edits are refused."""
-        edits = {}
+        edits = []
         for name, file in edit_files(crate.folder):
             with open(file, encoding="utf-8", errors="replace") as it:
-                edits[name] = it.read()
+                edits.append((name, it.read()))
         under = {it.name: self._seen(it) for it in below(crate, self.crates)}
-        rests_on = [self.version, crate.crates, crate.libraries, self._sources(crate).texts, edits, under]
+        rests_on = [self.version, crate.crates, crate.libraries, self._sources(crate).texts, sorted(edits), under]
         return f"{len(edits)} refused, {digest_of(rests_on)}"
 
     def _sources(self, crate: Crate) -> Sources:
