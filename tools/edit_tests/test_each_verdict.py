@@ -91,7 +91,7 @@ class ASmallCrate(unittest.TestCase):
         lines = said.rstrip().split("\n")
         failed = [name for name in wanted if wanted[name] not in ("refused", "shape")]
         self.assertEqual(sorted(lines[-2 - len(failed) : -2]), sorted(f"failed: {self.line_of(said, name)}" for name in failed))
-        self.assertEqual(lines[-2], "refused: 7, shape: 1, PROVED: 4, does not apply: 1, does not compile: 1, not judged: 0")
+        self.assertEqual(lines[-2], "refused: 7, shape: 1, PROVED: 4, does not apply: 1, does not compile: 1, not judged: 0, not tried again: 0")
         self.assertEqual(lines[-1], "8 passed, 6 failed")
 
     def line_of(self, said, name):

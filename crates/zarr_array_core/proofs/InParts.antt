@@ -1,6 +1,6 @@
 -- Chains that are written in part and make no shard: `bytes`, alone or after array codecs. Their values have one size, nothing refuses their cells, and only a value that doesn't open is damaged.
 use Rattle.std.proofs.Common.{◌≡◌, ◌∙◌, ℕ, ◌*◌, ◌^◌, ◌≤◌, ◌⊎◌, Bool, true, false, ◌&&◌, if◌then◌else◌, List, ◌∷◌, map, refl, sym, ap, subst, arith, Option, Some, None, Result, Ok, Err, IsTrue, inl, inr}
-use Rattle.std.specs.Prelude.{not, IfErr, MatchOption}
+use Rattle.std.specs.Prelude.{not, OnErr, MatchOption}
 use Rattle.std.proofs.lemmas.Bool.{and_parts, false≢true, leb-true}
 use Rattle.zarr_grids_boxes.specs.Boxes.{Region, product}
 use Rattle.zarr_codecs_meaning.specs.Chains.{Chain, ArrayCodec}
@@ -26,7 +26,6 @@ use Rattle.zarr_array_meaning.specs.Chunks.{fits_box, holds_box}
 use Rattle.zarr_array_meaning.specs.Documents.{Document}
 use Rattle.zarr_array_meaning.specs.Writing.{is_in_part, may_be_in_part}
 use Rattle.zarr_array_core.specs.ChunkValues.{EncodeRefuses, OnDamage, PutStops}
-use Rattle.zarr_array_core.specs.Outcomes.{IsErasureStop}
 use Rattle.zarr_array_core.specs.PartWrites.{tells_size}
 use Rattle.zarr_array_core.specs.declared.error.ChunkError.{ChunkError}
 use Rattle.zarr_array_core.specs.declared.error.ChunkError.TheVariants as error
@@ -199,12 +198,12 @@ long_in_part document options region box fit small (inr h) = not_in_part documen
 
 -- ---- counts
 
--- a call of the store doesn't stop at damage
-pub no_damage : {A : Type 0} (result : Result A ChunkError) (fact : Type 0) → IfErr result IsErasureStop → OnDamage result fact
-no_damage (Ok value) fact h = tt
-no_damage (Err error.Fit) fact h = tt
-no_damage (Err (error.Storage s)) fact h = tt
-no_damage (Err error.Damage) fact h = absurd h
-no_damage (Err error.Codec) fact h = tt
-no_damage (Err error.Size) fact h = tt
-no_damage (Err error.Memory) fact h = tt
+-- a refused call of the store wrote nothing, whatever it was refused for
+pub unwritten_after : {A : Type 0} (result : Result A ChunkError) (after between before : ℕ) → OnErr result (after ≡ between) → between ≡ before → OnDamage result (after ≡ before)
+unwritten_after (Ok value) after between before same kept = tt
+unwritten_after (Err error.Fit) after between before same kept = tt
+unwritten_after (Err (error.Storage s)) after between before same kept = tt
+unwritten_after (Err error.Damage) after between before same kept = same ∙ kept
+unwritten_after (Err error.Codec) after between before same kept = tt
+unwritten_after (Err error.Size) after between before same kept = tt
+unwritten_after (Err error.Memory) after between before same kept = tt

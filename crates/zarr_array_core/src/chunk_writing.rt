@@ -32,6 +32,7 @@ pub(crate) fn put_value<S: WritableStorageTraits>(
     ensures refused { S.refused_calls store.new ≡
         refused_after (S.refused_calls store.old) result }
     ensures counts { CountsUpTo 1 (S.accepted_writes store.old) (S.accepted_writes store.new) }
+    ensures unwritten { OnErr result (S.accepted_writes store.new ≡ S.accepted_writes store.old) }
 {
     match value {
         Some(value) => set(store, key, value.as_slice()),

@@ -83,6 +83,7 @@ pub(crate) fn set<S: WritableStorageTraits>(
     ensures refused { S.refused_calls store.new ≡
         refused_after (S.refused_calls store.old) result }
     ensures counts { CountsUpTo 1 (S.accepted_writes store.old) (S.accepted_writes store.new) }
+    ensures unwritten { OnErr result (S.accepted_writes store.new ≡ S.accepted_writes store.old) }
 {
     match store.set(key, value) {
         Ok(()) => Ok(()),
@@ -107,6 +108,7 @@ pub(crate) fn set_partial<S: WritableStorageTraits>(
     ensures refused { S.refused_calls store.new ≡
         refused_after (S.refused_calls store.old) result }
     ensures counts { CountsUpTo 1 (S.accepted_writes store.old) (S.accepted_writes store.new) }
+    ensures unwritten { OnErr result (S.accepted_writes store.new ≡ S.accepted_writes store.old) }
 {
     match store.set_partial(key, patches) {
         Ok(()) => Ok(()),
@@ -128,6 +130,7 @@ pub(crate) fn erase<S: WritableStorageTraits>(
     ensures refused { S.refused_calls store.new ≡
         refused_after (S.refused_calls store.old) result }
     ensures counts { CountsUpTo 1 (S.accepted_writes store.old) (S.accepted_writes store.new) }
+    ensures unwritten { OnErr result (S.accepted_writes store.new ≡ S.accepted_writes store.old) }
 {
     match store.erase(key) {
         Ok(()) => Ok(()),

@@ -1,11 +1,11 @@
 -- The codec `x-reverse` is lawful.
-use Rattle.std.specs.Prelude.{◌≡◌, ℕ, List, [], reverse, length, Option, Some, None, codes, bytes_eq}
+use Rattle.std.specs.Prelude.{◌≡◌, ℕ, List, [], reverse, length, Option, Some, None}
 use Rattle.std.proofs.Common.{sym, ap, ◌∙◌, subst}
 use Rattle.std.proofs.lemmas.List.{reverse-reverse, length-reverse}
 use Rattle.zarr_codecs_meaning.specs.Fits.{is_size_as}
 use Rattle.zarr_codecs_meaning.specs.Laws.{IsLawful}
 use Rattle.zarr_codecs_meaning.proofs.Lists.{if_some, some_same}
-use Rattle.zarr_codecs_reverse.specs.Reversing.{reversing, ReadsLawful}
+use Rattle.zarr_codecs_reverse.specs.Reversing.{names_reversing, reversing, ReadsLawful}
 
 abbrev made_bytes : Option (List ℕ) → List ℕ
 made_bytes None = []
@@ -27,4 +27,4 @@ reversing_lawful = record {
 
 -- and each that metadata says is this codec
 pub reads_reversing_lawful : ReadsLawful
-reads_reversing_lawful point codec is = subst IsLawful (some_same (if_some (bytes_eq point.name (codes "x-reverse")) (Some reversing) codec is).1) reversing_lawful
+reads_reversing_lawful point codec is = subst IsLawful (some_same (if_some (names_reversing point) (Some reversing) codec is).1) reversing_lawful

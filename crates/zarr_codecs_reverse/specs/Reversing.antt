@@ -1,6 +1,7 @@
 -- The codec `x-reverse`, which reverses bytes.
-use Rattle.std.specs.Prelude.{◌≡◌, reverse, Option, Some, None, codes, bytes_eq, if◌then◌else◌}
-use Rattle.zarr_grids_metadata.specs.ExtensionPoints.{ExtensionPoint, named}
+use Rattle.std.specs.Prelude.{◌≡◌, reverse, Option, Some, None, Bool, [], codes, bytes_eq, if◌then◌else◌, ◌&&◌}
+use Rattle.zarr_grids_metadata.specs.ExtensionPoints.{ExtensionPoint, configuration_members, named}
+use Rattle.zarr_grids_metadata.specs.Members.{has_only}
 use Rattle.zarr_codecs_meaning.specs.Chains.{ByteCodec}
 use Rattle.zarr_codecs_meaning.specs.Laws.{IsLawful}
 
@@ -12,9 +13,13 @@ reversing = record { encode = λ bytes. Some (reverse bytes); decode = λ bytes.
 abbrev pub reversing_point : ExtensionPoint
 reversing_point = named (codes "x-reverse")
 
--- the codec with this metadata, of which the name alone decides
+-- whether metadata says this codec: it has the codec's name, and no field in its configuration
+abbrev pub names_reversing : ExtensionPoint → Bool
+names_reversing point = bytes_eq point.name (codes "x-reverse") && has_only [] (configuration_members point.configuration)
+
+-- the codec that metadata says
 abbrev pub reads_reversing : ExtensionPoint → Option ByteCodec
-reads_reversing point = if bytes_eq point.name (codes "x-reverse") then Some reversing else None
+reads_reversing point = if names_reversing point then Some reversing else None
 
 -- each codec that metadata says so is lawful
 abbrev pub ReadsLawful : Type 0

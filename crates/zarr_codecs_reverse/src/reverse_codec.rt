@@ -3,9 +3,10 @@
 use std::alloc::{AllocError, Global};
 use zarr_codecs_arrays::CodecError;
 use zarr_codecs_traits::{BytesRepresentation, BytesToBytesCodecTraits};
-use zarr_grids_metadata::{MetadataV3, PluginCreateError};
+use zarr_grids_metadata::{MetadataV3, PluginCreateError, has_only};
 
-/// The codec whose metadata is its name alone, `x-reverse`.
+/// The codec whose metadata is its name alone, `x-reverse`. It has no field to configure: an empty
+/// configuration is fine, and any other is refused.
 #[derive(Debug, Drop)]
 pub struct ReverseCodec;
 
@@ -44,10 +45,12 @@ impl BytesToBytesCodecTraits for ReverseCodec {
     }
 
     fn create(alloc: Global, metadata: &MetadataV3) -> Result<Self, PluginCreateError> {
-        if metadata.name() == "x-reverse" {
-            Ok(ReverseCodec)
-        } else {
-            Err(PluginCreateError::NameUnsupported)
+        if metadata.name() != "x-reverse" {
+            return Err(PluginCreateError::NameUnsupported);
+        }
+        match metadata.configuration() {
+            Some(members) if !has_only(members, &[]) => Err(PluginCreateError::MetadataInvalid),
+            _ => Ok(ReverseCodec),
         }
     }
 

@@ -20,7 +20,7 @@ returns-in-Err-clause-err g c = λ honest.
     let below : c.loop-n.n < product chunks.shape = omega (arith, c.loop-n-test.true) in
     let kept = c.in-Err.ensures.err (rw c.loop-n.invariant.honest honest) in
     erased_stops (path_of c.args.self.now) (document_of g.C.ArrayToBytesCodecTraits.meaning c.args.self.now) chunks c.loop-n.n c.in-Err.error (g.S.ReadableStorageTraits.held c.args.store.now) (g.S.ReadableStorageTraits.held c.loop-n.store)
-    (g.S.ReadableStorageTraits.held c.erase_chunk.new.store) (sym c.args.chunks.now.same) below c.in-Err.ensures.stops kept (c.loop-n.invariant.erased honest)
+    (g.S.ReadableStorageTraits.held c.erase_chunk.new.store) (sym c.args.chunks.now.same) below (c.in-Err.ensures.stops (rw c.loop-n.invariant.honest honest)) kept (c.loop-n.invariant.erased honest)
 
 pub loop-n-preserved : goal.loop-n-preserved
 loop-n-preserved g c =

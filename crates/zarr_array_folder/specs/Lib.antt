@@ -1,0 +1,2 @@
+pub mod FileKeys
+pub mod FolderStores
