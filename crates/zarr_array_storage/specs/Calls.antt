@@ -1,5 +1,5 @@
 -- Calls of a store, with what they were given and what they answered.
-use Rattle.std.specs.Prelude.{ℕ, List, Vec, Option, Result}
+use Rattle.std.specs.Prelude.{◌≡◌, ℕ, List, Vec, Option, Result, Err}
 use Rattle.std.specs.declared.alloc.Global.{Global}
 use Rattle.zarr_codecs_traits.specs.Patches.{Patch}
 use Rattle.zarr_codecs_traits.specs.declared.byte_range.ByteRange.{ByteRange}
@@ -14,3 +14,13 @@ pub data Call : Type 0 where
   set : (key value : List ℕ) (answer : Result (Unit {0}) StorageError) → Call
   set_partial : (key : List ℕ) (patches : List Patch) (answer : Result (Unit {0}) StorageError) → Call
   erase : (key : List ℕ) (answer : Result (Unit {0}) StorageError) → Call
+
+-- a call was refused with an error
+abbrev pub IsRefusedWith : Call → StorageError → Type 0
+IsRefusedWith (get key answer) e = answer ≡ Err e
+IsRefusedWith (get_partial key ranges answer) e = answer ≡ Err e
+IsRefusedWith (size_key key answer) e = answer ≡ Err e
+IsRefusedWith (list answer) e = answer ≡ Err e
+IsRefusedWith (set key value answer) e = answer ≡ Err e
+IsRefusedWith (set_partial key patches answer) e = answer ≡ Err e
+IsRefusedWith (erase key answer) e = answer ≡ Err e

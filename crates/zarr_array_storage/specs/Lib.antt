@@ -1,4 +1,5 @@
 pub mod Calls
+pub mod KeptErrors
 pub mod MemoryStores
 pub mod PartialDecoders
 pub mod PartialEncoders

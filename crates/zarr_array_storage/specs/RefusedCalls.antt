@@ -1,9 +1,8 @@
 -- The store that refuses one call.
-use Rattle.std.specs.Prelude.{◌≡◌, ℕ, ◌-◌, Bool, true, false, ◌&&◌, ◌==◌, if◌then◌else◌, Result, IsErrOf, IsTrue}
+use Rattle.std.specs.Prelude.{◌≡◌, ℕ, ◌-◌, Bool, true, false, ◌&&◌, ◌==◌, if◌then◌else◌}
 use Rattle.zarr_array_meaning.specs.StoreMaps.{counted}
 use Rattle.zarr_array_storage.specs.Calls as call
-use Rattle.zarr_array_storage.specs.Calls.{Call}
-use Rattle.zarr_array_storage.specs.declared.error.StorageError.{StorageError}
+use Rattle.zarr_array_storage.specs.Calls.{Call, IsRefusedWith}
 use Rattle.zarr_array_storage.specs.declared.error.StorageError.TheVariants.{Io}
 use Rattle.zarr_array_storage.specs.declared.refusing_store.CallKind.{CallKind}
 use Rattle.zarr_array_storage.specs.declared.refusing_store.CallKind.TheVariants.{Read, Write}
@@ -51,12 +50,9 @@ kind_of (call.set key value answer) = Write
 kind_of (call.set_partial key patches answer) = Write
 kind_of (call.erase key answer) = Write
 
--- a call that isn't the one that is refused was made of the inner store, once and with this answer
-abbrev pub HandsOn : {S : Type 0} → (S → Call → S → Type 0) → RefusingStore S → Call → RefusingStore S → Type 0
-HandsOn calls old made new = refuses_next (countdown_of old) (kind_of made) ≡ false → calls (inner_of old) made (inner_of new)
-
--- a call of this kind was counted; if it is the one that is refused, it answers `Io`, and the inner store stays as it was
-pub record CountsCall {S A : Type 0} (old new : RefusingStore S) (kind : CallKind) (result : Result A StorageError) : Type 0 where
-  pub countdown : countdown_of new ≡ after_call (countdown_of old) kind
-  pub count : own_refused new ≡ own_refused_after old kind
-  pub refused : IsTrue (refuses_next (countdown_of old) kind) → IsErrOf result Io × (inner_of new ≡ inner_of old)
+-- a call was counted; the one that is refused answers `Io`, and the inner store stays as it was; every other was made of the inner store, once and with this answer
+pub record HandsOn {S : Type 0} (calls : S → Call → S → Type 0) (old : RefusingStore S) (made : Call) (new : RefusingStore S) : Type 0 where
+  pub countdown : countdown_of new ≡ after_call (countdown_of old) (kind_of made)
+  pub count : own_refused new ≡ own_refused_after old (kind_of made)
+  pub refused : refuses_next (countdown_of old) (kind_of made) ≡ true → IsRefusedWith made Io × (inner_of new ≡ inner_of old)
+  pub handed : refuses_next (countdown_of old) (kind_of made) ≡ false → calls (inner_of old) made (inner_of new)

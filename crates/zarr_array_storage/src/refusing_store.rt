@@ -1,14 +1,7 @@
 //! A store that refuses one call.
-ghost use Rattle.std.specs.Prelude.{◌≡◌, false, IsTrue, IfOk, OnOk, OnErr, length, option_map};
-ghost use Rattle.std.specs.FinMap as map;
+ghost use Rattle.std.specs.Prelude.{◌≡◌};
 ghost use Rattle.zarr_array_meaning.specs.StoreMaps.{counted};
-ghost use Rattle.zarr_array_storage.specs.Calls as call;
-ghost use Rattle.zarr_array_storage.specs.Ranges.{any_past_end, parts_at, patched_at};
-ghost use Rattle.zarr_codecs_traits.specs.Patches.{any_too_far, patches_of};
-ghost use Rattle.zarr_array_storage.specs.RefusedCalls.{CountsCall, HandsOn, after_call, countdown_of, inner_of, own_refused, own_refused_after, refuses_next};
-ghost use Rattle.zarr_array_storage.specs.Refusals.{OnByteRange, refused_after};
-ghost use Rattle.zarr_array_storage.specs.declared.refusing_store.CallKind.TheVariants.{Read, Write};
-ghost use Rattle.zarr_array_storage.specs.Stores.{HasBytesAt, parts_bytes, parts_size, value_bytes, value_size};
+ghost use Rattle.zarr_array_storage.specs.RefusedCalls.{HandsOn, after_call, countdown_of, inner_of, own_refused, own_refused_after, refuses_next};
 
 use crate::error::StorageError;
 use crate::traits::{ReadableStorageTraits, WritableStorageTraits};
@@ -106,26 +99,9 @@ impl<S: ReadableStorageTraits> ReadableStorageTraits for RefusingStore<S> {
 
     ghost accepted_writes = { λ s. S.accepted_writes (inner_of s) };
 
-    ghost calls = { λ old call new. HandsOn S.calls old call new };
+    ghost calls = { HandsOn S.calls };
 
-    fn get(&mut self, key: &StoreKey) -> Result<Option<Vec<u8>>, StorageError>
-        ensures value { IsTrue (S.is_honest (inner_of self.old)) → IfOk result
-            (λ found. value_bytes found ≡ map.get (S.held (inner_of self.old)) key.now) }
-        ensures held { S.held (inner_of self.new) ≡ S.held (inner_of self.old) }
-        ensures honest { S.is_honest (inner_of self.new) ≡ S.is_honest (inner_of self.old) }
-        ensures refused { counted (own_refused self.new) (S.refused_calls (inner_of self.new)) ≡
-            refused_after
-            (counted (own_refused self.old) (S.refused_calls (inner_of self.old))) result }
-        ensures byte_range { IsTrue (S.is_honest (inner_of self.old)) → OnByteRange result ⊥ }
-        ensures given { IfOk result (λ found. S.given_bytes (inner_of self.new) ≡
-            counted (S.given_bytes (inner_of self.old)) (value_size found)) }
-        ensures none_given { OnErr result
-            (S.given_bytes (inner_of self.new) ≡ S.given_bytes (inner_of self.old)) }
-        ensures accepted { S.accepted_writes (inner_of self.new) ≡
-            S.accepted_writes (inner_of self.old) }
-        ensures hands_on { HandsOn S.calls self.old (call.get key.now result) self.new }
-        ensures counts { CountsCall self.old self.new Read result }
-    {
+    fn get(&mut self, key: &StoreKey) -> Result<Option<Vec<u8>>, StorageError> {
         if self.refuses(CallKind::Read) {
             return Err(StorageError::Io);
         }
@@ -136,71 +112,21 @@ impl<S: ReadableStorageTraits> ReadableStorageTraits for RefusingStore<S> {
         &mut self,
         key: &StoreKey,
         ranges: &[ByteRange],
-    ) -> Result<Option<Vec<Vec<u8>>>, StorageError>
-        ensures parts { IsTrue (S.is_honest (inner_of self.old)) → IfOk result (λ found.
-            parts_bytes found ≡ parts_at (S.held (inner_of self.old)) key.now ranges.now) }
-        ensures in_range { IsTrue (S.is_honest (inner_of self.old)) → OnOk result
-            (any_past_end (S.held (inner_of self.old)) key.now ranges.now ≡ false) }
-        ensures held { S.held (inner_of self.new) ≡ S.held (inner_of self.old) }
-        ensures honest { S.is_honest (inner_of self.new) ≡ S.is_honest (inner_of self.old) }
-        ensures refused { counted (own_refused self.new) (S.refused_calls (inner_of self.new)) ≡
-            refused_after
-            (counted (own_refused self.old) (S.refused_calls (inner_of self.old))) result }
-        ensures byte_range { IsTrue (S.is_honest (inner_of self.old)) → OnByteRange result
-            (IsTrue (any_past_end (S.held (inner_of self.old)) key.now ranges.now)) }
-        ensures given { IfOk result (λ found. S.given_bytes (inner_of self.new) ≡
-            counted (S.given_bytes (inner_of self.old)) (parts_size found)) }
-        ensures none_given { OnErr result
-            (S.given_bytes (inner_of self.new) ≡ S.given_bytes (inner_of self.old)) }
-        ensures accepted { S.accepted_writes (inner_of self.new) ≡
-            S.accepted_writes (inner_of self.old) }
-        ensures hands_on { HandsOn S.calls self.old (call.get_partial key.now ranges.now result) self.new }
-        ensures counts { CountsCall self.old self.new Read result }
-    {
+    ) -> Result<Option<Vec<Vec<u8>>>, StorageError> {
         if self.refuses(CallKind::Read) {
             return Err(StorageError::Io);
         }
         self.inner.get_partial(key, ranges)
     }
 
-    fn size_key(&mut self, key: &StoreKey) -> Result<Option<u64>, StorageError>
-        ensures size { IsTrue (S.is_honest (inner_of self.old)) → IfOk result
-            (λ size. size ≡ option_map length (map.get (S.held (inner_of self.old)) key.now)) }
-        ensures bytes { IsTrue (S.is_honest (inner_of self.old)) →
-            OnOk result (HasBytesAt (S.held (inner_of self.old)) key.now) }
-        ensures held { S.held (inner_of self.new) ≡ S.held (inner_of self.old) }
-        ensures honest { S.is_honest (inner_of self.new) ≡ S.is_honest (inner_of self.old) }
-        ensures refused { counted (own_refused self.new) (S.refused_calls (inner_of self.new)) ≡
-            refused_after
-            (counted (own_refused self.old) (S.refused_calls (inner_of self.old))) result }
-        ensures byte_range { IsTrue (S.is_honest (inner_of self.old)) → OnByteRange result ⊥ }
-        ensures given { S.given_bytes (inner_of self.new) ≡ S.given_bytes (inner_of self.old) }
-        ensures accepted { S.accepted_writes (inner_of self.new) ≡
-            S.accepted_writes (inner_of self.old) }
-        ensures hands_on { HandsOn S.calls self.old (call.size_key key.now result) self.new }
-        ensures counts { CountsCall self.old self.new Read result }
-    {
+    fn size_key(&mut self, key: &StoreKey) -> Result<Option<u64>, StorageError> {
         if self.refuses(CallKind::Read) {
             return Err(StorageError::Io);
         }
         self.inner.size_key(key)
     }
 
-    fn list(&mut self) -> Result<Vec<StoreKey>, StorageError>
-        ensures keys { IsTrue (S.is_honest (inner_of self.old)) →
-            IfOk result (λ keys. keys.items ≡ map.keys (S.held (inner_of self.old))) }
-        ensures held { S.held (inner_of self.new) ≡ S.held (inner_of self.old) }
-        ensures honest { S.is_honest (inner_of self.new) ≡ S.is_honest (inner_of self.old) }
-        ensures refused { counted (own_refused self.new) (S.refused_calls (inner_of self.new)) ≡
-            refused_after
-            (counted (own_refused self.old) (S.refused_calls (inner_of self.old))) result }
-        ensures byte_range { IsTrue (S.is_honest (inner_of self.old)) → OnByteRange result ⊥ }
-        ensures given { S.given_bytes (inner_of self.new) ≡ S.given_bytes (inner_of self.old) }
-        ensures accepted { S.accepted_writes (inner_of self.new) ≡
-            S.accepted_writes (inner_of self.old) }
-        ensures hands_on { HandsOn S.calls self.old (call.list result) self.new }
-        ensures counts { CountsCall self.old self.new Read result }
-    {
+    fn list(&mut self) -> Result<Vec<StoreKey>, StorageError> {
         if self.refuses(CallKind::Read) {
             return Err(StorageError::Io);
         }
@@ -215,25 +141,7 @@ impl<S: WritableStorageTraits> WritableStorageTraits for RefusingStore<S> {
         self.inner.supports_set_partial()
     }
 
-    fn set(&mut self, key: &StoreKey, value: &[u8]) -> Result<(), StorageError>
-        ensures ok { IsTrue (S.is_honest (inner_of self.old)) → OnOk result
-            (S.held (inner_of self.new) ≡
-            map.insert (S.held (inner_of self.old)) key.now value.now) }
-        ensures err { IsTrue (S.is_honest (inner_of self.old)) → OnErr result
-            (S.held (inner_of self.new) ≡ S.held (inner_of self.old)) }
-        ensures honest { S.is_honest (inner_of self.new) ≡ S.is_honest (inner_of self.old) }
-        ensures refused { counted (own_refused self.new) (S.refused_calls (inner_of self.new)) ≡
-            refused_after
-            (counted (own_refused self.old) (S.refused_calls (inner_of self.old))) result }
-        ensures byte_range { IsTrue (S.is_honest (inner_of self.old)) → OnByteRange result ⊥ }
-        ensures given { S.given_bytes (inner_of self.new) ≡ S.given_bytes (inner_of self.old) }
-        ensures accepted { OnOk result (S.accepted_writes (inner_of self.new) ≡
-            counted (S.accepted_writes (inner_of self.old)) 1) }
-        ensures none_accepted { OnErr result
-            (S.accepted_writes (inner_of self.new) ≡ S.accepted_writes (inner_of self.old)) }
-        ensures hands_on { HandsOn S.calls self.old (call.set key.now value.now result) self.new }
-        ensures counts { CountsCall self.old self.new Write result }
-    {
+    fn set(&mut self, key: &StoreKey, value: &[u8]) -> Result<(), StorageError> {
         if self.refuses(CallKind::Write) {
             return Err(StorageError::Io);
         }
@@ -244,52 +152,14 @@ impl<S: WritableStorageTraits> WritableStorageTraits for RefusingStore<S> {
         &mut self,
         key: &StoreKey,
         patches: &[ValuePatch<'_>],
-    ) -> Result<(), StorageError>
-        ensures ok { IsTrue (S.is_honest (inner_of self.old)) → OnOk result
-            (S.held (inner_of self.new) ≡ map.insert (S.held (inner_of self.old)) key.now
-            (patched_at (S.held (inner_of self.old)) key.now (patches_of patches.now))) }
-        ensures in_range { IsTrue (S.is_honest (inner_of self.old)) →
-            OnOk result (any_too_far (patches_of patches.now) ≡ false) }
-        ensures err { IsTrue (S.is_honest (inner_of self.old)) → OnErr result
-            (S.held (inner_of self.new) ≡ S.held (inner_of self.old)) }
-        ensures honest { S.is_honest (inner_of self.new) ≡ S.is_honest (inner_of self.old) }
-        ensures refused { counted (own_refused self.new) (S.refused_calls (inner_of self.new)) ≡
-            refused_after
-            (counted (own_refused self.old) (S.refused_calls (inner_of self.old))) result }
-        ensures byte_range { IsTrue (S.is_honest (inner_of self.old)) →
-            OnByteRange result (IsTrue (any_too_far (patches_of patches.now))) }
-        ensures given { S.given_bytes (inner_of self.new) ≡ S.given_bytes (inner_of self.old) }
-        ensures accepted { OnOk result (S.accepted_writes (inner_of self.new) ≡
-            counted (S.accepted_writes (inner_of self.old)) 1) }
-        ensures none_accepted { OnErr result
-            (S.accepted_writes (inner_of self.new) ≡ S.accepted_writes (inner_of self.old)) }
-        ensures hands_on { HandsOn S.calls self.old (call.set_partial key.now (patches_of patches.now) result) self.new }
-        ensures counts { CountsCall self.old self.new Write result }
-    {
+    ) -> Result<(), StorageError> {
         if self.refuses(CallKind::Write) {
             return Err(StorageError::Io);
         }
         self.inner.set_partial(key, patches)
     }
 
-    fn erase(&mut self, key: &StoreKey) -> Result<(), StorageError>
-        ensures ok { IsTrue (S.is_honest (inner_of self.old)) → OnOk result
-            (S.held (inner_of self.new) ≡ map.remove (S.held (inner_of self.old)) key.now) }
-        ensures err { IsTrue (S.is_honest (inner_of self.old)) → OnErr result
-            (S.held (inner_of self.new) ≡ S.held (inner_of self.old)) }
-        ensures honest { S.is_honest (inner_of self.new) ≡ S.is_honest (inner_of self.old) }
-        ensures refused { counted (own_refused self.new) (S.refused_calls (inner_of self.new)) ≡
-            refused_after
-            (counted (own_refused self.old) (S.refused_calls (inner_of self.old))) result }
-        ensures byte_range { IsTrue (S.is_honest (inner_of self.old)) → OnByteRange result ⊥ }
-        ensures given { S.given_bytes (inner_of self.new) ≡ S.given_bytes (inner_of self.old) }
-        ensures accepted { OnOk result (S.accepted_writes (inner_of self.new) ≡
-            counted (S.accepted_writes (inner_of self.old)) 1) }
-        ensures none_accepted { OnErr result
-            (S.accepted_writes (inner_of self.new) ≡ S.accepted_writes (inner_of self.old)) }
-        ensures hands_on { HandsOn S.calls self.old (call.erase key.now result) self.new }
-        ensures counts { CountsCall self.old self.new Write result }
-    {
+    fn erase(&mut self, key: &StoreKey) -> Result<(), StorageError> {
         if self.refuses(CallKind::Write) {
             return Err(StorageError::Io);
         }

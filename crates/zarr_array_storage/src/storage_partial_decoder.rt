@@ -1,10 +1,6 @@
 //! The value at a key of a store, read in part.
-ghost use Rattle.std.specs.FinMap.{get};
-ghost use Rattle.std.specs.Prelude.{◌≡◌, IsTrue, IfOk, OnOk, Some, None, option_map, length, false};
-ghost use Rattle.zarr_array_meaning.specs.StoreMaps.{counted};
-ghost use Rattle.zarr_array_storage.specs.Calls as call;
-ghost use Rattle.zarr_array_storage.specs.PartialDecoders.{KeepsError, SameSource, key_behind, misplaced_after, misplaced_behind, reference_behind, refusal_behind, source_error, store_behind, whole_error};
-ghost use Rattle.zarr_codecs_traits.specs.Sources.{RangesRefused, ReadRefused, any_past_end, given_after, part_lists, parts_of, refused_after};
+ghost use Rattle.std.specs.Prelude.{◌≡◌, Some, None};
+ghost use Rattle.zarr_array_storage.specs.PartialDecoders.{KeepsAnswer, SameSource, key_behind, misplaced_after, misplaced_behind, reference_behind, refusal_behind, refused_at, source_error, store_behind, whole_error};
 
 use crate::error::StorageError;
 use crate::traits::ReadableStorageTraits;
@@ -107,35 +103,23 @@ impl<'a, S: ReadableStorageTraits> BytesPartialDecoderTraits for StoragePartialD
     ghost use Rattle.std.specs.Prelude.{◌≡◌, refl};
     ghost use Rattle.std.proofs.Common.{ap, ◌∙◌};
     ghost use Rattle.std.specs.FinMap.{get};
+    ghost use Rattle.zarr_array_storage.specs.KeptErrors.{kept_on, kept_same};
 
     ghost contents = { λ d. get (S.held (store_behind d)) (key_behind d) };
 
     ghost is_honest = { λ d. S.is_honest (store_behind d) };
 
-    ghost refused_calls = { λ d. counted (misplaced_behind d) (S.refused_calls (store_behind d)) };
+    ghost refused_calls = { refused_at S.refused_calls };
 
     ghost given_bytes = { λ d. S.given_bytes (store_behind d) };
 
-    ghost follows = { SameSource S.held S.is_honest S.accepted_writes };
+    ghost follows = { λ a b. SameSource S.held S.is_honest S.accepted_writes a b
+        × KeepsAnswer S.calls S.refused_calls a b };
 
     ghost held_bytes = { λ _. 0 };
 
     #[tactic(auto, using(crate::proofs::PartialDecoderLemmas::whole_counts, crate::proofs::PartialDecoderLemmas::whole_refused))]
-    fn size(&mut self) -> Result<Option<u64>, CodecError>
-        ensures size { IsTrue (S.is_honest (store_behind self.old)) → IfOk result (λ size.
-            size ≡ option_map length (get (S.held (store_behind self.old)) (key_behind self.old))) }
-        ensures cause { ReadRefused result }
-        ensures refused { counted (misplaced_behind self.new) (S.refused_calls (store_behind self.new))
-            ≡ refused_after (counted (misplaced_behind self.old)
-            (S.refused_calls (store_behind self.old))) result }
-        ensures given { S.given_bytes (store_behind self.new)
-            ≡ S.given_bytes (store_behind self.old) }
-        ensures follows { SameSource S.held S.is_honest S.accepted_writes self.old self.new }
-        ensures kept { KeepsError
-            (λ answer. S.calls (store_behind self.old)
-            (call.size_key (key_behind self.old) answer) (store_behind self.new))
-            (refusal_behind self.old) (refusal_behind self.new) result }
-    {
+    fn size(&mut self) -> Result<Option<u64>, CodecError> {
         match self.store.size_key(self.key) {
             Ok(size) => Ok(size),
             Err(error) => Err(self.keep_whole(error)),
@@ -147,25 +131,7 @@ impl<'a, S: ReadableStorageTraits> BytesPartialDecoderTraits for StoragePartialD
         &mut self,
         alloc: Global,
         ranges: &[ByteRange],
-    ) -> Result<Option<Vec<Vec<u8>>>, CodecError>
-        ensures parts { IsTrue (S.is_honest (store_behind self.old)) → IfOk result
-            (λ found. part_lists found
-            ≡ parts_of (get (S.held (store_behind self.old)) (key_behind self.old)) ranges.now) }
-        ensures in_range { IsTrue (S.is_honest (store_behind self.old)) → OnOk result (any_past_end
-            (get (S.held (store_behind self.old)) (key_behind self.old)) ranges.now ≡ false) }
-        ensures cause { IsTrue (S.is_honest (store_behind self.old)) → RangesRefused
-            (get (S.held (store_behind self.old)) (key_behind self.old)) ranges.now result }
-        ensures refused { counted (misplaced_behind self.new) (S.refused_calls (store_behind self.new))
-            ≡ refused_after (counted (misplaced_behind self.old)
-            (S.refused_calls (store_behind self.old))) result }
-        ensures given { S.given_bytes (store_behind self.new)
-            ≡ given_after (S.given_bytes (store_behind self.old)) result }
-        ensures follows { SameSource S.held S.is_honest S.accepted_writes self.old self.new }
-        ensures kept { KeepsError
-            (λ answer. S.calls (store_behind self.old)
-            (call.get_partial (key_behind self.old) ranges.now answer) (store_behind self.new))
-            (refusal_behind self.old) (refusal_behind self.new) result }
-    {
+    ) -> Result<Option<Vec<Vec<u8>>>, CodecError> {
         match self.store.get_partial(self.key, ranges) {
             Ok(found) => Ok(found),
             Err(error) => {
@@ -180,12 +146,21 @@ impl<'a, S: ReadableStorageTraits> BytesPartialDecoderTraits for StoragePartialD
         0
     }
 
-    ghost same = { λ a b f. ap (λ held. get held (key_behind a)) f.2
-        ∙ ap (get (S.held (store_behind b))) f.1 };
+    ghost same = { λ a b f. ap (λ held. get held (key_behind a)) f.0.2
+        ∙ ap (get (S.held (store_behind b))) f.0.1 };
 
-    ghost honest = { λ _ _ f. f.3 };
+    ghost honest = { λ _ _ f. f.0.3 };
 
-    ghost stays = { λ _. (refl, refl, refl, refl, refl) };
+    ghost stays = { λ _. ((refl, refl, refl, refl, refl), kept_same) };
 
-    ghost goes_on = { λ _ _ _ f h. (f.0 ∙ h.0, f.1 ∙ h.1, f.2 ∙ h.2, f.3 ∙ h.3, f.4 ∙ h.4) };
+    ghost goes_on = { λ _ _ _ f h. (
+      (
+        f.0.0 ∙ h.0.0,
+        f.0.1 ∙ h.0.1,
+        f.0.2 ∙ h.0.2,
+        f.0.3 ∙ h.0.3,
+        f.0.4 ∙ h.0.4,
+      ),
+      kept_on f.1 h.1,
+    ) };
 }

@@ -1,16 +1,13 @@
 //! The value at a key of a store, written in part.
-ghost use Rattle.std.specs.Prelude.{◌≡◌, IsTrue, OnOk, OnErr, Some, None};
+ghost use Rattle.std.specs.Prelude.{◌≡◌, IsTrue, IfErr, OnOk, OnErr, Some, None};
 ghost use Rattle.std.specs.FinMap.{get, insert};
 ghost use Rattle.zarr_array_meaning.specs.StoreMaps.{counted};
-ghost use Rattle.zarr_array_storage.specs.Calls as call;
-ghost use Rattle.zarr_array_storage.specs.PartialDecoders.{KeepsError, SameSource};
-ghost use Rattle.zarr_array_storage.specs.PartialEncoders.{SamePlace, key_behind, misplaced_behind, reference_behind, refusal_behind, store_behind, target_error};
+ghost use Rattle.zarr_array_storage.specs.PartialDecoders.{KeepsAnswer, SameSource, refused_at};
+ghost use Rattle.zarr_array_storage.specs.PartialEncoders.{KeepsTold, SamePlace, Told, key_behind, misplaced_behind, reference_behind, refusal_behind, store_behind, target_error};
 ghost use Rattle.zarr_array_storage.specs.Ranges.{patched_at};
-ghost use Rattle.zarr_array_storage.specs.Refusals as storage;
-ghost use Rattle.zarr_array_storage.specs.Refusals.{OnByteRange};
-ghost use Rattle.zarr_codecs_traits.specs.Patches.{any_too_far, patched_contents, patches_of};
-ghost use Rattle.zarr_codecs_traits.specs.Sources.{refused_after};
-ghost use Rattle.zarr_codecs_traits.specs.Writes.{IsGivenByPatching, PatchesRefused, WriteRefused, accepted_after};
+ghost use Rattle.zarr_array_storage.specs.Refusals.{OnByteRange, refused_after};
+ghost use Rattle.zarr_codecs_traits.specs.Patches.{any_too_far, patches_of};
+ghost use Rattle.zarr_codecs_traits.specs.Writes.{IsGivenByPatching};
 
 use crate::error::StorageError;
 use crate::storage_partial_decoder::StoragePartialDecoder;
@@ -99,7 +96,7 @@ fn write_ranges<S: WritableStorageTraits>(
         OnErr result (S.held store.new ≡ S.held store.old) }
     ensures honest { S.is_honest store.new ≡ S.is_honest store.old }
     ensures refused { S.refused_calls store.new ≡
-        storage.refused_after (S.refused_calls store.old) result }
+        refused_after (S.refused_calls store.old) result }
     ensures byte_range { IsTrue (S.is_honest store.old) →
         OnByteRange result (IsTrue (any_too_far (patches_of patches.now))) }
     ensures given { IsTrue S.supports_set_partial →
@@ -110,8 +107,7 @@ fn write_ranges<S: WritableStorageTraits>(
         (S.accepted_writes store.new ≡ counted (S.accepted_writes store.old) 1) }
     ensures none_accepted { OnErr result
         (S.accepted_writes store.new ≡ S.accepted_writes store.old) }
-    ensures calls { IsTrue S.supports_set_partial → S.calls store.old
-        (call.set_partial key.now (patches_of patches.now) result) store.new }
+    ensures told { IfErr result (Told S.calls) }
 {
     if store.supports_set_partial() {
         return store.set_partial(key, patches);
@@ -130,16 +126,18 @@ impl<'a, S: WritableStorageTraits> BytesPartialDecoderTraits for StoragePartialE
     ghost use Rattle.std.specs.Prelude.{◌≡◌, refl};
     ghost use Rattle.std.proofs.Common.{ap, ◌∙◌};
     ghost use Rattle.std.specs.FinMap.{get};
+    ghost use Rattle.zarr_array_storage.specs.KeptErrors.{kept_on, kept_same};
 
     ghost contents = { λ e. get (S.held (store_behind e)) (key_behind e) };
 
     ghost is_honest = { λ e. S.is_honest (store_behind e) };
 
-    ghost refused_calls = { λ e. counted (misplaced_behind e) (S.refused_calls (store_behind e)) };
+    ghost refused_calls = { λ e. refused_at S.refused_calls e.source };
 
     ghost given_bytes = { λ e. S.given_bytes (store_behind e) };
 
-    ghost follows = { λ a b. SameSource S.held S.is_honest S.accepted_writes a.source b.source };
+    ghost follows = { λ a b. SameSource S.held S.is_honest S.accepted_writes a.source b.source
+        × KeepsAnswer S.calls S.refused_calls a.source b.source };
 
     ghost held_bytes = { λ _. 0 };
 
@@ -159,14 +157,23 @@ impl<'a, S: WritableStorageTraits> BytesPartialDecoderTraits for StoragePartialE
         self.source.size_held()
     }
 
-    ghost same = { λ a b f. ap (λ held. get held (key_behind a)) f.2
-        ∙ ap (get (S.held (store_behind b))) f.1 };
+    ghost same = { λ a b f. ap (λ held. get held (key_behind a)) f.0.2
+        ∙ ap (get (S.held (store_behind b))) f.0.1 };
 
-    ghost honest = { λ _ _ f. f.3 };
+    ghost honest = { λ _ _ f. f.0.3 };
 
-    ghost stays = { λ _. (refl, refl, refl, refl, refl) };
+    ghost stays = { λ _. ((refl, refl, refl, refl, refl), kept_same) };
 
-    ghost goes_on = { λ _ _ _ f h. (f.0 ∙ h.0, f.1 ∙ h.1, f.2 ∙ h.2, f.3 ∙ h.3, f.4 ∙ h.4) };
+    ghost goes_on = { λ _ _ _ f h. (
+      (
+        f.0.0 ∙ h.0.0,
+        f.0.1 ∙ h.0.1,
+        f.0.2 ∙ h.0.2,
+        f.0.3 ∙ h.0.3,
+        f.0.4 ∙ h.0.4,
+      ),
+      kept_on f.1 h.1,
+    ) };
 }
 
 impl<'a, S: WritableStorageTraits> BytesPartialEncoderTraits for StoragePartialEncoder<'a, S> {
@@ -174,39 +181,21 @@ impl<'a, S: WritableStorageTraits> BytesPartialEncoderTraits for StoragePartialE
     ghost use Rattle.std.proofs.Common.{ap, subst, sym, ◌∙◌};
     ghost use Rattle.std.specs.FinMap.{remove};
     ghost use Rattle.zarr_array_storage.specs.PartialEncoders.{SameElsewhere};
+    ghost use Rattle.zarr_array_storage.specs.KeptErrors.{kept_on, kept_told};
 
     ghost accepted_writes = { λ e. S.accepted_writes (store_behind e) };
 
     ghost writes_ranges = { λ _. S.supports_set_partial };
 
-    ghost rewrites = { SamePlace S.held S.is_honest };
+    ghost rewrites = { λ a b. SamePlace S.held S.is_honest a b
+        × KeepsTold S.calls S.refused_calls a b };
 
     #[tactic(auto, using(crate::proofs::PartialEncoderLemmas::target_counts, crate::proofs::PartialEncoderLemmas::patches_refused, crate::proofs::PartialEncoderLemmas::get_inserted, crate::proofs::PartialEncoderLemmas::inserted_elsewhere))]
     fn partial_encode(
         &mut self,
         alloc: Global,
         patches: &[ValuePatch<'_>],
-    ) -> Result<(), CodecError>
-        ensures ok { IsTrue (S.is_honest (store_behind self.old)) → OnOk result (get (S.held (store_behind self.new)) (key_behind self.new)
-            ≡ Some (patched_contents (get (S.held (store_behind self.old)) (key_behind self.old)) (patches_of patches.now))) }
-        ensures err { IsTrue (S.is_honest (store_behind self.old)) →
-            OnErr result (get (S.held (store_behind self.new)) (key_behind self.new) ≡ get (S.held (store_behind self.old)) (key_behind self.old)) }
-        ensures cause { IsTrue (S.is_honest (store_behind self.old)) → PatchesRefused (patches_of patches.now) result }
-        ensures refused { counted (misplaced_behind self.new) (S.refused_calls (store_behind self.new))
-            ≡ refused_after (counted (misplaced_behind self.old)
-            (S.refused_calls (store_behind self.old))) result }
-        ensures given { IsTrue S.supports_set_partial → S.given_bytes (store_behind self.new)
-            ≡ S.given_bytes (store_behind self.old) }
-        ensures given_once { IsTrue (S.is_honest (store_behind self.old)) → IsGivenByPatching (get (S.held (store_behind self.old)) (key_behind self.old))
-            (S.given_bytes (store_behind self.old)) (S.given_bytes (store_behind self.new)) }
-        ensures accepted { S.accepted_writes (store_behind self.new)
-            ≡ accepted_after (S.accepted_writes (store_behind self.old)) result }
-        ensures rewrites { SamePlace S.held S.is_honest self.old self.new }
-        ensures kept { KeepsError
-            (λ answer. IsTrue S.supports_set_partial → S.calls (store_behind self.old)
-            (call.set_partial (key_behind self.old) (patches_of patches.now) answer) (store_behind self.new))
-            (refusal_behind self.old) (refusal_behind self.new) result }
-    {
+    ) -> Result<(), CodecError> {
         let key = self.source.key;
         match write_ranges(alloc, self.source.store, key, patches) {
             Ok(()) => Ok(()),
@@ -215,24 +204,7 @@ impl<'a, S: WritableStorageTraits> BytesPartialEncoderTraits for StoragePartialE
     }
 
     #[tactic(auto, using(crate::proofs::PartialDecoderLemmas::whole_counts, crate::proofs::PartialDecoderLemmas::whole_refused, crate::proofs::PartialEncoderLemmas::get_inserted, crate::proofs::PartialEncoderLemmas::inserted_elsewhere))]
-    fn set(&mut self, value: Vec<u8>) -> Result<(), CodecError>
-        ensures ok { IsTrue (S.is_honest (store_behind self.old)) → OnOk result (get (S.held (store_behind self.new)) (key_behind self.new) ≡ Some value.items) }
-        ensures err { IsTrue (S.is_honest (store_behind self.old)) →
-            OnErr result (get (S.held (store_behind self.new)) (key_behind self.new) ≡ get (S.held (store_behind self.old)) (key_behind self.old)) }
-        ensures cause { WriteRefused result }
-        ensures refused { counted (misplaced_behind self.new) (S.refused_calls (store_behind self.new))
-            ≡ refused_after (counted (misplaced_behind self.old)
-            (S.refused_calls (store_behind self.old))) result }
-        ensures given { S.given_bytes (store_behind self.new)
-            ≡ S.given_bytes (store_behind self.old) }
-        ensures accepted { S.accepted_writes (store_behind self.new)
-            ≡ accepted_after (S.accepted_writes (store_behind self.old)) result }
-        ensures rewrites { SamePlace S.held S.is_honest self.old self.new }
-        ensures kept { KeepsError
-            (λ answer. S.calls (store_behind self.old)
-            (call.set (key_behind self.old) value.items answer) (store_behind self.new))
-            (refusal_behind self.old) (refusal_behind self.new) result }
-    {
+    fn set(&mut self, value: Vec<u8>) -> Result<(), CodecError> {
         let key = self.source.key;
         match self.source.store.set(key, &value) {
             Ok(()) => Ok(()),
@@ -241,24 +213,7 @@ impl<'a, S: WritableStorageTraits> BytesPartialEncoderTraits for StoragePartialE
     }
 
     #[tactic(auto, using(crate::proofs::PartialDecoderLemmas::whole_counts, crate::proofs::PartialDecoderLemmas::whole_refused, crate::proofs::PartialEncoderLemmas::get_removed, crate::proofs::PartialEncoderLemmas::removed_elsewhere))]
-    fn erase(&mut self) -> Result<(), CodecError>
-        ensures ok { IsTrue (S.is_honest (store_behind self.old)) → OnOk result (get (S.held (store_behind self.new)) (key_behind self.new) ≡ None) }
-        ensures err { IsTrue (S.is_honest (store_behind self.old)) →
-            OnErr result (get (S.held (store_behind self.new)) (key_behind self.new) ≡ get (S.held (store_behind self.old)) (key_behind self.old)) }
-        ensures cause { WriteRefused result }
-        ensures refused { counted (misplaced_behind self.new) (S.refused_calls (store_behind self.new))
-            ≡ refused_after (counted (misplaced_behind self.old)
-            (S.refused_calls (store_behind self.old))) result }
-        ensures given { S.given_bytes (store_behind self.new)
-            ≡ S.given_bytes (store_behind self.old) }
-        ensures accepted { S.accepted_writes (store_behind self.new)
-            ≡ accepted_after (S.accepted_writes (store_behind self.old)) result }
-        ensures rewrites { SamePlace S.held S.is_honest self.old self.new }
-        ensures kept { KeepsError
-            (λ answer. S.calls (store_behind self.old)
-            (call.erase (key_behind self.old) answer) (store_behind self.new))
-            (refusal_behind self.old) (refusal_behind self.new) result }
-    {
+    fn erase(&mut self) -> Result<(), CodecError> {
         let key = self.source.key;
         match self.source.store.erase(key) {
             Ok(()) => Ok(()),
@@ -266,18 +221,29 @@ impl<'a, S: WritableStorageTraits> BytesPartialEncoderTraits for StoragePartialE
         }
     }
 
-    ghost reads = { λ a _ f. (f.0, f.1, f.3, λ _. ap (λ held. remove held (key_behind a)) f.2) };
+    ghost reads = { λ a _ f. (
+      (
+        f.0.0,
+        f.0.1,
+        f.0.3,
+        λ _. ap (λ held. remove held (key_behind a)) f.0.2,
+      ),
+      kept_told f.1,
+    ) };
 
-    ghost unwritten = { λ _ _ f. f.4 };
+    ghost unwritten = { λ _ _ f. f.0.4 };
 
-    ghost still_honest = { λ _ _ f. f.2 };
+    ghost still_honest = { λ _ _ f. f.0.2 };
 
     ghost writes_on = { λ a b c f h. (
-      f.0 ∙ h.0,
-      f.1 ∙ h.1,
-      f.2 ∙ h.2,
-      λ honest. f.3 honest
-          ∙ subst (λ key. SameElsewhere key (S.held (store_behind b)) (S.held (store_behind c)))
-          (sym f.1) (h.3 (subst (λ b. IsTrue b) f.2 honest)),
+      (
+        f.0.0 ∙ h.0.0,
+        f.0.1 ∙ h.0.1,
+        f.0.2 ∙ h.0.2,
+        λ honest. f.0.3 honest
+            ∙ subst (λ key. SameElsewhere key (S.held (store_behind b)) (S.held (store_behind c)))
+            (sym f.0.1) (h.0.3 (subst (λ b. IsTrue b) f.0.2 honest)),
+      ),
+      kept_on f.1 h.1,
     ) };
 }

@@ -1,11 +1,9 @@
-//! A program that runs commands from standard input, one a line, and writes an answer to each.
+//! The program: runs commands from standard input, one a line, and writes an answer to each.
 #![tactic(auto)]
 
-mod program;
-
-use program::run_program;
 use std::process::ExitCode;
+use zarr_run_start::run_program;
 
 fn main(rt: HostRuntime) -> ExitCode {
-    run_program(rt.alloc(), rt.stdin(), &mut rt.stdout(), &mut rt.stderr())
+    run_program(&rt, rt.stdin(), &mut rt.stdout(), &mut rt.stderr())
 }
