@@ -28,6 +28,7 @@ const USAGE: u8 = 2;
 
 /// What is said of a word that isn't UTF-8, as `clap` says it.
 const NO_TEXT: &str = "error: invalid UTF-8 was detected in one or more arguments\n\n\
+Usage: zarr_run [OPTIONS]\n\n\
 For more information, try '--help'.\n";
 
 /// Runs the program by the words that it was started with. A word that isn't UTF-8 ends it with

@@ -6,9 +6,7 @@ ghost use Rattle.zarr_run_words.specs.CommandLines.{program, root_rule, second_r
 use clap::{Arg, ArgAction, Command};
 use std::alloc::{AllocError, Global};
 
-const ABOUT: &str =
-    "Keeps arrays in the Zarr format. Reads one command per line of standard input, \
-as a JSON object, and prints the answer to each on a line of its own";
+const ABOUT: &str = "Keeps Zarr arrays: reads commands as lines of JSON and answers each";
 
 fn root<'a>(alloc: Global) -> Arg<'a>
     ensures rule { rule_of result ≡ root_rule }
@@ -17,7 +15,7 @@ fn root<'a>(alloc: Global) -> Arg<'a>
     Arg::new(alloc, "root")
         .long("root")
         .value_name("DIR")
-        .help("Keep the arrays in this folder; without it, in memory until the program ends")
+        .help("Keep the arrays in this folder, not in memory")
         .action(ArgAction::Set)
 }
 
