@@ -16,6 +16,16 @@ fn answer(alloc: Global, line: &str) -> Result<String> {
     chains::answer(alloc, name, rest)
 }
 
+/// The line that answers the call of a line: what it gives, or how it failed.
+fn answer_line(alloc: Global, line: &str) -> Result<String> {
+    let mut text = match answer(alloc, line) {
+        Ok(text) => text,
+        Err(error) => format!(in alloc; "failed: {error}")?,
+    };
+    text.push_str("\n")?;
+    Ok(text)
+}
+
 /// Reads all lines of a reader, and answers each of them.
 pub(crate) fn answer_lines<R: Read + Drop, W: Write>(
     alloc: Global,
@@ -24,8 +34,7 @@ pub(crate) fn answer_lines<R: Read + Drop, W: Write>(
 ) -> Result<()> {
     let text = read_to_string(alloc, reader)?;
     for line in text.as_str().lines() {
-        writer.write_all(answer(alloc, line)?.as_bytes())?;
-        writer.write_all(b"\n")?;
+        writer.write_all(answer_line(alloc, line)?.as_bytes())?;
     }
     writer.flush()?;
     Ok(())

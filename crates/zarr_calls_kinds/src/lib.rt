@@ -23,7 +23,8 @@ pub mod words;
 
 pub use arrays::{Array, array_in};
 pub use byte_codecs::TestCodec;
+pub use counting_source::CountingSource;
 pub use elements::{given_in, json};
 pub use kinds::{answer, answer_of_chain};
-pub use parts::{Places, places_in};
-pub use sources::{source_in, value_of};
+pub use parts::{Places, left, left_by, places_in, put_or_not};
+pub use sources::counting_in;

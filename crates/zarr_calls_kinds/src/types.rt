@@ -91,10 +91,12 @@ fn written_fill(alloc: Global, rest: &str) -> Result<String> {
     }
 }
 
+/// How a fill value is written, which is equal to its copy.
 fn fill_text(alloc: Global, data_type: &DataType, fill: &FillValue) -> Result<String> {
-    match fill.to_metadata(alloc, data_type)? {
-        Some(written) => Ok(written.to_string(alloc)?),
-        None => word(alloc, "none"),
+    let copy = fill.try_clone(alloc)?;
+    match copy.to_metadata(alloc, data_type)? {
+        Some(written) if copy == *fill => Ok(written.to_string(alloc)?),
+        _ => word(alloc, "none"),
     }
 }
 
