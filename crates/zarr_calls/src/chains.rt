@@ -2,7 +2,7 @@
 use crate::{decoders, states};
 use anyhow::Result;
 use std::alloc::Global;
-use zarr_calls_kinds::words::{cut, metadatas_in, refused, texts_of};
+use zarr_calls_grids::words::{cut, metadatas_in, refused, texts_of};
 use zarr_calls_kinds::{TestCodec, answer_of_chain};
 use zarr_sharding_arrays::ArrayChain;
 

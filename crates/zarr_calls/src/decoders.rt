@@ -2,7 +2,7 @@
 use crate::steps::{TakesSteps, take_all};
 use anyhow::{Context, Result, bail};
 use std::alloc::Global;
-use zarr_calls_kinds::words::{
+use zarr_calls_grids::words::{
     bytes_in, counted, cut, digits, numbers_in, push_word, refused, word,
 };
 use zarr_calls_kinds::{

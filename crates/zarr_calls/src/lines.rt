@@ -7,6 +7,9 @@ use std::io::{Read, Write, read_to_string};
 /// What the call of a line gives.
 fn answer(alloc: Global, line: &str) -> Result<String> {
     let (name, rest) = line.split_once(' ').context("a call has no argument")?;
+    if let Some(answer) = zarr_calls_grids::answer(alloc, name, rest) {
+        return answer;
+    }
     if let Some(answer) = zarr_calls_kinds::answer(alloc, name, rest) {
         return answer;
     }

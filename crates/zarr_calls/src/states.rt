@@ -2,7 +2,7 @@
 use crate::steps::{TakesSteps, take_all};
 use anyhow::{Context, Result, bail};
 use std::alloc::Global;
-use zarr_calls_kinds::words::{cut, push_word, refused, word};
+use zarr_calls_grids::words::{cut, push_word, refused, word};
 use zarr_calls_kinds::{
     Array, CountingSource, TestCodec, array_in, counting_in, given_in, json, left, left_by,
     places_in,

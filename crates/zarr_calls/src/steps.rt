@@ -1,7 +1,7 @@
 //! Steps that are taken over a shard, one after another.
 use anyhow::{Result, bail};
 use std::alloc::Global;
-use zarr_calls_kinds::words::push_word;
+use zarr_calls_grids::words::push_word;
 
 /// What takes steps, each of which a text says.
 pub(crate) trait TakesSteps {

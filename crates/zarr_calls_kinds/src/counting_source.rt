@@ -29,6 +29,16 @@ impl CountingSource {
         self.calls = self.calls.wrapping_add(1);
         self.calls == self.refuses
     }
+
+    /// Counts a call that wrote, where it is done.
+    fn count_write(&mut self, is_done: bool)
+        ensures inner { self.new.inner ≡ self.old.inner }
+        ensures refused { self.new.refused ≡ self.old.refused }
+    {
+        if is_done {
+            self.writes = self.writes.wrapping_add(1);
+        }
+    }
 }
 
 /// How many bytes ranges have together.
@@ -113,7 +123,7 @@ impl BytesPartialEncoderTraits for CountingSource {
             return Err(CodecError::Source);
         }
         let done = self.inner.partial_encode(alloc, patches);
-        self.writes = self.writes.wrapping_add(u64::from(done.is_ok()));
+        self.count_write(done.is_ok());
         done
     }
 
@@ -123,7 +133,7 @@ impl BytesPartialEncoderTraits for CountingSource {
             return Err(CodecError::Source);
         }
         let done = self.inner.set(value);
-        self.writes = self.writes.wrapping_add(u64::from(done.is_ok()));
+        self.count_write(done.is_ok());
         done
     }
 
@@ -133,7 +143,7 @@ impl BytesPartialEncoderTraits for CountingSource {
             return Err(CodecError::Source);
         }
         let done = self.inner.erase();
-        self.writes = self.writes.wrapping_add(u64::from(done.is_ok()));
+        self.count_write(done.is_ok());
         done
     }
 

@@ -3,9 +3,11 @@ use crate::arrays::{Array, array_in};
 use crate::counting_source::CountingSource;
 use crate::elements::{given_in, json};
 use crate::sources::{counting_in, value_of};
-use crate::words::{box_in, bytes_in, counted, cut, digits, numbers_in, push_word, refused, word};
-use anyhow::{Result, bail};
+use anyhow::{Context, Result};
 use std::alloc::Global;
+use zarr_calls_grids::words::{
+    box_in, bytes_in, counted, cut, digits, numbers_in, push_word, refused, word,
+};
 use zarr_codecs_arrays::{ArrayBytes, CodecError};
 use zarr_codecs_coders::{CodecPartialDecoder, CodecPartialEncoder};
 use zarr_codecs_options::CodecOptions;
@@ -50,11 +52,12 @@ impl Places {
 
 /// The places of an argument: `box` and a list of pairs, or `places` and a list of numbers.
 pub fn places_in(alloc: Global, text: &str) -> Result<Places> {
-    match text.split_once(' ') {
-        Some(("box", pairs)) => Ok(Places::Region(box_in(alloc, pairs)?)),
-        Some(("places", numbers)) => Ok(Places::Numbers(numbers_in(alloc, numbers)?)),
-        _ => bail!("an argument has no places"),
+    if let Some(pairs) = text.strip_prefix("box ") {
+        return Ok(Places::Region(box_in(alloc, pairs)?));
     }
+    let numbers = text.strip_prefix("places ");
+    let numbers = numbers.context("an argument has no places")?;
+    Ok(Places::Numbers(numbers_in(alloc, numbers)?))
 }
 
 /// An array, and places of it.

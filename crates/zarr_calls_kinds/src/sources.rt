@@ -1,8 +1,8 @@
 //! Values in sources.
 use crate::counting_source::CountingSource;
-use crate::words::{bytes_in, cut, digits, number_in, word};
 use anyhow::Result;
 use std::alloc::Global;
+use zarr_calls_grids::words::{bytes_in, cut, digits, number_in, word};
 use zarr_codecs_arrays::CodecError;
 use zarr_codecs_traits::{BytesPartialEncoderTraits, MemorySource, ValuePatch};
 
