@@ -26,8 +26,8 @@ struct Kept<'a, I: ArrayToBytesCodecTraits, X: ArrayToBytesCodecTraits> {
 /// source was asked for.
 pub(crate) fn answer(alloc: Global, chain: &ArrayChain<TestCodec>, rest: &str) -> Result<String> {
     match chain {
-        ArrayChain::Sharded(chain) => kept(alloc, chain.sharding_codec(), rest),
-        ArrayChain::Nested(chain) => kept(alloc, chain.sharding_codec(), rest),
+        ArrayChain::Sharded(chain) => over_shard(alloc, chain.sharding_codec(), rest),
+        ArrayChain::Nested(chain) => over_shard(alloc, chain.sharding_codec(), rest),
         ArrayChain::Plain(_) => bail!("a chain has no shard"),
     }
 }
@@ -49,7 +49,7 @@ fn open<'a, I: ArrayToBytesCodecTraits, X: ArrayToBytesCodecTraits>(
 }
 
 /// What steps give over the shard of an array.
-fn kept<I: ArrayToBytesCodecTraits, X: ArrayToBytesCodecTraits>(
+fn over_shard<I: ArrayToBytesCodecTraits, X: ArrayToBytesCodecTraits>(
     alloc: Global,
     codec: &ShardingCodec<I, X>,
     rest: &str,
@@ -57,10 +57,10 @@ fn kept<I: ArrayToBytesCodecTraits, X: ArrayToBytesCodecTraits>(
     let (array, rest) = array_in(alloc, rest)?;
     let (value, steps) = cut(rest)?;
     let source = counting_in(alloc, value)?;
-    kept_of(alloc, codec, &array, source, steps)
+    over_source(alloc, codec, &array, source, steps)
 }
 
-fn kept_of<I: ArrayToBytesCodecTraits, X: ArrayToBytesCodecTraits>(
+fn over_source<I: ArrayToBytesCodecTraits, X: ArrayToBytesCodecTraits>(
     alloc: Global,
     codec: &ShardingCodec<I, X>,
     array: &Array,
