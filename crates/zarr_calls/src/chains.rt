@@ -1,8 +1,8 @@
 //! The chains that arrays have.
-use crate::states;
+use crate::{decoders, states};
 use anyhow::Result;
 use std::alloc::Global;
-use zarr_calls_kinds::words::{cut, metadatas_in, refused, texts_of};
+use zarr_calls_grids::words::{cut, metadatas_in, refused, texts_of};
 use zarr_calls_kinds::{TestCodec, answer_of_chain};
 use zarr_sharding_arrays::ArrayChain;
 
@@ -13,10 +13,11 @@ pub(crate) fn answer(alloc: Global, name: &str, rest: &str) -> Result<String> {
     }
     let (codecs, rest) = cut(rest)?;
     let chain = chain_in(alloc, codecs)?;
-    if name == "state" {
-        return states::answer(alloc, &chain, rest);
+    match name {
+        "state" => states::answer(alloc, &chain, rest),
+        "decoder" | "index" => decoders::answer(alloc, &chain, name, rest),
+        _ => answer_of_chain(alloc, &chain, name, rest),
     }
-    answer_of_chain(alloc, &chain, name, rest)
 }
 
 /// The chain of a JSON list of codecs.

@@ -3,8 +3,8 @@ use anyhow::{Context, Result};
 use serde_json::Value;
 use std::alloc::Global;
 use zarr_array_metadata::{ArrayDocument, read_document, written_document};
+use zarr_calls_grids::words::{cut, numbers, numbers_in, refused, texts_of, word};
 use zarr_calls_kinds::TestCodec;
-use zarr_calls_kinds::words::{cut, numbers, numbers_in, refused, texts_of, word};
 use zarr_codecs_arrays::Elements;
 use zarr_grids_chunk_grids::ChunkGridTraits;
 

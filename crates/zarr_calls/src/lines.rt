@@ -7,6 +7,9 @@ use std::io::{Read, Write, read_to_string};
 /// What the call of a line gives.
 fn answer(alloc: Global, line: &str) -> Result<String> {
     let (name, rest) = line.split_once(' ').context("a call has no argument")?;
+    if let Some(answer) = zarr_calls_grids::answer(alloc, name, rest) {
+        return answer;
+    }
     if let Some(answer) = zarr_calls_kinds::answer(alloc, name, rest) {
         return answer;
     }
@@ -14,6 +17,16 @@ fn answer(alloc: Global, line: &str) -> Result<String> {
         return answer;
     }
     chains::answer(alloc, name, rest)
+}
+
+/// The line that answers the call of a line: what it gives, or how it failed.
+fn answer_line(alloc: Global, line: &str) -> Result<String> {
+    let mut text = match answer(alloc, line) {
+        Ok(text) => text,
+        Err(error) => format!(in alloc; "failed: {error}")?,
+    };
+    text.push_str("\n")?;
+    Ok(text)
 }
 
 /// Reads all lines of a reader, and answers each of them.
@@ -24,8 +37,7 @@ pub(crate) fn answer_lines<R: Read + Drop, W: Write>(
 ) -> Result<()> {
     let text = read_to_string(alloc, reader)?;
     for line in text.as_str().lines() {
-        writer.write_all(answer(alloc, line)?.as_bytes())?;
-        writer.write_all(b"\n")?;
+        writer.write_all(answer_line(alloc, line)?.as_bytes())?;
     }
     writer.flush()?;
     Ok(())

@@ -5,9 +5,11 @@
 #![tactic(auto)]
 
 mod chains;
+mod decoders;
 mod documents;
 mod lines;
 mod states;
+mod steps;
 
 fn main(rt: HostRuntime) -> anyhow::Result<()> {
     lines::answer_lines(rt.alloc(), rt.stdin(), &mut rt.stdout())

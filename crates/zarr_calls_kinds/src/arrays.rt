@@ -2,9 +2,9 @@
 use crate::elements::{given_in, json};
 use crate::raw::raw;
 use crate::types::elements_in;
-use crate::words::{bytes_in, cut, digits, numbers_in, refused, word};
 use anyhow::Result;
 use std::alloc::Global;
+use zarr_calls_grids::words::{bytes_in, cut, digits, numbers_in, refused, word};
 use zarr_codecs_arrays::{ArrayBytes, CodecError, Elements};
 use zarr_codecs_options::CodecOptions;
 use zarr_codecs_traits::ArrayToBytesCodecTraits;

@@ -1,4 +1,4 @@
-//! A source that counts calls.
+//! A source that counts its calls, and refuses one of them.
 ghost use Rattle.std.specs.Prelude.{◌≡◌};
 
 use std::alloc::Global;
@@ -7,13 +7,38 @@ use zarr_codecs_traits::{
     ByteRange, BytesPartialDecoderTraits, BytesPartialEncoderTraits, MemorySource, ValuePatch,
 };
 
-/// A source in memory that counts the calls that read and write, and the bytes that it gave.
+/// A source in memory that counts its calls, those among them that give bytes, these bytes, and the
+/// calls that write. It refuses the call with a number, counted from 1.
 #[derive(Drop)]
-pub(crate) struct CountingSource {
+pub struct CountingSource {
     pub inner: MemorySource,
+    pub calls: u64,
     pub reads: u64,
     pub given: u64,
     pub writes: u64,
+    pub refuses: u64,
+    pub refused: u128,
+}
+
+impl CountingSource {
+    /// Counts a call, and tells whether it is refused.
+    fn refuses_call(&mut self) -> bool
+        ensures inner { self.new.inner ≡ self.old.inner }
+        ensures refused { self.new.refused ≡ self.old.refused }
+    {
+        self.calls = self.calls.wrapping_add(1);
+        self.calls == self.refuses
+    }
+
+    /// Counts a call that wrote, where it is done.
+    fn count_write(&mut self, is_done: bool)
+        ensures inner { self.new.inner ≡ self.old.inner }
+        ensures refused { self.new.refused ≡ self.old.refused }
+    {
+        if is_done {
+            self.writes = self.writes.wrapping_add(1);
+        }
+    }
 }
 
 /// How many bytes ranges have together.
@@ -34,7 +59,7 @@ impl BytesPartialDecoderTraits for CountingSource {
 
     ghost is_honest = { λ _. true };
 
-    ghost refused_calls = { λ _. 0 };
+    ghost refused_calls = { λ s. s.refused };
 
     ghost given_bytes = { λ s. source_given s.inner };
 
@@ -44,6 +69,10 @@ impl BytesPartialDecoderTraits for CountingSource {
     ghost held_bytes = { λ s. source_length s.inner };
 
     fn size(&mut self) -> Result<Option<u64>, CodecError> {
+        if self.refuses_call() {
+            self.refused = self.refused.saturating_add(1);
+            return Err(CodecError::Source);
+        }
         self.inner.size()
     }
 
@@ -52,6 +81,10 @@ impl BytesPartialDecoderTraits for CountingSource {
         alloc: Global,
         ranges: &[ByteRange],
     ) -> Result<Option<Vec<Vec<u8>>>, CodecError> {
+        if self.refuses_call() {
+            self.refused = self.refused.saturating_add(1);
+            return Err(CodecError::Source);
+        }
         self.reads = self.reads.wrapping_add(1);
         self.given = self.given.wrapping_add(total_length(ranges));
         self.inner.partial_decode(alloc, ranges)
@@ -85,18 +118,33 @@ impl BytesPartialEncoderTraits for CountingSource {
         alloc: Global,
         patches: &[ValuePatch<'_>],
     ) -> Result<(), CodecError> {
-        self.writes = self.writes.wrapping_add(1);
-        self.inner.partial_encode(alloc, patches)
+        if self.refuses_call() {
+            self.refused = self.refused.saturating_add(1);
+            return Err(CodecError::Source);
+        }
+        let done = self.inner.partial_encode(alloc, patches);
+        self.count_write(done.is_ok());
+        done
     }
 
     fn set(&mut self, value: Vec<u8>) -> Result<(), CodecError> {
-        self.writes = self.writes.wrapping_add(1);
-        self.inner.set(value)
+        if self.refuses_call() {
+            self.refused = self.refused.saturating_add(1);
+            return Err(CodecError::Source);
+        }
+        let done = self.inner.set(value);
+        self.count_write(done.is_ok());
+        done
     }
 
     fn erase(&mut self) -> Result<(), CodecError> {
-        self.writes = self.writes.wrapping_add(1);
-        self.inner.erase()
+        if self.refuses_call() {
+            self.refused = self.refused.saturating_add(1);
+            return Err(CodecError::Source);
+        }
+        let done = self.inner.erase();
+        self.count_write(done.is_ok());
+        done
     }
 
     ghost reads = { λ _ _ _. tt };

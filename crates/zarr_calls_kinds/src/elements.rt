@@ -1,9 +1,9 @@
 //! Elements of data types: as JSON, by their bytes, and as many fill values.
 use crate::raw::{raw, raw_in};
 use crate::types::{elements_in, type_in};
-use crate::words::{cut, list_in, number_in, numbers, numbers_in, refused, truth, word};
 use anyhow::{Context, Result};
 use std::alloc::Global;
+use zarr_calls_grids::words::{cut, list_in, number_in, numbers, numbers_in, refused, truth, word};
 use zarr_codecs_arrays::{ArrayBytes, ArrayBytesOffsets, Elements};
 use zarr_codecs_json::{Printed, push_elements};
 use zarr_codecs_types::DataType;

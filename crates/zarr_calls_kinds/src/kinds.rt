@@ -1,20 +1,12 @@
 //! Calls by their names.
-use crate::{arrays, elements, grids, keys, metadata, parts, shapes, sources, telling, types};
+use crate::{arrays, elements, parts, shapes, sources, telling, types};
 use anyhow::{Result, bail};
 use std::alloc::Global;
 use zarr_codecs_traits::ArrayToBytesCodecTraits;
 
-/// What a call gives that is of no chain, or `None` where the name is that of no such call.
+/// What a call of types, elements, shapes or sources gives, or `None` where the name is that of no
+/// such call.
 pub fn answer(alloc: Global, name: &str, rest: &str) -> Option<Result<String>> {
-    if let Some(answer) = metadata::answer(alloc, name, rest) {
-        return Some(answer);
-    }
-    if let Some(answer) = keys::answer(alloc, name, rest) {
-        return Some(answer);
-    }
-    if let Some(answer) = grids::answer(alloc, name, rest) {
-        return Some(answer);
-    }
     if let Some(answer) = types::answer(alloc, name, rest) {
         return Some(answer);
     }

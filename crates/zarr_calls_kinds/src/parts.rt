@@ -3,14 +3,16 @@ use crate::arrays::{Array, array_in};
 use crate::counting_source::CountingSource;
 use crate::elements::{given_in, json};
 use crate::sources::{counting_in, value_of};
-use crate::words::{box_in, counted, cut, digits, numbers_in, push_word, refused, word};
-use anyhow::{Result, bail};
+use anyhow::{Context, Result};
 use std::alloc::Global;
+use zarr_calls_grids::words::{
+    box_in, bytes_in, counted, cut, digits, numbers_in, push_word, refused, word,
+};
 use zarr_codecs_arrays::{ArrayBytes, CodecError};
 use zarr_codecs_coders::{CodecPartialDecoder, CodecPartialEncoder};
 use zarr_codecs_options::CodecOptions;
 use zarr_codecs_traits::{
-    ArrayPart, ArrayToBytesCodecTraits, Indexer, ValuePatch, ValuePatches, WholeArray,
+    ArrayPart, ArrayToBytesCodecTraits, Indexer, TargetBytes, ValuePatch, ValuePatches, WholeArray,
 };
 use zarr_codecs_types::DataType;
 use zarr_grids_boxes::ArraySubset;
@@ -24,6 +26,7 @@ pub(crate) fn answer<C: ArrayToBytesCodecTraits>(
 ) -> Option<Result<String>> {
     match name {
         "read" => Some(read(alloc, chain, rest)),
+        "into" => Some(into(alloc, chain, rest)),
         "put" => Some(put(alloc, chain, rest)),
         "patches" => Some(patches(alloc, chain, rest)),
         _ => None,
@@ -49,11 +52,12 @@ impl Places {
 
 /// The places of an argument: `box` and a list of pairs, or `places` and a list of numbers.
 pub fn places_in(alloc: Global, text: &str) -> Result<Places> {
-    match text.split_once(' ') {
-        Some(("box", pairs)) => Ok(Places::Region(box_in(alloc, pairs)?)),
-        Some(("places", numbers)) => Ok(Places::Numbers(numbers_in(alloc, numbers)?)),
-        _ => bail!("an argument has no places"),
+    if let Some(pairs) = text.strip_prefix("box ") {
+        return Ok(Places::Region(box_in(alloc, pairs)?));
     }
+    let numbers = text.strip_prefix("places ");
+    let numbers = numbers.context("an argument has no places")?;
+    Ok(Places::Numbers(numbers_in(alloc, numbers)?))
 }
 
 /// An array, and places of it.
@@ -93,16 +97,19 @@ fn whole(part: &Part) -> WholeArray<'_> {
     }
 }
 
-/// The cells of a part, by the decoder of its array.
+/// The cells of a part, by the decoder of its array, which is asked once more where memory ran out.
 fn cells_of<C: ArrayToBytesCodecTraits>(
     alloc: Global,
     chain: &C,
     part: &Part,
     source: &mut CountingSource,
 ) -> Result<ArrayBytes, CodecError> {
-    let options = CodecOptions::default();
+    let (options, asked) = (CodecOptions::default(), part.places.indexer());
     let mut decoder = CodecPartialDecoder::new(chain, source, whole(part));
-    decoder.partial_decode(alloc, part.places.indexer(), &options)
+    match decoder.partial_decode(alloc, asked, &options) {
+        Err(CodecError::Memory) => decoder.partial_decode(alloc, asked, &options),
+        said => said,
+    }
 }
 
 /// The cells at places that are read of a value, how many calls read it, and how many bytes these
@@ -138,17 +145,22 @@ fn told(
     Ok(format!(in alloc; "{cells} of {bytes} by {calls}")?)
 }
 
-/// Puts cells at the places of a part, by the encoder of its array.
+/// Puts cells at the places of a part, by the encoder of its array, which is asked once more where
+/// memory ran out.
 fn put_cells<C: ArrayToBytesCodecTraits>(
     alloc: Global,
     chain: &C,
     part: &Part,
     source: &mut CountingSource,
-    cells: ArrayBytes,
+    cells: (ArrayBytes, ArrayBytes),
 ) -> Result<(), CodecError> {
-    let options = CodecOptions::default();
+    let (options, places) = (CodecOptions::default(), part.places.indexer());
+    let (cells, again) = cells;
     let mut encoder = CodecPartialEncoder::new(chain, source, whole(part));
-    encoder.partial_encode(alloc, part.places.indexer(), cells, &options)
+    match encoder.partial_encode(alloc, places, cells, &options) {
+        Err(CodecError::Memory) => encoder.partial_encode(alloc, places, again, &options),
+        said => said,
+    }
 }
 
 /// The value once cells are put at places, how many calls wrote it, how many bytes were read to do
@@ -167,15 +179,16 @@ fn put_into<C: ArrayToBytesCodecTraits>(
     cells: ArrayBytes,
     value: &str,
 ) -> Result<String> {
+    let again = cells.try_clone(alloc)?;
     let mut source = counting_in(alloc, value)?;
-    match put_cells(alloc, chain, part, &mut source, cells) {
+    match put_cells(alloc, chain, part, &mut source, (cells, again)) {
         Ok(()) => left(alloc, source),
         Err(error) => left_by(alloc, &error, source),
     }
 }
 
 /// What a source holds, and what it was asked for.
-fn left(alloc: Global, source: CountingSource) -> Result<String> {
+pub fn left(alloc: Global, source: CountingSource) -> Result<String> {
     let writes = counted(alloc, source.writes, "call")?;
     let bytes = counted(alloc, source.given, "byte")?;
     let reads = counted(alloc, source.reads, "call")?;
@@ -184,9 +197,66 @@ fn left(alloc: Global, source: CountingSource) -> Result<String> {
 }
 
 /// The same after a refusal.
-fn left_by(alloc: Global, error: &CodecError, source: CountingSource) -> Result<String> {
+pub fn left_by(alloc: Global, error: &CodecError, source: CountingSource) -> Result<String> {
     let left = left(alloc, source)?;
     Ok(format!(in alloc; "refused {error:?}: {left}")?)
+}
+
+/// Puts cells, of a byte each, over all bytes but the first and the last one.
+fn put_over<C: ArrayToBytesCodecTraits>(
+    alloc: Global,
+    decoder: &mut CodecPartialDecoder<'_, C, CountingSource>,
+    places: &Places,
+    bytes: &mut [u8],
+) -> Result<(), CodecError> {
+    let shape = [bytes.len() as u64];
+    let region = ArraySubset::new_with_ranges(alloc, &[1..shape[0].saturating_sub(1)])?;
+    let mut target = TargetBytes {
+        bytes,
+        shape: &shape,
+        region: &region,
+        width: 1,
+    };
+    decoder.partial_decode_into(
+        alloc,
+        places.indexer(),
+        &mut target,
+        &CodecOptions::default(),
+    )
+}
+
+/// Some bytes once cells are put over those inside, by a decoder that is asked once more where
+/// memory ran out and left them.
+fn put_over_at_last<C: ArrayToBytesCodecTraits>(
+    alloc: Global,
+    decoder: &mut CodecPartialDecoder<'_, C, CountingSource>,
+    places: &Places,
+    text: &str,
+) -> Result<String> {
+    let (old, mut bytes) = (bytes_in(alloc, text)?, bytes_in(alloc, text)?);
+    let mut done = put_over(alloc, decoder, places, bytes.as_mut_slice());
+    if matches!(done, Err(CodecError::Memory)) && bytes.as_slice() == old.as_slice() {
+        done = put_over(alloc, decoder, places, bytes.as_mut_slice());
+    }
+    put_or_not(alloc, bytes.as_slice(), done)
+}
+
+/// Bytes that cells were put over, or not.
+pub fn put_or_not(alloc: Global, bytes: &[u8], done: Result<(), CodecError>) -> Result<String> {
+    let bytes = digits(alloc, bytes)?;
+    match done {
+        Ok(()) => Ok(bytes),
+        Err(error) => Ok(format!(in alloc; "refused {error:?}: {bytes}")?),
+    }
+}
+
+/// Some bytes once the cells of a part of a value are put over those inside.
+fn into<C: ArrayToBytesCodecTraits>(alloc: Global, chain: &C, rest: &str) -> Result<String> {
+    let (part, rest) = part_in(alloc, rest)?;
+    let (value, bytes) = cut(rest)?;
+    let mut source = counting_in(alloc, value)?;
+    let mut decoder = CodecPartialDecoder::new(chain, &mut source, whole(&part));
+    put_over_at_last(alloc, &mut decoder, &part.places, bytes)
 }
 
 /// What is written for cells at the places of a part.

@@ -3,9 +3,9 @@
 //! Elements of one size are written as hexadecimal digits; elements of variable length as those of
 //! the joined bytes, a space and the list of the offsets; optional elements as those of the values,
 //! ` mask ` and those of the mask.
-use crate::words::{bytes_in, digits, numbers_in};
 use anyhow::{Context, Result, bail};
 use std::alloc::Global;
+use zarr_calls_grids::words::{bytes_in, digits, numbers_in};
 use zarr_codecs_arrays::{ArrayBytes, ArrayBytesOffsets};
 
 /// The elements of a text.

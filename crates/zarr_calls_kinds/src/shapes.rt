@@ -1,7 +1,7 @@
 //! Shapes that codecs between arrays give.
-use crate::words::{cut, metadata_in, numbers, numbers_in, refused, word};
 use anyhow::Result;
 use std::alloc::Global;
+use zarr_calls_grids::words::{cut, metadata_in, numbers, numbers_in, refused, word};
 use zarr_codecs_array_to_array::ArrayToArrayCodec;
 use zarr_codecs_traits::ArrayToArrayCodecTraits;
 

@@ -1,8 +1,8 @@
 //! Values in sources.
 use crate::counting_source::CountingSource;
-use crate::words::{bytes_in, cut, digits, number_in, word};
 use anyhow::Result;
 use std::alloc::Global;
+use zarr_calls_grids::words::{bytes_in, cut, digits, number_in, word};
 use zarr_codecs_arrays::CodecError;
 use zarr_codecs_traits::{BytesPartialEncoderTraits, MemorySource, ValuePatch};
 
@@ -15,7 +15,7 @@ pub(crate) fn answer(alloc: Global, name: &str, rest: &str) -> Option<Result<Str
 }
 
 /// The source of a value, or of `none`.
-pub fn source_in(alloc: Global, text: &str) -> Result<MemorySource> {
+pub(crate) fn source_in(alloc: Global, text: &str) -> Result<MemorySource> {
     let value = match text {
         "none" => None,
         _ => Some(bytes_in(alloc, text)?),
@@ -23,18 +23,25 @@ pub fn source_in(alloc: Global, text: &str) -> Result<MemorySource> {
     Ok(MemorySource::new(value))
 }
 
-/// The same as a source that counts calls.
-pub(crate) fn counting_in(alloc: Global, text: &str) -> Result<CountingSource> {
+/// The same as a source that counts calls, and refuses one where its number is behind the value.
+pub fn counting_in(alloc: Global, text: &str) -> Result<CountingSource> {
+    let (value, refuses) = match text.split_once(" refusing ") {
+        Some((value, number)) => (value, number_in(number)?),
+        None => (text, 0),
+    };
     Ok(CountingSource {
-        inner: source_in(alloc, text)?,
+        inner: source_in(alloc, value)?,
+        calls: 0,
         reads: 0,
         given: 0,
         writes: 0,
+        refuses,
+        refused: 0,
     })
 }
 
 /// The value of a source, or `none`.
-pub fn value_of(alloc: Global, source: MemorySource) -> Result<String> {
+pub(crate) fn value_of(alloc: Global, source: MemorySource) -> Result<String> {
     match source.into_value() {
         Some(value) => digits(alloc, value.as_slice()),
         None => word(alloc, "none"),

@@ -1,8 +1,8 @@
 //! What chains tell of arrays.
 use crate::types::type_in;
-use crate::words::{cut, numbers_in, refused, truth};
 use anyhow::Result;
 use std::alloc::Global;
+use zarr_calls_grids::words::{cut, numbers_in, refused, truth};
 use zarr_codecs_traits::ArrayToBytesCodecTraits;
 use zarr_codecs_types::DataType;
 

@@ -1,8 +1,8 @@
 //! Data types and fill values.
-use crate::words::{bytes_in, cut, refused, truth, word};
 use anyhow::{Context, Result};
 use serde_json::Value;
 use std::alloc::Global;
+use zarr_calls_grids::words::{bytes_in, cut, refused, truth, word};
 use zarr_codecs_arrays::Elements;
 use zarr_codecs_types::{Cell, Component, DataType, FillValue, Sign, is_value};
 
@@ -38,15 +38,21 @@ fn component_of(number: &Value) -> Option<Component> {
     let [width, byte_count, is_signed] = number.as_array()?.as_slice() else {
         return None;
     };
+    let (width, byte_count) = (width.as_u64()? as usize, byte_count.as_u64()? as usize);
+    let sign = sign_of(is_signed.as_bool()?);
     Some(Component {
-        width: width.as_u64()? as usize,
-        byte_count: byte_count.as_u64()? as usize,
-        sign: if is_signed.as_bool()? {
-            Sign::Signed
-        } else {
-            Sign::Unsigned
-        },
+        width,
+        byte_count,
+        sign,
     })
+}
+
+fn sign_of(is_signed: bool) -> Sign {
+    if is_signed {
+        Sign::Signed
+    } else {
+        Sign::Unsigned
+    }
 }
 
 /// The fill value of a text.
@@ -91,10 +97,12 @@ fn written_fill(alloc: Global, rest: &str) -> Result<String> {
     }
 }
 
+/// How a fill value is written, which is equal to its copy.
 fn fill_text(alloc: Global, data_type: &DataType, fill: &FillValue) -> Result<String> {
-    match fill.to_metadata(alloc, data_type)? {
-        Some(written) => Ok(written.to_string(alloc)?),
-        None => word(alloc, "none"),
+    let copy = fill.try_clone(alloc)?;
+    match copy.to_metadata(alloc, data_type)? {
+        Some(written) if copy == *fill => Ok(written.to_string(alloc)?),
+        _ => word(alloc, "none"),
     }
 }
 

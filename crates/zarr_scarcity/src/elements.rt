@@ -1,8 +1,8 @@
-//! Elements and sources of the scripts, and what they are compared with.
+//! Elements of the scripts, and what they are compared with.
 
 use crate::stop::{Stop, expect};
 use std::alloc::Global;
-use zarr_codecs::{ArrayBytes, DataType, Elements, FillValue, MemorySource};
+use zarr_codecs::{ArrayBytes, DataType, Elements, FillValue};
 
 /// Elements of a type that fill with the bytes of a value.
 pub(crate) fn filled(alloc: Global, data_type: DataType, fill: &[u8]) -> Result<Elements, Stop> {
@@ -17,21 +17,5 @@ pub(crate) fn expect_fixed(elements: &ArrayBytes, want: &[u8]) -> Result<(), Sto
     match elements {
         ArrayBytes::Fixed(bytes) => expect(bytes.as_slice() == want),
         _ => Err(Stop::Other),
-    }
-}
-
-/// A source of a value.
-pub(crate) fn holding(alloc: Global, value: &[u8]) -> Result<MemorySource, Stop> {
-    Ok(MemorySource::new(Some(value.to_vec(alloc)?)))
-}
-
-/// Whether a source holds this value, and then a source of it.
-pub(crate) fn expect_held(source: MemorySource, want: &[u8]) -> Result<MemorySource, Stop> {
-    match source.into_value() {
-        Some(value) => {
-            expect(value.as_slice() == want)?;
-            Ok(MemorySource::new(Some(value)))
-        }
-        None => Err(Stop::Other),
     }
 }

@@ -1,32 +1,24 @@
 //! Scripts of calls in which any allocation may be refused.
 //!
-//! The first byte of standard input names the script: `g` for grids, `k` for keys and metadata, `d`
-//! for data types and fill values, `c` for chains of codecs, `m` for codecs that are made by their
-//! constructors, and elements, `h` for shards, `s` for a session's commands, `r` for these over
-//! stores that refuse each of their calls in turn, `l` for a session's lines. It prints `as stated`
-//! if each answer is the one with ample memory and an honest store, which is typed in here, or says
-//! that memory ran out or the store refused, and has made just the change that it says.
+//! The first byte of standard input names the script: `m` for types, codecs and shards that are
+//! made by their constructors, and elements, `s` for a session's commands, `r` for these over stores
+//! that refuse each of their calls in turn, `l` for a session's lines. It prints `as stated` if each
+//! answer is the one with ample memory and an honest store, which is typed in here, or says that
+//! memory ran out or the store refused, and has made just the change that it says.
 //!
 //! The program itself refuses nothing: `tools/refused_allocations` runs it over a C library's
-//! allocator that does.
+//! allocator that does, and so the calls of the repository.
 #![tactic(auto)]
 
-mod cases;
-mod codecs;
 mod elements;
-mod grids;
-mod keys;
 mod lines;
-mod lookups;
 mod made_codecs;
+mod made_shards;
+mod made_types;
 mod script;
-mod shards;
 mod steps;
 mod stop;
 mod tables;
-mod texts;
-mod types;
-mod values;
 
 use crate::stop::Stop;
 use std::alloc::Global;
@@ -42,15 +34,17 @@ fn read_letter<R: Read>(reader: &mut R) -> u8 {
     }
 }
 
+/// What is made by constructors.
+fn run_made(alloc: Global) -> Result<(), Stop> {
+    made_types::run(alloc)?;
+    made_codecs::run(alloc)?;
+    made_shards::run(alloc)
+}
+
 /// Runs the script with this letter.
 fn run(alloc: Global, script: u8) -> Result<(), Stop> {
     match script {
-        b'g' => grids::run(alloc),
-        b'k' => keys::run(alloc),
-        b'd' => types::run(alloc),
-        b'c' => codecs::run(alloc),
-        b'm' => made_codecs::run(alloc),
-        b'h' => shards::run(alloc),
+        b'm' => run_made(alloc),
         b's' => steps::run(alloc),
         b'r' => steps::run_over_refusals(alloc),
         b'l' => lines::run(alloc),

@@ -3,12 +3,7 @@
 use serde_json::Error;
 use std::alloc::{AllocError, AllocFailed};
 use zarr_codecs::CodecError;
-use zarr_codecs_types::{DataTypeError, FillValueError};
-use zarr_grids::{
-    ChunkShapeError, GridError, LookupError, PluginCreateError, RectangularChunkGridCreateError,
-    RectilinearChunkGridCreateError, RegularBoundedChunkGridCreateError,
-    RegularChunkGridCreateError,
-};
+use zarr_grids::{ChunkShapeError, PluginCreateError};
 use zarr_run::StorageError;
 
 /// Why a script did not come to its end.
@@ -46,57 +41,9 @@ impl<T: Drop> From<AllocFailed<T>> for Stop {
     }
 }
 
-impl From<LookupError> for Stop {
-    fn from(error: LookupError) -> Stop {
-        refused(matches!(error, LookupError::Memory(_)))
-    }
-}
-
-impl From<GridError> for Stop {
-    fn from(error: GridError) -> Stop {
-        refused(matches!(error, GridError::Memory))
-    }
-}
-
-impl From<RegularChunkGridCreateError> for Stop {
-    fn from(error: RegularChunkGridCreateError) -> Stop {
-        Stop::from(GridError::from(error))
-    }
-}
-
-impl From<RegularBoundedChunkGridCreateError> for Stop {
-    fn from(error: RegularBoundedChunkGridCreateError) -> Stop {
-        Stop::from(GridError::from(error))
-    }
-}
-
-impl From<RectangularChunkGridCreateError> for Stop {
-    fn from(error: RectangularChunkGridCreateError) -> Stop {
-        Stop::from(GridError::from(error))
-    }
-}
-
-impl From<RectilinearChunkGridCreateError> for Stop {
-    fn from(error: RectilinearChunkGridCreateError) -> Stop {
-        Stop::from(GridError::from(error))
-    }
-}
-
 impl From<PluginCreateError> for Stop {
     fn from(error: PluginCreateError) -> Stop {
         refused(matches!(error, PluginCreateError::Memory))
-    }
-}
-
-impl From<DataTypeError> for Stop {
-    fn from(error: DataTypeError) -> Stop {
-        refused(matches!(error, DataTypeError::Memory))
-    }
-}
-
-impl From<FillValueError> for Stop {
-    fn from(error: FillValueError) -> Stop {
-        refused(matches!(error, FillValueError::Memory))
     }
 }
 

@@ -1,10 +1,9 @@
 //! The arrays of the script and their cells, as they are expected.
 
-use crate::keys::store_key;
 use crate::script::{Asks, Line, applied_in, gives_cells, is_done, is_refused};
 use crate::stop::Stop;
 use std::alloc::Global;
-use zarr_run::{Cause, MemoryStore, ReadableStorageTraits, Reply};
+use zarr_run::{Cause, MemoryStore, ReadableStorageTraits, Reply, StoreKey};
 
 /// An array of the script: `/a`, of 4 by 4 in chunks of 2 by 2, with cells of one byte; or `/b/c`,
 /// of 3 in chunks of 2, with cells of two.
@@ -156,6 +155,14 @@ impl Tables {
             square: unheld(self.square),
             row: unheld(self.row),
         }
+    }
+}
+
+/// The store key that a text is.
+fn store_key(alloc: Global, text: &str) -> Result<StoreKey, Stop> {
+    match StoreKey::new(String::from_str(alloc, text)?) {
+        Ok(key) => Ok(key),
+        Err(_) => Err(Stop::Other),
     }
 }
 

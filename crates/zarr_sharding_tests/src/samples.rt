@@ -29,14 +29,6 @@ pub(crate) fn elements(alloc: Global, fill: u8) -> Result<Elements, CodecError> 
     }
 }
 
-/// Elements of the type uint16 that fill with 0.
-pub(crate) fn numbers(alloc: Global) -> Result<Elements, CodecError> {
-    match Elements::new(data_type::uint16(), FillValue::from_u16(alloc, 0)?) {
-        Some(elements) => Ok(elements),
-        None => Err(CodecError::Fit),
-    }
-}
-
 /// A shape that chunks may have.
 pub(crate) fn chunk_shape(alloc: Global, edges: &[u64]) -> Result<ChunkShape, CodecError> {
     match ChunkShape::new(edges.to_vec(alloc)?) {
@@ -96,14 +88,7 @@ pub(crate) const ONE_OF_FOUR: Value<'static> = Value {
     back: &[],
 };
 
-/// The same once 3 is put in the place of 5.
-pub(crate) const THREE_PUT: Value<'static> = Value {
-    front: &[5, 6, 7, 8, 3, 6, 7, 8],
-    pairs: &[NONE, NONE, 4, 4, NONE, NONE, NONE, NONE],
-    back: &[],
-};
-
-/// The first of these shards once 9 is put at the first place.
+/// The same once 9 is put at the first place.
 pub(crate) const NINE_PUT: Value<'static> = Value {
     front: &[5, 6, 7, 8, 9, 0, 0, 0],
     pairs: &[4, 4, 0, 4, NONE, NONE, NONE, NONE],
@@ -140,23 +125,14 @@ pub(crate) fn are(elements: &ArrayBytes, bytes: &[u8]) -> bool {
     }
 }
 
-/// What a codec makes of 16 cells in four rows.
-pub(crate) fn encoded<C: ArrayToBytesCodecTraits>(
-    alloc: Global,
-    codec: &C,
-    cells: [u8; 16],
-) -> Result<Vec<u8>, CodecError> {
-    let (given, elements) = (ArrayBytes::Fixed(cells.to_vec(alloc)?), elements(alloc, 0)?);
-    codec.encode(alloc, given, &elements, &[4, 4], &CodecOptions::default())
-}
-
-/// Whether it makes this value of them.
+/// Whether a codec makes this value of 16 cells in four rows.
 pub(crate) fn makes<C: ArrayToBytesCodecTraits>(
     alloc: Global,
     codec: &C,
     cells: [u8; 16],
     want: Value<'_>,
 ) -> Result<bool, CodecError> {
-    let made = encoded(alloc, codec, cells)?;
+    let (given, elements) = (ArrayBytes::Fixed(cells.to_vec(alloc)?), elements(alloc, 0)?);
+    let made = codec.encode(alloc, given, &elements, &[4, 4], &CodecOptions::default())?;
     Ok(made.as_slice() == bytes_of(alloc, want)?.as_slice())
 }

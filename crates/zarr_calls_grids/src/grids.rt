@@ -49,7 +49,7 @@ fn read(alloc: Global, rest: &str) -> Result<String> {
     let shape = numbers_in(alloc, shape)?;
     let metadata = metadata_in(alloc, text)?;
     match ChunkGrid::from_metadata(alloc, &metadata, shape.as_slice()) {
-        Ok(grid) => configured(alloc, &grid),
+        Ok(grid) => configured(alloc, &grid, shape.as_slice()),
         Err(error) => refused(alloc, &error),
     }
 }
@@ -64,7 +64,10 @@ fn members_of(alloc: Global, grid: &ChunkGrid) -> Result<Map<String, Value>, All
     }
 }
 
-fn configured(alloc: Global, grid: &ChunkGrid) -> Result<String> {
+fn configured(alloc: Global, grid: &ChunkGrid, shape: &[u64]) -> Result<String> {
+    if grid.array_shape(alloc)?.as_slice() != shape {
+        bail!("a grid is of another shape");
+    }
     let members = members_of(alloc, grid)?;
     let configuration = Value::Object(members).to_string(alloc)?;
     let counts = grid.grid_shape(alloc)?;
@@ -182,7 +185,8 @@ fn push_box(
     Ok(all.push_str(text_of(alloc, subset)?.as_str())?)
 }
 
-/// Each chunk of a grid, in the order of its walk.
+/// Each chunk of a grid, in the order of its walk. Where memory for one runs out, that is said in
+/// its place, and the walk goes on.
 fn walked(alloc: Global, rest: &str) -> Result<String> {
     let grid = grid_in(alloc, rest)?;
     let mut all = word(alloc, "chunks")?;
@@ -198,31 +202,34 @@ fn push_walk(alloc: Global, all: &mut String, grid: &ChunkGrid) -> Result<(), Al
     Ok(())
 }
 
-/// Appends a chunk, where memory was found for it.
+/// Appends a chunk, or that there was no memory for it.
 fn push_chunk(
     alloc: Global,
     all: &mut String,
     chunk: Result<ArrayIndices, AllocError>,
 ) -> Result<(), AllocError> {
-    push_numbers(alloc, all, chunk?.as_slice())
+    match chunk {
+        Ok(chunk) => push_numbers(alloc, all, chunk.as_slice()),
+        Err(_) => push_short(all),
+    }
+}
+
+/// Appends that memory ran out.
+fn push_short(all: &mut String) -> Result<(), AllocError> {
+    Ok(all.push_str(" out of memory")?)
 }
 
 /// How many boxes the chunks of a grid have.
 fn count_boxes(alloc: Global, grid: &ChunkGrid) -> Result<usize, AllocError> {
     let mut count = 0usize;
-    for subset in grid.iter_chunk_subsets(alloc)? {
-        count = count.saturating_add(count_box(subset)?);
+    for _ in grid.iter_chunk_subsets(alloc)? {
+        count = count.saturating_add(1);
     }
     Ok(count)
 }
 
-/// One, where memory was found for a box.
-fn count_box(subset: Result<ArraySubset, AllocError>) -> Result<usize, AllocError> {
-    let _subset = subset?;
-    Ok(1)
-}
-
-/// How many boxes the chunks of a grid have, and each chunk that has one with it.
+/// How many boxes the chunks of a grid have, and each chunk that has one with it. Where memory for
+/// one runs out, the walks go on as that over the chunks does.
 fn boxes(alloc: Global, rest: &str) -> Result<String> {
     let grid = grid_in(alloc, rest)?;
     let mut all = counted(alloc, &grid)?;
@@ -243,12 +250,14 @@ fn push_boxes(alloc: Global, all: &mut String, grid: &ChunkGrid) -> Result<(), A
     Ok(())
 }
 
-/// Appends a chunk and its box, where memory was found for both.
+/// Appends a chunk and its box, or that there was no memory for them.
 fn push_pair(
     alloc: Global,
     all: &mut String,
     pair: Result<(ArrayIndices, ArraySubset), AllocError>,
 ) -> Result<(), AllocError> {
-    let (chunk, subset) = pair?;
-    push_box(alloc, all, chunk.as_slice(), &subset)
+    match pair {
+        Ok((chunk, subset)) => push_box(alloc, all, chunk.as_slice(), &subset),
+        Err(_) => push_short(all),
+    }
 }

@@ -124,7 +124,7 @@ pub fn word(alloc: Global, text: &str) -> Result<String> {
 }
 
 /// So many of what a word names, as `1 call` and `2 calls`.
-pub(crate) fn counted(alloc: Global, count: u64, word: &str) -> Result<String> {
+pub fn counted(alloc: Global, count: u64, word: &str) -> Result<String> {
     let ending = if count == 1 { "" } else { "s" };
     Ok(format!(in alloc; "{count} {word}{ending}")?)
 }

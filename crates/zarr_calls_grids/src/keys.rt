@@ -96,14 +96,18 @@ fn key_of_document(alloc: Global, rest: &str) -> Result<String> {
 /// The parent of a path, or `none`; `no path` of a text that is none.
 fn path(alloc: Global, text: &str) -> Result<String> {
     let text = if text == "empty" { "" } else { text };
-    let is_path = is_node_path(text);
-    if NodePath::new(String::from_str(alloc, text)?).is_ok() != is_path {
+    let found = NodePath::new(String::from_str(alloc, text)?);
+    if found.is_ok() != is_node_path(text) {
         bail!("a text is a path and none");
     }
-    if !is_path {
-        return word(alloc, "no path");
+    match found {
+        Ok(path) if path.try_clone(alloc)? == path => word(
+            alloc,
+            parent_path(text).unwrap_or("none"),
+        ),
+        Ok(_) => bail!("the copy of a path differs"),
+        Err(_) => word(alloc, "no path"),
     }
-    word(alloc, parent_path(text).unwrap_or("none"))
 }
 
 /// Whether two paths are related, from either side.

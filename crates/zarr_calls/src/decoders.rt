@@ -1,0 +1,195 @@
+//! Shards that are read in part, and indexes.
+use crate::steps::{TakesSteps, take_all};
+use anyhow::{Context, Result, bail};
+use std::alloc::Global;
+use zarr_calls_grids::words::{
+    bytes_in, counted, cut, digits, numbers_in, push_word, refused, word,
+};
+use zarr_calls_kinds::{
+    Array, CountingSource, TestCodec, array_in, counting_in, json, places_in, put_or_not,
+};
+use zarr_codecs_arrays::CodecError;
+use zarr_codecs_options::CodecOptions;
+use zarr_codecs_traits::{ArrayToBytesCodecTraits, ByteRange, TargetBytes, WholeArray};
+use zarr_codecs_types::DataType;
+use zarr_grids_boxes::ArraySubset;
+use zarr_sharding_arrays::ArrayChain;
+use zarr_sharding_codec::ShardingCodec;
+use zarr_sharding_decoder::ShardingPartialDecoder;
+use zarr_sharding_index::ShardIndex;
+
+/// A shard whose index is kept, and the type of its elements.
+#[derive(Drop)]
+struct Decoding<'a, I: ArrayToBytesCodecTraits, X: ArrayToBytesCodecTraits> {
+    decoder: ShardingPartialDecoder<'a, I, X, CountingSource>,
+    data_type: &'a DataType,
+}
+
+/// What a call of the shard of a chain gives: `decoder` or `index`.
+pub(crate) fn answer(
+    alloc: Global,
+    chain: &ArrayChain<TestCodec>,
+    name: &str,
+    rest: &str,
+) -> Result<String> {
+    match chain {
+        ArrayChain::Sharded(chain) => asked(alloc, chain.sharding_codec(), name, rest),
+        ArrayChain::Nested(chain) => asked(alloc, chain.sharding_codec(), name, rest),
+        ArrayChain::Plain(_) => bail!("a chain has no shard"),
+    }
+}
+
+fn asked<I: ArrayToBytesCodecTraits, X: ArrayToBytesCodecTraits>(
+    alloc: Global,
+    codec: &ShardingCodec<I, X>,
+    name: &str,
+    rest: &str,
+) -> Result<String> {
+    let (array, rest) = array_in(alloc, rest)?;
+    if name == "index" {
+        return index(alloc, codec, &array, rest);
+    }
+    let (value, steps) = cut(rest)?;
+    let mut source = counting_in(alloc, value)?;
+    let all = taken(alloc, codec, &array, &mut source, steps)?;
+    told(alloc, all.as_str(), &source)
+}
+
+/// What steps gave, and what the source was asked for.
+fn told(alloc: Global, all: &str, source: &CountingSource) -> Result<String> {
+    let bytes = counted(alloc, source.given, "byte")?;
+    let calls = counted(alloc, source.reads, "call")?;
+    Ok(format!(in alloc; "{all} of {bytes} by {calls}")?)
+}
+
+/// What steps give over the shard of an array.
+fn taken<I: ArrayToBytesCodecTraits, X: ArrayToBytesCodecTraits>(
+    alloc: Global,
+    codec: &ShardingCodec<I, X>,
+    array: &Array,
+    source: &mut CountingSource,
+    steps: &str,
+) -> Result<String> {
+    let (elements, shape) = (&array.elements, array.shape.as_slice());
+    let (whole, options) = (WholeArray { elements, shape }, CodecOptions::default());
+    match ShardingPartialDecoder::new(alloc, codec, source, whole, &options) {
+        Ok(decoder) => taken_by(alloc, decoder, elements.data_type(), steps),
+        Err(error) => refused(alloc, &error),
+    }
+}
+
+fn taken_by<I: ArrayToBytesCodecTraits, X: ArrayToBytesCodecTraits>(
+    alloc: Global,
+    decoder: ShardingPartialDecoder<'_, I, X, CountingSource>,
+    data_type: &DataType,
+    steps: &str,
+) -> Result<String> {
+    let mut decoding = Decoding { decoder, data_type };
+    take_all(alloc, &mut decoding, steps)
+}
+
+impl<I: ArrayToBytesCodecTraits, X: ArrayToBytesCodecTraits> TakesSteps for Decoding<'_, I, X> {
+    /// Takes `read PLACES`, `into PLACES = BYTES`, `slice SUBCHUNK`, `range SUBCHUNK` or `held`.
+    fn take(&mut self, alloc: Global, step: &str) -> Result<String> {
+        match step.split_once(' ') {
+            None => self.held(alloc),
+            Some(("read", places)) => self.read(alloc, places),
+            Some(("into", rest)) => self.put_over(alloc, rest),
+            Some(("slice", subchunk)) => self.slice(alloc, subchunk),
+            Some((_range, subchunk)) => self.range(alloc, subchunk),
+        }
+    }
+}
+
+impl<I: ArrayToBytesCodecTraits, X: ArrayToBytesCodecTraits> Decoding<'_, I, X> {
+    /// Whether there is a value, and how many bytes are kept of it.
+    fn held(&self, alloc: Global) -> Result<String> {
+        let bytes = self.decoder.size_held();
+        let there = if self.decoder.exists() { "a" } else { "no" };
+        Ok(format!(in alloc; "{there} value and {bytes} bytes kept")?)
+    }
+
+    fn read(&mut self, alloc: Global, places: &str) -> Result<String> {
+        let (places, options) = (places_in(alloc, places)?, CodecOptions::default());
+        match self
+            .decoder
+            .partial_decode(alloc, places.indexer(), &options)
+        {
+            Ok(cells) => json(alloc, self.data_type, &cells),
+            Err(error) => refused(alloc, &error),
+        }
+    }
+
+    /// Some bytes once cells of a byte each are put over all but the first and the last of them.
+    fn put_over(&mut self, alloc: Global, rest: &str) -> Result<String> {
+        let (places, bytes) = rest.split_once(" = ").context("a target has no bytes")?;
+        let (places, mut bytes) = (places_in(alloc, places)?, bytes_in(alloc, bytes)?);
+        let shape = [bytes.len() as u64];
+        let region = ArraySubset::new_with_ranges(alloc, &[1..shape[0].saturating_sub(1)])?;
+        let mut target = TargetBytes {
+            bytes: bytes.as_mut_slice(),
+            shape: &shape,
+            region: &region,
+            width: 1,
+        };
+        let (asked, options) = (places.indexer(), CodecOptions::default());
+        let done = self
+            .decoder
+            .partial_decode_into(alloc, asked, &mut target, &options);
+        put_or_not(alloc, bytes.as_slice(), done)
+    }
+
+    /// The encoded bytes of a subchunk.
+    fn slice(&mut self, alloc: Global, subchunk: &str) -> Result<String> {
+        let subchunk = numbers_in(alloc, subchunk)?;
+        match self
+            .decoder
+            .retrieve_subchunk_encoded(alloc, subchunk.as_slice())
+        {
+            Ok(Some(bytes)) => digits(alloc, bytes.as_slice()),
+            Ok(None) => word(alloc, "none"),
+            Err(error) => refused(alloc, &error),
+        }
+    }
+
+    /// Where these stand.
+    fn range(&self, alloc: Global, subchunk: &str) -> Result<String> {
+        let subchunk = numbers_in(alloc, subchunk)?;
+        match self.decoder.subchunk_byte_range(subchunk.as_slice()) {
+            Ok(found) => text_of(alloc, found),
+            Err(error) => refused(alloc, &error),
+        }
+    }
+}
+
+/// The range of a subchunk that is there, by its offset and its length.
+fn text_of(alloc: Global, range: Option<ByteRange>) -> Result<String> {
+    match range {
+        Some(ByteRange { offset, length }) => Ok(format!(in alloc; "{offset}+{length}")?),
+        None => word(alloc, "none"),
+    }
+}
+
+/// The pairs of the index of a value.
+fn index<I: ArrayToBytesCodecTraits, X: ArrayToBytesCodecTraits>(
+    alloc: Global,
+    codec: &ShardingCodec<I, X>,
+    array: &Array,
+    value: &str,
+) -> Result<String> {
+    let (value, options) = (bytes_in(alloc, value)?, CodecOptions::default());
+    let (data_type, shape) = (array.elements.data_type(), array.shape.as_slice());
+    match codec.decode_index(alloc, value.as_slice(), data_type, shape, &options) {
+        Ok(index) => pairs(alloc, &index),
+        Err(error) => refused(alloc, &error),
+    }
+}
+
+fn pairs(alloc: Global, index: &ShardIndex) -> Result<String> {
+    let mut all = String::new(alloc);
+    for number in 0..index.len() {
+        let pair = text_of(alloc, Some(index.get(number)))?;
+        push_word(&mut all, pair.as_str())?;
+    }
+    Ok(all)
+}
