@@ -19,14 +19,12 @@ fn answer(alloc: Global, line: &str) -> Result<String> {
     chains::answer(alloc, name, rest)
 }
 
-/// The line that answers the call of a line: what it gives, or how it failed.
-fn answer_line(alloc: Global, line: &str) -> Result<String> {
-    let mut text = match answer(alloc, line) {
-        Ok(text) => text,
-        Err(error) => format!(in alloc; "failed: {error}")?,
-    };
-    text.push_str("\n")?;
-    Ok(text)
+/// What answers the call of a line: what it gives, or how it failed.
+fn answer_or_fault(alloc: Global, line: &str) -> Result<String> {
+    match answer(alloc, line) {
+        Ok(text) => Ok(text),
+        Err(error) => Ok(format!(in alloc; "failed: {error}")?),
+    }
 }
 
 /// Reads all lines of a reader, and answers each of them.
@@ -37,7 +35,8 @@ pub(crate) fn answer_lines<R: Read + Drop, W: Write>(
 ) -> Result<()> {
     let text = read_to_string(alloc, reader)?;
     for line in text.as_str().lines() {
-        writer.write_all(answer_line(alloc, line)?.as_bytes())?;
+        writer.write_all(answer_or_fault(alloc, line)?.as_bytes())?;
+        writer.write_all(b"\n")?;
     }
     writer.flush()?;
     Ok(())
