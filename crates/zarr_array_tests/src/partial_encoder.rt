@@ -58,9 +58,7 @@ fn patch<const TAKES_RANGES: bool>(
 }
 
 /// How many calls read, set and write parts for the two patches, where the value is right then.
-fn count<const TAKES_RANGES: bool>(
-    alloc: Global,
-) -> Result<Option<(u64, u64, u64)>, CodecError> {
+fn count<const TAKES_RANGES: bool>(alloc: Global) -> Result<Option<(u64, u64, u64)>, CodecError> {
     let (key, mut store) = (a(alloc)?, counting::<TAKES_RANGES>(alloc)?);
     patch(alloc, &mut store, &key)?;
     let counts = (store.reads, store.sets, store.patches);
