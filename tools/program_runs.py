@@ -1,6 +1,7 @@
 """Runs of zarr_run, for the tests beside this file."""
 import json
 import subprocess
+import sys
 from pathlib import Path
 
 TOP = Path(__file__).resolve().parent.parent
@@ -24,6 +25,14 @@ def compare(what, got, wanted):
 def shown(value):
     text = repr(value) if isinstance(value, (bytes, dict)) else json.dumps(value, ensure_ascii=False, default=repr)
     return text if len(text) <= 2000 else text[:2000] + " .."
+
+
+def program_at(path):
+    """The program, where it is built."""
+    program = Path(path).resolve()
+    if not program.is_file():
+        sys.exit(f"{program} isn't built: ./zarr_run --help builds it\n0 passed, 1 failed")
+    return program
 
 
 def run(words, given=b"", **how):
