@@ -12,7 +12,7 @@ abbrev pub parts_of : List ℕ → List (List ℕ)
 parts_of [] = [] ∷ []
 parts_of (x ∷ xs) = if x == 47 then [] ∷ parts_of xs else onto_first x (parts_of xs)
 
--- the names that no file or folder of a store has: none, the folder itself, the folder above it, and the file that a value is written to before it has its own name
+-- the names that no file or folder of a store has: the empty one, the folder itself, the folder above it, and the file that a value is written to before it has its own name
 abbrev pub refused_names : List (List ℕ)
 refused_names = [] ∷ codes "." ∷ codes ".." ∷ codes ".zarr_run.tmp" ∷ []
 
@@ -20,6 +20,6 @@ refused_names = [] ∷ codes "." ∷ codes ".." ∷ codes ".zarr_run.tmp" ∷ []
 abbrev pub is_file_name : List ℕ → Bool
 is_file_name name = not (list_any (bytes_eq name) refused_names)
 
--- whether a key is a file below the store's folder: the path from the folder to the file goes through names alone
+-- whether a key is the path of a file below the store's folder: each of its parts is a name that a file may have
 abbrev pub is_file_key : List ℕ → Bool
 is_file_key key = list_all is_file_name (parts_of key)

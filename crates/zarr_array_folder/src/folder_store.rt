@@ -1,9 +1,9 @@
 //! The store of files below a folder.
-ghost use Rattle.std.specs.Prelude.{◌≡◌, ◌⊎◌, IfOk, IfErr, OnOk, OnErr, true, false};
+ghost use Rattle.std.specs.Prelude.{◌≡◌, ◌≢◌, ◌⊎◌, Err, IfOk, IfErr, OnOk, OnErr, true, false};
 ghost use Rattle.std.specs.FinMap as map;
 ghost use Rattle.zarr_array_meaning.specs.StoreMaps.{counted};
 ghost use Rattle.zarr_array_storage.specs.Refusals.{refused_after};
-ghost use Rattle.zarr_array_storage.specs.declared.error.StorageError.TheVariants.{Io, Memory};
+ghost use Rattle.zarr_array_storage.specs.declared.error.StorageError.TheVariants.{InvalidKey, Io, Memory};
 ghost use Rattle.zarr_array_folder.specs.FolderStores.{RefusesKey, RefusesKeys, accepted_by, given_by, refused_by};
 
 use crate::file_keys::{TEMPORARY, is_file_key};
@@ -17,12 +17,10 @@ use zarr_codecs_traits::value_patch::{any_too_far, patched};
 use zarr_codecs_traits::{ByteRange, ValuePatch};
 use zarr_grids_keys::StoreKey;
 
-/// A store whose values are files below a folder: a key is the path of its file. A value is written
-/// to the folder's file `.zarr_run.tmp`, which is then renamed, so a program that is stopped leaves
-/// the old value or the new one. One program at a time may use the folder.
-///
-/// It isn't honest: what a folder holds can change without it. A key that is no file below the
-/// folder is refused with `InvalidKey`. A link in the folder is followed.
+/// A store whose values are files below a folder; a key is the path of its file. A value goes to
+/// `.zarr_run.tmp` in the folder, which is then renamed, so a stop leaves the old value or the new
+/// one. One program at a time may use the folder. It isn't honest: others can change files. Any
+/// other key is `InvalidKey`. Links are followed.
 #[derive(Drop)]
 pub struct FolderStore<R: Files + AllocGlobal + Clone + Drop> {
     rt: R,
@@ -194,7 +192,9 @@ impl<R: Files + AllocGlobal + Clone + Drop> FolderStore<R> {
     }
 
     /// The keys of the files below the folder, sorted.
-    fn keys(&self) -> Result<Vec<StoreKey>, StorageError> {
+    fn keys(&self) -> Result<Vec<StoreKey>, StorageError>
+        ensures { result ≢ Err InvalidKey }
+    {
         match list_files(&self.rt, self.dir.as_str()) {
             Ok(mut texts) => {
                 texts.sort_unstable();

@@ -203,3 +203,11 @@ document_refused reads arrays path d cause.Codec node free why = absurd why
 document_refused reads arrays path d cause.Store node free why = absurd why
 document_refused reads arrays path d cause.Damage node free why = absurd why
 document_refused reads arrays path d cause.DocumentChanged node free why = absurd why
+
+-- what refuses a create before a call of the store leaves its count
+pub preparation_counts : {B : Type 0} (reads : ReadsCodecs) (arrays : Arrays B) (path : List ℕ) (tree : Data) (c : Cause) (count : ℕ) → PreparationRefused reads arrays path tree c → count ≡ refused_after c count
+preparation_counts reads arrays path tree cause.Path count is = refl
+preparation_counts reads arrays path tree cause.PathTaken count is = refl
+preparation_counts reads arrays path tree cause.Document count is = refl
+preparation_counts reads arrays path tree cause.Memory count is = refl
+preparation_counts reads arrays path tree c count is = absurd is

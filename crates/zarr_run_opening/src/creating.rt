@@ -56,6 +56,7 @@ pub fn create<B: BytesToBytesCodecTraits, S: WritableStorageTraits>(
         (ask.create path.now (view document.now) order) (answer_of result)
         (arrays.new, (S.held store.new, S.refused_calls store.new)) }
     ensures honest { S.is_honest store.new ≡ S.is_honest store.old }
+    ensures calls { S.refused_calls store.new ≡ refused_by (S.refused_calls store.old) result }
 {
     match prepare(alloc, arrays, path, document, order) {
         Ok(prepared) => put(arrays, store, path, prepared),

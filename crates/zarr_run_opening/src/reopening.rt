@@ -49,6 +49,7 @@ pub fn reopen<B: BytesToBytesCodecTraits, S: ReadableStorageTraits>(
         (ask.reopen path.now order) (answer_of result)
         (arrays.new, (S.held store.new, S.refused_calls store.new)) }
     ensures honest { S.is_honest store.new ≡ S.is_honest store.old }
+    ensures calls { S.refused_calls store.new ≡ refused_by (S.refused_calls store.old) result }
 {
     if !is_node_path(path) {
         return Err(Cause::Path);

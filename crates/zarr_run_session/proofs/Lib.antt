@@ -1,3 +1,4 @@
+mod Counts
 pub mod EraseSteps
 pub mod HeldSteps
 pub mod Lifting

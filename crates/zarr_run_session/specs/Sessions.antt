@@ -5,8 +5,9 @@ use Rattle.zarr_codecs_meaning.specs.Types.{DataType}
 use Rattle.zarr_codecs_metadata.specs.Chains.{ReadsCodecs}
 use Rattle.zarr_array_meaning.specs.StoreMaps.{StoreMap}
 use Rattle.zarr_run_meaning.specs.Laws.{HasTables}
-use Rattle.zarr_run_meaning.specs.Requests.{Request, Answer}
+use Rattle.zarr_run_meaning.specs.Requests.{Request, Answer, refused}
 use Rattle.zarr_run_meaning.specs.Runs.{Run, world_over}
+use Rattle.zarr_run_meaning.specs.Steps.{refused_after}
 use Rattle.zarr_run_meaning.specs.Worlds.{World}
 use Rattle.zarr_run_opening.specs.Sessions.{State, IsIn, array_at, document_of}
 use Rattle.zarr_run_opening.specs.declared.held.HeldArray.{HeldArray}
@@ -23,6 +24,11 @@ store_of session = session.store
 -- the data type of the array that a session holds at a path, if there is one
 abbrev pub type_at : {S B : Type 0} → (B → ByteCodec) → Session S B → List ℕ → Option DataType
 type_at {S} {B} meaning session path = option_map (λ (array : HeldArray B). (document_of meaning array).elements.type) (array_at session.arrays path)
+
+-- the count of refused store calls after a command with this answer, whatever the store is: one more with the cause `Store`, and as before with any other answer
+abbrev pub refused_with : ℕ → Answer → ℕ
+refused_with count (refused c n) = refused_after c count
+refused_with count answer = count
 
 -- from each world that the old state is in, a run of commands with these answers leads to one that the new state is in
 abbrev pub RunsFrom : {B : Type 0} → (B → ByteCodec) → ReadsCodecs → State B → List Request → List Answer → State B → Type 0

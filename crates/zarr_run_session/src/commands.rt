@@ -18,7 +18,7 @@ impl<S: WritableStorageTraits, B: BytesToBytesCodecTraits> Session<S, B> {
     ghost use Rattle.zarr_run_commands.specs.Commands.{answered, given};
     ghost use Rattle.zarr_run_meaning.specs.Requests as ask;
     ghost use Rattle.zarr_run_opening.specs.Sessions.{StepsFrom};
-    ghost use Rattle.zarr_run_session.specs.Sessions.{state_of, store_of};
+    ghost use Rattle.zarr_run_session.specs.Sessions.{refused_with, state_of, store_of};
 
     /// Creates an array.
     pub(crate) fn create(
@@ -32,6 +32,8 @@ impl<S: WritableStorageTraits, B: BytesToBytesCodecTraits> Session<S, B> {
             (ask.create path.now (view document.now) order) (answered result)
             (state_of S.held S.refused_calls self.new) }
         ensures honest { S.is_honest (store_of self.new) ≡ S.is_honest (store_of self.old) }
+        ensures counts { S.refused_calls (store_of self.new)
+            ≡ refused_with (S.refused_calls (store_of self.old)) (answered result) }
     {
         reply_to(create(
             self.alloc,
@@ -50,6 +52,8 @@ impl<S: WritableStorageTraits, B: BytesToBytesCodecTraits> Session<S, B> {
             (ask.reopen path.now order) (answered result)
             (state_of S.held S.refused_calls self.new) }
         ensures honest { S.is_honest (store_of self.new) ≡ S.is_honest (store_of self.old) }
+        ensures counts { S.refused_calls (store_of self.new)
+            ≡ refused_with (S.refused_calls (store_of self.old)) (answered result) }
     {
         reply_to(reopen(self.alloc, &mut self.arrays, &mut self.store, path, order))
     }
@@ -68,6 +72,8 @@ impl<S: WritableStorageTraits, B: BytesToBytesCodecTraits> Session<S, B> {
             (answered result)
             (state_of S.held S.refused_calls self.new) }
         ensures honest { S.is_honest (store_of self.new) ≡ S.is_honest (store_of self.old) }
+        ensures counts { S.refused_calls (store_of self.new)
+            ≡ refused_with (S.refused_calls (store_of self.old)) (answered result) }
     {
         let array = match find(&self.arrays, path) {
             Ok(array) => array,
@@ -97,6 +103,8 @@ impl<S: WritableStorageTraits, B: BytesToBytesCodecTraits> Session<S, B> {
             (answered result)
             (state_of S.held S.refused_calls self.new) }
         ensures honest { S.is_honest (store_of self.new) ≡ S.is_honest (store_of self.old) }
+        ensures counts { S.refused_calls (store_of self.new)
+            ≡ refused_with (S.refused_calls (store_of self.old)) (answered result) }
     {
         let array = match find(&self.arrays, path) {
             Ok(array) => array,
@@ -124,6 +132,8 @@ impl<S: WritableStorageTraits, B: BytesToBytesCodecTraits> Session<S, B> {
             (ask.read path.now (ask.in_box (region_of region.now)) options.now) (answered result)
             (state_of S.held S.refused_calls self.new) }
         ensures honest { S.is_honest (store_of self.new) ≡ S.is_honest (store_of self.old) }
+        ensures counts { S.refused_calls (store_of self.new)
+            ≡ refused_with (S.refused_calls (store_of self.old)) (answered result) }
     {
         let array = match find(&self.arrays, path) {
             Ok(array) => array,
@@ -145,6 +155,8 @@ impl<S: WritableStorageTraits, B: BytesToBytesCodecTraits> Session<S, B> {
             (ask.read path.now (ask.in_chunk chunk.now) options.now) (answered result)
             (state_of S.held S.refused_calls self.new) }
         ensures honest { S.is_honest (store_of self.new) ≡ S.is_honest (store_of self.old) }
+        ensures counts { S.refused_calls (store_of self.new)
+            ≡ refused_with (S.refused_calls (store_of self.old)) (answered result) }
     {
         let array = match find(&self.arrays, path) {
             Ok(array) => array,
@@ -166,6 +178,8 @@ impl<S: WritableStorageTraits, B: BytesToBytesCodecTraits> Session<S, B> {
             (ask.erase path.now (region_of chunks.now)) (answered result)
             (state_of S.held S.refused_calls self.new) }
         ensures honest { S.is_honest (store_of self.new) ≡ S.is_honest (store_of self.old) }
+        ensures counts { S.refused_calls (store_of self.new)
+            ≡ refused_with (S.refused_calls (store_of self.old)) (answered result) }
     {
         let array = match find(&self.arrays, path) {
             Ok(array) => array,

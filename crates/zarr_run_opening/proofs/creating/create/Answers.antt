@@ -1,5 +1,5 @@
 use Rattle.serde_json.specs.View.{view}
-use Rattle.zarr_run_opening.proofs.CreationLemmas.{none_at, not_prepared, create_steps}
+use Rattle.zarr_run_opening.proofs.CreationLemmas.{none_at, not_prepared, create_steps, preparation_counts}
 use Rattle.zarr_run_opening.proofs.creating.create.Goals as goal
 
 pub put-requires-clause-free : goal.put-requires-clause-free
@@ -27,3 +27,7 @@ pub returns-in-Err-clause-steps : goal.returns-in-Err-clause-steps
 returns-in-Err-clause-steps g c = λ honest before k.
     not_prepared g.row.B.Denot g.B.BytesToBytesCodecTraits.meaning g.B.BytesToBytesCodecTraits.reads c.args.path.now (view c.args.document.now) c.args.order
     c.args.arrays.now (g.S.ReadableStorageTraits.held c.args.store.now) (g.S.ReadableStorageTraits.refused_calls c.args.store.now) before k c.in-Err.cause c.in-Err.ensures.refused
+
+pub returns-in-Err-clause-calls : goal.returns-in-Err-clause-calls
+returns-in-Err-clause-calls g c =
+    preparation_counts g.B.BytesToBytesCodecTraits.reads c.args.arrays.now c.args.path.now (view c.args.document.now) c.in-Err.cause (g.S.ReadableStorageTraits.refused_calls c.args.store.now) c.in-Err.ensures.refused
