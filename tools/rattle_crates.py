@@ -266,7 +266,8 @@ class Room:
         with Room.starting:
             wait_for_memory(Room.running)
             how = {"stdin": subprocess.DEVNULL, "stdout": subprocess.PIPE, "stderr": subprocess.STDOUT, "errors": "replace"}
-            ran = subprocess.Popen([*words, "--progress"], cwd=self.folder, start_new_session=True, **how)
+            # A group that can be ended as a whole, in the same session: in one of its own, a run that gives way would get a full share.
+            ran = subprocess.Popen([*words, "--progress"], cwd=self.folder, preexec_fn=os.setpgrp, **how)
             Room.running.add(ran.pid)
         lines, clock = [], Clock(ran.pid)
         with ran.stdout as said:
