@@ -5,7 +5,8 @@ use Rattle.zarr_codecs_meaning.specs.Types.{DataType}
 use Rattle.zarr_codecs_metadata.specs.Chains.{ReadsCodecs}
 use Rattle.zarr_array_meaning.specs.StoreMaps.{StoreMap}
 use Rattle.zarr_run_meaning.specs.Laws.{HasTables}
-use Rattle.zarr_run_meaning.specs.Requests.{Request, Answer, refused}
+use Rattle.zarr_run_meaning.specs.Requests as ask
+use Rattle.zarr_run_meaning.specs.Requests.{Request, Answer}
 use Rattle.zarr_run_meaning.specs.Runs.{Run, world_over}
 use Rattle.zarr_run_meaning.specs.Steps.{refused_after}
 use Rattle.zarr_run_meaning.specs.Worlds.{World}
@@ -27,7 +28,7 @@ type_at {S} {B} meaning session path = option_map (λ (array : HeldArray B). (do
 
 -- the count of refused store calls after a command with this answer, whatever the store is: one more with the cause `Store`, and as before with any other answer
 abbrev pub refused_with : ℕ → Answer → ℕ
-refused_with count (refused c n) = refused_after c count
+refused_with count (ask.refused c n) = refused_after c count
 refused_with count answer = count
 
 -- from each world that the old state is in, a run of commands with these answers leads to one that the new state is in

@@ -2,6 +2,7 @@ use Rattle.zarr_grids_boxes.specs.Subsets.{region_of}
 use Rattle.zarr_run_commands.specs.Commands.{answered}
 use Rattle.zarr_run_session.proofs.EraseSteps.{erase_steps}
 use Rattle.zarr_run_session.proofs.Refusals.{erase_not_found}
+use Rattle.zarr_run_session.proofs.Counts.{change_counts, not_found_counts}
 use Rattle.zarr_run_session.proofs.session.Session.erase_chunks.Goals as goal
 
 -- no array is held at the path
@@ -23,3 +24,9 @@ returns-clause-steps g c = λ honest.
     erase_steps g.row.B.Denot codec.meaning codec.reads c.args.self.now.arrays (readable.held old) (readable.held new) (readable.refused_calls old) (readable.refused_calls new)
     c.args.path.now (region_of c.args.chunks.now) c.in-Ok.array.now c.erase_chunks.result (answered c.reply_to_change.result)
     c.in-Ok.ensures.ok c.erase_chunks.ensures.refused c.reply_to_change.ensures (c.erase_chunks.ensures.ok honest) (c.erase_chunks.ensures.err honest)
+
+pub returns-in-Err-clause-counts : goal.returns-in-Err-clause-counts
+returns-in-Err-clause-counts g c = not_found_counts c.args.self.now.arrays c.args.path.now c.in-Err.cause (g.S.ReadableStorageTraits.refused_calls c.args.self.now.store) c.in-Err.ensures.err
+
+pub returns-clause-counts : goal.returns-clause-counts
+returns-clause-counts g c = change_counts c.erase_chunks.result _ _ _ c.reply_to_change.ensures c.erase_chunks.ensures.refused

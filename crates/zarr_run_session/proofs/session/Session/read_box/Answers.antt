@@ -3,6 +3,7 @@ use Rattle.zarr_grids_boxes.specs.Subsets.{region_of}
 use Rattle.zarr_run_meaning.specs.Requests as ask
 use Rattle.zarr_run_session.proofs.ReadSteps.{read_steps}
 use Rattle.zarr_run_session.proofs.Refusals.{read_not_found}
+use Rattle.zarr_run_session.proofs.Counts.{not_found_counts, read_counts}
 use Rattle.zarr_run_session.proofs.session.Session.read_box.Goals as goal
 
 pub returns-in-Err-clause-steps : goal.returns-in-Err-clause-steps
@@ -23,3 +24,9 @@ returns-clause-steps g c = λ honest.
     (held session.store) (held c.read_box.new.store) (calls session.store) (calls c.read_box.new.store) c.args.path.now
     (ask.in_box (region_of c.args.region.now)) c.args.options.now c.in-Ok.array.now c.in-Ok.ensures.ok (sym c.args.region.now.same)
     outcome.held c.read_box.result (outcome.ok honest) (outcome.err honest) outcome.refused)
+
+pub returns-in-Err-clause-counts : goal.returns-in-Err-clause-counts
+returns-in-Err-clause-counts g c = not_found_counts c.args.self.now.arrays c.args.path.now c.in-Err.cause (g.S.ReadableStorageTraits.refused_calls c.args.self.now.store) c.in-Err.ensures.err
+
+pub returns-clause-counts : goal.returns-clause-counts
+returns-clause-counts g c = read_counts c.read_box.result _ _ _ c.reply_to_read.ensures c.read_box.ensures.refused

@@ -1,6 +1,7 @@
 use Rattle.zarr_run_meaning.specs.Requests as ask
 use Rattle.zarr_run_session.proofs.ReadSteps.{read_steps}
 use Rattle.zarr_run_session.proofs.Refusals.{read_not_found}
+use Rattle.zarr_run_session.proofs.Counts.{not_found_counts, read_counts}
 use Rattle.zarr_run_session.proofs.session.Session.read_chunk.Goals as goal
 
 pub returns-in-Err-clause-steps : goal.returns-in-Err-clause-steps
@@ -21,3 +22,9 @@ returns-clause-steps g c = λ honest.
     (held session.store) (held c.read_chunk.new.store) (calls session.store) (calls c.read_chunk.new.store) c.args.path.now
     (ask.in_chunk c.args.chunk.now) c.args.options.now c.in-Ok.array.now c.in-Ok.ensures.ok tt
     outcome.held c.read_chunk.result (outcome.ok honest) (outcome.err honest) outcome.refused)
+
+pub returns-in-Err-clause-counts : goal.returns-in-Err-clause-counts
+returns-in-Err-clause-counts g c = not_found_counts c.args.self.now.arrays c.args.path.now c.in-Err.cause (g.S.ReadableStorageTraits.refused_calls c.args.self.now.store) c.in-Err.ensures.err
+
+pub returns-clause-counts : goal.returns-clause-counts
+returns-clause-counts g c = read_counts c.read_chunk.result _ _ _ c.reply_to_read.ensures c.read_chunk.ensures.refused
