@@ -1,9 +1,9 @@
 """The record of what ./edits found, the file edits.txt: a line for each crate whose must-fail edits were all refused, with how many they are
 and a digest of all that this rests on. As long as the digest stays the same they need not be tried again.
 
-It is made from the toolchain's version, the crate's edits, code, definitions and proofs, the libraries that its line of crates.txt names,
-and what it sees of each crate below: the definitions, and of the code all but comments, the bodies of functions and the attributes that
-say how these are proved. Whatever is not plainly such a body counts as seen."""
+It is made from the identity of the toolchain's logic, the crate's edits, code, definitions and proofs, the libraries that its line of
+crates.txt names, and what it sees of each crate below: the definitions, and of the code all but comments, the bodies of functions and the
+attributes that say how these are proved. Whatever is not plainly such a body counts as seen."""
 from __future__ import annotations
 
 import hashlib
@@ -22,12 +22,21 @@ RECORD = "edits.txt"
 CHECKED = "build/edits.txt"
 HEAD = "# How many must-fail edits of each crate are refused, and a digest of what that rests on. ./edits writes this file.\n"
 COMMENT = {"src": re.compile(r"(?m)^[ ]*//.*\n"), "specs": re.compile(r"(?m)^[ ]*--.*\n")}
+LOGIC = re.compile(r"\blogic \w+")
 HOW_PROVED = re.compile(r"(?m)^[ ]*#!?\[(?:tactic|cycle)\(.*\)\]\n")
 
 
-def toolchain() -> str:
-    """What the toolchain says of its version."""
-    return subprocess.run([f"{KIT}/bin/rt", "version"], check=True, stdout=subprocess.PIPE, encoding="utf-8").stdout
+def logic() -> str:
+    """The identity of the toolchain's logic, on which verdicts rest, whatever kit it comes in."""
+    return logic_in(subprocess.run([f"{KIT}/bin/rt", "version"], check=True, stdout=subprocess.PIPE, encoding="utf-8").stdout)
+
+
+def logic_in(version: str) -> str:
+    """The identity of the logic in what the toolchain says of its version."""
+    found = LOGIC.search(version)
+    if not found:
+        raise ValueError(f"rt version names no logic: {version!r}")
+    return found[0]
 
 
 def digest_of(what: object) -> str:
@@ -65,8 +74,8 @@ def seen_from_above(sources: Sources) -> Dict[str, str]:
 class Digests:
     """The digests of crates, as their files are when they are first read."""
 
-    def __init__(self, crates: Dict[str, Crate], version: str):
-        self.crates, self.version = crates, version
+    def __init__(self, crates: Dict[str, Crate], logic: str):
+        self.crates, self.logic = crates, logic
         self.sources: Dict[str, Sources] = {}
         self.seen: Dict[str, str] = {}
 
@@ -77,7 +86,7 @@ class Digests:
             with open(file, encoding="utf-8", errors="replace") as it:
                 edits.append((name, it.read()))
         under = {it.name: self._seen(it) for it in below(crate, self.crates)}
-        rests_on = [self.version, crate.crates, crate.libraries, self._sources(crate).texts, sorted(edits), under]
+        rests_on = [self.logic, crate.crates, crate.libraries, self._sources(crate).texts, sorted(edits), under]
         return f"{len(edits)} refused, {digest_of(rests_on)}"
 
     def _sources(self, crate: Crate) -> Sources:
@@ -94,9 +103,9 @@ class Digests:
 class Record:
     """What edits.txt says of the crates that have edits. What a run finds of some of them is written there too, or to another place."""
 
-    def __init__(self, top: str, crates: Dict[str, Crate], chosen: List[Crate], version: str, place: str = RECORD):
-        self.crates, self.version, self.place = crates, version, f"{top}/{place}"
-        digests = Digests(crates, version)
+    def __init__(self, top: str, crates: Dict[str, Crate], chosen: List[Crate], logic: str, place: str = RECORD):
+        self.crates, self.logic, self.place = crates, logic, f"{top}/{place}"
+        digests = Digests(crates, logic)
         self.now = {it.name: digests.line_of(it) for it in chosen}
         self.given = {name: line for name, line in read_lines(f"{top}/{RECORD}").items() if name in crates and edit_files(crates[name].folder)}
         self.lines, self.disturbed = dict(self.given), []
@@ -107,7 +116,7 @@ class Record:
 
     def put(self, crate: Crate, is_refused: bool) -> None:
         """Records whether all edits of a crate are refused, where its files are still those that the run began with."""
-        if Digests(self.crates, self.version).line_of(crate) != self.now[crate.name]:
+        if Digests(self.crates, self.logic).line_of(crate) != self.now[crate.name]:
             self.disturbed.append(crate.name)
             return
         self.lines.pop(crate.name, None)

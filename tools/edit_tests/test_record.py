@@ -8,7 +8,7 @@ import tempfile
 import unittest
 from unittest import mock
 
-from edit_record import Digests
+from edit_record import Digests, logic_in
 from edit_rounds import Judgement, Verdict
 from rattle_crates import read_crates
 
@@ -109,9 +109,9 @@ class OfARepository(unittest.TestCase):
 
 
 class WhatVerdictsRestOn(OfARepository):
-    def digest(self, version="one"):
+    def digest(self, logic="one"):
         crates = read_crates(self.top)
-        return Digests(crates, version).line_of(crates["high"])
+        return Digests(crates, logic).line_of(crates["high"])
 
     def digests_without_and_with(self, file, old, new):
         before = self.digest()
@@ -182,8 +182,13 @@ class WhatVerdictsRestOn(OfARepository):
         self.write("crates/low/src/lib.rt", self.read("crates/low/src/lib.rt").replace("    size: u64,", "    size: u32,"))
         self.assertNotEqual(self.digest(), before)
 
-    def test_another_toolchain_makes_it_try_again(self):
+    def test_another_logic_makes_it_try_again(self):
         self.assertNotEqual(self.digest(), self.digest("two"))
+
+    def test_another_kit_of_the_same_logic_does_not(self):
+        self.assertEqual(logic_in("kit-1 logic 0a1b\n"), logic_in("kit-2 logic 0a1b\n"))
+        self.assertNotEqual(logic_in("kit-1 logic 0a1b\n"), logic_in("kit-1 logic 0a1c\n"))
+        self.assertRaises(ValueError, logic_in, "kit-1\n")
 
     def test_an_edit_more_or_less_makes_it_try_again(self):
         before = self.digest()
@@ -214,7 +219,7 @@ class ARun(OfARepository):
             tried.append(crate.name)
             return [(name, Judgement(Verdict.PROVED if name in taken else Verdict.REFUSED)) for name, _ in files], 0.0
 
-        parts = {"try_crate": try_crate, "build_below": lambda *_: "", "is_built": lambda *_: True, "toolchain": lambda: "one"}
+        parts = {"try_crate": try_crate, "build_below": lambda *_: "", "is_built": lambda *_: True, "logic": lambda: "one"}
         with mock.patch.multiple(edits, **parts), mock.patch("sys.argv", ["edits", "--top", self.top, *words]):
             with contextlib.redirect_stdout(said), mock.patch("signal.signal"):
                 status = edits.main()
