@@ -89,7 +89,10 @@ fn reads(
 }
 
 /// Whether a store lists these keys, in this order.
-fn lists(store: &mut Store, want: &[&str]) -> Result<bool, StorageError> {
+pub(crate) fn lists<S: ReadableStorageTraits>(
+    store: &mut S,
+    want: &[&str],
+) -> Result<bool, StorageError> {
     let found = store.list()?;
     for (key, text) in found.iter().zip(want) {
         if key.as_str() != *text {

@@ -6,6 +6,8 @@ mod calls;
 #[cfg(test)]
 mod counting_store;
 #[cfg(test)]
+mod folder;
+#[cfg(test)]
 mod metadata;
 #[cfg(test)]
 mod partial_encoder;

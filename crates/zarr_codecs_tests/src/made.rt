@@ -1,5 +1,5 @@
 //! Codecs with chains inside of them, made by their constructors. What they make of values is in
-//! calls/sections.calls, and in the scripts of `zarr_scarcity`.
+//! calls/sections.calls.
 use std::alloc::{AllocError, Global};
 use zarr_codecs::{
     ArrayToArrayCodec, ArrayToBytesCodec, BytesCodec, CodecChain, OptionalCodec, PluginCreateError,

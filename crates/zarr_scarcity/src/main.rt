@@ -1,20 +1,17 @@
 //! Scripts of calls in which any allocation may be refused.
 //!
 //! The first byte of standard input names the script: `m` for types, codecs and shards that are
-//! made by their constructors, and elements, `s` for a session's commands, `r` for these over stores
-//! that refuse each of their calls in turn, `l` for a session's lines. It prints `as stated` if each
-//! answer is the one with ample memory and an honest store, which is typed in here, or says that
-//! memory ran out or the store refused, and has made just the change that it says.
+//! made by their constructors, `s` for a session's commands, `r` for these over stores that refuse
+//! each of their calls in turn, `l` for a session's lines. It prints `as stated` if each answer is
+//! the one with ample memory and an honest store, which is typed in here, or says that memory ran
+//! out or the store refused, and has made just the change that it says.
 //!
 //! The program itself refuses nothing: `tools/refused_allocations` runs it over a C library's
 //! allocator that does, and so the calls of the repository.
 #![tactic(auto)]
 
-mod elements;
 mod lines;
-mod made_codecs;
-mod made_shards;
-mod made_types;
+mod made;
 mod script;
 mod steps;
 mod stop;
@@ -34,17 +31,10 @@ fn read_letter<R: Read>(reader: &mut R) -> u8 {
     }
 }
 
-/// What is made by constructors.
-fn run_made(alloc: Global) -> Result<(), Stop> {
-    made_types::run(alloc)?;
-    made_codecs::run(alloc)?;
-    made_shards::run(alloc)
-}
-
 /// Runs the script with this letter.
 fn run(alloc: Global, script: u8) -> Result<(), Stop> {
     match script {
-        b'm' => run_made(alloc),
+        b'm' => made::run(alloc),
         b's' => steps::run(alloc),
         b'r' => steps::run_over_refusals(alloc),
         b'l' => lines::run(alloc),
