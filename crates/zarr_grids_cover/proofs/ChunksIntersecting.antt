@@ -102,7 +102,7 @@ found-listed grid region chunks f =
     ∙ agree (is_in_box chunks.start chunks.shape) (intersects grid region) zeros (grid_shape grid) (length-replicate (length grid) 0 ∙ sym (length-map grid chunk_count)) (λ chunk t. found-tests grid region chunks f chunk)
 
 -- ---- in each dimension there are at most as many chunks from one place to another as places
-places_ordered : (d : Dimension) (k m p q : ℕ) → interval_has d k p ≡ true → interval_has d m q ≡ true → k < m → p < q
+pub places_ordered : (d : Dimension) (k m p q : ℕ) → interval_has d k p ≡ true → interval_has d m q ≡ true → k < m → p < q
 places_ordered d k m p q i j h = go (ltb p q) refl where
   go : (b : Bool) → ltb p q ≡ b → p < q
   go true e = ltb-true p q e

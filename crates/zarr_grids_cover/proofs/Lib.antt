@@ -1,3 +1,4 @@
+pub mod BoxedChunks
 pub mod ChunkBoxes
 pub mod ChunkLaws
 pub mod ChunksIntersecting

@@ -1,0 +1,3 @@
+pub mod ChainCompaction
+pub mod Shown
+pub mod StoredAfresh
