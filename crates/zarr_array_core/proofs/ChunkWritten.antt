@@ -114,7 +114,7 @@ pub record IsWrite (path : List ℕ) (document : Document) (exact : Bool) (regio
   pub makes : MakesValue document exact region given (stores_fill document options region box) box (stored_at path document old chunk) made
 
 -- a fact of the one chunk that is listed
-at_one : (grid : Grid) (P : List ℕ → Region → Type 0) (chunk d : List ℕ) (box other : Region) → IsInGrid grid chunk box → IsInGrid grid d other → is_listed (chunk ∷ []) d ≡ true → P chunk box → P d other
+pub at_one : (grid : Grid) (P : List ℕ → Region → Type 0) (chunk d : List ℕ) (box other : Region) → IsInGrid grid chunk box → IsInGrid grid d other → is_listed (chunk ∷ []) d ≡ true → P chunk box → P d other
 at_one grid P chunk d box other below over l p =
     let e : d ≡ chunk = listed_one chunk d l in
     let q : box ≡ other = some_same (sym below.has_box ∙ (ap (chunk_box grid) (sym e) ∙ over.has_box)) in
@@ -328,13 +328,13 @@ module _ (path : List ℕ) (document : Document) (exact : Bool) (region : Region
       none-some listed (sym w.puts.lost ∙ stored_decoded document.chain document.elements box.shape (stored_at path document old chunk) listed w.good.lawful lossless are st)
 
   stays_stored : stores_fill document options region box ≡ true
-  stays_stored = ap (λ (b : Bool). options.store_empty_chunks || b) (parts_of_write document options region box w.puts.in_part).1 ∙ or-true options.store_empty_chunks where
+  stays_stored = ap (λ (b : Bool). options.store_empty_chunks || b) w.puts.in_part ∙ or-true options.store_empty_chunks where
     or-true : (b : Bool) → (b || true) ≡ true
     or-true true = refl
     or-true false = refl
 
   part : holds_box region box ≡ false
-  part = (parts_of_write document options region box w.puts.in_part).2
+  part = (parts_of_write document options region box w.puts.in_part).1
 
   takes : takes_cells document options region box (stored_at path document old chunk) ≡ true
   takes = ap (λ (b : Bool). if b then opens_in document box (stored_at path document old chunk) else is_some (chunk_decoded document.chain document.elements box.shape (stored_at path document old chunk))) w.puts.in_part ∙ w.puts.puts.opened

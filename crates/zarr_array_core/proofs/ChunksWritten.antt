@@ -189,7 +189,7 @@ pub record IsWalk (path : List ℕ) (document : Document) (region chunks : Regio
   pub intersecting : AreIntersecting document.grid region chunks
 
 -- a chunk is none of those before it
-first_chunks-fresh : (chunks : Region) (n : ℕ) (t : Bool) → length chunks.start ≡ length chunks.shape → n < product chunks.shape → is_listed (first_chunks chunks n) (place_at chunks.start chunks.shape n) ≡ t → t ≡ false
+pub first_chunks-fresh : (chunks : Region) (n : ℕ) (t : Bool) → length chunks.start ≡ length chunks.shape → n < product chunks.shape → is_listed (first_chunks chunks n) (place_at chunks.start chunks.shape n) ≡ t → t ≡ false
 first_chunks-fresh chunks n false l below h = refl
 first_chunks-fresh chunks n true l below h =
     let k = listed_number (place_at chunks.start chunks.shape) 0 n (place_at chunks.start chunks.shape n) h in

@@ -44,12 +44,12 @@ inner : (codec : ArrayCodec) (chain : Chain) → IsInPart (after_array_codec cod
 inner codec chain is = record { partly = inner_partly codec chain is.partly; plain = is.plain }
 
 -- what a write in part is
-pub parts_of_write : (document : Document) (options : CodecOptions) (region box : Region) → is_in_part document options region box ≡ true → IsInPart document.chain × (may_be_in_part document options region box ≡ true) × (holds_box region box ≡ false)
+pub parts_of_write : (document : Document) (options : CodecOptions) (region box : Region) → is_in_part document options region box ≡ true → IsInPart document.chain × (holds_box region box ≡ false)
 parts_of_write document options region box h =
     let both = and_parts (may_be_in_part document options region box) (is_plain document.chain) h in
     let given = and_parts options.experimental_partial_encoding (not (holds_box region box) && encodes_in_part document.chain) both.0 in
     let rest = and_parts (not (holds_box region box)) (encodes_in_part document.chain) given.1 in
-    (record { partly = rest.1; plain = both.1 }, both.0, unheld (holds_box region box) rest.0) where
+    (record { partly = rest.1; plain = both.1 }, unheld (holds_box region box) rest.0) where
       unheld : (b : Bool) → not b ≡ true → b ≡ false
       unheld true e = absurd (false≢true e)
       unheld false e = refl

@@ -17,3 +17,8 @@ mod SeenFrom
 pub mod Overlapping
 pub mod InParts
 pub mod PutParts
+pub mod TooMany
+pub mod Rewritten
+pub mod Compacted
+pub mod LargeKeyed
+pub mod KnownArrays

@@ -19,7 +19,7 @@ list_any-append p (y ∷ xs) x = ap (λ b. p y || b) (list_any-append p xs x) �
   regroup true b c = refl
   regroup false b c = refl
 
-or_true : (a b : Bool) → (a || b) ≡ true → (a ≡ true) ⊎ (b ≡ true)
+pub or_true : (a b : Bool) → (a || b) ≡ true → (a ≡ true) ⊎ (b ≡ true)
 or_true true b h = inl refl
 or_true false b h = inr h
 

@@ -15,9 +15,13 @@ use Rattle.zarr_array_core.specs.declared.array_core.ArrayCore.{ArrayCore}
 abbrev pub document_of : {C : Type 0} → (C → Chain) → ArrayCore C → Document
 document_of meaning array = record { shape = sizes_of_grid array.grid; elements = elements_of array.elements; grid = grid_of_chunks array.grid; keys = keys_of array.keys; chain = meaning array.codecs }
 
+-- the codecs that store the array's chunks
+abbrev pub codecs_of : {C : Type 0} → ArrayCore C → C
+codecs_of array = array.codecs
+
 -- whether what the array's codecs make of elements depends on these alone
 abbrev pub is_exact : {C : Type 0} → (C → Bool) → ArrayCore C → Bool
-is_exact is_function array = is_function array.codecs
+is_exact is_function array = is_function (codecs_of array)
 
 -- the path of the array's node
 abbrev pub path_of : {C : Type 0} → ArrayCore C → List ℕ

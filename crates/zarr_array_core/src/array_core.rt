@@ -1,4 +1,5 @@
 //! An array without its store.
+use std::mem::replace;
 use zarr_codecs_arrays::Elements;
 use zarr_codecs_traits::ArrayToBytesCodecTraits;
 use zarr_grids_chunk_grids::ChunkGrid;
@@ -20,7 +21,7 @@ impl<C: ArrayToBytesCodecTraits> ArrayCore<C> {
     ghost use Rattle.zarr_grids_chunk_grids.specs.Grids.{grid_of_chunks, sizes_of_grid};
     ghost use Rattle.zarr_grids_keys.specs.Encodings.{keys_of};
     ghost use Rattle.zarr_codecs_arrays.specs.Views.{elements_of};
-    ghost use Rattle.zarr_array_core.specs.Views.{document_of, path_of};
+    ghost use Rattle.zarr_array_core.specs.Views.{codecs_of, document_of, path_of};
 
     /// The array at a path.
     pub fn new(
@@ -82,5 +83,16 @@ impl<C: ArrayToBytesCodecTraits> ArrayCore<C> {
         ensures { C.meaning result.now ≡ (document_of C.meaning self.now).chain }
     {
         &self.codecs
+    }
+
+    /// Puts other codecs in the place of the array's, and gives the old ones.
+    pub fn replace_codecs(&mut self, codecs: C) -> C
+        ensures codecs { codecs_of self.new ≡ codecs }
+        ensures old { result ≡ codecs_of self.old }
+        ensures path { path_of self.new ≡ path_of self.old }
+        ensures says { document_of C.meaning self.new
+            ≡ record (document_of C.meaning self.old) { chain = C.meaning codecs } }
+    {
+        replace(&mut self.codecs, codecs)
     }
 }

@@ -73,7 +73,7 @@ impl<C: ArrayToBytesCodecTraits> ArrayCore<C> {
     ghost use Rattle.zarr_grids_overlay.specs.Overlays.{extent_of};
 
     /// The elements that a chunk's value is decoded to.
-    fn decode_value(
+    pub(crate) fn decode_value(
         &self,
         alloc: Global,
         value: Vec<u8>,
@@ -213,9 +213,10 @@ impl<C: ArrayToBytesCodecTraits> ArrayCore<C> {
     /// The bytes that the elements of a chunk are encoded to.
     pub(crate) fn encode_value(
         &self,
-        write: &BoxWrite,
+        alloc: Global,
         shape: &[u64],
         bytes: ArrayBytes,
+        options: &CodecOptions,
     ) -> Result<Vec<u8>, ChunkError>
         requires small { ¬ IsTooLarge (document_of C.meaning self.now).elements.type
             (product shape.now) }
@@ -238,7 +239,7 @@ impl<C: ArrayToBytesCodecTraits> ArrayCore<C> {
     {
         match self
             .codecs
-            .encode(write.alloc, bytes, &self.elements, shape, write.options)
+            .encode(alloc, bytes, &self.elements, shape, options)
         {
             Ok(value) => Ok(value),
             Err(error) => Err(of_encoding(error)),
@@ -246,13 +247,22 @@ impl<C: ArrayToBytesCodecTraits> ArrayCore<C> {
     }
 
     /// Whether a chunk has a value even if all its elements are fill after a write: where empty
-    /// chunks are stored, or the write may encode it in part.
-    pub(crate) fn stores_fill(&self, write: &BoxWrite, own: &ArraySubset) -> bool
-        requires { length write.now.region.start.now ≡ length own.now.start.items }
-        ensures { result ≡ stores_fill (document_of C.meaning self.now) write.now.options.now
-            (extent_of write.now.region) (region_of own.now) }
+    /// chunks are stored, or it is written in part.
+    pub(crate) fn stores_fill(
+        &self,
+        write: &BoxWrite,
+        own: &ArraySubset,
+    ) -> Result<bool, ChunkError>
+        requires rank { length write.now.region.start.now ≡ length own.now.start.items }
+        requires small { ¬ IsTooLarge (document_of C.meaning self.now).elements.type
+            (product own.now.shape.items) }
+        requires fit { fits (document_of C.meaning self.now).chain
+            (document_of C.meaning self.now).elements.type own.now.shape.items ≡ true }
+        ensures ok { IfOk result (λ stores. stores ≡ stores_fill (document_of C.meaning self.now)
+            write.now.options.now (extent_of write.now.region) (region_of own.now)) }
+        ensures err { IfErr result (λ e. e ≡ Memory) }
     {
-        write.options.store_empty_chunks || self.may_be_in_part(write, own)
+        Ok(write.options.store_empty_chunks || self.is_in_part(write, own)?)
     }
 
     /// Whether a write may encode a chunk in part.
@@ -299,9 +309,10 @@ impl<C: ArrayToBytesCodecTraits> ArrayCore<C> {
     /// all fill, and such a chunk isn't stored.
     pub(crate) fn encode_chunk(
         &self,
-        write: &BoxWrite,
+        alloc: Global,
         shape: &[u64],
         bytes: ArrayBytes,
+        options: &CodecOptions,
         store_empty: bool,
     ) -> Result<Option<Vec<u8>>, ChunkError>
         requires small { ¬ IsTooLarge (document_of C.meaning self.now).elements.type
@@ -320,7 +331,7 @@ impl<C: ArrayToBytesCodecTraits> ArrayCore<C> {
         if !store_empty && self.is_all_fill(&bytes) {
             return Ok(None);
         }
-        let value = self.encode_value(write, shape, bytes)?;
+        let value = self.encode_value(alloc, shape, bytes, options)?;
         Ok(Some(value))
     }
 }

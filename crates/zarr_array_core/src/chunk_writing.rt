@@ -142,8 +142,8 @@ impl<C: ArrayToBytesCodecTraits> ArrayCore<C> {
             (S.accepted_writes store.new ≡ S.accepted_writes store.old) }
     {
         let bytes = self.cells_after(store, key, write, own)?;
-        let empty = self.stores_fill(write, own);
-        let value = self.encode_chunk(write, own.shape(), bytes, empty)?;
+        let empty = self.stores_fill(write, own)?;
+        let value = self.encode_chunk(write.alloc, own.shape(), bytes, write.options, empty)?;
         put_value(store, key, value)
     }
 

@@ -1,4 +1,5 @@
-//! Boxes of one array read from a store and written to it, chunk by chunk, whatever the codecs.
+//! Boxes of one array read from a store and written to it, chunk by chunk, whatever the codecs;
+//! chunks compacted, and all of them stored anew.
 #![tactic(auto)]
 
 pub mod array_core;
@@ -6,14 +7,17 @@ pub mod chunk;
 mod chunk_reading;
 mod chunk_value;
 mod chunk_writing;
+pub mod compacting;
 pub mod erasing;
 pub mod error;
 mod holding;
+pub mod limits;
 mod moving;
 mod part_putting;
 mod part_writing;
 pub mod reading;
 pub mod region_chunks;
+pub mod rewriting;
 pub mod rooms;
 pub mod store_calls;
 mod store_source;

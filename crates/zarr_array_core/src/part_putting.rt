@@ -150,7 +150,7 @@ impl<C: ArrayToBytesCodecTraits> ArrayCore<C> {
             None => {
                 let count = count_places(own.shape()).unwrap();
                 let fill = self.fill_elements(write.alloc, count)?;
-                self.encode_value(write, own.shape(), fill)
+                self.encode_value(write.alloc, own.shape(), fill, write.options)
             }
         }
     }

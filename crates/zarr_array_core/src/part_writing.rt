@@ -122,7 +122,7 @@ impl<C: ArrayToBytesCodecTraits> ArrayCore<C> {
     {
         let shared = overlap_in(rooms.take_shared(), write.subset, own)?;
         let bytes = self.whole_cells(write, &shared)?;
-        let empty = self.stores_fill(write, own);
+        let empty = self.stores_fill(write, own)?;
         if !empty && self.is_all_fill(&bytes) {
             return Ok(None);
         }
@@ -245,8 +245,8 @@ impl<C: ArrayToBytesCodecTraits> ArrayCore<C> {
             }
         }
         let bytes = self.part_cells(write, own, None)?;
-        let empty = self.stores_fill(write, own);
-        let value = self.encode_chunk(write, own.shape(), bytes, empty)?;
+        let empty = self.stores_fill(write, own)?;
+        let value = self.encode_chunk(write.alloc, own.shape(), bytes, write.options, empty)?;
         put_value(store, key, value)
     }
 

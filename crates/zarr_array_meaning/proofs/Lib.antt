@@ -6,6 +6,7 @@ pub mod Showing
 pub mod ShownValues
 pub mod TakenParts
 pub mod TypeLevels
+pub mod Weaker
 pub mod WrittenDocuments
 pub mod WrittenFields
 pub mod WrittenFills

@@ -8,3 +8,6 @@ pub mod Chunks
 pub mod Boxes
 pub mod Standing
 pub mod Writing
+pub mod Arrays
+pub mod Compacting
+pub mod Rewriting

@@ -21,13 +21,13 @@ use Rattle.zarr_array_meaning.specs.StoreMaps.{StoreMap}
 abbrev pub may_be_in_part : Document → CodecOptions → Region → Region → Bool
 may_be_in_part document options region box = options.experimental_partial_encoding && (not (holds_box region box) && encodes_in_part document.chain)
 
--- whether a chunk that is written has a key even if all its cells are fill: empty chunks are stored, or the write may encode it in part
-abbrev pub stores_fill : Document → CodecOptions → Region → Region → Bool
-stores_fill document options region box = options.store_empty_chunks || may_be_in_part document options region box
-
 -- whether a chunk is written in part: the write may encode it so, and the chain makes no shard
 abbrev pub is_in_part : Document → CodecOptions → Region → Region → Bool
 is_in_part document options region box = may_be_in_part document options region box && is_plain document.chain
+
+-- whether a chunk that is written has a key even if all its cells are fill: empty chunks are stored, or it is written in part
+abbrev pub stores_fill : Document → CodecOptions → Region → Region → Bool
+stores_fill document options region box = options.store_empty_chunks || is_in_part document options region box
 
 -- whether what is stored for a chunk opens: nothing, or a value that can be read at places; through `bytes` it is one of the chunk's length, whatever its cells are
 abbrev pub opens_in : Document → Region → Option (List ℕ) → Bool

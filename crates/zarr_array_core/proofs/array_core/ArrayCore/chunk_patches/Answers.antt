@@ -80,7 +80,7 @@ returns-in-Ok-clause-ok g c =
     let some : empty ≡ false → is_fill fill sub ≡ false =
     elim c.else-not-empty.branch [
       | else-not-empty-via-then-not-empty+else-is_all_fill w ↦ (λ e. sym w.is_all_fill.ensures ∙ w.if-is_all_fill.false)
-      | else-not-empty-via-else-not-empty w ↦ (λ e. absurd (false≢true (sym e ∙ (sym c.stores_fill-empty.ensures ∙ w.if-not-empty.false))))
+      | else-not-empty-via-else-not-empty w ↦ (λ e. absurd (false≢true (sym e ∙ (sym c.in_ok-empty.ensures.ok ∙ w.if-not-empty.false))))
     ] in
     let are : AreShared document region box given payload sub empty = record { share = c.requires.shares; rank = c.requires.rank; fit = c.requires.fit; fine = c.args.self.now.elements.fills; are = elements; becomes = becomes; some = some } in
     let encodes = subst (λ (s : List ℕ). EncodesPart document.chain exact document.elements s (relative (overlapped region box) box.start) payload (Ok c.in-Ok.patches)) c.shape-2.ensures

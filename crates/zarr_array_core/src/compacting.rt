@@ -1,0 +1,81 @@
+//! One chunk compacted.
+use crate::array_core::ArrayCore;
+use crate::error::ChunkError;
+use crate::rooms::ChunkRooms;
+use crate::store_calls::{get, set};
+use std::alloc::Global;
+use zarr_array_storage::WritableStorageTraits;
+use zarr_codecs_arrays::CodecError;
+use zarr_codecs_options::CodecOptions;
+use zarr_codecs_traits::ArrayToBytesCodecTraits;
+
+impl<C: ArrayToBytesCodecTraits> ArrayCore<C> {
+    ghost use Rattle.std.specs.Prelude.{IsTrue, IfOk};
+    ghost use Rattle.zarr_grids_boxes.specs.Boxes.{Region};
+    ghost use Rattle.zarr_grids_chunks.specs.Grids.{IsInGrid};
+    ghost use Rattle.zarr_array_meaning.specs.Compacting.{CompactsChunk};
+    ghost use Rattle.zarr_array_core.specs.Arrays.{array_of, Called, IfHonestErr};
+    ghost use Rattle.zarr_array_core.specs.Compacting.{CompactStops, CompactsValue};
+    ghost use Rattle.zarr_array_core.specs.Views.{document_of};
+
+    /// Writes the value of a chunk anew, its shard without gaps: `true` where that changed it,
+    /// `false` where the chunk has no value, makes no shard or gains nothing. `Fit` where a value
+    /// does not fit the codecs, `Damage` where a present slice lies outside the shard's data,
+    /// `Codec` and `Size` where the new value is refused, `Storage` where the store refuses.
+    pub fn compact_chunk<S: WritableStorageTraits>(
+        &self,
+        rooms: &mut ChunkRooms,
+        store: &mut S,
+        chunk: &[u64],
+        options: &CodecOptions,
+    ) -> Result<bool, ChunkError>
+        requires below { (box : Region)
+            × IsInGrid (array_of C.ArrayToBytesCodecTraits self.now).document.grid chunk.now box }
+        // The chunk is compacted, and no other key changes.
+        ensures ok { IsTrue (S.is_honest store.old) → IfOk result (λ changed. CompactsChunk
+            (array_of C.ArrayToBytesCodecTraits self.now) chunk.now changed
+            (S.held store.old) (S.held store.new)) }
+        ensures err { IfHonestErr S.ReadableStorageTraits store.old store.new result
+            (λ e before _. CompactStops (array_of C.ArrayToBytesCodecTraits self.now) chunk.now
+            e before) }
+        // By at most one writing call; a refusal changes nothing.
+        ensures store { Called S.ReadableStorageTraits 1 store.old store.new result }
+    {
+        let key = self.key_of(rooms.alloc(), chunk)?;
+        let Some(value) = get(store, &key)? else {
+            return Ok(false);
+        };
+        let own = self.box_of(rooms.take_own(), chunk)?;
+        let made = self.compact_value(rooms.alloc(), value.as_slice(), own.shape(), options)?;
+        rooms.keep_own(own);
+        let Some(made) = made else {
+            return Ok(false);
+        };
+        set(store, &key, made.as_slice())?;
+        Ok(true)
+    }
+
+    /// The value of a chunk written anew, or `None` where nothing is gained.
+    fn compact_value(
+        &self,
+        alloc: Global,
+        value: &[u8],
+        shape: &[u64],
+        options: &CodecOptions,
+    ) -> Result<Option<Vec<u8>>, ChunkError>
+        ensures { CompactsValue (document_of C.meaning self.now) shape.now value.now result }
+    {
+        match self
+            .codecs
+            .compact(alloc, value, &self.elements, shape, options)
+        {
+            Ok(made) => Ok(made),
+            Err(CodecError::Fit) => Err(ChunkError::Fit),
+            Err(CodecError::Damage) => Err(ChunkError::Damage),
+            Err(CodecError::Codec) => Err(ChunkError::Codec),
+            Err(CodecError::Size) => Err(ChunkError::Size),
+            Err(CodecError::Memory) => Err(ChunkError::Memory),
+            Err(_) => unreachable!(),
+        }
+    }
+}

@@ -1,0 +1,50 @@
+//! Whether a chunk has too many elements to be read or written.
+ghost use Rattle.std.specs.Prelude.{◌≤◌, ◌↔◌, ℕ};
+ghost use Rattle.zarr_codecs_meaning.specs.Types.{IsTooLarge};
+ghost use Rattle.zarr_codecs_types.specs.Views.{type_of};
+
+use crate::array_core::ArrayCore;
+use zarr_codecs_traits::ArrayToBytesCodecTraits;
+use zarr_codecs_types::DataType;
+use zarr_grids_boxes::walk::count_places;
+
+/// So many elements, or bytes of them, are too many.
+const TOO_MANY: u64 = 1 << 63;
+
+/// The least number of elements of a data type that are too many.
+fn type_limit(data_type: &DataType) -> u64
+    ensures { (count : ℕ) → (result ≤ count ↔ IsTooLarge (type_of data_type.now) count) }
+{
+    match data_type.byte_width() {
+        Some(0) => TOO_MANY,
+        Some(width) => TOO_MANY.div_ceil(width as u64),
+        None => if data_type.is_fixed() { 1 } else { TOO_MANY },
+    }
+}
+
+impl<C: ArrayToBytesCodecTraits> ArrayCore<C> {
+    ghost use Rattle.std.specs.Prelude.{◌≤◌, ◌↔◌, ℕ, IsTrue};
+    ghost use Rattle.zarr_grids_boxes.specs.Boxes.{product};
+    ghost use Rattle.zarr_codecs_meaning.specs.Types.{IsTooLarge};
+    ghost use Rattle.zarr_array_core.specs.Views.{document_of};
+
+    /// The least number of the array's elements that are too many: 2^63, or as many as have 2^63
+    /// bytes.
+    pub fn cell_limit(&self) -> u64
+        ensures { (count : ℕ) → (result ≤ count
+            ↔ IsTooLarge (document_of C.meaning self.now).elements.type count) }
+    {
+        type_limit(self.elements().data_type())
+    }
+
+    /// Whether a chunk with this shape has that many.
+    pub(crate) fn is_too_large(&self, shape: &[u64]) -> bool
+        ensures { IsTrue result
+            ↔ IsTooLarge (document_of C.meaning self.now).elements.type (product shape.now) }
+    {
+        match count_places(shape) {
+            Some(count) => self.cell_limit() <= count,
+            None => true,
+        }
+    }
+}
