@@ -18,7 +18,7 @@ use Rattle.zarr_run_meaning.specs.declared.cause.Cause.TheVariants as cause
 use Rattle.zarr_run_meaning.specs.Causes.{ReopenRefuses, IsChunkKeyIn}
 use Rattle.zarr_run_meaning.specs.Changes.{Reopens, Opens}
 use Rattle.zarr_run_meaning.specs.Laws.{IsReopenedAs, IsAgain, AreReopened, AsksAgain, IsAnsweredAgain, RunsReopen, RunsGoOn}
-use Rattle.zarr_run_meaning.specs.Requests.{Request, reopen, Answer, done, cells, refused}
+use Rattle.zarr_run_meaning.specs.Requests.{Request, reopen, Answer, done, cells, compacted, refused}
 use Rattle.zarr_run_meaning.specs.Runs.{Run, world_over}
 use Rattle.zarr_run_meaning.specs.Sound.{AreApart, IsSound, ReadsGood}
 use Rattle.zarr_run_meaning.specs.Steps.{Stays, RefusesAt, Step}
@@ -117,6 +117,7 @@ module _ (reads : ReadsCodecs) (closed old new : World) (path : List ℕ) (h : H
   answered : (answer : Answer) → Step reads old (reopen path order) answer new → IsAnsweredAgain answer
   answered done s = inl refl
   answered (cells payload) s = absurd s
+  answered (compacted changed) s = absurd s
   answered (refused c n) s = go (held_at path old.arrays) refl where
     go : (o : Option Held) → held_at path old.arrays ≡ o → IsAnsweredAgain (refused c n)
     go None e = ⊎_elim (λ r. inl r.is) inr (reopens_alike reads closed old new path h order (refused c n) good found (sound.each path h found) again.store e (no_chunk e) s)
@@ -132,6 +133,7 @@ module _ (reads : ReadsCodecs) (closed old new : World) (path : List ℕ) (h : H
           not_refused : (c : Cause) (n : ℕ) → done ≡ refused c n → ⊥
           not_refused c n e = cc
   next_again (cells payload) s = absurd s
+  next_again (compacted changed) s = absurd s
   next_again (refused c n) s = let same = refused_same c n s in same_again closed old new again same.0 same.1
 
   pub held_then : Step reads old (reopen path order) done new → (g : Held) × (held_at path new.arrays ≡ Some g)
@@ -146,6 +148,7 @@ module _ (reads : ReadsCodecs) (closed old new : World) (path : List ℕ) (h : H
       (λ (o : Opens reads path order old new). (g, ap (held_at q) o.begins.holds ∙ held_at-before q old.arrays _ g at))
       s.0
   held_still (cells payload) s q g at = absurd s
+  held_still (compacted changed) s q g at = absurd s
   held_still (refused c n) s q g at = holds_same old new (refused_same c n s).0 q g at
 
 -- ---- a run

@@ -20,9 +20,9 @@ use Rattle.zarr_run_meaning.specs.Tables.{Table}
 use Rattle.zarr_run_meaning.specs.Worlds.{Held, World, held_at, is_taken, WithTable}
 use Rattle.zarr_run_meaning.proofs.Arrays.{Stayed, at_path, near, apart, held_at-path, held_once, held_at-before, held_at-more, held_at-ordered, held_at-reordered, held_before, held_after, free_of, free_none, unrelated_paths}
 use Rattle.zarr_run_meaning.proofs.Begun.{created_array, created_there, opened_array, opened_there}
-use Rattle.zarr_run_meaning.proofs.Effects.{Effect, kept, created, reordered, opened, wrote, erased, step_effect}
+use Rattle.zarr_run_meaning.proofs.Effects.{Effect, kept, created, reordered, opened, wrote, erased, stored_anew, step_effect}
 use Rattle.zarr_run_meaning.proofs.Keys.{others_kept, put_kept}
-use Rattle.zarr_run_meaning.proofs.Standing.{sound_under, written_sound, erased_sound}
+use Rattle.zarr_run_meaning.proofs.Standing.{sound_under, written_sound, erased_sound, anew_sound}
 
 pub sound_alone : SoundAlone
 sound_alone reads world path h sound found = record {
@@ -124,6 +124,9 @@ module _ (reads : ReadsCodecs) (old new : World) (path : List ℕ) (good : Reads
   effect_alone request answer away (erased w) =
       changed_alone w.path w.held w.chunks w.erases.table w.found w.erases.updates w.erases.stores.others
       (λ s. erased_sound reads w.held old.store new.store w.chunks w.erases.table (good w.held.tree w.held.document s.says) w.erases.is w.below w.erases.stores s)
+  effect_alone request answer away (stored_anew w) =
+      changed_alone w.path w.held w.chunks w.held.table w.found w.updates w.keeps.others
+      (λ s. anew_sound reads w.held old.store new.store w.chunks (good w.held.tree w.held.document s.says) w.below w.keeps s)
 
 pub steps_keep_sound : StepsKeepSound
 steps_keep_sound reads old new request answer path good tables away sound s = effect_alone reads old new path good tables sound request answer away (step_effect reads old new request answer s)
@@ -168,6 +171,9 @@ module _ (reads : ReadsCodecs) (old new : World) (path : List ℕ) (h : Held) (g
       absurd (none-some g.0 (sym none ∙ g.1))
   begins_effect request answer begins (erased w) =
       let g = held_before w.held.path w.erases.table new.store old.arrays new.arrays w.erases.updates path h found in
+      absurd (none-some g.0 (sym none ∙ g.1))
+  begins_effect request answer begins (stored_anew w) =
+      let g = held_before w.held.path w.held.table new.store old.arrays new.arrays w.updates path h found in
       absurd (none-some g.0 (sym none ∙ g.1))
 
 pub begins_alone : BeginsAlone

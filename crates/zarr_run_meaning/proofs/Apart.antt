@@ -1,5 +1,5 @@
 -- No two answers to one command.
-use Rattle.std.proofs.Common.{◌≡◌, ◌∙◌, [], true, sym, subst, ⊎_elim, Option, Some, None}
+use Rattle.std.proofs.Common.{◌≡◌, ◌∙◌, [], sym, subst, ⊎_elim, Option, Some, None}
 use Rattle.zarr_grids_boxes.specs.Boxes.{Region}
 use Rattle.zarr_grids_chunks.specs.Grids.{Grid, IsInGrid}
 use Rattle.zarr_codecs_meaning.proofs.Lists.{some_same}
@@ -12,7 +12,7 @@ use Rattle.zarr_run_meaning.specs.Causes.{IsTarget}
 use Rattle.zarr_run_meaning.specs.Laws.{ReadsApart, WritesApart}
 use Rattle.zarr_run_meaning.specs.Requests.{Target, in_box, in_chunk, read, cells as gives, refused}
 use Rattle.zarr_run_meaning.specs.Steps.{RefusesHeld, RefusesWrite, RefusesRead, WritesFirst, Step}
-use Rattle.zarr_run_meaning.specs.Worlds.{Held, held_at}
+use Rattle.zarr_run_meaning.specs.Worlds.{Held, held_at, writes_exactly}
 use Rattle.zarr_run_meaning.proofs.Keys.{number_listed, listed_below}
 
 -- a command means one box
@@ -58,5 +58,5 @@ writes_apart reads old new other path target given options n s t =
     let listed = number_listed _ n first.stops.chunk nth.listed in
     let among = listed_below h.document.grid is.box first.stops.chunk listed in
     let below : IsInGrid h.document.grid first.stops.chunk first.stops.box = record { below = among.1.below; has_box = nth.has_box } in
-    written_undamaged h.path h.document true is.box is.values options _ old.store new.store first.stops.chunk first.stops.box is.writes.stores below listed damaged)
+    written_undamaged h.path h.document (writes_exactly h) is.box is.values options _ old.store new.store first.stops.chunk first.stops.box is.writes.stores below listed damaged)
     r

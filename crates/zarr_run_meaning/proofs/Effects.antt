@@ -1,10 +1,11 @@
 -- What a step does to the arrays and to what is stored, by kinds.
-use Rattle.std.proofs.Common.{◌≡◌, ◌∙◌, ℕ, List, length, take, refl, sym, ap, ⊎_elim, true, Option, Some, None, option_and_then}
+use Rattle.std.proofs.Common.{◌≡◌, ◌∙◌, ℕ, Bool, List, [], ◌∷◌, length, take, refl, sym, ap, ⊎_elim, true, Option, Some, None, is_some, option_and_then}
 use Rattle.std.specs.List.{list_all}
 use Rattle.serde_json.specs.Data.{Data}
 use Rattle.serde_json.specs.Find.{as_array}
 use Rattle.zarr_grids_boxes.specs.Boxes.{Region, product, places}
 use Rattle.zarr_grids_chunks.specs.Grids.{Grid, intersecting}
+use Rattle.zarr_grids_cover.specs.Boxed.{boxed_chunks}
 use Rattle.zarr_codecs_meaning.specs.Types.{Cell, DataType, is_value}
 use Rattle.zarr_codecs_meaning.specs.Payloads.{values_only, cells_in}
 use Rattle.zarr_codecs_meaning.proofs.Lists.{bind_some, if_some, some_same}
@@ -12,16 +13,20 @@ use Rattle.zarr_codecs_metadata.specs.Chains.{ReadsCodecs}
 use Rattle.zarr_codecs_options.specs.declared.codec_options.CodecOptions.{CodecOptions}
 use Rattle.zarr_codecs_options.specs.declared.subchunk_write_order.SubchunkWriteOrder.{SubchunkWriteOrder}
 use Rattle.zarr_codecs_types.specs.Given.{GivenCells, given_bytes, given_json, given_in, elements_in}
+use Rattle.zarr_array_meaning.specs.Arrays.{Array, value_at}
 use Rattle.zarr_array_meaning.specs.Chunks.{is_listed}
+use Rattle.zarr_array_meaning.specs.Rewriting.{keyed_chunks}
+use Rattle.zarr_array_meaning.specs.StoreMaps.{StoreMap}
 use Rattle.zarr_run_meaning.specs.declared.cause.Cause.{Cause}
 use Rattle.zarr_run_meaning.specs.declared.cause.Cause.TheVariants as cause
 use Rattle.zarr_run_meaning.specs.Causes.{AreTargets}
-use Rattle.zarr_run_meaning.specs.Changes.{Creates, Reopens, Opens, WritesChunks, ErasesChunks}
-use Rattle.zarr_run_meaning.specs.Requests.{Request, create, reopen, write, read, erase, Answer, done, cells, refused}
+use Rattle.zarr_run_meaning.specs.Changes.{Creates, Reopens, Opens, WritesChunks, ErasesChunks, Compacts, RewritesChunks}
+use Rattle.zarr_run_meaning.specs.Requests.{Request, create, reopen, write, read, erase, compact, rewrite, Answer, done, cells, compacted, refused}
 use Rattle.zarr_run_meaning.specs.Sound.{OpensApart, BeginsSound}
-use Rattle.zarr_run_meaning.specs.Steps.{Stays, WritesFirst, ErasesFirst, RefusesHeld, RefusesWrite, RefusesRead, RefusesErase, Refuses, RefusesAt, Step}
-use Rattle.zarr_run_meaning.specs.Worlds.{Held, World, held_at}
-use Rattle.zarr_run_meaning.proofs.Keys.{AreBelow, listed_take, listed_inside}
+use Rattle.zarr_run_meaning.specs.Steps.{Stays, WritesFirst, ErasesFirst, RewritesFirst, RefusesHeld, RefusesWrite, RefusesRead, RefusesErase, RefusesCompact, RefusesRewrite, Refuses, RefusesAt, Step}
+use Rattle.zarr_run_meaning.specs.Worlds.{Held, World, array_of, held_at}
+use Rattle.zarr_run_meaning.proofs.Keys.{AreBelow, listed_take, listed_filter, listed_inside, boxed_below}
+use Rattle.zarr_run_meaning.proofs.StoredAnew.{StoredAnew, compacted_below, compacted_keeps, rewritten_keeps}
 
 only_values : (type : DataType) (cs values : List Cell) → values_only type cs ≡ Some values → list_all (is_value type) values ≡ true
 only_values type cs values e = let kept = if_some (list_all (is_value type) cs) (Some cs) values e in ap (list_all (is_value type)) (sym (some_same kept.1)) ∙ kept.0
@@ -64,6 +69,7 @@ pub data Effect (reads : ReadsCodecs) (request : Request) (answer : Answer) (old
   opened : (path : List ℕ) (order : SubchunkWriteOrder) → (BeginsSound reads old request answer → BeginsSound reads old (reopen path order) done) → ((other : List ℕ) → OpensApart other old request answer → OpensApart other old (reopen path order) done) → Opens reads path order old new → Effect reads request answer old new
   wrote : Wrote old new → Effect reads request answer old new
   erased : Erased old new → Effect reads request answer old new
+  stored_anew : StoredAnew old new → Effect reads request answer old new
 
 -- ---- refusals
 
@@ -94,19 +100,34 @@ wrote_some path h options box values chunks old new found few are many writes =
 targets_below : (grid : Grid) (chunks : Region) → AreTargets grid chunks → AreBelow grid (places chunks.start chunks.shape)
 targets_below grid chunks are = record { below = λ c l. are.1.below c (listed_inside chunks.start chunks.shape c are.0 l) }
 
-first_below : (grid : Grid) (n : ℕ) (chunks : List (List ℕ)) → AreBelow grid chunks → AreBelow grid (take n chunks)
+pub first_below : (grid : Grid) (n : ℕ) (chunks : List (List ℕ)) → AreBelow grid chunks → AreBelow grid (take n chunks)
 first_below grid n chunks are = record { below = λ c l. are.below c (listed_take n chunks c l) }
+
+-- ---- effects of compactions and rewrites
+
+compacted_one : (path chunk : List ℕ) (changed : Bool) (old new : World) → Compacts path chunk changed old new → StoredAnew old new
+compacted_one path chunk changed old new c =
+    record { path = path; held = c.held; found = c.found; chunks = chunk ∷ []; below = compacted_below c.held chunk changed old.store new.store c.stores; updates = c.updates; keeps = compacted_keeps c.held chunk changed old.store new.store c.stores }
+
+pub keyed_below : (array : Array) (store : StoreMap) → AreBelow array.document.grid (keyed_chunks array store)
+keyed_below array store = record { below = λ c l. boxed_below array.document.grid c (listed_filter (λ chunk. is_some (value_at array store chunk)) (boxed_chunks array.document.grid) c l) }
+
+rewrote_some : (path : List ℕ) (h : Held) (options : CodecOptions) (chunks : List (List ℕ)) (old new : World) → held_at path old.arrays ≡ Some h → AreBelow h.document.grid chunks → RewritesChunks h options chunks old new → StoredAnew old new
+rewrote_some path h options chunks old new found below rewrites =
+    record { path = path; held = h; found = found; chunks = chunks; below = below; updates = rewrites.updates; keeps = rewritten_keeps h options.store_empty_chunks chunks old.store new.store rewrites.stores }
 
 -- ---- each step has an effect
 
 pub step_effect : (reads : ReadsCodecs) (old new : World) (request : Request) (answer : Answer) → Step reads old request answer new → Effect reads request answer old new
 step_effect reads old new (create path document order) done s = created path document order (λ begins. begins) s.0
 step_effect reads old new (create path document order) (cells payload) s = absurd s
+step_effect reads old new (create path document order) (compacted changed) s = absurd s
 step_effect reads old new (create path document order) (refused c n) s =
     let r : Request = create path document order in
     at_cases reads path r c n old new (Effect reads r (refused c n) old new) s (stayed reads r c n old new) (λ h. stayed reads r c n old new h.1)
 step_effect reads old new (reopen path order) done s = ⊎_elim (λ h. reordered path order h) (λ h. opened path order (λ begins. begins) (λ other away. away) h) s.0
 step_effect reads old new (reopen path order) (cells payload) s = absurd s
+step_effect reads old new (reopen path order) (compacted changed) s = absurd s
 step_effect reads old new (reopen path order) (refused c n) s =
     let r : Request = reopen path order in
     at_cases reads path r c n old new (Effect reads r (refused c n) old new) s (stayed reads r c n old new) (λ h. stayed reads r c n old new h.1)
@@ -114,6 +135,7 @@ step_effect reads old new (write path target given options) done s =
     let w = s.0 in
     wrote (wrote_some path w.held options w.box w.values (intersecting w.held.document.grid w.box) old new w.found (λ c l. l) (given_values w.held.document.elements.type given w.values w.is.gives.0) w.is.gives.1 w.writes)
 step_effect reads old new (write path target given options) (cells payload) s = absurd s
+step_effect reads old new (write path target given options) (compacted changed) s = absurd s
 step_effect reads old new (write path target given options) (refused c n) s =
     let r : Request = write path target given options in
     at_cases reads path r c n old new (Effect reads r (refused c n) old new) s (stayed reads r c n old new) (λ h.
@@ -121,6 +143,7 @@ step_effect reads old new (write path target given options) (refused c n) s =
     ⊎_elim (λ whole. stayed reads r c n old new whole.1) (λ (first : WritesFirst g target given options c n old new).
     wrote (wrote_some path g options first.box first.values (take n (intersecting g.document.grid first.box)) old new found (λ d l. listed_take n (intersecting g.document.grid first.box) d l) (given_values g.document.elements.type given first.values first.is.gives.0) first.is.gives.1 first.writes))))
 step_effect reads old new (read path target options) done s = absurd s
+step_effect reads old new (read path target options) (compacted changed) s = absurd s
 step_effect reads old new (read path target options) (cells payload) s = kept (ap (λ (w : World). w.arrays) s.1) (ap (λ (w : World). w.store) s.1)
 step_effect reads old new (read path target options) (refused c n) s =
     let r : Request = read path target options in
@@ -130,6 +153,7 @@ step_effect reads old new (erase path chunks) done s =
     let e = s.0 in
     erased (record { path = path; held = e.held; found = e.found; chunks = places chunks.start chunks.shape; below = targets_below e.held.document.grid chunks e.below; erases = e.erases })
 step_effect reads old new (erase path chunks) (cells payload) s = absurd s
+step_effect reads old new (erase path chunks) (compacted changed) s = absurd s
 step_effect reads old new (erase path chunks) (refused c n) s =
     let r : Request = erase path chunks in
     at_cases reads path r c n old new (Effect reads r (refused c n) old new) s (stayed reads r c n old new) (λ h.
@@ -143,3 +167,22 @@ step_effect reads old new (erase path chunks) (refused c n) s =
       below = first_below g.document.grid n (places chunks.start chunks.shape) (targets_below g.document.grid chunks first.below);
       erases = first.erases;
     }))))
+step_effect reads old new (compact path chunk options) done s = absurd s
+step_effect reads old new (compact path chunk options) (cells payload) s = absurd s
+step_effect reads old new (compact path chunk options) (compacted changed) s = stored_anew (compacted_one path chunk changed old new s.0)
+step_effect reads old new (compact path chunk options) (refused c n) s =
+    let r : Request = compact path chunk options in
+    at_cases reads path r c n old new (Effect reads r (refused c n) old new) s (stayed reads r c n old new) (λ h.
+    held_cases (held_at path old.arrays) (RefusesCompact chunk) c n old new (Effect reads r (refused c n) old new) h (stayed reads r c n old new) (λ g found q. stayed reads r c n old new q.1))
+step_effect reads old new (rewrite path options) done s =
+    let r = s.0 in
+    stored_anew (rewrote_some path r.held options (keyed_chunks (array_of r.held) old.store) old new r.found (keyed_below (array_of r.held) old.store) r.rewrites)
+step_effect reads old new (rewrite path options) (cells payload) s = absurd s
+step_effect reads old new (rewrite path options) (compacted changed) s = absurd s
+step_effect reads old new (rewrite path options) (refused c n) s =
+    let r : Request = rewrite path options in
+    at_cases reads path r c n old new (Effect reads r (refused c n) old new) s (stayed reads r c n old new) (λ h.
+    held_cases (held_at path old.arrays) (RefusesRewrite options) c n old new (Effect reads r (refused c n) old new) h (stayed reads r c n old new) (λ g found.
+    ⊎_elim (λ whole. stayed reads r c n old new whole.1) (λ (first : RewritesFirst g options c n old new).
+    let keyed = keyed_chunks (array_of g) old.store in
+    stored_anew (rewrote_some path g options (take n keyed) old new found (first_below g.document.grid n keyed (keyed_below (array_of g) old.store)) first.rewrites))))

@@ -28,13 +28,14 @@ use Rattle.zarr_run_meaning.specs.Changes.{Creates, Reopens, Opens}
 use Rattle.zarr_run_meaning.specs.Laws.{HasTables, StepsShow}
 use Rattle.zarr_run_meaning.specs.Requests.{Request, Answer}
 use Rattle.zarr_run_meaning.specs.Tables.{Table, cell, updated, changes, changes_in, fills}
-use Rattle.zarr_run_meaning.specs.Worlds.{Held, World, held_at, IsTableAt, WithTable}
+use Rattle.zarr_run_meaning.specs.Worlds.{Held, World, held_at, writes_exactly, IsTableAt, WithTable}
 use Rattle.zarr_run_meaning.proofs.Arrays.{Stayed, at_path, near, apart, held_at-path, held_once, held_at-more, held_at-ordered, held_before, free_of, free_none}
 use Rattle.zarr_run_meaning.proofs.Beginning.{fill_read}
 use Rattle.zarr_run_meaning.proofs.Documents.{IsFormed, formed}
-use Rattle.zarr_run_meaning.proofs.Effects.{Effect, kept, created, reordered, opened, wrote, erased, Wrote, Erased, step_effect}
+use Rattle.zarr_run_meaning.proofs.Effects.{Effect, kept, created, reordered, opened, wrote, erased, stored_anew, Wrote, Erased, step_effect}
 use Rattle.zarr_run_meaning.proofs.Keys.{AreBelow, KeepsUnder, chunk_kept, others_kept, put_kept, put_chunk, listed_below}
 use Rattle.zarr_run_meaning.proofs.FillLemmas.{cell-fills}
+use Rattle.zarr_run_meaning.proofs.StoredAnew.{KeepsCells, StoredAnew}
 use Rattle.zarr_run_meaning.proofs.Tables.{cell-written, unlisted_lies}
 
 -- ---- one of two cells
@@ -81,7 +82,7 @@ module _ (h : Held) (old new : StoreMap) (region : Region) (values : List Cell) 
       ap (λ t. cell fill t place) is ∙ cell-written fill h.table h.document.grid region values chunks fill place few many
 
   pub written_table : IsFormed h.document → IsWritten → ((chunk : List ℕ) → is_listed chunks chunk ≡ true → is_listed (intersecting h.document.grid region) chunk ≡ true) → length values ≡ product region.shape
-      → WroteChunks h.path h.document true region values options chunks old new → IsTableAt h.path h.document old h.table → IsTableAt h.path h.document new table
+      → WroteChunks h.path h.document (writes_exactly h) region values options chunks old new → IsTableAt h.path h.document old h.table → IsTableAt h.path h.document new table
   written_table f is few many w shows lossless chunk box place c below inside reads =
       ⊎_elim listed unlisted (told (is_listed chunks chunk)) ∙ sym (written_cell is few many place) where
         here : lies_in_chunk h.document.grid place chunk ≡ true
@@ -130,6 +131,15 @@ module _ (h : Held) (old new : StoreMap) (chunks : List (List ℕ)) (table : Tab
             let same = chunk_kept h.path h.document chunks old new chunk box f are e.others below u in
             shows lossless chunk box place c below inside (sym (read_same h.path h.document old new chunk box place same) ∙ reads)
             ∙ sym (ap (λ b. if b then h.document.elements.fill else cell h.document.elements.fill h.table place) (unlisted_lies h.document.grid chunks chunk place u here))
+
+-- ---- where chunks were stored anew
+
+anew_table : (h : Held) (chunks : List (List ℕ)) (old new : StoreMap) → IsFormed h.document → AreBelow h.document.grid chunks → KeepsCells h chunks old new → IsTableAt h.path h.document old h.table → IsTableAt h.path h.document new h.table
+anew_table h chunks old new f are k shows lossless chunk box place c below inside reads =
+    shows lossless chunk box place c below inside (sym (⊎_elim
+    (λ l. k.shows lossless chunk box place below l inside)
+    (λ u. read_same h.path h.document old new chunk box place (chunk_kept h.path h.document chunks old new chunk box f are k.others below u))
+    (told (is_listed chunks chunk))) ∙ reads)
 
 -- ---- each array of a world
 
@@ -215,6 +225,12 @@ module _ (reads : ReadsCodecs) (old new : World) (tables : HasTables reads old) 
       changed_tables w.path w.held w.chunks w.erases.table w.found w.erases.updates w.erases.stores.others
       (erased_table w.held old.store new.store w.chunks w.erases.table (formed reads w.held.tree w.held.document s.1) w.erases.is w.below w.erases.stores s.2)
 
+  anew_tables : StoredAnew old new → HasTables reads new
+  anew_tables w =
+      let s = tables w.path w.held w.found in
+      changed_tables w.path w.held w.chunks w.held.table w.found w.updates w.keeps.others
+      (anew_table w.held w.chunks old.store new.store (formed reads w.held.tree w.held.document s.1) w.below w.keeps s.2)
+
   effect_shows : (request : Request) (answer : Answer) → Effect reads request answer old new → HasTables reads new
   effect_shows request answer (kept arrays store) = kept_tables arrays store
   effect_shows request answer (created path document order begins c) = created_tables path document order c
@@ -222,6 +238,7 @@ module _ (reads : ReadsCodecs) (old new : World) (tables : HasTables reads old) 
   effect_shows request answer (opened path order begins away o) = opened_tables path order o
   effect_shows request answer (wrote w) = wrote_tables w
   effect_shows request answer (erased w) = erased_tables w
+  effect_shows request answer (stored_anew w) = anew_tables w
 
 pub steps_show : StepsShow
 steps_show reads old new request answer tables s = effect_shows reads old new tables request answer (step_effect reads old new request answer s)

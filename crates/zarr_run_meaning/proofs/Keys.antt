@@ -1,5 +1,5 @@
 -- Which keys a command on one array changes, and which it leaves.
-use Rattle.std.proofs.Common.{◌≡◌, ◌≢◌, ◌∙◌, ◌⊎◌, inl, inr, ⊎_elim, ℕ, zero, suc, ◌<◌, ◌^◌, cond, true, false, Bool, List, [], ◌∷◌, length, take, replicate, slice_get, refl, sym, ap, arith, Option, Some, None, IsTrue, bytes_eq, ◌||◌}
+use Rattle.std.proofs.Common.{◌≡◌, ◌≢◌, ◌∙◌, ◌⊎◌, inl, inr, ⊎_elim, ℕ, zero, suc, ◌<◌, ◌^◌, cond, true, false, Bool, List, [], ◌∷◌, length, take, replicate, slice_get, refl, sym, ap, arith, Option, Some, None, IsTrue, is_some, bytes_eq, ◌||◌}
 use Rattle.std.specs.List.{filter}
 use Rattle.std.specs.Option.{option_map_or}
 use Rattle.std.specs.FinMap.{get, insert, get-insert}
@@ -17,6 +17,7 @@ use Rattle.zarr_grids_dimensions.specs.Lookups.{are_dimensions}
 use Rattle.zarr_grids_dimensions.proofs.Monotone.{number_least}
 use Rattle.zarr_grids_dimensions.proofs.Union.{in-of, interval-positive}
 use Rattle.zarr_grids_dimensions.proofs.UnionBox.{box-more}
+use Rattle.zarr_grids_cover.specs.Boxed.{boxed_chunks}
 use Rattle.zarr_grids_cover.proofs.ChunkBoxes.{chunk_box-chunk_rank}
 use Rattle.zarr_grids_keys.specs.Documents.{document_key, document_name}
 use Rattle.zarr_grids_keys.specs.Keys.{encoded_key, key_under, chunk_key}
@@ -52,7 +53,7 @@ listed_take zero xs c l = absurd (false≢true l)
 listed_take (suc n) [] c l = absurd (false≢true l)
 listed_take (suc n) (x ∷ xs) c l = ⊎_elim (λ e. or_left (bytes_eq c x) (is_listed xs c) e) (λ e. or_right (bytes_eq c x) (is_listed xs c) (listed_take n xs c e)) (or_cases (bytes_eq c x) (is_listed (take n xs) c) l)
 
-listed_filter : (p : List ℕ → Bool) (xs : List (List ℕ)) (c : List ℕ) → is_listed (filter p xs) c ≡ true → is_listed xs c ≡ true
+pub listed_filter : (p : List ℕ → Bool) (xs : List (List ℕ)) (c : List ℕ) → is_listed (filter p xs) c ≡ true → is_listed xs c ≡ true
 listed_filter p [] c l = absurd (false≢true l)
 listed_filter p (x ∷ xs) c l = go (p x) (listed_filter p xs c) l where
   go : (b : Bool) → (is_listed (filter p xs) c ≡ true → is_listed xs c ≡ true) → is_listed (cond b (x ∷ filter p xs) (filter p xs)) c ≡ true → is_listed (x ∷ xs) c ≡ true
@@ -62,13 +63,27 @@ listed_filter p (x ∷ xs) c l = go (p x) (listed_filter p xs c) l where
 pub listed_inside : (ss es c : List ℕ) → length ss ≡ length es → is_listed (places ss es) c ≡ true → is_in_box ss es c ≡ true
 listed_inside ss es c l listed = let found = listed_number (places ss es) c listed in ((place_by_number ss es c found.0 (sym l)).0 found.1).0
 
+-- the indices of a grid are below its shape
+index_below : (grid : Grid) (c : List ℕ) → is_listed (chunk_indices grid) c ≡ true → is_in_box (replicate (length grid) 0) (grid_shape grid) c ≡ true
+index_below grid c listed = listed_inside (replicate (length grid) 0) (grid_shape grid) c (length-replicate (length grid) 0 ∙ sym (length-map grid chunk_count)) listed
+
 -- a chunk that a box intersects lies in the grid
 pub listed_below : (grid : Grid) (region : Region) (c : List ℕ) → is_listed (intersecting grid region) c ≡ true → (box : Region) × IsInGrid grid c box
 listed_below grid region c listed = go (chunk_box grid c) refl (filter-any (intersects grid region) c (chunk_indices grid) listed) where
   below : is_in_box (replicate (length grid) 0) (grid_shape grid) c ≡ true
-  below = listed_inside (replicate (length grid) 0) (grid_shape grid) c (length-replicate (length grid) 0 ∙ sym (length-map grid chunk_count)) (listed_filter (intersects grid region) (chunk_indices grid) c listed)
+  below = index_below grid c (listed_filter (intersects grid region) (chunk_indices grid) c listed)
 
   go : (o : Option Region) → chunk_box grid c ≡ o → option_map_or (λ (box : Region). share_place box.start box.shape region.start region.shape) o false ≡ true → (box : Region) × IsInGrid grid c box
+  go None e h = absurd (false≢true h)
+  go (Some box) e h = (box, record { below = below; has_box = e })
+
+-- and so does one that has a box
+pub boxed_below : (grid : Grid) (c : List ℕ) → is_listed (boxed_chunks grid) c ≡ true → (box : Region) × IsInGrid grid c box
+boxed_below grid c listed = go (chunk_box grid c) refl (filter-any (λ chunk. is_some (chunk_box grid chunk)) c (chunk_indices grid) listed) where
+  below : is_in_box (replicate (length grid) 0) (grid_shape grid) c ≡ true
+  below = index_below grid c (listed_filter (λ chunk. is_some (chunk_box grid chunk)) (chunk_indices grid) c listed)
+
+  go : (o : Option Region) → chunk_box grid c ≡ o → is_some o ≡ true → (box : Region) × IsInGrid grid c box
   go None e h = absurd (false≢true h)
   go (Some box) e h = (box, record { below = below; has_box = e })
 

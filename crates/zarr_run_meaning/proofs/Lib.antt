@@ -6,10 +6,12 @@ pub mod Documents
 pub mod GoodDocuments
 pub mod Tables
 pub mod Keys
-pub mod Effects
 pub mod Reading
+pub mod StoredAnew
+pub mod Effects
 pub mod Apart
 pub mod Beginning
+pub mod Changed
 pub mod Frames
 pub mod Printing
 pub mod Standing
@@ -21,3 +23,5 @@ pub mod Reopening
 pub mod Again
 pub mod Alone
 pub mod One
+pub mod Canon
+pub mod KeptCanon

@@ -20,15 +20,15 @@ use Rattle.zarr_run_meaning.specs.declared.cause.Cause.TheVariants as cause
 use Rattle.zarr_run_meaning.specs.Causes.{ReopenRefuses, IsChunkKeyIn}
 use Rattle.zarr_run_meaning.specs.Changes.{Creates, Reopens, Opens}
 use Rattle.zarr_run_meaning.specs.Laws.{HasTables, HasCells, IsReopenedAs, IsAgain, IsAnsweredAgain, AsksBeside, IsHeldAgain, RunsReopenOne}
-use Rattle.zarr_run_meaning.specs.Requests.{Request, create, reopen, write, read, erase, path_of, Answer, done, cells, refused}
+use Rattle.zarr_run_meaning.specs.Requests.{Request, create, reopen, write, read, erase, compact, rewrite, path_of, Answer, done, cells, compacted, refused}
 use Rattle.zarr_run_meaning.specs.Runs.{Run, world_over}
 use Rattle.zarr_run_meaning.specs.Sound.{IsSoundAt, IsSoundAlone, ReadsGood}
-use Rattle.zarr_run_meaning.specs.Steps.{Stays, WritesFirst, ErasesFirst, RefusesWrite, RefusesRead, RefusesErase, Refuses, RefusesAt, Step}
+use Rattle.zarr_run_meaning.specs.Steps.{Stays, WritesFirst, ErasesFirst, RewritesFirst, RefusesWrite, RefusesRead, RefusesErase, RefusesCompact, RefusesRewrite, Refuses, RefusesAt, Step}
 use Rattle.zarr_run_meaning.specs.Tables.{Table, cell}
 use Rattle.zarr_run_meaning.specs.Worlds.{Held, World, held_at, WithTable}
 use Rattle.zarr_run_meaning.proofs.Arrays.{Stayed, at_path, near, apart, held_at-first, held_at-path, held_at-before, held_at-more, held_at-new, held_at-ordered, held_at-reordered, held_before, held_after, free_none}
 use Rattle.zarr_run_meaning.proofs.Begun.{created_array, opened_array}
-use Rattle.zarr_run_meaning.proofs.Effects.{Effect, kept, created, reordered, opened, wrote, erased, step_effect, at_cases, held_cases}
+use Rattle.zarr_run_meaning.proofs.Effects.{Effect, kept, created, reordered, opened, wrote, erased, stored_anew, step_effect, at_cases, held_cases}
 use Rattle.zarr_run_meaning.proofs.Frames.{steps_show}
 use Rattle.zarr_run_meaning.proofs.Keys.{others_kept, put_kept}
 use Rattle.zarr_run_meaning.proofs.Reading.{alone_undamaged}
@@ -63,6 +63,7 @@ held_effect reads old new request answer (reordered p order r) q g e = let x = h
 held_effect reads old new request answer (opened p order begins such o) q g e = (g, ap (held_at q) o.begins.holds ∙ held_at-before q old.arrays _ g e)
 held_effect reads old new request answer (wrote w) q g e = let x = held_after w.held.path w.writes.table new.store old.arrays new.arrays w.writes.updates q g e in (x.0, x.1)
 held_effect reads old new request answer (erased w) q g e = let x = held_after w.held.path w.erases.table new.store old.arrays new.arrays w.erases.updates q g e in (x.0, x.1)
+held_effect reads old new request answer (stored_anew w) q g e = let x = held_after w.held.path w.held.table new.store old.arrays new.arrays w.updates q g e in (x.0, x.1)
 
 -- ---- one step
 
@@ -145,24 +146,40 @@ module _ (reads : ReadsCodecs) (old new : World) (h : Held) (good : ReadsGood re
   beside : (request : Request) (answer : Answer) → is_related h.path (path_of request) ≡ false → Step reads old request answer new → Keeps reads h new
   beside (create p document order) done away s = created_beside p document order away s.0
   beside (create p document order) (cells payload) away s = absurd s
+  beside (create p document order) (compacted changed) away s = absurd s
   beside (create p document order) (refused c n) away s = whole p (create p document order) c n s (λ r. stayed c n r.1)
   beside (reopen p order) done away s = ⊎_elim (with_order_again p order) (opened_beside p order away) s.0
   beside (reopen p order) (cells payload) away s = absurd s
+  beside (reopen p order) (compacted changed) away s = absurd s
   beside (reopen p order) (refused c n) away s = whole p (reopen p order) c n s (λ r. stayed c n r.1)
   beside (write p target given options) done away s = let w = s.0 in changed_beside p w.held _ w.writes.table away w.found w.writes.updates w.writes.stores.others
   beside (write p target given options) (cells payload) away s = absurd s
+  beside (write p target given options) (compacted changed) away s = absurd s
   beside (write p target given options) (refused c n) away s = whole p (write p target given options) c n s (λ r.
       held_cases (held_at p old.arrays) (RefusesWrite target given options) c n old new (Keeps reads h new) r (stayed c n) (λ g found.
       ⊎_elim (λ first. stayed c n first.1) (λ (first : WritesFirst g target given options c n old new). changed_beside p g _ first.writes.table away found first.writes.updates first.writes.stores.others)))
   beside (read p target options) done away s = absurd s
+  beside (read p target options) (compacted changed) away s = absurd s
   beside (read p target options) (cells payload) away s = unmoved (ap (λ (w : World). w.arrays) s.1) (ap (λ (w : World). w.store) s.1)
   beside (read p target options) (refused c n) away s = whole p (read p target options) c n s (λ r.
       held_cases (held_at p old.arrays) (RefusesRead target) c n old new (Keeps reads h new) r (stayed c n) (λ g found q. stayed c n q.1))
   beside (erase p chunks) done away s = let e = s.0 in changed_beside p e.held _ e.erases.table away e.found e.erases.updates e.erases.stores.others
   beside (erase p chunks) (cells payload) away s = absurd s
+  beside (erase p chunks) (compacted changed) away s = absurd s
   beside (erase p chunks) (refused c n) away s = whole p (erase p chunks) c n s (λ r.
       held_cases (held_at p old.arrays) (RefusesErase chunks) c n old new (Keeps reads h new) r (stayed c n) (λ g found.
       ⊎_elim (λ first. stayed c n first.1) (λ (first : ErasesFirst g chunks c n old new). changed_beside p g _ first.erases.table away found first.erases.updates first.erases.stores.others)))
+  beside (compact p chunk options) done away s = absurd s
+  beside (compact p chunk options) (cells payload) away s = absurd s
+  beside (compact p chunk options) (compacted changed) away s = let c = s.0 in changed_beside p c.held (chunk ∷ []) c.held.table away c.found c.updates c.stores.others
+  beside (compact p chunk options) (refused c n) away s = whole p (compact p chunk options) c n s (λ r.
+      held_cases (held_at p old.arrays) (RefusesCompact chunk) c n old new (Keeps reads h new) r (stayed c n) (λ g found q. stayed c n q.1))
+  beside (rewrite p options) done away s = let r = s.0 in changed_beside p r.held _ r.held.table away r.found r.rewrites.updates r.rewrites.stores.others
+  beside (rewrite p options) (cells payload) away s = absurd s
+  beside (rewrite p options) (compacted changed) away s = absurd s
+  beside (rewrite p options) (refused c n) away s = whole p (rewrite p options) c n s (λ r.
+      held_cases (held_at p old.arrays) (RefusesRewrite options) c n old new (Keeps reads h new) r (stayed c n) (λ g found.
+      ⊎_elim (λ first. stayed c n first.1) (λ (first : RewritesFirst g options c n old new). changed_beside p g _ g.table away found first.rewrites.updates first.rewrites.stores.others)))
 
   -- ---- a reopening of the path
 
@@ -195,6 +212,7 @@ module _ (reads : ReadsCodecs) (old new : World) (h : Held) (good : ReadsGood re
     opens : Opens reads h.path order old new → Keeps reads h new
     opens o = ⊎_elim (opened_again order o) (λ no. absurd (⊎_elim (not_refused cause.Memory) (not_refused cause.Store) no)) (alike order done o.begins.free s)
   mine order (cells payload) s = absurd s
+  mine order (compacted changed) s = absurd s
   mine order (refused c n) s = whole h.path (reopen h.path order) c n s (λ r. stayed c n r.1)
 
   held_refused : (order : SubchunkWriteOrder) (c : Cause) (n : ℕ) (g : Held) → held_at h.path old.arrays ≡ Some g → RefusesAt reads h.path (reopen h.path order) c n old new → IsAnsweredAgain (refused c n)
@@ -207,6 +225,7 @@ module _ (reads : ReadsCodecs) (old new : World) (h : Held) (good : ReadsGood re
   answered : (order : SubchunkWriteOrder) (answer : Answer) → Step reads old (reopen h.path order) answer new → IsAnsweredAgain answer
   answered order done s = inl refl
   answered order (cells payload) s = absurd s
+  answered order (compacted changed) s = absurd s
   answered order (refused c n) s = go (held_at h.path old.arrays) refl where
     go : (o : Option Held) → held_at h.path old.arrays ≡ o → IsAnsweredAgain (refused c n)
     go None e = ⊎_elim (λ r. inl r.is) inr (alike order (refused c n) e s)

@@ -27,7 +27,7 @@ use Rattle.zarr_run_meaning.specs.Tables.{Table}
 use Rattle.zarr_run_meaning.specs.Worlds.{Held, World, held_at, with_order, WithTable}
 use Rattle.zarr_run_meaning.proofs.Arrays.{Stayed, at_path, near, apart, held_own, held_at-before, held_at-new, held_at-reordered, held_after, free_of, free_none}
 use Rattle.zarr_run_meaning.proofs.Beginning.{none_from}
-use Rattle.zarr_run_meaning.proofs.Effects.{Effect, kept, created, reordered, opened, wrote, erased, step_effect}
+use Rattle.zarr_run_meaning.proofs.Effects.{Effect, kept, created, reordered, opened, wrote, erased, stored_anew, step_effect}
 use Rattle.zarr_run_meaning.proofs.Keys.{AreBelow, put_other, kept_or_listed, listed_below}
 
 -- ---- an empty store
@@ -96,6 +96,7 @@ module _ (reads : ReadsCodecs) (old new : World) (key : List ℕ) (owned : IsOwn
   own_effect request answer (wrote w) =
       own_changed w.path w.held w.chunks w.writes.table w.found w.writes.updates (record { below = λ c l. listed_below w.held.document.grid w.box c (w.few c l) }) w.writes.stores.others
   own_effect request answer (erased w) = own_changed w.path w.held w.chunks w.erases.table w.found w.erases.updates w.below w.erases.stores.others
+  own_effect request answer (stored_anew w) = own_changed w.path w.held w.chunks w.held.table w.found w.updates w.below w.keeps.others
 
 pub steps_own : StepsOwn
 steps_own reads old new request answer key s owned = own_effect reads old new key owned request answer (step_effect reads old new request answer s)

@@ -1,18 +1,22 @@
 -- What is read in a sound world.
-use Rattle.std.proofs.Common.{◌≡◌, ◌∙◌, ℕ, List, [], ◌∷◌, map, length, refl, sym, ap, subst, ⊎_elim, true, Option, Some, None, is_some}
+use Rattle.std.proofs.Common.{◌≡◌, ◌∙◌, ℕ, Bool, List, [], ◌∷◌, map, length, refl, sym, ap, subst, ⊎_elim, true, false, Option, Some, None, is_some}
 use Rattle.std.specs.Prelude.{nat_lt, ◌&&◌}
-use Rattle.std.proofs.lemmas.Bool.{lt-ltb, false≢true, MatchBool-at_false}
+use Rattle.std.proofs.lemmas.Bool.{lt-ltb, false≢true, MatchBool-at_true, MatchBool-at_false}
 use Rattle.std.proofs.lemmas.Option.{none-some, same_Some}
 use Rattle.zarr_grids_boxes.specs.Boxes.{Region, product, places, is_in_box}
 use Rattle.zarr_grids_boxes.proofs.Steps.{number_in_grid}
 use Rattle.zarr_grids_chunks.specs.Grids.{IsInGrid}
 use Rattle.zarr_grids_cover.proofs.ChunkBoxes.{chunk_box-rank}
+use Rattle.zarr_codecs_meaning.specs.Chunks.{IsStored, chunk_decoded}
+use Rattle.zarr_codecs_meaning.specs.Standing.{Stands}
+use Rattle.zarr_codecs_meaning.specs.Standing.Slices.{standing_slices}
 use Rattle.zarr_codecs_meaning.specs.Types.{Cell}
 use Rattle.zarr_codecs_meaning.proofs.Chunks.{stored_part, stored_decoded}
+use Rattle.zarr_sharding_values.proofs.ChainCompaction.{standing_undamaged}
 use Rattle.zarr_codecs_metadata.specs.Chains.{ReadsCodecs}
 use Rattle.zarr_codecs_options.specs.declared.codec_options.CodecOptions.{CodecOptions}
 use Rattle.zarr_array_meaning.specs.Boxes.{IsDamagedIn, IsUnfitIn}
-use Rattle.zarr_array_meaning.specs.Chunks.{number_in, stored_at, decoded_at, ReadsCell, IsNthIntersecting}
+use Rattle.zarr_array_meaning.specs.Chunks.{number_in, stored_at, fits_box, decoded_at, ReadsCell, IsNthIntersecting}
 use Rattle.zarr_array_meaning.specs.Documents.{Document}
 use Rattle.zarr_array_meaning.specs.Standing.{ChunkStandsAt, IsLossless, IsGood, AreValues}
 use Rattle.zarr_array_meaning.specs.StoreMaps.{StoreMap}
@@ -21,13 +25,13 @@ use Rattle.zarr_array_meaning.specs.Writing.{IsPartDamaged}
 use Rattle.zarr_array_meaning.proofs.Showing.{are_cells, listed_at}
 use Rattle.zarr_array_meaning.proofs.TakenParts.{takes_decoded}
 use Rattle.zarr_run_meaning.specs.declared.cause.Cause.TheVariants as cause
-use Rattle.zarr_run_meaning.specs.Causes.{ReopenRefuses}
+use Rattle.zarr_run_meaning.specs.Causes.{ReopenRefuses, IsNotCompacted, IsNotRewritten}
 use Rattle.zarr_run_meaning.specs.Laws.{NeverDamaged, AloneUndamaged, ReadsFit}
-use Rattle.zarr_run_meaning.specs.Requests.{Request, create, reopen, write, read, erase, path_of, refused}
+use Rattle.zarr_run_meaning.specs.Requests.{Request, create, reopen, write, read, erase, compact, rewrite, path_of, refused}
 use Rattle.zarr_run_meaning.specs.Sound.{IsSoundAt, ReadsGood}
-use Rattle.zarr_run_meaning.specs.Steps.{RefusesHeld, RefusesWrite, RefusesRead, RefusesErase, WritesFirst, ErasesFirst, Step}
+use Rattle.zarr_run_meaning.specs.Steps.{RefusesHeld, RefusesWrite, RefusesRead, RefusesErase, RefusesCompact, RefusesRewrite, WritesFirst, ErasesFirst, RewritesFirst, Step}
 use Rattle.zarr_run_meaning.specs.Tables.{cell}
-use Rattle.zarr_run_meaning.specs.Worlds.{Held, World, held_at}
+use Rattle.zarr_run_meaning.specs.Worlds.{Held, World, array_of, held_at}
 use Rattle.zarr_run_meaning.proofs.Arrays.{held_at-path}
 use Rattle.zarr_run_meaning.proofs.Keys.{number_listed, listed_below}
 
@@ -65,6 +69,20 @@ module _ (reads : ReadsCodecs) (store : StoreMap) (h : Held) (good : ReadsGood r
       none-some _ (sym damaged.lost
       ∙ standing_reads h.path h.document store damaged.chunk damaged.box (cell h.document.elements.fill h.table) (good h.tree h.document sound.says) sound.lossless sound.values damaged.is.below (sound.stands damaged.chunk damaged.box damaged.is.below) damaged.place damaged.is.of_chunk)
 
+  -- nothing is damaged for a compaction
+  none_gaping : (chunk : List ℕ) → IsNotCompacted (array_of h) store chunk cause.Damage → ⊥
+  none_gaping chunk lost =
+      let cells = map (cell h.document.elements.fill h.table) (places lost.box.start lost.box.shape) in
+      let P : Option (List ℕ) → Type 0 = λ o. IsStored h.document.chain h.document.elements lost.box.shape o cells in
+      let stood : Stands h.document.chain h.document.elements lost.box.shape lost.value cells = MatchBool-at_true _ _ lost.refuses.0 (subst P lost.stored (sound.stands chunk lost.box lost.below)) in
+      standing_undamaged standing_slices h.document.chain h.document.elements lost.box.shape lost.value cells stood lost.refuses.1
+
+  -- nor for a rewrite
+  none_undecoded : (store_empty : Bool) (n : ℕ) → IsNotRewritten (array_of h) store store_empty n cause.Damage → ⊥
+  none_undecoded store_empty n lost =
+      none-some _ (sym lost.refuses.1 ∙ ap (chunk_decoded h.document.chain h.document.elements lost.box.shape) (sym lost.stored)
+      ∙ standing_decoded h.path h.document store lost.chunk lost.box (cell h.document.elements.fill h.table) (good h.tree h.document sound.says) sound.lossless sound.values lost.below (sound.stands lost.chunk lost.box lost.below))
+
   -- its document is the one that is stored
   none_changed : (path : List ℕ) → path ≡ h.path → (old : World) → old.store ≡ store → ReopenRefuses reads old path (Some h) cause.DocumentChanged → ⊥
   none_changed path same old is refuses =
@@ -77,6 +95,9 @@ unfit_none : (reads : ReadsCodecs) (store : StoreMap) (h : Held) (region : Regio
 unfit_none reads store h region sound unfit =
     let none = MatchBool-at_false _ _ unfit.fit (sound.stands unfit.chunk unfit.box unfit.below) in
     false≢true (sym (ap is_some none.0) ∙ unfit.stored)
+
+unfit_stored : (reads : ReadsCodecs) (store : StoreMap) (h : Held) (chunk : List ℕ) (box : Region) (value : List ℕ) → IsSoundAt reads store h → IsInGrid h.document.grid chunk box → stored_at h.path h.document store chunk ≡ Some value → fits_box h.document box ≡ false → ⊥
+unfit_stored reads store h chunk box value sound below stored unfit = let none = MatchBool-at_false _ _ unfit (sound.stands chunk box below) in none-some value (sym none.0 ∙ stored)
 
 -- ---- the laws
 
@@ -104,6 +125,14 @@ module _ (reads : ReadsCodecs) (old new : World) (n : ℕ) (good : ReadsGood rea
     go : (o : Option Held) → held_at path old.arrays ≡ o → RefusesHeld o (RefusesErase chunks) cause.Damage n old new → ⊥
     go None e r = r
     go (Some h) e r = ⊎_elim (λ whole. whole.0) (λ (first : ErasesFirst h chunks cause.Damage n old new). first.stops) r
+  undamaged (compact path chunk options) sound s = go (held_at path old.arrays) refl s.1 where
+    go : (o : Option Held) → held_at path old.arrays ≡ o → RefusesHeld o (RefusesCompact chunk) cause.Damage n old new → ⊥
+    go None e r = r
+    go (Some h) e r = none_gaping reads old.store h good (sound h e) chunk r.0
+  undamaged (rewrite path options) sound s = go (held_at path old.arrays) refl s.1 where
+    go : (o : Option Held) → held_at path old.arrays ≡ o → RefusesHeld o (RefusesRewrite options) cause.Damage n old new → ⊥
+    go None e r = r
+    go (Some h) e r = ⊎_elim (λ whole. whole.0) (λ (first : RewritesFirst h options cause.Damage n old new). none_undecoded reads old.store h good (sound h e) options.store_empty_chunks n first.stops) r
 
   unchanged : (request : Request) → IsSoundThere reads old (path_of request) → Step reads old request (refused cause.DocumentChanged n) new → ⊥
   unchanged (create path document order) sound s = s.1.0
@@ -123,6 +152,14 @@ module _ (reads : ReadsCodecs) (old new : World) (n : ℕ) (good : ReadsGood rea
     go : (o : Option Held) → RefusesHeld o (RefusesErase chunks) cause.DocumentChanged n old new → ⊥
     go None r = r
     go (Some h) r = ⊎_elim (λ whole. whole.0) (λ (first : ErasesFirst h chunks cause.DocumentChanged n old new). first.stops) r
+  unchanged (compact path chunk options) sound s = go (held_at path old.arrays) s.1 where
+    go : (o : Option Held) → RefusesHeld o (RefusesCompact chunk) cause.DocumentChanged n old new → ⊥
+    go None r = r
+    go (Some h) r = r.0
+  unchanged (rewrite path options) sound s = go (held_at path old.arrays) s.1 where
+    go : (o : Option Held) → RefusesHeld o (RefusesRewrite options) cause.DocumentChanged n old new → ⊥
+    go None r = r
+    go (Some h) r = ⊎_elim (λ whole. whole.0) (λ (first : RewritesFirst h options cause.DocumentChanged n old new). first.stops.refuses) r
 
 pub never_damaged : NeverDamaged
 never_damaged reads old new request n good sound = (undamaged reads old new n good request (sound.each (path_of request)), unchanged reads old new n good request (sound.each (path_of request)))
@@ -133,7 +170,18 @@ alone_undamaged reads old new request n good alone = (undamaged reads old new n 
   there h e = let P : Held → Type 0 = λ x. IsSoundAt reads old.store x in subst P (same_Some alone.array h (sym alone.found ∙ e)) alone.there
 
 pub reads_fit : ReadsFit
-reads_fit reads old new path target options n sound s = go (held_at path old.arrays) refl s.1 where
+reads_fit reads old new (read path target options) n sound asks s = go (held_at path old.arrays) refl s.1 where
   go : (o : Option Held) → held_at path old.arrays ≡ o → RefusesHeld o (RefusesRead target) cause.Fit n old new → ⊥
   go None e r = r
   go (Some h) e r = unfit_none reads old.store h r.0.0 (sound.each path h e) r.0.3
+reads_fit reads old new (compact path chunk options) n sound asks s = go (held_at path old.arrays) refl s.1 where
+  go : (o : Option Held) → held_at path old.arrays ≡ o → RefusesHeld o (RefusesCompact chunk) cause.Fit n old new → ⊥
+  go None e r = r
+  go (Some h) e r = let f : IsNotCompacted (array_of h) old.store chunk cause.Fit = r.0 in unfit_stored reads old.store h chunk f.box f.value (sound.each path h e) f.below f.stored f.refuses
+reads_fit reads old new (rewrite path options) n sound asks s = go (held_at path old.arrays) refl s.1 where
+  go : (o : Option Held) → held_at path old.arrays ≡ o → RefusesHeld o (RefusesRewrite options) cause.Fit n old new → ⊥
+  go None e r = r
+  go (Some h) e r = ⊎_elim (λ whole. whole.0) (λ (first : RewritesFirst h options cause.Fit n old new).
+      let f : IsNotRewritten (array_of h) old.store options.store_empty_chunks n cause.Fit = first.stops in
+      unfit_stored reads old.store h f.chunk f.box f.value (sound.each path h e) f.below f.stored f.refuses) r
+reads_fit reads old new request n sound asks s = absurd asks

@@ -21,7 +21,7 @@ use Rattle.zarr_run_meaning.specs.declared.cause.Cause.TheVariants as cause
 use Rattle.zarr_run_meaning.specs.Causes.{ReopenRefuses, IsChunkKeyIn, HasNoneAt, IsNoDocumentIn}
 use Rattle.zarr_run_meaning.specs.Changes.{Opens}
 use Rattle.zarr_run_meaning.specs.Laws.{SameCells, HasCells, IsReopenedAs, ReopensAlike, ReopenedSound, ReopenedOwned}
-use Rattle.zarr_run_meaning.specs.Requests.{reopen, Answer, done, cells, refused}
+use Rattle.zarr_run_meaning.specs.Requests.{reopen, Answer, done, cells, compacted, refused}
 use Rattle.zarr_run_meaning.specs.Sound.{OwnsKey, IsSoundAt, ReadsGood}
 use Rattle.zarr_run_meaning.specs.Steps.{RefusesAt, Step}
 use Rattle.zarr_run_meaning.specs.Tables.{Table, cell}
@@ -114,6 +114,7 @@ module _ (reads : ReadsCodecs) (closed old new : World) (path : List ℕ) (h : H
   pub alike : (answer : Answer) → Step reads old (reopen path order) answer new → Alike answer
   alike done s = ⊎_elim (λ again. absurd (none-some again.held (sym none ∙ again.found))) (λ o. inl (opened_alike o)) s.0
   alike (cells payload) s = absurd s
+  alike (compacted changed) s = absurd s
   alike (refused c n) s = refused_alike c n s
 
 pub reopens_alike : ReopensAlike

@@ -22,10 +22,11 @@ use Rattle.zarr_run_meaning.specs.Tables.{Table}
 use Rattle.zarr_run_meaning.specs.Worlds.{Held, World, held_at, is_taken, with_order, WithTable}
 use Rattle.zarr_run_meaning.proofs.Arrays.{Stayed, at_path, near, apart, held_at-path, held_once, held_at-more, held_at-ordered, held_before, apart_more, apart_ordered, apart_after, free_of, free_none, unrelated_paths}
 use Rattle.zarr_run_meaning.proofs.Begun.{no_chunks_are_fill, created_array, created_there, opened_array, opened_there}
-use Rattle.zarr_run_meaning.proofs.Effects.{Effect, kept, created, reordered, opened, wrote, erased, Wrote, Erased, step_effect}
+use Rattle.zarr_run_meaning.proofs.Effects.{Effect, kept, created, reordered, opened, wrote, erased, stored_anew, Wrote, Erased, step_effect}
 use Rattle.zarr_run_meaning.proofs.Keys.{others_kept, put_kept}
 use Rattle.zarr_run_meaning.proofs.Owning.{steps_own, owned_has_no_chunks, opens_none}
-use Rattle.zarr_run_meaning.proofs.Standing.{sound_under, written_sound, erased_sound}
+use Rattle.zarr_run_meaning.proofs.Standing.{sound_under, written_sound, erased_sound, anew_sound}
+use Rattle.zarr_run_meaning.proofs.StoredAnew.{StoredAnew}
 
 -- a world with a sound one's arrays and store
 pub same_sound : (reads : ReadsCodecs) (old new : World) → IsSound reads old → new.arrays ≡ old.arrays → new.store ≡ old.store → IsSound reads new
@@ -114,6 +115,12 @@ module _ (reads : ReadsCodecs) (old new : World) (good : ReadsGood reads) (sound
       changed_sound reads old new w.path w.held w.chunks w.erases.table sound w.found w.erases.updates w.erases.stores.others
       (erased_sound reads w.held old.store new.store w.chunks w.erases.table (good w.held.tree w.held.document s.says) w.erases.is w.below w.erases.stores s)
 
+  all_anew_sound : StoredAnew old new → IsSound reads new
+  all_anew_sound w =
+      let s = sound.each w.path w.held w.found in
+      changed_sound reads old new w.path w.held w.chunks w.held.table sound w.found w.updates w.keeps.others
+      (anew_sound reads w.held old.store new.store w.chunks (good w.held.tree w.held.document s.says) w.below w.keeps s)
+
   effect_sound : (request : Request) (answer : Answer) → BeginsSound reads old request answer → Effect reads request answer old new → IsSound reads new
   effect_sound request answer begins (kept arrays store) = same_sound reads old new sound arrays store
   effect_sound request answer begins (created path document order such c) = created_sound reads old new path order good sound document c (such begins c.meaning c.opens)
@@ -123,6 +130,7 @@ module _ (reads : ReadsCodecs) (old new : World) (good : ReadsGood reads) (sound
       opened_sound reads old new path order good sound o b.0 b.1
   effect_sound request answer begins (wrote w) = wrote_sound w
   effect_sound request answer begins (erased w) = all_erased_sound w
+  effect_sound request answer begins (stored_anew w) = all_anew_sound w
 
 pub steps_sound : StepsSound
 steps_sound reads old new request answer good begins sound s = effect_sound reads old new good sound request answer begins (step_effect reads old new request answer s)

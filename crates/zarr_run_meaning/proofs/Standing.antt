@@ -1,4 +1,4 @@
--- Which cells what is stored stands for, after a create, a write and an erasure.
+-- Which cells what is stored stands for, after a create, a write and an erasure, and where chunks were stored anew.
 use Rattle.std.proofs.Common.{◌≡◌, ◌∙◌, ℕ, Bool, true, false, if◌then◌else◌, ◌&&◌, List, [], ◌∷◌, map, length, refl, sym, ap, subst, ⊎_elim, Option, None}
 use Rattle.std.specs.Prelude.{MatchBool}
 use Rattle.std.specs.List.{list_all, list_any}
@@ -25,11 +25,12 @@ use Rattle.zarr_array_meaning.specs.Writing.{WroteChunks, ErasedChunks}
 use Rattle.zarr_array_meaning.proofs.Showing.{each_inside, each_place}
 use Rattle.zarr_run_meaning.specs.Sound.{IsSoundAt}
 use Rattle.zarr_run_meaning.specs.Tables.{Table, cell}
-use Rattle.zarr_run_meaning.specs.Worlds.{Held}
+use Rattle.zarr_run_meaning.specs.Worlds.{Held, writes_exactly}
 use Rattle.zarr_run_meaning.proofs.Documents.{formed}
 use Rattle.zarr_run_meaning.proofs.Frames.{IsWritten, IsErased, written_cell, erased_cell}
 use Rattle.zarr_run_meaning.proofs.Keys.{AreBelow, KeepsUnder, chunk_kept, document_kept}
 use Rattle.zarr_run_meaning.proofs.Reading.{box_same}
+use Rattle.zarr_run_meaning.proofs.StoredAnew.{KeepsCells}
 use Rattle.zarr_run_meaning.proofs.TableLemmas.{value_at}
 use Rattle.zarr_run_meaning.proofs.Tables.{unlisted_lies}
 
@@ -100,7 +101,7 @@ one_value type false b x y p q = q
 
 module _ (reads : ReadsCodecs) (h : Held) (old new : StoreMap) (region : Region) (values : List Cell) (options : CodecOptions) (chunks : List (List ℕ)) (table : Table) where
   pub written_sound : IsGood h.document → IsWritten h old new region values options chunks table → ((chunk : List ℕ) → is_listed chunks chunk ≡ true → is_listed (intersecting h.document.grid region) chunk ≡ true)
-      → length values ≡ product region.shape → list_all (is_value h.document.elements.type) values ≡ true → WroteChunks h.path h.document true region values options chunks old new → IsSoundAt reads old h → IsSoundAt reads new (record h { table = table })
+      → length values ≡ product region.shape → list_all (is_value h.document.elements.type) values ≡ true → WroteChunks h.path h.document (writes_exactly h) region values options chunks old new → IsSoundAt reads old h → IsSoundAt reads new (record h { table = table })
   written_sound good is few many are w s = with_table reads old new h chunks table w.others s all stands where
     same : (place : List ℕ) → cell h.document.elements.fill table place ≡ with_chunks h.document.grid region chunks (cell_of_box region values h.document.elements.fill) (cell h.document.elements.fill h.table) place
     same place = written_cell h old new region values options chunks table is few many place
@@ -139,3 +140,11 @@ module _ (reads : ReadsCodecs) (h : Held) (old new : StoreMap) (chunks : List (L
         (λ place inside. sym (same place ∙ ap (λ b. if b then h.document.elements.fill else cell h.document.elements.fill h.table place) (unlisted_lies h.document.grid chunks chunk place u (lies_here h.document.grid chunk place box below.has_box ∙ inside))))
         (s.stands chunk box below)))
         (told (is_listed chunks chunk))
+
+-- ---- where chunks were stored anew
+
+pub anew_sound : (reads : ReadsCodecs) (h : Held) (old new : StoreMap) (chunks : List (List ℕ)) → IsGood h.document → AreBelow h.document.grid chunks → KeepsCells h chunks old new → IsSoundAt reads old h → IsSoundAt reads new (record h { table = h.table })
+anew_sound reads h old new chunks good are k s = with_table reads old new h chunks h.table k.others s s.values (λ chunk box below. ⊎_elim
+    (λ l. k.stands good s.lossless (cell h.document.elements.fill h.table) s.values chunk box below l (s.stands chunk box below))
+    (λ u. stands_same h.path h.document old new chunk box (cell h.document.elements.fill h.table) (chunk_kept h.path h.document chunks old new chunk box (formed reads h.tree h.document s.says) are k.others below u) (s.stands chunk box below))
+    (told (is_listed chunks chunk)))

@@ -4,7 +4,7 @@ use Rattle.std.proofs.lemmas.Option.{none-some, same_Some}
 use Rattle.zarr_codecs_metadata.specs.Chains.{ReadsCodecs}
 use Rattle.zarr_run_meaning.specs.declared.cause.Cause.TheVariants as cause
 use Rattle.zarr_run_meaning.specs.Laws.{IsUndamaged, RunsUndamaged, OwnedRunsUndamaged}
-use Rattle.zarr_run_meaning.specs.Requests.{Request, read, Answer, refused}
+use Rattle.zarr_run_meaning.specs.Requests.{Request, read, compact, rewrite, Answer, refused}
 use Rattle.zarr_run_meaning.specs.Sound.{IsSound, ReadsGood}
 use Rattle.zarr_run_meaning.specs.Steps.{Step}
 use Rattle.zarr_run_meaning.specs.Worlds.{World}
@@ -14,7 +14,9 @@ use Rattle.zarr_run_meaning.proofs.Sound.{steps_sound, owned_run}
 step_undamaged : (reads : ReadsCodecs) (old new : World) (request : Request) (answer : Answer) → ReadsGood reads → IsSound reads old → Step reads old request answer new → IsUndamaged request answer
 step_undamaged reads old new request (refused cause.Damage n) good sound s = (never_damaged reads old new request n good sound).0 s
 step_undamaged reads old new request (refused cause.DocumentChanged n) good sound s = (never_damaged reads old new request n good sound).1 s
-step_undamaged reads old new (read path target options) (refused cause.Fit n) good sound s = reads_fit reads old new path target options n sound s
+step_undamaged reads old new (read path target options) (refused cause.Fit n) good sound s = reads_fit reads old new (read path target options) n sound tt s
+step_undamaged reads old new (compact path chunk options) (refused cause.Fit n) good sound s = reads_fit reads old new (compact path chunk options) n sound tt s
+step_undamaged reads old new (rewrite path options) (refused cause.Fit n) good sound s = reads_fit reads old new (rewrite path options) n sound tt s
 step_undamaged reads old new request answer good sound s = tt
 
 pub runs_undamaged : RunsUndamaged

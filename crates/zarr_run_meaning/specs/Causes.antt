@@ -1,5 +1,5 @@
 -- When a cause may be answered: the conditions of each, where none before it in the command's order holds.
-use Rattle.std.specs.Prelude.{◌≡◌, ◌⊎◌, ℕ, ◌^◌, ◌<◌, ◌≤◌, List, length, true, false, Option, Some, None, IsErr, IsOk, IsSome, IsUtf8}
+use Rattle.std.specs.Prelude.{◌≡◌, ◌⊎◌, ℕ, ◌^◌, ◌<◌, ◌≤◌, List, length, slice_get, Bool, true, false, Option, Some, None, IsErr, IsOk, IsSome, IsUtf8}
 use Rattle.std.specs.FinMap.{get}
 use Rattle.serde_json.specs.Data.{Data}
 use Rattle.serde_json.specs.Read.{read}
@@ -9,13 +9,20 @@ use Rattle.zarr_grids_keys.specs.Documents.{document_key}
 use Rattle.zarr_grids_keys.specs.Keys.{chunk_key}
 use Rattle.zarr_grids_keys.specs.declared.document_name.DocumentName.TheVariants.{ZarrJson, ZArray}
 use Rattle.zarr_grids_metadata.specs.Trees.{SameTree}
-use Rattle.zarr_codecs_meaning.specs.Types.{Cell, IsTooLarge}
+use Rattle.zarr_codecs_meaning.specs.Decoding.{decoded}
+use Rattle.zarr_codecs_meaning.specs.Fits.{fits}
+use Rattle.zarr_codecs_meaning.specs.Refusals.{CodecRefuses, PassesIndex}
+use Rattle.zarr_codecs_meaning.specs.Types.{Cell, is_fill, IsTooLarge}
+use Rattle.zarr_sharding_changes.specs.Compactions.{compaction, damaged}
+use Rattle.zarr_sharding_changes.specs.Refusals.{CompactionRefused, CompactionTooLong}
 use Rattle.zarr_codecs_metadata.specs.Chains.{ReadsCodecs}
 use Rattle.zarr_codecs_options.specs.declared.codec_options.CodecOptions.{CodecOptions}
 use Rattle.zarr_codecs_types.specs.Given.{GivenCells, given_in}
+use Rattle.zarr_array_meaning.specs.Arrays.{Array, value_at}
 use Rattle.zarr_array_meaning.specs.Boxes.{IsDamagedIn, IsUnfitIn}
 use Rattle.zarr_array_meaning.specs.Chunks.{IsNthIntersecting, fits_box}
 use Rattle.zarr_array_meaning.specs.Documents.{Document, read_document}
+use Rattle.zarr_array_meaning.specs.Rewriting.{HasTooLargeKeyed, keyed_chunks}
 use Rattle.zarr_array_meaning.specs.StoreMaps.{StoreMap}
 use Rattle.zarr_array_meaning.specs.Texts.{HasDocument}
 use Rattle.zarr_array_meaning.specs.Writing.{IsPartDamaged, IsCodecRefused, IsOversized}
@@ -50,6 +57,10 @@ HasTooLarge document region = IsTooLarge document.elements.type (product region.
 abbrev pub HasTooLargeChunk : Document → Region → Type 0
 HasTooLargeChunk document chunks = (2 ^ 63 ≤ product chunks.shape)
     ⊎ ((chunk : List ℕ) × (box : Region) × IsInGrid document.grid chunk box × (is_in_box chunks.start chunks.shape chunk ≡ true) × IsTooLarge document.elements.type (product box.shape))
+
+-- a chunk in the grid has 2^63 cells or more, or 2^63 bytes or more where the cells are of one size
+abbrev pub IsTooLargeChunk : Document → List ℕ → Type 0
+IsTooLargeChunk document chunk = (box : Region) × IsInGrid document.grid chunk box × IsTooLarge document.elements.type (product box.shape)
 
 -- ---- documents
 
@@ -160,3 +171,70 @@ abbrev pub EraseStops : Cause → Type 0
 EraseStops cause.Store = Unit {0}
 EraseStops cause.Memory = Unit {0}
 EraseStops c = ⊥
+
+-- ---- compactions and rewrites
+
+-- a compaction of a chunk in the grid with this box, by what is stored for the chunk
+abbrev pub ValueRefuses : Document → List ℕ → List ℕ → Cause → Type 0
+ValueRefuses document shape value cause.Fit = fits document.chain document.elements.type shape ≡ false
+ValueRefuses document shape value cause.Damage = (fits document.chain document.elements.type shape ≡ true) × (compaction document.chain shape value ≡ damaged)
+ValueRefuses document shape value cause.Codec = (fits document.chain document.elements.type shape ≡ true) × CompactionRefused document.chain shape value
+ValueRefuses document shape value cause.Size = (fits document.chain document.elements.type shape ≡ true) × CompactionTooLong document.chain shape value
+ValueRefuses document shape value c = ⊥
+
+-- what is stored for a chunk in the grid isn't compacted
+pub record IsNotCompacted (array : Array) (store : StoreMap) (chunk : List ℕ) (c : Cause) : Type 0 where
+  pub box : Region
+  pub below : IsInGrid array.document.grid chunk box
+  pub small : ¬ IsTooLarge array.document.elements.type (product box.shape)
+  pub value : List ℕ
+  pub stored : value_at array store chunk ≡ Some value
+  pub refuses : ValueRefuses array.document box.shape value c
+
+-- a compaction
+abbrev pub CompactRefuses : Array → StoreMap → List ℕ → Cause → Type 0
+CompactRefuses array store chunk cause.Region = (box : Region) → ¬ IsInGrid array.document.grid chunk box
+CompactRefuses array store chunk cause.Size = IsTooLargeChunk array.document chunk ⊎ IsNotCompacted array store chunk cause.Size
+CompactRefuses array store chunk cause.Store = (box : Region) × IsInGrid array.document.grid chunk box × (¬ IsTooLarge array.document.elements.type (product box.shape))
+CompactRefuses array store chunk cause.Fit = IsNotCompacted array store chunk cause.Fit
+CompactRefuses array store chunk cause.Damage = IsNotCompacted array store chunk cause.Damage
+CompactRefuses array store chunk cause.Codec = IsNotCompacted array store chunk cause.Codec
+CompactRefuses array store chunk c = ⊥
+
+-- a rewrite, before a chunk is stored anew: too many chunks, or too large ones; the store may refuse to tell which chunks have a key
+abbrev pub RewriteRefuses : Array → StoreMap → Cause → Type 0
+RewriteRefuses array store cause.Size = HasTooLargeKeyed array store
+RewriteRefuses array store cause.Store = Unit {0}
+RewriteRefuses array store c = ⊥
+
+-- the cells that a value is decoded to are to be stored anew, and they are not encoded, for this reason
+pub record IsNotEncoded (document : Document) (store_empty : Bool) (shape value : List ℕ) (refuses : List Cell → Type 0) : Type 0 where
+  pub fit : fits document.chain document.elements.type shape ≡ true
+  pub cells : List Cell
+  pub decodes : decoded document.chain document.elements shape value ≡ Some cells
+  pub called : store_empty ≡ false → is_fill document.elements.fill cells ≡ false
+  pub is : refuses cells
+
+-- a rewrite, at a chunk that has this value: the chunk doesn't fit, its value isn't decoded, or its cells aren't encoded
+abbrev pub RewrittenRefuses : Document → Bool → List ℕ → List ℕ → Cause → Type 0
+RewrittenRefuses document store_empty shape value cause.Fit = fits document.chain document.elements.type shape ≡ false
+RewrittenRefuses document store_empty shape value cause.Damage = (fits document.chain document.elements.type shape ≡ true) × (decoded document.chain document.elements shape value ≡ None)
+RewrittenRefuses document store_empty shape value cause.Codec = IsNotEncoded document store_empty shape value (CodecRefuses document.chain document.elements shape)
+RewrittenRefuses document store_empty shape value cause.Size = IsNotEncoded document store_empty shape value (PassesIndex document.chain document.elements shape)
+RewrittenRefuses document store_empty shape value c = ⊥
+
+-- the chunk at this place among those that have a key isn't stored anew
+pub record IsNotRewritten (array : Array) (store : StoreMap) (store_empty : Bool) (n : ℕ) (c : Cause) : Type 0 where
+  pub chunk : List ℕ
+  pub nth : slice_get (keyed_chunks array store) n ≡ Some chunk
+  pub box : Region
+  pub below : IsInGrid array.document.grid chunk box
+  pub value : List ℕ
+  pub stored : value_at array store chunk ≡ Some value
+  pub refuses : RewrittenRefuses array.document store_empty box.shape value c
+
+-- a rewrite stops once so many chunks are stored anew; the store and memory may stop it also after the last chunk that has a key, where it is asked for the others
+abbrev pub RewriteStopsAt : Array → StoreMap → Bool → ℕ → Cause → Type 0
+RewriteStopsAt array store store_empty n cause.Store = n ≤ length (keyed_chunks array store)
+RewriteStopsAt array store store_empty n cause.Memory = n ≤ length (keyed_chunks array store)
+RewriteStopsAt array store store_empty n c = IsNotRewritten array store store_empty n c

@@ -1,5 +1,5 @@
 -- What commands change.
-use Rattle.std.specs.Prelude.{◌≡◌, ℕ, List, [], ◌∷◌, ◌++◌, map, true, false, Some, None, Ok}
+use Rattle.std.specs.Prelude.{◌≡◌, ℕ, Bool, List, [], ◌∷◌, ◌++◌, map, true, false, Some, None, Ok}
 use Rattle.std.specs.FinMap.{insert}
 use Rattle.serde_json.specs.Data.{Data}
 use Rattle.zarr_grids_boxes.specs.Boxes.{Region, places}
@@ -15,15 +15,17 @@ use Rattle.zarr_codecs_options.specs.declared.codec_options.CodecOptions.{CodecO
 use Rattle.zarr_codecs_options.specs.declared.subchunk_write_order.SubchunkWriteOrder.{SubchunkWriteOrder}
 use Rattle.zarr_codecs_types.specs.Given.{GivenCells}
 use Rattle.zarr_array_meaning.specs.Boxes.{IsRead}
+use Rattle.zarr_array_meaning.specs.Compacting.{CompactsChunk}
 use Rattle.zarr_array_meaning.specs.Documents.{Document, read_document}
+use Rattle.zarr_array_meaning.specs.Rewriting.{RewroteChunks, HasTooLargeKeyed, keyed_chunks}
 use Rattle.zarr_array_meaning.specs.Standing.{IsLossless}
 use Rattle.zarr_array_meaning.specs.Texts.{IsTextOf, HasDocument, HasNoDocument}
 use Rattle.zarr_array_meaning.specs.Writing.{WroteChunks, ErasedChunks}
 use Rattle.zarr_array_meaning.specs.Written.{written_document}
-use Rattle.zarr_run_meaning.specs.Causes.{IsTarget, AreTargets, IsGiven, HasTooLarge, HasTooLargeChunk, IsChunkKeyIn}
+use Rattle.zarr_run_meaning.specs.Causes.{IsTarget, AreTargets, IsGiven, HasTooLarge, HasTooLargeChunk, IsTooLargeChunk, IsChunkKeyIn}
 use Rattle.zarr_run_meaning.specs.Requests.{Target}
 use Rattle.zarr_run_meaning.specs.Tables.{Table, cell, updated, changes, changes_in, fills}
-use Rattle.zarr_run_meaning.specs.Worlds.{Held, World, held_at, is_taken, with_order, IsTableAt, WithTable}
+use Rattle.zarr_run_meaning.specs.Worlds.{Held, World, array_of, held_at, is_taken, with_order, writes_exactly, IsTableAt, WithTable}
 
 -- an array begins to be held: its table has the cells that its stored chunks show
 pub record Begins (path : List ℕ) (tree : Data) (document : Document) (order : SubchunkWriteOrder) (old new : World) : Type 0 where
@@ -66,12 +68,12 @@ pub record Opens (reads : ReadsCodecs) (path : List ℕ) (order : SubchunkWriteO
   pub begins : Begins path tree meaning order old new
   pub stores : new.store ≡ old.store
 
--- the cells of a box are given to some of the chunks that it intersects: the table has them, and the store; the value of each of these that has one is what encoding makes of its new cells, if the box holds the whole chunk or the chunk was decoded before
+-- the cells of a box are given to some of the chunks that it intersects: the table has them, and the store; where values depend on cells alone, that of each of these chunks is what encoding makes of its new cells, if the box holds the whole chunk or the chunk was decoded before
 pub record WritesChunks (h : Held) (region : Region) (values : List Cell) (options : CodecOptions) (chunks : List (List ℕ)) (old new : World) : Type 0 where
   pub table : Table
   pub is : table ≡ updated h.document.elements.fill h.table (changes_in h.document.grid chunks (changes region values))
   pub updates : WithTable h.path table new.store old.arrays new.arrays
-  pub stores : WroteChunks h.path h.document true region values options chunks old.store new.store
+  pub stores : WroteChunks h.path h.document (writes_exactly h) region values options chunks old.store new.store
 
 -- a write that is done
 pub record Writes (path : List ℕ) (target : Target) (given : GivenCells) (options : CodecOptions) (old new : World) : Type 0 where
@@ -112,3 +114,25 @@ pub record Erases (path : List ℕ) (chunks : Region) (old new : World) : Type 0
   pub below : AreTargets held.document.grid chunks
   pub small : ¬ HasTooLargeChunk held.document chunks
   pub erases : ErasesChunks held (places chunks.start chunks.shape) old new
+
+-- a compaction that is done: a shard is written anew without gaps, or stays. The array keeps its table
+pub record Compacts (path chunk : List ℕ) (changed : Bool) (old new : World) : Type 0 where
+  pub node : is_node_path path ≡ true
+  pub held : Held
+  pub found : held_at path old.arrays ≡ Some held
+  pub small : ¬ IsTooLargeChunk held.document chunk
+  pub updates : WithTable held.path held.table new.store old.arrays new.arrays
+  pub stores : CompactsChunk (array_of held) chunk changed old.store new.store
+
+-- some chunks that have a key are stored anew. The array keeps its table
+pub record RewritesChunks (h : Held) (options : CodecOptions) (chunks : List (List ℕ)) (old new : World) : Type 0 where
+  pub updates : WithTable h.path h.table new.store old.arrays new.arrays
+  pub stores : RewroteChunks (array_of h) options.store_empty_chunks chunks old.store new.store
+
+-- a rewrite that is done: each chunk in the grid that has a key is stored anew
+pub record Rewrites (path : List ℕ) (options : CodecOptions) (old new : World) : Type 0 where
+  pub node : is_node_path path ≡ true
+  pub held : Held
+  pub found : held_at path old.arrays ≡ Some held
+  pub small : ¬ HasTooLargeKeyed (array_of held) old.store
+  pub rewrites : RewritesChunks held options (keyed_chunks (array_of held) old.store) old new

@@ -22,7 +22,7 @@ use Rattle.zarr_array_meaning.specs.Texts.{HasDocument}
 use Rattle.zarr_run_meaning.specs.declared.cause.Cause.TheVariants as cause
 use Rattle.zarr_run_meaning.specs.Causes.{IsChunkKeyIn}
 use Rattle.zarr_run_meaning.specs.Printing.{PrintsValues, IsFormed, GivesValues}
-use Rattle.zarr_run_meaning.specs.Requests.{Target, Request, create, reopen, read, write, path_of, Answer, done, cells as gives, refused}
+use Rattle.zarr_run_meaning.specs.Requests.{Target, Request, create, reopen, read, write, compact, rewrite, path_of, Answer, done, cells as gives, refused}
 use Rattle.zarr_run_meaning.specs.Runs.{Run, world_over}
 use Rattle.zarr_run_meaning.specs.Sound.{AreApart, IsSoundAt, IsSound, IsSoundAlone, OpensApart, IsOwned, OwnsAllKeys, OwnsKeysUnder, HasNoChunks, IsStoredAs, BeginsSound, SoundRun, AsksLossless, AllAskLossless, AsksOwned, ReadsLawful, ReadsGood}
 use Rattle.zarr_run_meaning.specs.Steps.{Step}
@@ -71,10 +71,16 @@ abbrev pub NeverDamaged : Type 0
 NeverDamaged = (reads : ReadsCodecs) (old new : World) (request : Request) (n : ℕ) → ReadsGood reads
     → IsSound reads old → (Step reads old request (refused cause.Damage n) new → ⊥) × (Step reads old request (refused cause.DocumentChanged n) new → ⊥)
 
--- in a sound world no read is refused because a chunk does not fit
+-- a command reads what is stored for chunks: a read, a compaction or a rewrite
+abbrev pub ReadsChunks : Request → Type 0
+ReadsChunks (read path target options) = Unit {0}
+ReadsChunks (compact path chunk options) = Unit {0}
+ReadsChunks (rewrite path options) = Unit {0}
+ReadsChunks request = ⊥
+
+-- in a sound world no read, no compaction and no rewrite is refused because a chunk does not fit
 abbrev pub ReadsFit : Type 0
-ReadsFit = (reads : ReadsCodecs) (old new : World) (path : List ℕ) (target : Target) (options : CodecOptions) (n : ℕ) → IsSound reads old
-    → Step reads old (read path target options) (refused cause.Fit n) new → ⊥
+ReadsFit = (reads : ReadsCodecs) (old new : World) (request : Request) (n : ℕ) → IsSound reads old → ReadsChunks request → Step reads old request (refused cause.Fit n) new → ⊥
 
 -- ---- which keys are foreign
 
@@ -153,18 +159,20 @@ abbrev pub OwnedRunsSound : Type 0
 OwnedRunsSound = (reads : ReadsCodecs) (old new : World) (requests : List Request) (answers : List Answer) → ReadsGood reads → All (AsksOwned old) requests → AllAskLossless reads requests answers
     → IsSound reads old → Run reads old requests answers new → IsSound reads new
 
--- an answer is neither damage nor that a document has changed, and of a read not that a chunk does not fit
+-- an answer is neither damage nor that a document has changed, and of a read, a compaction or a rewrite not that a chunk does not fit
 abbrev pub IsUndamaged : Request → Answer → Type 0
 IsUndamaged request (refused cause.Damage n) = ⊥
 IsUndamaged request (refused cause.DocumentChanged n) = ⊥
 IsUndamaged (read path target options) (refused cause.Fit n) = ⊥
+IsUndamaged (compact path chunk options) (refused cause.Fit n) = ⊥
+IsUndamaged (rewrite path options) (refused cause.Fit n) = ⊥
 IsUndamaged request answer = Unit {0}
 
 -- each command of some is answered so
 abbrev pub AreUndamaged : List Request → List Answer → Type 0
 AreUndamaged requests answers = (n : ℕ) (request : Request) (answer : Answer) → slice_get requests n ≡ Some request → slice_get answers n ≡ Some answer → IsUndamaged request answer
 
--- a run from a sound world in which each array begins over chunks that stand for cells: no command is refused for damage or for a document that has changed, and no read because a chunk does not fit
+-- a run from a sound world in which each array begins over chunks that stand for cells: no command is refused for damage or for a document that has changed, and no read, compaction or rewrite because a chunk does not fit
 abbrev pub RunsUndamaged : Type 0
 RunsUndamaged = (reads : ReadsCodecs) (old new : World) (requests : List Request) (answers : List Answer) → ReadsGood reads
     → IsSound reads old → SoundRun reads old requests answers new → AreUndamaged requests answers

@@ -8,3 +8,4 @@ pub mod Runs
 pub mod Sound
 pub mod Printing
 pub mod Laws
+pub mod Rewrites

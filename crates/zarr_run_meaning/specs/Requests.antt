@@ -1,5 +1,5 @@
 -- What is asked of a session, and what it answers.
-use Rattle.std.specs.Prelude.{ℕ, List}
+use Rattle.std.specs.Prelude.{ℕ, List, Bool}
 use Rattle.serde_json.specs.Data.{Data}
 use Rattle.zarr_grids_boxes.specs.Boxes.{Region}
 use Rattle.zarr_codecs_meaning.specs.Payloads.{Payload}
@@ -20,11 +20,14 @@ pub data Request : Type 0 where
   write : (path : List ℕ) (target : Target) (cells : GivenCells) (options : CodecOptions) → Request
   read : (path : List ℕ) (target : Target) (options : CodecOptions) → Request
   erase : (path : List ℕ) (chunks : Region) → Request
+  compact : (path : List ℕ) (chunk : List ℕ) (options : CodecOptions) → Request
+  rewrite : (path : List ℕ) (options : CodecOptions) → Request
 
 -- a reply, without the memory that holds it
 pub data Answer : Type 0 where
   done : Answer
   cells : Payload → Answer
+  compacted : (changed : Bool) → Answer
   refused : (cause : Cause) (applied : ℕ) → Answer
 
 -- the path that a command names
@@ -34,3 +37,5 @@ path_of (reopen path order) = path
 path_of (write path target values options) = path
 path_of (read path target options) = path
 path_of (erase path chunks) = path
+path_of (compact path chunk options) = path
+path_of (rewrite path options) = path

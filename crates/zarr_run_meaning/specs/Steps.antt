@@ -7,13 +7,14 @@ use Rattle.zarr_codecs_meaning.specs.Types.{Cell}
 use Rattle.zarr_codecs_metadata.specs.Chains.{ReadsCodecs}
 use Rattle.zarr_codecs_options.specs.declared.codec_options.CodecOptions.{CodecOptions}
 use Rattle.zarr_codecs_types.specs.Given.{GivenCells}
+use Rattle.zarr_array_meaning.specs.Rewriting.{HasTooLargeKeyed, keyed_chunks}
 use Rattle.zarr_array_meaning.specs.StoreMaps.{counted}
 use Rattle.zarr_run_meaning.specs.declared.cause.Cause.{Cause}
 use Rattle.zarr_run_meaning.specs.declared.cause.Cause.TheVariants as cause
-use Rattle.zarr_run_meaning.specs.Causes.{CreateRefuses, ReopenRefuses, WriteRefuses, ReadRefuses, EraseRefuses, EraseStops, AreTargets, IsGiven, HasTooLarge, HasTooLargeChunk, StopsAt}
-use Rattle.zarr_run_meaning.specs.Changes.{Creates, Reopens, Opens, Writes, WritesChunks, Reads, Erases, ErasesChunks}
-use Rattle.zarr_run_meaning.specs.Requests.{Target, Request, create, reopen, write, read, erase, Answer, done, cells, refused}
-use Rattle.zarr_run_meaning.specs.Worlds.{Held, World, held_at}
+use Rattle.zarr_run_meaning.specs.Causes.{CreateRefuses, ReopenRefuses, WriteRefuses, ReadRefuses, EraseRefuses, EraseStops, CompactRefuses, RewriteRefuses, RewriteStopsAt, AreTargets, IsGiven, HasTooLarge, HasTooLargeChunk, StopsAt}
+use Rattle.zarr_run_meaning.specs.Changes.{Creates, Reopens, Opens, Writes, WritesChunks, Reads, Erases, ErasesChunks, Compacts, Rewrites, RewritesChunks}
+use Rattle.zarr_run_meaning.specs.Requests.{Target, Request, create, reopen, write, read, erase, compact, rewrite, Answer, done, cells, compacted, refused}
+use Rattle.zarr_run_meaning.specs.Worlds.{Held, World, array_of, held_at}
 
 -- the count of refused store calls rises by one with the cause Store, and with no other
 abbrev pub refused_after : Cause → ℕ → ℕ
@@ -44,6 +45,13 @@ pub record ErasesFirst (h : Held) (chunks : Region) (c : Cause) (n : ℕ) (old n
   pub erases : ErasesChunks h (take n (places chunks.start chunks.shape)) old new
   pub count : new.refused ≡ refused_after c old.refused
 
+-- a rewrite that stopped once so many chunks were stored anew: exactly the first of those that have a key
+pub record RewritesFirst (h : Held) (options : CodecOptions) (c : Cause) (n : ℕ) (old new : World) : Type 0 where
+  pub small : ¬ HasTooLargeKeyed (array_of h) old.store
+  pub stops : RewriteStopsAt (array_of h) old.store options.store_empty_chunks n c
+  pub rewrites : RewritesChunks h options (take n (keyed_chunks (array_of h) old.store)) old new
+  pub count : new.refused ≡ refused_after c old.refused
+
 -- a refusal of a command on a held array: there is none, or the array refuses
 abbrev pub RefusesHeld : Option Held → (Held → Cause → ℕ → World → World → Type 0) → Cause → ℕ → World → World → Type 0
 RefusesHeld None refuses cause.NoArray n old new = Stays cause.NoArray n old new
@@ -62,6 +70,14 @@ RefusesRead target h c n old new = ReadRefuses h.path h.document old.store targe
 abbrev pub RefusesErase : Region → Held → Cause → ℕ → World → World → Type 0
 RefusesErase chunks h c n old new = (EraseRefuses h.document chunks c × Stays c n old new) ⊎ ErasesFirst h chunks c n old new
 
+-- how a held array refuses a compaction
+abbrev pub RefusesCompact : List ℕ → Held → Cause → ℕ → World → World → Type 0
+RefusesCompact chunk h c n old new = CompactRefuses (array_of h) old.store chunk c × Stays c n old new
+
+-- how a held array refuses a rewrite: before a chunk is stored anew, or after some
+abbrev pub RefusesRewrite : CodecOptions → Held → Cause → ℕ → World → World → Type 0
+RefusesRewrite options h c n old new = (RewriteRefuses (array_of h) old.store c × Stays c n old new) ⊎ RewritesFirst h options c n old new
+
 -- how a command with a node path is refused, running out of memory before anything changed aside
 abbrev pub Refuses : ReadsCodecs → Request → Cause → ℕ → World → World → Type 0
 Refuses reads (create path document order) c n old new = CreateRefuses reads old path document c × Stays c n old new
@@ -69,6 +85,8 @@ Refuses reads (reopen path order) c n old new = ReopenRefuses reads old path (he
 Refuses reads (write path target given options) c n old new = RefusesHeld (held_at path old.arrays) (RefusesWrite target given options) c n old new
 Refuses reads (read path target options) c n old new = RefusesHeld (held_at path old.arrays) (RefusesRead target) c n old new
 Refuses reads (erase path chunks) c n old new = RefusesHeld (held_at path old.arrays) (RefusesErase chunks) c n old new
+Refuses reads (compact path chunk options) c n old new = RefusesHeld (held_at path old.arrays) (RefusesCompact chunk) c n old new
+Refuses reads (rewrite path options) c n old new = RefusesHeld (held_at path old.arrays) (RefusesRewrite options) c n old new
 
 -- how a command is refused: its path comes first, and running out of memory before anything changed may come anywhere
 abbrev pub RefusesAt : ReadsCodecs → List ℕ → Request → Cause → ℕ → World → World → Type 0
@@ -86,10 +104,14 @@ Step reads old (create path document order) done new = Done (Creates reads path 
 Step reads old (reopen path order) done new = Done (λ before after. Reopens path order before after ⊎ Opens reads path order before after) old new
 Step reads old (write path target given options) done new = Done (Writes path target given options) old new
 Step reads old (erase path chunks) done new = Done (Erases path chunks) old new
+Step reads old (compact path chunk options) (compacted changed) new = Done (Compacts path chunk changed) old new
+Step reads old (rewrite path options) done new = Done (Rewrites path options) old new
 Step reads old (read path target options) (cells payload) new = Reads path target payload old × (new ≡ old)
 Step reads old (create path document order) (refused c n) new = RefusesAt reads path (create path document order) c n old new
 Step reads old (reopen path order) (refused c n) new = RefusesAt reads path (reopen path order) c n old new
 Step reads old (write path target given options) (refused c n) new = RefusesAt reads path (write path target given options) c n old new
 Step reads old (read path target options) (refused c n) new = RefusesAt reads path (read path target options) c n old new
 Step reads old (erase path chunks) (refused c n) new = RefusesAt reads path (erase path chunks) c n old new
+Step reads old (compact path chunk options) (refused c n) new = RefusesAt reads path (compact path chunk options) c n old new
+Step reads old (rewrite path options) (refused c n) new = RefusesAt reads path (rewrite path options) c n old new
 Step reads old request answer new = ⊥

@@ -1,9 +1,12 @@
 -- The arrays that a session holds, each with its table, and the store that they are in.
-use Rattle.std.specs.Prelude.{◌≡◌, ℕ, List, [], ◌∷◌, bytes_eq, Bool, MatchBool, if◌then◌else◌, Option, Some, None}
+use Rattle.std.specs.Prelude.{◌≡◌, ℕ, List, [], ◌∷◌, bytes_eq, Bool, true, false, ◌||◌, MatchBool, if◌then◌else◌, Option, Some, None}
 use Rattle.std.specs.List.{list_any}
 use Rattle.serde_json.specs.Data.{Data}
 use Rattle.zarr_grids_keys.specs.Related.{is_related}
+use Rattle.zarr_codecs_meaning.specs.Fits.{is_plain}
 use Rattle.zarr_codecs_options.specs.declared.subchunk_write_order.SubchunkWriteOrder.{SubchunkWriteOrder}
+use Rattle.zarr_codecs_options.specs.declared.subchunk_write_order.SubchunkWriteOrder.TheVariants.{C}
+use Rattle.zarr_array_meaning.specs.Arrays.{Array}
 use Rattle.zarr_array_meaning.specs.Documents.{Document}
 use Rattle.zarr_array_meaning.specs.Standing.{IsLossless, ShowsOnly}
 use Rattle.zarr_array_meaning.specs.StoreMaps.{StoreMap}
@@ -22,6 +25,19 @@ pub record World : Type 0 where
   pub arrays : List Held
   pub store : StoreMap
   pub refused : ℕ
+
+-- whether subchunks are written row-major
+abbrev pub is_row_major : SubchunkWriteOrder → Bool
+is_row_major C = true
+is_row_major order = false
+
+-- whether a chunk's value depends on its cells alone: the chain makes no shard, or the subchunks of its shards are written row-major
+abbrev pub writes_exactly : Held → Bool
+writes_exactly h = is_plain h.document.chain || is_row_major h.order
+
+-- an array that is held, in its store
+abbrev pub array_of : Held → Array
+array_of h = record { path = h.path; document = h.document; exact = writes_exactly h }
 
 -- the array that is held at a path, if there is one
 abbrev pub held_at : List ℕ → List Held → Option Held

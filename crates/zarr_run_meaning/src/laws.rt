@@ -4,6 +4,8 @@ ghost use Rattle.zarr_run_meaning.specs.Laws.{EmptyOwned, StepsOwn, RunsOwn, Own
 ghost use Rattle.zarr_run_meaning.specs.Laws.{RunsSound, OwnedBegins, OwnedRunsSound, ReopensAlike, ReopenedSound, ReopenedOwned, RunsReopen, RunsGoOn};
 ghost use Rattle.zarr_run_meaning.specs.Laws.{RunsUndamaged, OwnedRunsUndamaged, RunsReopenOne};
 ghost use Rattle.zarr_run_meaning.specs.Laws.{ReadsApart, WritesApart};
+ghost use Rattle.zarr_run_meaning.specs.Rewrites.{StepsLeaveUnrelated, ChangesNoCell, RewritesCanon, KeepsCanon};
+ghost use Rattle.zarr_run_meaning.specs.Rewrites.{RunsKeepCanon, SoundRunsKeepCanon, RunsLeaveCanon, CanonStays, RewrittenTwice};
 ghost use Rattle.zarr_run_meaning.specs.Laws.{SoundAlone, BeginsAlone, StepsKeepSound, AloneUndamaged, RunsPrint, ReadsPrint};
 
 /// Whatever is stored, there is a table of the cells that it shows.
@@ -48,7 +50,8 @@ pub fn opens_none()
     ensures { OpensNone }
 {}
 
-/// In a sound world no read is refused because a chunk does not fit its codecs.
+/// In a sound world no read, compaction or rewrite is refused because a chunk does not fit its
+/// codecs.
 pub fn reads_fit()
     ensures { ReadsFit }
 {}
@@ -114,8 +117,8 @@ pub fn owned_runs_sound()
 {}
 
 /// In a run from a sound world in which each array begins over chunks that stand for cells, no
-/// command is refused for damage or for a document that has changed, and no read because a chunk
-/// does not fit its codecs.
+/// command is refused for damage or for a document that has changed, and no read, compaction or
+/// rewrite because a chunk does not fit its codecs.
 pub fn runs_undamaged()
     ensures { RunsUndamaged }
 {}
@@ -205,4 +208,54 @@ pub fn reads_apart()
 /// Whatever is stored, a write that is done is not refused for damage.
 pub fn writes_apart()
     ensures { WritesApart }
+{}
+
+/// A command changes no key under a path that is unrelated to its own.
+pub fn steps_leave_unrelated()
+    ensures { StepsLeaveUnrelated }
+{}
+
+/// A rewrite, a compaction and a reopening change no cell of the array at their path, nor of one at
+/// an unrelated path.
+pub fn changes_no_cell()
+    ensures { ChangesNoCell }
+{}
+
+/// A rewrite that stores no empty chunk leaves what storing the array's cells afresh leaves, where
+/// a chunk's value depends on its cells alone; one that is refused leaves that for the first chunks
+/// that had a key.
+pub fn rewrites_canon()
+    ensures { RewritesCanon }
+{}
+
+/// Reads, compactions, reopenings and commands at other paths keep it so.
+pub fn keeps_canon()
+    ensures { KeepsCanon }
+{}
+
+/// And so do runs of such commands, whatever is stored for the other arrays.
+pub fn runs_keep_canon()
+    ensures { RunsKeepCanon }
+{}
+
+/// And runs from a sound world in which each array begins over chunks that stand for cells.
+pub fn sound_runs_keep_canon()
+    ensures { SoundRunsKeepCanon }
+{}
+
+/// Over a store that began without keys: what such a rewrite left stands there at the end of the
+/// run, as long as no command changed a cell of the array.
+pub fn runs_leave_canon()
+    ensures { RunsLeaveCanon }
+{}
+
+/// Where it is so, a rewrite changes no key and no byte.
+pub fn canon_stays()
+    ensures { CanonStays }
+{}
+
+/// A second rewrite changes no key and no byte, where between the two no command changed a cell of
+/// the array.
+pub fn rewritten_twice()
+    ensures { RewrittenTwice }
 {}
