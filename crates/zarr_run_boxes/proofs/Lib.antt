@@ -1,2 +1,5 @@
 mod Boxes
 mod Writes
+mod Calls
+mod Compactions
+mod Rewrites

@@ -1,1 +1,4 @@
 pub mod Outcomes
+pub mod Calls
+pub mod Compacting
+pub mod Rewriting

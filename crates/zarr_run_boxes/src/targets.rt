@@ -1,28 +1,24 @@
 //! The boxes that commands mean, and whether they are too large.
-ghost use Rattle.std.specs.Prelude.{◌≡◌, ◌≤◌, ◌<◌, ◌↔◌, ℕ, IsTrue, IfOk, OnOk, IfErr};
+ghost use Rattle.std.specs.Prelude.{◌≡◌, ◌<◌, ◌↔◌, IsTrue, IfOk, OnOk, IfErr};
 ghost use Rattle.zarr_grids_boxes.specs.Boxes.{product};
 ghost use Rattle.zarr_grids_boxes.specs.Subsets.{region_of};
 ghost use Rattle.zarr_grids_chunks.specs.Grids.{AreInGrid, IsCovered, IsInGrid};
 ghost use Rattle.zarr_grids_cover.specs.Intersecting.{AreIntersecting};
 ghost use Rattle.zarr_array_core.specs.Outcomes.{IsSmall};
 ghost use Rattle.zarr_array_core.specs.Views.{document_of};
-ghost use Rattle.zarr_codecs_types.specs.Views.{type_of};
-ghost use Rattle.zarr_codecs_meaning.specs.Types.{IsTooLarge};
 ghost use Rattle.zarr_run_meaning.specs.Causes.{HasTooLargeChunk};
 ghost use Rattle.zarr_run_boxes.specs.Outcomes.{ChunkRefused, ChunksRefused};
 
 use std::alloc::Global;
 use zarr_array_core::ArrayCore;
 use zarr_codecs_traits::ArrayToBytesCodecTraits;
-use zarr_codecs_types::DataType;
 use zarr_grids_boxes::ArraySubset;
 use zarr_grids_boxes::walk::count_places;
 use zarr_grids_chunk_grids::ChunkGridTraits;
 use zarr_grids_cover::{chunks_intersecting, covers, has_chunk_of, is_in_grid};
 use zarr_run_meaning::Cause;
 
-/// So many chunks are too many to be erased by one command, and so many cells or bytes to be read
-/// or written.
+/// So many chunks are too many to be erased by one command.
 const TOO_MANY: u64 = 1 << 63;
 
 /// Whether a region has the array's dimensions, and each of its places lies in a chunk in the grid.
@@ -56,25 +52,6 @@ pub(crate) fn chunk_region<C: ArrayToBytesCodecTraits>(
     }
 }
 
-/// The least number of the array's cells that are too many: 2^63, or as many as have 2^63 bytes.
-pub(crate) fn cell_limit<C: ArrayToBytesCodecTraits>(array: &ArrayCore<C>) -> u64
-    ensures { (count : ℕ) → (result ≤ count
-        ↔ IsTooLarge (document_of C.meaning array.now).elements.type count) }
-{
-    type_limit(array.elements().data_type())
-}
-
-/// The least number of elements of a data type that are too many.
-fn type_limit(data_type: &DataType) -> u64
-    ensures { (count : ℕ) → (result ≤ count ↔ IsTooLarge (type_of data_type.now) count) }
-{
-    match data_type.byte_width() {
-        Some(0) => TOO_MANY,
-        Some(width) => TOO_MANY.div_ceil(width as u64),
-        None => if data_type.is_fixed() { 1 } else { TOO_MANY },
-    }
-}
-
 /// Whether a box of chunk indices has 2^63 chunks or more, or one of them is too large.
 pub(crate) fn has_too_large_chunk<C: ArrayToBytesCodecTraits>(
     array: &ArrayCore<C>,
@@ -86,7 +63,7 @@ pub(crate) fn has_too_large_chunk<C: ArrayToBytesCodecTraits>(
 {
     match count_places(&chunks.shape) {
         Some(count) => {
-            count >= TOO_MANY || has_chunk_of(array.grid().dimensions(), chunks, cell_limit(array))
+            count >= TOO_MANY || has_chunk_of(array.grid().dimensions(), chunks, array.cell_limit())
         }
         None => true,
     }
@@ -110,7 +87,7 @@ pub(crate) fn small_chunks_intersecting<C: ArrayToBytesCodecTraits>(
     ensures err { IfErr result
         (ChunksRefused (document_of C.meaning array.now) (region_of region.now)) }
 {
-    let limit = cell_limit(array);
+    let limit = array.cell_limit();
     if count >= limit {
         return Err(Cause::Size);
     }

@@ -1,5 +1,5 @@
 -- The texts of answers are the compact texts of their JSON.
-use Rattle.std.proofs.Common.{◌≡◌, ℕ, List, ◌++◌, codes, Option, Some, None, refl}
+use Rattle.std.proofs.Common.{◌≡◌, ℕ, List, ◌++◌, codes, Bool, true, false, Option, Some, None, refl}
 use Rattle.serde_json.specs.Data.{Items, array}
 use Rattle.serde_json.specs.Written.{compact_text}
 use Rattle.serde_json.proofs.OnLiterals.{serde_json_on_literals}
@@ -11,7 +11,7 @@ use Rattle.zarr_codecs_json.specs.declared.printing.Printed.TheVariants as print
 use Rattle.zarr_run_meaning.specs.Requests.{done, cells, refused}
 use Rattle.zarr_run_meaning.specs.declared.cause.Cause.{Cause}
 use Rattle.zarr_run_meaning.specs.declared.cause.Cause.TheVariants as cause
-use Rattle.zarr_run_commands.specs.Answers.{answer_json, fault_json}
+use Rattle.zarr_run_commands.specs.Answers.{answer_json, compacted_json, fault_json}
 use Rattle.zarr_run_commands.specs.Texts.{refusal_text}
 
 pub done_answer : (type : Option DataType) → compact_text (answer_json type done) ≡ codes "{\"done\":true}"
@@ -21,6 +21,14 @@ done_answer type = refl
 pub fault_answer : compact_text (fault_json (codes "text")) ≡ codes "{\"fault\":\"text\"}"
 unfolding serde_json_on_literals
 fault_answer = refl
+
+pub changed_answer : compact_text (compacted_json true) ≡ codes "{\"compacted\":true}"
+unfolding serde_json_on_literals
+changed_answer = refl
+
+pub unchanged_answer : compact_text (compacted_json false) ≡ codes "{\"compacted\":false}"
+unfolding serde_json_on_literals
+unchanged_answer = refl
 
 -- cells with this text are answered as they are
 pub cells_answer : (type : DataType) (payload : Payload) (items : Items) → payload_data type payload ≡ Some items

@@ -10,9 +10,9 @@ use Rattle.zarr_codecs_options.specs.declared.subchunk_write_order.SubchunkWrite
 use Rattle.zarr_codecs_options.specs.declared.subchunk_write_order.SubchunkWriteOrder.TheVariants.{Random, C, Unordered}
 use Rattle.zarr_grids_metadata.specs.Members.{has_only}
 use Rattle.zarr_grids_configurations.specs.Numbers.{sizes_in}
-use Rattle.zarr_run_meaning.specs.Requests.{Target, in_box, in_chunk, Request, create, reopen, write, read, erase}
+use Rattle.zarr_run_meaning.specs.Requests.{Target, in_box, in_chunk, Request, create, reopen, write, read, erase, compact, rewrite}
 use Rattle.zarr_run_commands.specs.declared.operation.Operation.{Operation}
-use Rattle.zarr_run_commands.specs.declared.operation.Operation.TheVariants.{Create, Reopen, WriteBox, WriteChunk, ReadBox, ReadChunk, EraseChunks}
+use Rattle.zarr_run_commands.specs.declared.operation.Operation.TheVariants.{Create, Reopen, WriteBox, WriteChunk, ReadBox, ReadChunk, EraseChunks, Compact, Rewrite}
 
 -- ---- fields of an object
 
@@ -108,7 +108,9 @@ operation_named name =
     (if bytes_eq name (codes "write_chunk") then Some WriteChunk else
     (if bytes_eq name (codes "read_box") then Some ReadBox else
     (if bytes_eq name (codes "read_chunk") then Some ReadChunk else
-    (if bytes_eq name (codes "erase_chunks") then Some EraseChunks else None))))))
+    (if bytes_eq name (codes "erase_chunks") then Some EraseChunks else
+    (if bytes_eq name (codes "compact") then Some Compact else
+    (if bytes_eq name (codes "rewrite") then Some Rewrite else None))))))))
 
 -- the fields that a line with this operation may have
 abbrev pub field_names : Operation → List (List ℕ)
@@ -119,6 +121,8 @@ field_names WriteChunk = codes "op" ∷ codes "path" ∷ codes "chunk" ∷ codes
 field_names ReadBox = codes "op" ∷ codes "path" ∷ codes "box" ∷ codes "options" ∷ []
 field_names ReadChunk = codes "op" ∷ codes "path" ∷ codes "chunk" ∷ codes "options" ∷ []
 field_names EraseChunks = codes "op" ∷ codes "path" ∷ codes "box" ∷ []
+field_names Compact = codes "op" ∷ codes "path" ∷ codes "chunk" ∷ codes "options" ∷ []
+field_names Rewrite = codes "op" ∷ codes "path" ∷ codes "options" ∷ []
 
 -- the operation that an object's members say
 abbrev pub operation_of : Members → Option Operation
@@ -167,6 +171,8 @@ request_by WriteChunk ms = write_of (option_map in_chunk (chunk_of ms)) ms
 request_by ReadBox ms = read_of (option_map in_box (box_of ms)) ms
 request_by ReadChunk ms = read_of (option_map in_chunk (chunk_of ms)) ms
 request_by EraseChunks ms = option_and_then (λ path. option_map (λ chunks. erase path chunks) (box_of ms)) (path_of ms)
+request_by Compact ms = option_and_then (λ path. option_and_then (λ chunk. option_map (λ options. compact path chunk options) (line_options_of ms)) (chunk_of ms)) (path_of ms)
+request_by Rewrite ms = option_and_then (λ path. option_map (λ options. rewrite path options) (line_options_of ms)) (path_of ms)
 
 -- what the members ask; a field that the operation does not have is refused
 abbrev pub request_of : Members → Option Request

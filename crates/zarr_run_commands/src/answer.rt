@@ -5,7 +5,7 @@ ghost use Rattle.zarr_codecs_json.specs.Texts.{Begins};
 ghost use Rattle.zarr_codecs_types.specs.Views.{type_of};
 ghost use Rattle.zarr_codecs_arrays.specs.Views.{payload_of};
 ghost use Rattle.zarr_run_meaning.specs.Requests as ask;
-ghost use Rattle.zarr_run_commands.specs.Answers.{answer_json, cause_name, fault_json};
+ghost use Rattle.zarr_run_commands.specs.Answers.{answer_json, cause_name, compacted_json, fault_json};
 ghost use Rattle.zarr_run_commands.specs.Commands.{answered};
 ghost use Rattle.zarr_run_commands.specs.Texts.{cause_text, refusal_text};
 
@@ -33,6 +33,7 @@ pub fn push_answer(
     match reply {
         Reply::Done => text.extend_from_slice(b"{\"done\":true}"),
         Reply::Cells(cells) => push_cells(text, data_type, cells),
+        Reply::Compacted(changed) => push_compacted(text, *changed),
         Reply::Refused { cause, applied } => push_refusal(text, *cause, *applied),
     }
 }
@@ -69,6 +70,19 @@ fn push_fault(text: &mut Vec<u8>) -> Result<(), AllocError>
     ensures err { OnErr result (text.new.items ≡ text.old.items) }
 {
     text.extend_from_slice(b"{\"fault\":\"text\"}")
+}
+
+/// Appends the answer of a compaction.
+fn push_compacted(text: &mut Vec<u8>, changed: bool) -> Result<(), AllocError>
+    ensures ok { OnOk result (text.new.items
+        ≡ text.old.items ++ compact_text (compacted_json changed)) }
+    ensures err { OnErr result (Begins text.old.items text.new.items) }
+{
+    if changed {
+        text.extend_from_slice(b"{\"compacted\":true}")
+    } else {
+        text.extend_from_slice(b"{\"compacted\":false}")
+    }
 }
 
 fn push_refusal(text: &mut Vec<u8>, cause: Cause, applied: u64) -> Result<(), AllocError>

@@ -62,6 +62,17 @@ pub enum Command {
         path: String,
         chunks: ArraySubset,
     },
+    /// Writes the shard of a chunk anew, without gaps.
+    Compact {
+        path: String,
+        chunk: Vec<u64>,
+        options: CodecOptions,
+    },
+    /// Stores each chunk anew that has a key.
+    Rewrite {
+        path: String,
+        options: CodecOptions,
+    },
 }
 
 impl Command {
@@ -81,6 +92,8 @@ impl Command {
             Command::ReadBox { path, .. } => path.as_str(),
             Command::ReadChunk { path, .. } => path.as_str(),
             Command::EraseChunks { path, .. } => path.as_str(),
+            Command::Compact { path, .. } => path.as_str(),
+            Command::Rewrite { path, .. } => path.as_str(),
         }
     }
 }
@@ -91,6 +104,8 @@ pub enum Reply {
     Done,
     /// The cells of the box or chunk that was read.
     Cells(ArrayBytes),
+    /// Whether a compaction changed what is stored.
+    Compacted(bool),
     /// The command was refused after this many chunks had been written.
     Refused { cause: Cause, applied: u64 },
 }

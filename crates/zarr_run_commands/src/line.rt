@@ -150,6 +150,8 @@ fn command_of(alloc: Global, line: Map<String, Value>) -> Result<Option<Command>
         Operation::ReadBox => read_box(alloc, line),
         Operation::ReadChunk => read_chunk(alloc, line),
         Operation::EraseChunks => erase_chunks(alloc, line),
+        Operation::Compact => compact(alloc, line),
+        Operation::Rewrite => Ok(rewrite(line)),
     }
 }
 
@@ -273,4 +275,32 @@ fn erase_chunks(alloc: Global, mut line: Map<String, Value>) -> Result<Option<Co
         return Ok(None);
     };
     Ok(Some(Command::EraseChunks { path, chunks }))
+}
+
+fn compact(alloc: Global, mut line: Map<String, Value>) -> Result<Option<Command>, AllocError>
+    ensures { IfOk result (λ said. option_map asked said
+        ≡ request_by Operation.Compact (members_view line.entries)) }
+{
+    let Some(options) = field::options(&line) else {
+        return Ok(None);
+    };
+    let Some(chunk) = field::chunk(alloc, &line)? else {
+        return Ok(None);
+    };
+    let Some(path) = members::take_text(&mut line, "path") else {
+        return Ok(None);
+    };
+    Ok(Some(Command::Compact {
+        path,
+        chunk,
+        options,
+    }))
+}
+
+fn rewrite(mut line: Map<String, Value>) -> Option<Command>
+    ensures { option_map asked result ≡ request_by Operation.Rewrite (members_view line.entries) }
+{
+    let options = field::options(&line)?;
+    let path = members::take_text(&mut line, "path")?;
+    Some(Command::Rewrite { path, options })
 }

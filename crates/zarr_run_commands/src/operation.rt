@@ -17,6 +17,8 @@ pub(crate) enum Operation {
     ReadBox,
     ReadChunk,
     EraseChunks,
+    Compact,
+    Rewrite,
 }
 
 impl Operation {
@@ -40,6 +42,8 @@ impl Operation {
             "read_box" => Some(Operation::ReadBox),
             "read_chunk" => Some(Operation::ReadChunk),
             "erase_chunks" => Some(Operation::EraseChunks),
+            "compact" => Some(Operation::Compact),
+            "rewrite" => Some(Operation::Rewrite),
             _ => None,
         }
     }
@@ -59,6 +63,8 @@ impl Operation {
             Operation::ReadBox => has_only(members, &["op", "path", "box", "options"]),
             Operation::ReadChunk => has_only(members, &["op", "path", "chunk", "options"]),
             Operation::EraseChunks => has_only(members, &["op", "path", "box"]),
+            Operation::Compact => has_only(members, &["op", "path", "chunk", "options"]),
+            Operation::Rewrite => has_only(members, &["op", "path", "options"]),
         }
     }
 }

@@ -1,8 +1,11 @@
+mod Alike
+pub mod CompactSteps
 mod Counts
 pub mod EraseSteps
 pub mod HeldSteps
 pub mod Lifting
 pub mod ReadSteps
 pub mod Refusals
+pub mod RewriteSteps
 pub mod RunSteps
 pub mod WriteSteps

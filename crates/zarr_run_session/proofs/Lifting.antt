@@ -14,7 +14,7 @@ use Rattle.zarr_run_meaning.specs.Laws.{HasTables}
 use Rattle.zarr_run_meaning.specs.Requests.{Request, Answer}
 use Rattle.zarr_run_meaning.specs.Steps.{Step}
 use Rattle.zarr_run_meaning.specs.Tables.{Table, updated, changes, changes_in, fills}
-use Rattle.zarr_run_meaning.specs.Worlds.{Held, World, held_at, IsTableAt, StaysBut, WithTable}
+use Rattle.zarr_run_meaning.specs.Worlds.{Held, World, held_at, writes_exactly, IsTableAt, StaysBut, WithTable}
 use Rattle.zarr_run_meaning.proofs.Arrays.{Stayed, at_path, near, apart, stayed, stayed_path, held_before, held_after}
 use Rattle.zarr_run_meaning.proofs.Frames.{steps_show}
 use Rattle.zarr_run_meaning.proofs.FoundTables.{table_found}
@@ -124,7 +124,7 @@ module _ (B : Type 0) (meaning : B → ByteCodec) (reads : ReadsCodecs) where
 abbrev pub table_written : Held → Region → List Cell → List (List ℕ) → Table
 table_written h box values chunks = updated h.document.elements.fill h.table (changes_in h.document.grid chunks (changes box values))
 
-pub written : (h : Held) (box : Region) (values : List Cell) (options : CodecOptions) (chunks : List (List ℕ)) (w : World) (store : StoreMap) (n : ℕ) → WroteChunks h.path h.document true box values options chunks w.store store
+pub written : (h : Held) (box : Region) (values : List Cell) (options : CodecOptions) (chunks : List (List ℕ)) (w : World) (store : StoreMap) (n : ℕ) → WroteChunks h.path h.document (writes_exactly h) box values options chunks w.store store
     → WritesChunks h box values options chunks w (world_after h.path (table_written h box values chunks) w store n)
 written h box values options chunks w store n wrote = record {
   table = table_written h box values chunks;

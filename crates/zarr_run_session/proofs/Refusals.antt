@@ -8,8 +8,8 @@ use Rattle.zarr_codecs_types.specs.Given.{GivenCells}
 use Rattle.zarr_array_meaning.specs.StoreMaps.{StoreMap}
 use Rattle.zarr_run_meaning.specs.declared.cause.Cause.{Cause}
 use Rattle.zarr_run_meaning.specs.declared.cause.Cause.TheVariants as cause
-use Rattle.zarr_run_meaning.specs.Requests.{Target, Request, write, read, erase, refused}
-use Rattle.zarr_run_meaning.specs.Steps.{RefusesHeld, RefusesWrite, RefusesRead, RefusesErase, Refuses, RefusesAt}
+use Rattle.zarr_run_meaning.specs.Requests.{Target, Request, write, read, erase, compact, rewrite, refused}
+use Rattle.zarr_run_meaning.specs.Steps.{RefusesHeld, RefusesWrite, RefusesRead, RefusesErase, RefusesCompact, RefusesRewrite, Refuses, RefusesAt}
 use Rattle.zarr_run_meaning.specs.Worlds.{Held, World, held_at}
 use Rattle.zarr_run_opening.specs.Sessions.{Arrays, array_at, IsIn, StepsFrom}
 use Rattle.zarr_run_opening.proofs.HoldsLemmas.{agreed_none, stays}
@@ -41,3 +41,13 @@ module _ (B : Type 0) (meaning : B → ByteCodec) (reads : ReadsCodecs) (arrays 
       → StepsFrom meaning reads (arrays, (store, n)) (erase path chunks) (refused c 0) (arrays, (store, n))
   erase_not_found chunks c none w k =
       (w, not_found (erase path chunks) c none (λ v e. held_none (held_at path v.arrays) (RefusesErase chunks) v e) w k, k)
+
+  pub compact_not_found : (chunk : List ℕ) (options : CodecOptions) (c : Cause) → NotFound arrays path c
+      → StepsFrom meaning reads (arrays, (store, n)) (compact path chunk options) (refused c 0) (arrays, (store, n))
+  compact_not_found chunk options c none w k =
+      (w, not_found (compact path chunk options) c none (λ v e. held_none (held_at path v.arrays) (RefusesCompact chunk) v e) w k, k)
+
+  pub rewrite_not_found : (options : CodecOptions) (c : Cause) → NotFound arrays path c
+      → StepsFrom meaning reads (arrays, (store, n)) (rewrite path options) (refused c 0) (arrays, (store, n))
+  rewrite_not_found options c none w k =
+      (w, not_found (rewrite path options) c none (λ v e. held_none (held_at path v.arrays) (RefusesRewrite options) v e) w k, k)

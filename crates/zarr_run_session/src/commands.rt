@@ -1,13 +1,15 @@
 //! Commands, one by one.
 use crate::finding::find;
-use crate::replies::{reply_to, reply_to_change, reply_to_read};
+use crate::replies::{reply_to, reply_to_change, reply_to_compaction, reply_to_read};
 use crate::session::Session;
 use serde_json::Value;
 use zarr_array_storage::WritableStorageTraits;
 use zarr_codecs_options::{CodecOptions, SubchunkWriteOrder};
 use zarr_codecs_traits::BytesToBytesCodecTraits;
 use zarr_grids_boxes::ArraySubset;
-use zarr_run_boxes::{erase_chunks, read_box, read_chunk, write_box, write_chunk};
+use zarr_run_boxes::{
+    compact, erase_chunks, read_box, read_chunk, rewrite, write_box, write_chunk,
+};
 use zarr_run_commands::{CommandCells, Reply};
 use zarr_run_opening::{create, reopen};
 
@@ -186,5 +188,45 @@ impl<S: WritableStorageTraits, B: BytesToBytesCodecTraits> Session<S, B> {
             Err(cause) => return Reply::Refused { cause, applied: 0 },
         };
         reply_to_change(erase_chunks(self.alloc, &array.core, &mut self.store, chunks))
+    }
+
+    /// Compacts a chunk of the array at a path.
+    pub(crate) fn compact(&mut self, path: &str, chunk: &[u64], options: &CodecOptions) -> Reply
+        ensures steps { IsTrue (S.is_honest (store_of self.old)) → StepsFrom B.meaning B.reads
+            (state_of S.held S.refused_calls self.old)
+            (ask.compact path.now chunk.now options.now) (answered result)
+            (state_of S.held S.refused_calls self.new) }
+        ensures honest { S.is_honest (store_of self.new) ≡ S.is_honest (store_of self.old) }
+        ensures counts { S.refused_calls (store_of self.new)
+            ≡ refused_with (S.refused_calls (store_of self.old)) (answered result) }
+    {
+        let array = match find(&self.arrays, path) {
+            Ok(array) => array,
+            Err(cause) => return Reply::Refused { cause, applied: 0 },
+        };
+        reply_to_compaction(compact(
+            &mut self.rooms,
+            &array.core,
+            &mut self.store,
+            chunk,
+            options,
+        ))
+    }
+
+    /// Stores the chunks anew that the array at a path has keys for.
+    pub(crate) fn rewrite(&mut self, path: &str, options: &CodecOptions) -> Reply
+        ensures steps { IsTrue (S.is_honest (store_of self.old)) → StepsFrom B.meaning B.reads
+            (state_of S.held S.refused_calls self.old)
+            (ask.rewrite path.now options.now) (answered result)
+            (state_of S.held S.refused_calls self.new) }
+        ensures honest { S.is_honest (store_of self.new) ≡ S.is_honest (store_of self.old) }
+        ensures counts { S.refused_calls (store_of self.new)
+            ≡ refused_with (S.refused_calls (store_of self.old)) (answered result) }
+    {
+        let array = match find(&self.arrays, path) {
+            Ok(array) => array,
+            Err(cause) => return Reply::Refused { cause, applied: 0 },
+        };
+        reply_to_change(rewrite(&mut self.rooms, &array.core, &mut self.store, options))
     }
 }

@@ -1,4 +1,5 @@
-//! Sessions: arrays in a store that are created, written, read and erased by commands.
+//! Sessions: arrays in a store that are created, written, read, erased, compacted and rewritten by
+//! commands.
 #![tactic(auto)]
 
 mod commands;

@@ -2,7 +2,7 @@
 ghost use Rattle.std.specs.Prelude.{◌≡◌};
 ghost use Rattle.zarr_run_commands.specs.Commands.{answered};
 ghost use Rattle.zarr_run_opening.specs.Sessions.{answer_of};
-ghost use Rattle.zarr_run_session.specs.Replies.{answer_after, answer_with};
+ghost use Rattle.zarr_run_session.specs.Replies.{answer_after, answer_changed, answer_with};
 
 use zarr_codecs_arrays::ArrayBytes;
 use zarr_run_boxes::Refusal;
@@ -35,6 +35,16 @@ pub(crate) fn reply_to_read(outcome: Result<ArrayBytes, Cause>) -> Reply
 {
     match outcome {
         Ok(cells) => Reply::Cells(cells),
+        Err(cause) => Reply::Refused { cause, applied: 0 },
+    }
+}
+
+/// The reply to a compaction.
+pub(crate) fn reply_to_compaction(outcome: Result<bool, Cause>) -> Reply
+    ensures { answered result ≡ answer_changed outcome }
+{
+    match outcome {
+        Ok(changed) => Reply::Compacted(changed),
         Err(cause) => Reply::Refused { cause, applied: 0 },
     }
 }

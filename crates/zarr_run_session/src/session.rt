@@ -100,6 +100,12 @@ impl<S: WritableStorageTraits, B: BytesToBytesCodecTraits> Session<S, B> {
                 options,
             } => self.read_chunk(path.as_str(), chunk.as_slice(), options),
             Command::EraseChunks { path, chunks } => self.erase_chunks(path.as_str(), chunks),
+            Command::Compact {
+                path,
+                chunk,
+                options,
+            } => self.compact(path.as_str(), chunk.as_slice(), options),
+            Command::Rewrite { path, options } => self.rewrite(path.as_str(), options),
         }
     }
 }

@@ -20,3 +20,9 @@ returns-in-ReadChunk-clause-steps g c = rw c.in-ReadChunk.is (rw (c.as_str-in-Re
 
 pub returns-in-EraseChunks-clause-steps : goal.returns-in-EraseChunks-clause-steps
 returns-in-EraseChunks-clause-steps g c = rw c.in-EraseChunks.is (rw c.as_str-in-EraseChunks.ensures.value at c.erase_chunks.ensures.steps)
+
+pub returns-in-Compact-clause-steps : goal.returns-in-Compact-clause-steps
+returns-in-Compact-clause-steps g c = rw c.in-Compact.is (rw (c.as_str-in-Compact.ensures.value, c.as_slice-in-Compact.ensures.value) at c.compact.ensures.steps)
+
+pub returns-in-Rewrite-clause-steps : goal.returns-in-Rewrite-clause-steps
+returns-in-Rewrite-clause-steps g c = rw c.in-Rewrite.is (rw c.as_str-in-Rewrite.ensures.value at c.rewrite.ensures.steps)
