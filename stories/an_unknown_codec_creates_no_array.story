@@ -1,8 +1,7 @@
-An array with a codec that isn't known, with a field that its codec doesn't take, or with shards, is not created, and its path stays free.
+An array with a codec that isn't known, or with a field that its codec doesn't take, is not created, and its path stays free.
 
 > {"op":"create","path":"/a","document":$zeros{"codecs":["bytes","unknown"]}}
 > {"op":"create","path":"/a","document":$zeros{"codecs":["bytes",{"name":"x-reverse","configuration":{"a":1}}]}}
-> {"op":"create","path":"/a","document":$zeros{"codecs":[{"name":"sharding_indexed","configuration":{"chunk_shape":[1,1],"codecs":["bytes"],"index_codecs":[{"name":"bytes","configuration":{"endian":"little"}}]}}]}}
 < {"applied":0,"refused":"Document"}
 > {"op":"read_box","path":"/a","box":[[0,1],[0,1]]}
 > {"op":"reopen","path":"/a"}

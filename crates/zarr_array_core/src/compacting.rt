@@ -18,10 +18,11 @@ impl<C: ArrayToBytesCodecTraits> ArrayCore<C> {
     ghost use Rattle.zarr_array_core.specs.Compacting.{CompactStops, CompactsValue};
     ghost use Rattle.zarr_array_core.specs.Views.{document_of};
 
-    /// Writes the value of a chunk anew, its shard without gaps: `true` where that changed it,
-    /// `false` where the chunk has no value, makes no shard or gains nothing. `Fit` where a value
-    /// does not fit the codecs, `Damage` where a present slice lies outside the shard's data,
-    /// `Codec` and `Size` where the new value is refused, `Storage` where the store refuses.
+    /// Writes the value of a chunk anew, its shard without gaps: `true` where that changed it, and
+    /// `false` where the chunk has no value, makes no shard or gains nothing. No slice is decoded.
+    /// `Fit` where a chunk with a value does not fit its codecs, `Damage` where a present slice lies
+    /// outside the shard's data, `Codec` and `Size` where the new value is refused, `Storage` where
+    /// the store refuses.
     pub fn compact_chunk<S: WritableStorageTraits>(
         &self,
         rooms: &mut ChunkRooms,

@@ -38,7 +38,7 @@ impl<C: ArrayToBytesCodecTraits> ArrayCore<C> {
     ghost use Rattle.zarr_array_core.specs.Views.{document_of};
 
     /// Whether a chunk that has a key has 2^63 cells or bytes or more. `chunks` are all chunks in
-    /// the grid that have a box. The store is asked only for those that are so large.
+    /// the grid that have a box. The store is asked only where one of them is so large.
     pub fn has_large_keyed<S: ReadableStorageTraits>(
         &self,
         rooms: &mut ChunkRooms,
@@ -105,8 +105,8 @@ impl<C: ArrayToBytesCodecTraits> ArrayCore<C> {
 
     /// Stores each chunk in the grid anew that has a key, row-major: its cells are read and stored
     /// whole, so a chunk that is all fill loses its key, unless empty chunks are stored. `chunks` are
-    /// all chunks in the grid that have a box. Errors as those of `write_region`, and `Size` where a
-    /// chunk with a key has 2^63 cells or bytes or more; `applied` counts the chunks with a key.
+    /// all chunks in the grid that have a box. Errors as those of `write_region`; `applied` counts
+    /// the chunks with a key.
     pub fn rewrite<S: WritableStorageTraits>(
         &self,
         rooms: &mut ChunkRooms,

@@ -5,7 +5,9 @@ use Rattle.serde_json.specs.Data.{Data, null, boolean, number, string, array, ob
 use Rattle.serde_json.specs.Written.{has_float, items_have_float}
 use Rattle.zarr_grids_metadata.specs.ExtensionPoints.{extension_point, written_point_in}
 use Rattle.zarr_grids_metadata.proofs.PointLemmas.{depth_written_point_in, float_written_point_in}
-use Rattle.zarr_codecs_metadata.specs.Chains.{ReadsCodecs, allowed_chain, points_in, chain_in}
+use Rattle.zarr_codecs_metadata.specs.Chains.{ReadsCodecs, points_in}
+use Rattle.zarr_sharding_metadata.specs.Metadata.{array_chain_of}
+use Rattle.zarr_array_meaning.specs.Parts.{codecs_in}
 use Rattle.zarr_array_meaning.specs.Written.{written_points, written_codecs}
 
 -- ---- what a written tree says
@@ -18,13 +20,13 @@ points_in-written no_items = refl
 points_in-written (item d ds) = rw (extension_point-written d, points_in-written ds)
 
 -- codecs say the same chain once they are written
-pub chain_in-written : (reads : ReadsCodecs) (d : Data) → chain_in reads (written_codecs d) ≡ chain_in reads d
-chain_in-written reads null = refl
-chain_in-written reads (boolean b) = refl
-chain_in-written reads (number n) = refl
-chain_in-written reads (string s) = refl
-chain_in-written reads (array ds) = ap (option_and_then (allowed_chain reads)) (points_in-written ds)
-chain_in-written reads (object ms) = refl
+pub codecs_in-written : (reads : ReadsCodecs) (d : Data) → codecs_in reads (written_codecs d) ≡ codecs_in reads d
+codecs_in-written reads null = refl
+codecs_in-written reads (boolean b) = refl
+codecs_in-written reads (number n) = refl
+codecs_in-written reads (string s) = refl
+codecs_in-written reads (array ds) = ap (option_and_then (array_chain_of reads)) (points_in-written ds)
+codecs_in-written reads (object ms) = refl
 
 -- ---- written again
 

@@ -15,15 +15,15 @@ use Rattle.zarr_grids_keys.specs.EncodingMetadata.{keys_made, keys_in}
 use Rattle.zarr_codecs_meaning.specs.Types.{DataType, Cell}
 use Rattle.zarr_codecs_meaning.specs.Chains.{Chain}
 use Rattle.zarr_codecs_types.specs.Metadata.{point_type, data_type_in}
-use Rattle.zarr_codecs_metadata.specs.Chains.{ReadsCodecs, chain_in}
+use Rattle.zarr_codecs_metadata.specs.Chains.{ReadsCodecs}
 use Rattle.zarr_grids_metadata.specs.ExtensionPoints.{written_point_in}
 use Rattle.zarr_grids_metadata.proofs.PutLemmas.{depth_put, depth_got, float_put, float_got}
-use Rattle.zarr_array_meaning.specs.Parts.{attributes_in, fill_in, has_no_transformers, dimension_names_in}
+use Rattle.zarr_array_meaning.specs.Parts.{attributes_in, codecs_in, fill_in, has_no_transformers, dimension_names_in}
 use Rattle.zarr_array_meaning.specs.Documents.{Document, Metadata, FieldsFound, ◌>>=◌, ◌>>◌, check, additional_in, must_understand_any, is_number, is_text, depth_limit, read_metadata, read_document}
 use Rattle.zarr_array_meaning.specs.Written.{written_codecs, written_fill, type_given, mark, marked, written_fields, given_attributes, written_members, written_document, with_mark}
 use Rattle.zarr_array_meaning.specs.declared.error.DocumentError.{DocumentError}
 use Rattle.zarr_array_meaning.specs.declared.error.DocumentError.TheVariants.{Depth, Float, Fields, AdditionalField, Codecs, DataTypes, ChunkGrid, Dimensionality, FillValue, StorageTransformers, ChunkKeyEncoding, DimensionNames}
-use Rattle.zarr_array_meaning.proofs.Points.{extension_point-written, chain_in-written}
+use Rattle.zarr_array_meaning.proofs.Points.{extension_point-written, codecs_in-written}
 use Rattle.zarr_array_meaning.proofs.TypeLevels.{levels-type_given}
 use Rattle.zarr_array_meaning.proofs.WrittenFills.{fill_in-written}
 use Rattle.zarr_array_meaning.proofs.WrittenFields.{additional_in-written_fields, additional_in-put, members_depth-written_fields, members_have_float-written_fields}
@@ -215,15 +215,15 @@ fill_at type t d is = ap (λ o. fill_in t (written_fill o d)) is ∙ fill_in-wri
 -- what follows once the fields were found
 abbrev after_fields : ReadsCodecs → Members → Option Data → Option Data → FieldsFound → Result Metadata DocumentError
 after_fields reads additional transformers names found =
-    early (not (must_understand_any additional)) (chain_in reads found.codecs) (data_type_in found.data_type) (configuration_in found.chunk_grid)
+    early (not (must_understand_any additional)) (codecs_in reads found.codecs) (data_type_in found.data_type) (configuration_in found.chunk_grid)
     (λ chain type configuration. late (length configuration == length found.shape) (grid_in found.shape configuration) (fill_in type found.fill_value) (has_no_transformers transformers) (keys_in found.chunk_key_encoding)
     (dimension_names_in (length found.shape) names) found.shape found.attributes additional chain type)
 
 after_fields-written : (reads : ReadsCodecs) (additional : Members) (transformers names new : Option Data) (found : FieldsFound) (m : Metadata) → ((n : ℕ) → dimension_names_in n new ≡ dimension_names_in n names)
     → after_fields reads additional transformers names found ≡ Ok m → after_fields reads additional None new (written_found found) ≡ Ok (with_mark m)
 after_fields-written reads additional transformers names new found m same is =
-    rw (chain_in-written reads found.codecs, data_type_in-written found.data_type, configuration_in-written found.chunk_grid)
-    (early-written (not (must_understand_any additional)) (chain_in reads found.codecs) (data_type_in found.data_type) (configuration_in found.chunk_grid) _ _ m (with_mark m)
+    rw (codecs_in-written reads found.codecs, data_type_in-written found.data_type, configuration_in-written found.chunk_grid)
+    (early-written (not (must_understand_any additional)) (codecs_in reads found.codecs) (data_type_in found.data_type) (configuration_in found.chunk_grid) _ _ m (with_mark m)
     (λ c t es e h.
     rw (keys_in-written found.chunk_key_encoding, same (length found.shape), fill_at (data_type_in found.data_type) t found.fill_value e)
     (late-written (length es == length found.shape) (grid_in found.shape es) (fill_in t found.fill_value) (has_no_transformers transformers) (keys_in found.chunk_key_encoding) (dimension_names_in (length found.shape) names)

@@ -14,9 +14,9 @@ use Rattle.zarr_grids_keys.specs.EncodingMetadata.{keys_in}
 use Rattle.zarr_codecs_meaning.specs.Types.{Elements}
 use Rattle.zarr_codecs_meaning.specs.Chains.{Chain}
 use Rattle.zarr_codecs_types.specs.Metadata.{data_type_in}
-use Rattle.zarr_codecs_metadata.specs.Chains.{ReadsCodecs, chain_in}
+use Rattle.zarr_codecs_metadata.specs.Chains.{ReadsCodecs}
 use Rattle.zarr_grids_metadata.specs.ExtensionPoints.{must_understand_field}
-use Rattle.zarr_array_meaning.specs.Parts.{attributes_in, fill_in, has_no_transformers, dimension_names_in}
+use Rattle.zarr_array_meaning.specs.Parts.{attributes_in, codecs_in, fill_in, has_no_transformers, dimension_names_in}
 use Rattle.zarr_array_meaning.specs.declared.error.DocumentError.{DocumentError}
 use Rattle.zarr_array_meaning.specs.declared.error.DocumentError.TheVariants.{Depth, Float, Fields, AdditionalField, Codecs, DataTypes, ChunkGrid, Dimensionality, FillValue, StorageTransformers, ChunkKeyEncoding, DimensionNames}
 
@@ -126,7 +126,7 @@ abbrev pub read_members : ReadsCodecs → Members → Result Metadata DocumentEr
 read_members reads ms = do
   found ← fields_in ms
   check (not (must_understand_any (additional_in ms))) AdditionalField
-  chain ← ok_or (chain_in reads found.codecs) Codecs
+  chain ← ok_or (codecs_in reads found.codecs) Codecs
   type ← ok_or (data_type_in found.data_type) DataTypes
   configuration ← ok_or (configuration_in found.chunk_grid) ChunkGrid
   check (length configuration == length found.shape) Dimensionality

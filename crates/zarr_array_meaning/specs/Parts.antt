@@ -1,9 +1,16 @@
 -- What the other fields of an array document say, one by one (Zarr core specification, "Array metadata").
 use Rattle.std.specs.Prelude.{ℕ, List, [], ◌∷◌, length, Bool, true, false, ◌==◌, if◌then◌else◌, Option, Some, None, option_map, option_and_then}
 use Rattle.serde_json.specs.Data.{Data, null, boolean, number, string, array, object, Items, no_items, item, Members, no_members}
-use Rattle.serde_json.specs.Find.{as_object}
+use Rattle.serde_json.specs.Find.{as_object, as_array}
 use Rattle.zarr_codecs_meaning.specs.Types.{DataType, Cell, is_value}
+use Rattle.zarr_codecs_meaning.specs.Chains.{Chain}
+use Rattle.zarr_codecs_metadata.specs.Chains.{ReadsCodecs, points_in}
 use Rattle.zarr_codecs_types.specs.FillMetadata.{cell_in}
+use Rattle.zarr_sharding_metadata.specs.Metadata.{array_chain_of}
+
+-- the chain that the member `codecs` says, of at most two shards in one another
+abbrev pub codecs_in : ReadsCodecs → Data → Option Chain
+codecs_in reads d = option_and_then (array_chain_of reads) (option_and_then points_in (as_array d))
 
 -- the fill value that the member `fill_value` says: a value of the data type
 abbrev pub fill_in : DataType → Data → Option Cell

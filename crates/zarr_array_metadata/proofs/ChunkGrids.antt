@@ -1,7 +1,9 @@
 -- The chunk grid of a document, by the checks that it passes.
-use Rattle.std.proofs.Common.{◌≡◌, ℕ, suc, List, [], ◌∷◌, length, map, Bool, true, false, ◌==◌, Option, Some, None, option_map, option_and_then, Result, Ok, Err, refl, sym, ap, ◌∙◌}
+use Rattle.std.proofs.Common.{◌≡◌, ℕ, suc, List, [], ◌∷◌, length, map, Bool, true, false, ◌==◌, Option, Some, None, option_map, option_and_then, Result, Ok, Err, codes, refl, sym, ap, ◌∙◌}
 use Rattle.std.specs.Option.{ok_or}
+use Rattle.std.proofs.lemmas.Bool.{eq-eqb}
 use Rattle.serde_json.specs.Data.{Data, Members}
+use Rattle.serde_json.specs.Find.{get_member}
 use Rattle.zarr_grids_chunks.specs.Grids.{Grid, Dimension}
 use Rattle.zarr_grids_dimensions.specs.Lookups.{size_of}
 use Rattle.zarr_grids_configurations.specs.Configurations.{configuration_in}
@@ -9,10 +11,12 @@ use Rattle.zarr_grids_configurations.specs.Grids.{Edges, dimension_in, grid_in}
 use Rattle.zarr_grids_chunk_grids.specs.Grids.{grid_of_chunks, sizes_of_grid, edges_of_grid}
 use Rattle.zarr_grids_chunk_grids.specs.declared.chunk_grid.ChunkGrid.{ChunkGrid}
 use Rattle.zarr_grids_chunk_grids.proofs.Made.{grid-of_configuration}
-use Rattle.zarr_codecs_meaning.specs.Types.{DataType}
+use Rattle.zarr_grids_keys.specs.EncodingMetadata.{keys_in}
+use Rattle.zarr_codecs_meaning.specs.Types.{Cell, DataType}
 use Rattle.zarr_codecs_meaning.specs.Chains.{Chain}
 use Rattle.zarr_codecs_types.specs.Metadata.{data_type_in}
-use Rattle.zarr_codecs_metadata.specs.Chains.{ReadsCodecs, chain_in}
+use Rattle.zarr_codecs_metadata.specs.Chains.{ReadsCodecs}
+use Rattle.zarr_array_meaning.specs.Parts.{codecs_in, fill_in, has_no_transformers}
 use Rattle.zarr_array_meaning.specs.Documents.{FieldsFound, fields_in, additional_in, must_understand_any, ◌>>=◌, ◌>>◌, check, read_members, document_of}
 use Rattle.zarr_array_meaning.specs.declared.error.DocumentError.{DocumentError}
 use Rattle.zarr_array_meaning.specs.declared.error.DocumentError.TheVariants as error
@@ -63,7 +67,24 @@ grid_refuses shape d rest e is = refused_by (configuration_in d) (λ c. length c
 
 -- what refuses the grid refuses the members, where the checks before it pass
 pub members_refused : (reads : ReadsCodecs) (ms : Members) (found : FieldsFound) (chain : Chain) (type : DataType) (e : DocumentError)
-    → fields_in ms ≡ Ok found → must_understand_any (additional_in ms) ≡ false → ok_or (chain_in reads found.codecs) error.Codecs ≡ Ok chain → ok_or (data_type_in found.data_type) error.DataTypes ≡ Ok type
+    → fields_in ms ≡ Ok found → must_understand_any (additional_in ms) ≡ false → ok_or (codecs_in reads found.codecs) error.Codecs ≡ Ok chain → ok_or (data_type_in found.data_type) error.DataTypes ≡ Ok type
     → grid_for found.shape found.chunk_grid ≡ Err e → document_of (read_members reads ms) ≡ Err e
 members_refused reads ms found chain type e fields understood codecs typed refused =
     rw (fields, understood, codecs, typed) (ap document_of (grid_refuses found.shape found.chunk_grid _ e refused))
+
+-- what refuses the fill value refuses the members, where the checks before it pass
+pub members_refused_at_fill : (reads : ReadsCodecs) (ms : Members) (found : FieldsFound) (chain : Chain) (type : DataType) (configuration : List Edges) (grid : Grid) (e : DocumentError)
+    → fields_in ms ≡ Ok found → must_understand_any (additional_in ms) ≡ false → ok_or (codecs_in reads found.codecs) error.Codecs ≡ Ok chain → ok_or (data_type_in found.data_type) error.DataTypes ≡ Ok type
+    → configuration_in found.chunk_grid ≡ Some configuration → length configuration ≡ length found.shape → grid_in found.shape configuration ≡ Some grid
+    → ok_or (fill_in type found.fill_value) error.FillValue ≡ Err e → document_of (read_members reads ms) ≡ Err e
+members_refused_at_fill reads ms found chain type configuration grid e fields understood codecs typed configured same made refused =
+    rw (fields, understood, codecs, typed, configured, eq-eqb (length configuration) (length found.shape) same, made, refused) refl
+
+-- what refuses the chunk key encoding refuses the members, where the checks before it pass
+pub members_refused_at_keys : (reads : ReadsCodecs) (ms : Members) (found : FieldsFound) (chain : Chain) (type : DataType) (configuration : List Edges) (grid : Grid) (fill : Cell) (e : DocumentError)
+    → fields_in ms ≡ Ok found → must_understand_any (additional_in ms) ≡ false → ok_or (codecs_in reads found.codecs) error.Codecs ≡ Ok chain → ok_or (data_type_in found.data_type) error.DataTypes ≡ Ok type
+    → configuration_in found.chunk_grid ≡ Some configuration → length configuration ≡ length found.shape → grid_in found.shape configuration ≡ Some grid
+    → ok_or (fill_in type found.fill_value) error.FillValue ≡ Ok fill → has_no_transformers (get_member (codes "storage_transformers") ms) ≡ true
+    → ok_or (keys_in found.chunk_key_encoding) error.ChunkKeyEncoding ≡ Err e → document_of (read_members reads ms) ≡ Err e
+members_refused_at_keys reads ms found chain type configuration grid fill e fields understood codecs typed configured same made filled none refused =
+    rw (fields, understood, codecs, typed, configured, eq-eqb (length configuration) (length found.shape) same, made, filled, none, refused) refl

@@ -1,9 +1,9 @@
 //! Documents that were opened.
 use zarr_codecs_arrays::Elements;
-use zarr_codecs_chains::CodecChain;
 use zarr_codecs_traits::BytesToBytesCodecTraits;
 use zarr_grids_chunk_grids::ChunkGrid;
 use zarr_grids_keys::ChunkKeyEncoding;
+use zarr_sharding_arrays::ArrayChain;
 
 /// What a document that was opened says of an array's elements and of where they are stored.
 #[derive(Debug, Drop)]
@@ -13,5 +13,5 @@ pub struct ArrayDocument<B: BytesToBytesCodecTraits> {
     /// How a chunk's index becomes its key.
     pub keys: ChunkKeyEncoding,
     pub elements: Elements,
-    pub codecs: CodecChain<B>,
+    pub codecs: ArrayChain<B>,
 }

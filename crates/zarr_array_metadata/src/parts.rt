@@ -6,28 +6,28 @@ ghost use Rattle.zarr_grids_metadata.specs.Views.{point_of};
 ghost use Rattle.zarr_codecs_types.specs.Metadata.{data_type_in};
 ghost use Rattle.zarr_codecs_types.specs.Views.{type_of};
 ghost use Rattle.zarr_codecs_arrays.specs.Views.{elements_of};
-ghost use Rattle.zarr_codecs_metadata.specs.Chains.{chain_in, points_in};
-ghost use Rattle.zarr_codecs_chains.specs.Views as chains;
-ghost use Rattle.zarr_array_meaning.specs.Parts.{fill_in, has_no_transformers, is_empty_list};
+ghost use Rattle.zarr_codecs_metadata.specs.Chains.{points_in};
+ghost use Rattle.zarr_sharding_arrays.specs.ArrayChains.{array_meaning};
+ghost use Rattle.zarr_array_meaning.specs.Parts.{codecs_in, fill_in, has_no_transformers, is_empty_list};
 
 use serde_json::Value;
 use std::alloc::{AllocError, Global};
 use zarr_array_meaning::DocumentError;
 use zarr_codecs_arrays::Elements;
-use zarr_codecs_chains::{CodecChain, read_allowed};
 use zarr_codecs_traits::BytesToBytesCodecTraits;
 use zarr_codecs_types::{DataType, DataTypeError, FillValue, FillValueError};
 use zarr_grids_metadata::{MetadataV3, PluginCreateError};
+use zarr_sharding_arrays::{ArrayChain, read_array_chain};
 
 /// The codecs; `Codecs` where they make no chain that is known.
 pub(crate) fn codecs_in<B: BytesToBytesCodecTraits>(
     alloc: Global,
     codecs: &Value,
-) -> Result<CodecChain<B>, DocumentError>
-    ensures ok { IfOk result (λ chain. ok_or (chain_in B.reads (view codecs.now))
-        DocumentError.Codecs ≡ Ok (chains.meaning_of B.meaning chain)) }
+) -> Result<ArrayChain<B>, DocumentError>
+    ensures ok { IfOk result (λ chain. ok_or (codecs_in B.reads (view codecs.now))
+        DocumentError.Codecs ≡ Ok (array_meaning B.meaning chain)) }
     ensures err { IfErr result (λ e. e ≢ DocumentError.Memory
-        → ok_or (chain_in B.reads (view codecs.now)) DocumentError.Codecs ≡ Err e) }
+        → ok_or (codecs_in B.reads (view codecs.now)) DocumentError.Codecs ≡ Err e) }
 {
     let Some(codecs) = codecs.as_array() else {
         return Err(DocumentError::Codecs);
@@ -35,7 +35,7 @@ pub(crate) fn codecs_in<B: BytesToBytesCodecTraits>(
     let Some(points) = points_in(alloc, codecs.as_slice())? else {
         return Err(DocumentError::Codecs);
     };
-    match read_allowed(alloc, points.as_slice()) {
+    match read_array_chain(alloc, points.as_slice()) {
         Ok(chain) => Ok(chain),
         Err(PluginCreateError::Memory) => Err(DocumentError::Memory),
         Err(_) => Err(DocumentError::Codecs),

@@ -17,10 +17,10 @@ use Rattle.zarr_grids_configurations.specs.Grids.{Edges, fixed, bounded, exact, 
 use Rattle.zarr_grids_keys.specs.Keys.{KeyEncoding, default, v2, suffixed, is_separator, has_separator}
 use Rattle.zarr_grids_keys.specs.EncodingMetadata.{separator_of, separator_in, separator_among, suffix_in, members_of, default_in, v2_in, suffixed_in, default_made, v2_made, suffixed_made, keys_made, keys_in, is_suffix_name}
 use Rattle.zarr_codecs_types.specs.Metadata.{data_type_in}
-use Rattle.zarr_codecs_metadata.specs.Chains.{ReadsCodecs, chain_in}
+use Rattle.zarr_codecs_metadata.specs.Chains.{ReadsCodecs}
 use Rattle.zarr_codecs_meaning.proofs.Lists.{bind_some, map_some, if_some, some_same}
 use Rattle.zarr_array_meaning.specs.Documents.{Document, Metadata, ◌>>=◌, ◌>>◌, fields_in, read_members, read_metadata, read_document}
-use Rattle.zarr_array_meaning.specs.Parts.{fill_in, dimension_names_in}
+use Rattle.zarr_array_meaning.specs.Parts.{codecs_in, fill_in, dimension_names_in}
 
 -- ---- checks that passed
 
@@ -134,7 +134,7 @@ formed_members : (reads : ReadsCodecs) (ms : Members) (m : Metadata) → read_me
 formed_members reads ms m h =
     let found = bind_ok (fields_in ms) _ m h in
     let f = found.0 in
-    let chain = bind_ok (ok_or (chain_in reads f.codecs) _) _ m (then_ok _ _ m found.2) in
+    let chain = bind_ok (ok_or (codecs_in reads f.codecs) _) _ m (then_ok _ _ m found.2) in
     let type = bind_ok (ok_or (data_type_in f.data_type) _) _ m chain.2 in
     let configuration = bind_ok (ok_or (configuration_in f.chunk_grid) _) _ m type.2 in
     let grid = bind_ok (ok_or (grid_in f.shape configuration.0) _) _ m (then_ok _ _ m configuration.2) in

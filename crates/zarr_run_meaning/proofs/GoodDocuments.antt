@@ -9,7 +9,7 @@ use Rattle.zarr_grids_configurations.specs.Configurations.{configuration_in}
 use Rattle.zarr_grids_configurations.specs.Grids.{grid_in}
 use Rattle.zarr_grids_keys.specs.EncodingMetadata.{keys_in}
 use Rattle.zarr_codecs_meaning.specs.Chains.{ArrayCodec, Chain, Location}
-use Rattle.zarr_codecs_meaning.specs.Chains.Chain.{bytes, packbits, vlen, optional, after_array_codec, then_bytes}
+use Rattle.zarr_codecs_meaning.specs.Chains.Chain.{bytes, packbits, vlen, optional, after_array_codec, then_bytes, sharded}
 use Rattle.zarr_codecs_meaning.specs.Laws.{IsLawfulChain}
 use Rattle.zarr_codecs_meaning.specs.Types.{DataType, Cell, is_value}
 use Rattle.zarr_codecs_meaning.proofs.Lists.{bind_some, map_some, if_some, some_same}
@@ -17,12 +17,13 @@ use Rattle.zarr_codecs_types.specs.FillMetadata.{cell_in}
 use Rattle.zarr_codecs_types.specs.Metadata.{data_type_in}
 use Rattle.zarr_codecs_metadata.specs.ArrayCodecs.{array_codec_in}
 use Rattle.zarr_codecs_metadata.specs.Allowed.{is_allowed, allowed}
-use Rattle.zarr_codecs_metadata.specs.Chains.{ReadsCodecs, ReadsCodec, endian_in, bytes_of, with_byte_codecs, bytes_chain_by, chain_by, points_in, listed_chain_by, array_to_bytes_by, array_to_bytes_within, point_depth, array_to_bytes_in, chain_of, allowed_chain, chain_in}
+use Rattle.zarr_codecs_metadata.specs.Chains.{ReadsCodecs, ReadsCodec, endian_in, bytes_of, with_byte_codecs, bytes_chain_by, chain_by, points_in, listed_chain_by, array_to_bytes_by, array_to_bytes_within, point_depth, array_to_bytes_in, chain_of}
 use Rattle.zarr_codecs_metadata.specs.Sections.{names_vlen, names_optional, width_in, location_in, vlen_with, vlen_of, optional_with, optional_of}
 use Rattle.zarr_codecs_metadata.specs.PackBits.{padding_in, bit_in, packbits_with, packbits_of}
+use Rattle.zarr_sharding_metadata.specs.Metadata.{shard_points_in, shard_of, sharding_of, names_shard, array_to_bytes_of, array_chain_of}
 use Rattle.zarr_array_meaning.specs.Documents.{Metadata, fields_in, read_members, read_metadata}
 use Rattle.zarr_array_meaning.specs.declared.error.DocumentError.TheVariants.{Codecs, FillValue}
-use Rattle.zarr_array_meaning.specs.Parts.{fill_in, dimension_names_in}
+use Rattle.zarr_array_meaning.specs.Parts.{codecs_in, fill_in, dimension_names_in}
 use Rattle.zarr_array_meaning.specs.Standing.{IsGood}
 use Rattle.zarr_run_meaning.specs.Sound.{ReadsLawful}
 use Rattle.zarr_run_meaning.specs.Laws.{LawfulGood}
@@ -137,14 +138,39 @@ within_lawful reads law zero point chain h = absurd (cc)
 within_lawful reads law (suc levels) point chain h =
     by_lawful (listed_chain_by reads (array_to_bytes_within reads levels)) (listed_lawful reads law (array_to_bytes_within reads levels) (within_lawful reads law levels)) point chain h
 
+in_lawful : (reads : ReadsCodecs) → ReadsLawful reads → SaysLawful (array_to_bytes_in reads)
+in_lawful reads law point chain h = within_lawful reads law (suc (point_depth point)) point chain h
+
+-- ---- shards
+
+-- a shard is lawful where the chains of its subchunks and of its index are
+shard_lawful : (inner index : List ExtensionPoint → Option Chain) → SaysLawful inner → SaysLawful index → SaysLawful (shard_of inner index)
+shard_lawful inner index first second given chain h =
+    let i = bind_some (λ i. option_map (λ x. sharded given.subchunk i x given.location) (index given.index)) (inner given.inner) chain h in
+    let x = map_some (λ x. sharded given.subchunk i.0 x given.location) (index given.index) chain i.2 in
+    subst IsLawfulChain x.2 (first given.inner i.0 i.1, second given.index x.0 x.1)
+
+-- a codec that is a shard, or none
+sharding_lawful : (reads : ReadsCodecs) → ReadsLawful reads → (codec : ReadsCodec) → SaysLawful codec → (is_shard : Bool) (point : ExtensionPoint) (chain : Chain)
+    → (if is_shard then sharding_of (chain_by reads codec) (chain_of reads) (configuration_members point.configuration) else array_to_bytes_in reads point) ≡ Some chain → IsLawfulChain chain
+sharding_lawful reads law codec codec_law true point chain h =
+    let inner = chain_by reads codec in
+    let found = bind_some (shard_of inner (chain_of reads)) (shard_points_in (configuration_members point.configuration)) chain h in
+    shard_lawful inner (chain_of reads) (points_lawful reads law codec codec_law) (points_lawful reads law (array_to_bytes_in reads) (in_lawful reads law)) found.0 chain found.2
+sharding_lawful reads law codec codec_law false point chain h = in_lawful reads law point chain h
+
+-- however many shards stand in one another, an array to bytes codec is lawful
+of_lawful : (reads : ReadsCodecs) → ReadsLawful reads → (shards : ℕ) → SaysLawful (array_to_bytes_of reads shards)
+of_lawful reads law zero point chain h = in_lawful reads law point chain h
+of_lawful reads law (suc shards) point chain h = sharding_lawful reads law (array_to_bytes_of reads shards) (of_lawful reads law shards) (names_shard point.name) point chain h
+
 -- the chain of a document is lawful
-chain_lawful : (reads : ReadsCodecs) → ReadsLawful reads → (d : Data) (chain : Chain) → chain_in reads d ≡ Some chain → IsLawfulChain chain
+chain_lawful : (reads : ReadsCodecs) → ReadsLawful reads → (d : Data) (chain : Chain) → codecs_in reads d ≡ Some chain → IsLawfulChain chain
 chain_lawful reads law d chain h =
-    let found = bind_some (allowed_chain reads) (option_and_then points_in (as_array d)) chain h in
-    let made = bind_some allowed (chain_of reads found.0) chain found.2 in
+    let found = bind_some (array_chain_of reads) (option_and_then points_in (as_array d)) chain h in
+    let made = bind_some allowed (chain_by reads (array_to_bytes_of reads 2) found.0) chain found.2 in
     let kept = if_some (is_allowed made.0) (Some made.0) chain made.2 in
-    subst IsLawfulChain (some_same kept.1)
-    (points_lawful reads law (array_to_bytes_in reads) (λ point c e. within_lawful reads law (suc (point_depth point)) point c e) found.0 made.0 made.1)
+    subst IsLawfulChain (some_same kept.1) (points_lawful reads law (array_to_bytes_of reads 2) (of_lawful reads law 2) found.0 made.0 made.1)
 
 -- ---- documents
 
@@ -152,7 +178,7 @@ members_good : (reads : ReadsCodecs) → ReadsLawful reads → (ms : Members) (m
 members_good reads law ms m h =
     let found = bind_ok (fields_in ms) _ m h in
     let f = found.0 in
-    let chain = bind_ok (ok_or (chain_in reads f.codecs) _) _ m (then_ok _ _ m found.2) in
+    let chain = bind_ok (ok_or (codecs_in reads f.codecs) _) _ m (then_ok _ _ m found.2) in
     let type = bind_ok (ok_or (data_type_in f.data_type) _) _ m chain.2 in
     let configuration = bind_ok (ok_or (configuration_in f.chunk_grid) _) _ m type.2 in
     let grid = bind_ok (ok_or (grid_in f.shape configuration.0) _) _ m (then_ok _ _ m configuration.2) in
@@ -161,7 +187,7 @@ members_good reads law ms m h =
     let names = bind_ok (ok_or (dimension_names_in (length f.shape) (get_member (codes "dimension_names") ms)) _) _ m keys.2 in
     let is = ok_same _ m names.2 in
     record {
-      lawful = subst (λ (x : Metadata). IsLawfulChain x.document.chain) is (chain_lawful reads law f.codecs chain.0 (ok_some (chain_in reads f.codecs) Codecs chain.0 chain.1));
+      lawful = subst (λ (x : Metadata). IsLawfulChain x.document.chain) is (chain_lawful reads law f.codecs chain.0 (ok_some (codecs_in reads f.codecs) Codecs chain.0 chain.1));
       fill = ap (λ (x : Metadata). is_value x.document.elements.type x.document.elements.fill) (sym is)
           ∙ fill_good type.0 f.fill_value fill.0 (ok_some (fill_in type.0 f.fill_value) FillValue fill.0 fill.1);
     }

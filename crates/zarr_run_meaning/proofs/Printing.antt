@@ -21,12 +21,12 @@ use Rattle.zarr_codecs_meaning.specs.Types.{DataType, bool, integer, custom, str
 use Rattle.zarr_codecs_meaning.proofs.Lists.{bind_some}
 use Rattle.zarr_codecs_types.specs.FillMetadata.{bytes_data, cell_data}
 use Rattle.zarr_codecs_types.specs.Metadata.{Row, rows, type_named, is_optional_name, inner_point, plain_type, type_within, configuration_depth, point_type, data_type_in}
-use Rattle.zarr_codecs_metadata.specs.Chains.{ReadsCodecs, chain_in}
+use Rattle.zarr_codecs_metadata.specs.Chains.{ReadsCodecs}
 use Rattle.zarr_array_meaning.specs.Boxes.{IsRead, cell_of_box}
 use Rattle.zarr_array_meaning.specs.Chunks.{number_in, stored_at}
 use Rattle.zarr_array_meaning.specs.Documents.{Document, Metadata, fields_in, read_members, read_metadata, read_document}
 use Rattle.zarr_array_meaning.specs.declared.error.DocumentError.TheVariants.{DataTypes}
-use Rattle.zarr_array_meaning.specs.Parts.{fill_in, dimension_names_in}
+use Rattle.zarr_array_meaning.specs.Parts.{codecs_in, fill_in, dimension_names_in}
 use Rattle.zarr_array_meaning.specs.Standing.{IsGood}
 use Rattle.zarr_array_meaning.specs.StoreMaps.{StoreMap}
 use Rattle.zarr_array_meaning.proofs.Showing.{first_cell, length_listed, listed_at, each_inside, each_place}
@@ -140,7 +140,7 @@ members_print : (reads : ReadsCodecs) (ms : Members) (m : Metadata) → read_mem
 members_print reads ms m h =
     let found = bind_ok (fields_in ms) _ m h in
     let f = found.0 in
-    let chain = bind_ok (ok_or (chain_in reads f.codecs) _) _ m (then_ok _ _ m found.2) in
+    let chain = bind_ok (ok_or (codecs_in reads f.codecs) _) _ m (then_ok _ _ m found.2) in
     let type = bind_ok (ok_or (data_type_in f.data_type) _) _ m chain.2 in
     let configuration = bind_ok (ok_or (configuration_in f.chunk_grid) _) _ m type.2 in
     let grid = bind_ok (ok_or (grid_in f.shape configuration.0) _) _ m (then_ok _ _ m configuration.2) in

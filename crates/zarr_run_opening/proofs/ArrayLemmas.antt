@@ -1,10 +1,11 @@
 -- The arrays at all paths, after a change at one.
-use Rattle.std.proofs.Common.{◌≡◌, ◌≢◌, ◌∙◌, ℕ, List, refl, sym, ap, Bool, true, false, Option, Some, None, bytes_eq}
+use Rattle.std.proofs.Common.{◌≡◌, ◌≢◌, ◌∙◌, ℕ, List, refl, sym, ap, subst, Bool, true, false, Option, Some, None, bytes_eq}
 use Rattle.std.specs.Map.{update}
 use Rattle.std.proofs.lemmas.Bool.{cond-true, cond-false, false≢true, false_from_ne_true}
 use Rattle.std.proofs.lemmas.Slice.Eq.{bytes_eq-Decides}
+use Rattle.zarr_codecs_meaning.specs.Chains.{ByteCodec}
 use Rattle.zarr_codecs_options.specs.declared.subchunk_write_order.SubchunkWriteOrder.{SubchunkWriteOrder}
-use Rattle.zarr_run_opening.specs.Arrays.{KeepsArrays, KeepsOtherArrays}
+use Rattle.zarr_run_opening.specs.Arrays.{IsReordered, KeepsArrays, KeepsOtherArrays}
 use Rattle.zarr_run_opening.specs.Sessions.{Arrays, array_at}
 use Rattle.zarr_run_opening.specs.declared.held.HeldArray.{HeldArray}
 
@@ -20,9 +21,9 @@ at_others f g path w h q ne = h q ∙ cond-false (bytes_eq path q) w (f q) (fals
 pub some_same : {A : Type 0} (a b : A) → Some a ≡ Some b → a ≡ b
 some_same a b e = cc
 
--- an array with another order
-pub ordered_same : {B : Type 0} (a b : HeldArray B) (order : SubchunkWriteOrder) → Some a ≡ Some b → Some (record a { order = order }) ≡ Some (record b { order = order })
-ordered_same {B} a b order e = ap Some (ap (λ (x : HeldArray B). record x { order = order }) (some_same a b e))
+-- the array that was held is the one that got another write order
+pub reordered_same : {B : Type 0} (meaning : B → ByteCodec) (order : SubchunkWriteOrder) (a b new : HeldArray B) → Some a ≡ Some b → IsReordered meaning order a new → IsReordered meaning order b new
+reordered_same {B} meaning order a b new e is = let P : HeldArray B → Type 0 = λ x. IsReordered meaning order x new in subst P (some_same a b e) is
 
 -- an array that was held at a free path, and is held no more
 pub kept_back : {B : Type 0} (old mid new : Arrays B) (path : List ℕ) → array_at old path ≡ None → KeepsOtherArrays path old mid → array_at new path ≡ None → KeepsOtherArrays path mid new → KeepsArrays old new

@@ -25,7 +25,7 @@ module _ (B : Type 0) (meaning : B → ByteCodec) (reads : ReadsCodecs) (path : 
   begun = record { path = path; tree = tree; document = document_of meaning array; order = order; table = table }
 
   held_begun : IsHeld meaning reads store' array begun
-  held_begun = record { node = node; path = sym is.at; tree = sym is.tree_is; document = refl; order = sym is.order_is; says = is.says; table = shows }
+  held_begun = record { node = node; path = sym is.at; tree = sym is.tree_is; document = refl; order = sym is.order_is; says = is.says; exact = is.exact; table = shows }
 
   agree_next : (q : List ℕ) (b : Bool) → bytes_eq q path ≡ b → Agrees meaning reads store' (array_at new q) (held_at q (w.arrays ++ begun ∷ []))
   agree_next q true t =

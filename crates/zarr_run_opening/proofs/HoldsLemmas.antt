@@ -79,6 +79,7 @@ module _ (B : Type 0) (meaning : B → ByteCodec) (reads : ReadsCodecs) where
     document = k.document;
     order = k.order;
     says = k.says;
+    exact = k.exact;
     table = table_kept h.path h.document store store' h.table chunks k.table;
   }
 

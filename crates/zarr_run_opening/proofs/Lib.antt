@@ -6,6 +6,7 @@ pub mod HoldsLemmas
 pub mod NumberLemmas
 pub mod OpenLemmas
 pub mod OpeningLemmas
+pub mod OrderLemmas
 pub mod ReopeningLemmas
 pub mod TakenLemmas
 pub mod WorldLemmas

@@ -1,21 +1,23 @@
 -- A reopening in a world.
-use Rattle.std.proofs.Common.{◌≡◌, ◌≢◌, ◌∙◌, ℕ, List, [], ◌∷◌, ◌++◌, refl, sym, ap, subst, Bool, true, false, IsTrue, IsSome, inl, inr, ⊎_elim, Option, Some, None, Result, Ok, Err, bytes_eq}
+use Rattle.std.proofs.Common.{◌≡◌, ◌≢◌, ◌∙◌, ℕ, List, [], ◌∷◌, ◌++◌, refl, sym, ap, subst, Bool, true, false, ◌||◌, IsTrue, IsSome, inl, inr, ⊎_elim, Option, Some, None, Result, Ok, Err, bytes_eq}
 use Rattle.std.specs.FinMap.{get}
 use Rattle.std.specs.Result.{OnOk, OnErr}
 use Rattle.std.proofs.lemmas.Bool.{false≢true}
 use Rattle.std.proofs.lemmas.Slice.Eq.{bytes_eq-Decides}
 use Rattle.serde_json.specs.Data.{Data}
+use Rattle.serde_json.specs.View.{view}
 use Rattle.zarr_grids_keys.specs.Documents.{document_key}
 use Rattle.zarr_grids_keys.specs.Paths.{is_node_path}
 use Rattle.zarr_grids_keys.specs.declared.document_name.DocumentName.TheVariants.{ZarrJson, ZArray}
 use Rattle.zarr_codecs_meaning.specs.Chains.{ByteCodec}
+use Rattle.zarr_codecs_meaning.specs.Fits.{is_plain}
 use Rattle.zarr_codecs_metadata.specs.Chains.{ReadsCodecs}
 use Rattle.zarr_codecs_options.specs.declared.subchunk_write_order.SubchunkWriteOrder.{SubchunkWriteOrder}
 use Rattle.zarr_array_meaning.specs.Documents.{Document}
 use Rattle.zarr_array_meaning.specs.StoreMaps.{StoreMap}
 use Rattle.zarr_run_meaning.specs.Steps.{Step, refused_after}
 use Rattle.zarr_run_meaning.specs.Tables.{Table}
-use Rattle.zarr_run_meaning.specs.Worlds.{Held, World, held_at, with_order, IsTableAt}
+use Rattle.zarr_run_meaning.specs.Worlds.{Held, World, held_at, is_row_major, with_order, IsTableAt}
 use Rattle.zarr_run_meaning.specs.declared.cause.Cause.{Cause}
 use Rattle.zarr_run_meaning.specs.declared.cause.Cause.TheVariants as cause
 use Rattle.zarr_run_meaning.proofs.FoundTables.{table_found}
@@ -23,7 +25,7 @@ use Rattle.zarr_grids_metadata.specs.Trees.{SameTree}
 use Rattle.zarr_array_meaning.specs.Texts.{HasDocument}
 use Rattle.zarr_run_meaning.specs.Causes.{ReopenRefuses, HasNoneAt, HasSomeAt, IsNoDocument, IsChunkKey, IsChunkKeyIn}
 use Rattle.zarr_run_meaning.specs.Requests.{reopen, Answer, done, refused}
-use Rattle.zarr_run_opening.specs.Arrays.{KeepsArrays, KeepsOtherArrays}
+use Rattle.zarr_run_opening.specs.Arrays.{IsReordered, KeepsArrays, KeepsOtherArrays}
 use Rattle.zarr_run_opening.specs.Calls.{refused_by}
 use Rattle.zarr_run_opening.specs.ChunkKeys.{IsChunkKeyOf, HasNoneBeside, HasSomeBeside}
 use Rattle.zarr_run_opening.specs.Reopenings.{HasSameDocument, ComparisonRefused, IsOpenedFrom, OpeningRefused, Reopened}
@@ -91,21 +93,34 @@ module _ (B : Type 0) (meaning : B → ByteCodec) (reads : ReadsCodecs) (path : 
     comparison_refused cause.Codec why = absurd why
     comparison_refused cause.Damage why = absurd why
 
-    held_ordered : IsHeld meaning reads store (record array { order = order }) (ordered order h.0)
-    held_ordered = let a = h.2 in record { node = a.node; path = a.path; tree = a.tree; document = a.document; order = refl; says = a.says; table = a.table }
+    module _ (reordered : HeldArray B) (gets : IsReordered meaning order array reordered) (is : array_at new path ≡ Some reordered) (others : KeepsOtherArrays path old new) where
+      held_ordered : IsHeld meaning reads store reordered (ordered order h.0)
+      held_ordered =
+          let a = h.2 in
+          let document : h.0.document ≡ document_of meaning reordered = a.document ∙ sym gets.document in
+          let P : Document → Type 0 = λ d. IsTrue (is_plain d.chain || is_row_major order) in
+          record {
+            node = a.node;
+            path = a.path ∙ sym gets.path;
+            tree = a.tree ∙ ap view (sym gets.tree);
+            document = document;
+            order = sym gets.order_is;
+            says = a.says;
+            exact = λ t. gets.exact (subst P document t);
+            table = a.table;
+          }
 
-    module _ (is : array_at new path ≡ Some (record array { order = order })) (others : KeepsOtherArrays path old new) where
       agree_next : (q : List ℕ) (b : Bool) → bytes_eq q path ≡ b → Agrees meaning reads store (array_at new q) (held_at q (with_order path order w.arrays))
       agree_next q true t =
           let P : List ℕ → Type 0 = λ q. Agrees meaning reads store (array_at new q) (held_at q (with_order path order w.arrays)) in
           subst P (sym ((bytes_eq-Decides q path).0 t))
-          (agrees_some B meaning reads store (array_at new path) (held_at path (with_order path order w.arrays)) (record array { order = order }) (ordered order h.0) is (held_at-ordered path order w.arrays h.0 h.1) held_ordered)
+          (agrees_some B meaning reads store (array_at new path) (held_at path (with_order path order w.arrays)) reordered (ordered order h.0) is (held_at-ordered path order w.arrays h.0 h.1) held_ordered)
       agree_next q false t =
           let ne : q ≢ path = λ e. false≢true (sym t ∙ (bytes_eq-Decides q path).1 e) in
           agrees_kept B meaning reads store store (array_at old q) (array_at new q) (held_at q w.arrays) (held_at q (with_order path order w.arrays)) (others q ne) (held_at-unordered path q order w.arrays ne) (k.agree q) (λ a x e held. held)
 
-      pub reordered : HasSameDocument path array store → StepsTo meaning reads w path order done new store n
-      reordered same =
+      pub gets_order : HasSameDocument path array store → StepsTo meaning reads w path order done new store n
+      gets_order same =
           let P : StoreMap → Type 0 = λ (s : StoreMap). HasDocument path same.0 s in
           let Q : Data → Type 0 = λ t. SameTree same.0 t in (
             record w { arrays = with_order path order w.arrays },
@@ -208,7 +223,7 @@ steps_held : (B : Type 0) (meaning : B → ByteCodec) (reads : ReadsCodecs) (pat
     → (o : Option (HeldArray B)) → array_at old path ≡ o → Reopened meaning reads old o path order store r new → (w : World) → IsIn meaning reads (old, (store, n)) w → StepsTo meaning reads w path order (answer_of r) new store n'
 steps_held B meaning reads path order old new store n n' (Ok x) c (Some array) e is w k =
     let P : ℕ → Type 0 = λ m. StepsTo meaning reads w path order done new store m in
-    subst P (sym c.calls) (reordered B meaning reads path order old new store n w k c.node array e is.1 c.others is.0)
+    subst P (sym c.calls) (gets_order B meaning reads path order old new store n w k c.node array e is.1.0 is.1.2 is.1.1 c.others is.0)
 steps_held B meaning reads path order old new store n n' (Ok x) c None e is w k =
     let P : ℕ → Type 0 = λ m. StepsTo meaning reads w path order done new store m in
     subst P (sym c.calls) (opened B meaning reads path order old new store n w k c.node e is.0 is.1 is.2 c.others)

@@ -17,16 +17,17 @@ use Rattle.zarr_array_meaning.specs.Written.{written_document}
 use Rattle.zarr_run_meaning.specs.declared.cause.Cause.{Cause}
 use Rattle.zarr_run_meaning.specs.declared.cause.Cause.TheVariants as cause
 use Rattle.zarr_run_opening.specs.Arrays.{IsTakenIn, IsFreeIn, KeepsOtherArrays}
-use Rattle.zarr_run_opening.specs.Sessions.{Arrays, array_at, document_of}
+use Rattle.zarr_run_opening.specs.Sessions.{Arrays, array_at, document_of, FollowsOrder}
 use Rattle.zarr_run_opening.specs.declared.creating.Prepared.{Prepared}
 use Rattle.zarr_run_opening.specs.declared.held.HeldArray.{HeldArray}
 
--- an array stands at a path, and says what the tree of its document says
+-- an array stands at a path, says what the tree of its document says, and has a write order, which its codecs follow
 pub record IsOpened {B : Type 0} (meaning : B → ByteCodec) (reads : ReadsCodecs) (path : List ℕ) (tree : Data) (order : SubchunkWriteOrder) (array : HeldArray B) : Type 0 where
   pub at : path_of array.core ≡ path
   pub tree_is : view array.tree ≡ tree
   pub order_is : array.order ≡ order
   pub says : read_document reads tree ≡ Ok (document_of meaning array)
+  pub exact : FollowsOrder meaning order array.core
 
 -- a new array at a path, the keys of its documents and the text of the document that is written
 pub record IsPrepared {B : Type 0} (meaning : B → ByteCodec) (reads : ReadsCodecs) (path : List ℕ) (tree : Data) (order : SubchunkWriteOrder) (prepared : Prepared B) : Type 0 where

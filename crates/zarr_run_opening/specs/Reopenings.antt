@@ -15,6 +15,7 @@ use Rattle.zarr_array_meaning.specs.Texts.{HasDocument}
 use Rattle.zarr_run_meaning.specs.Causes.{IsNoDocument}
 use Rattle.zarr_run_meaning.specs.declared.cause.Cause.{Cause}
 use Rattle.zarr_run_meaning.specs.declared.cause.Cause.TheVariants as cause
+use Rattle.zarr_run_opening.specs.Arrays.{IsReorderedAt}
 use Rattle.zarr_run_opening.specs.ChunkKeys.{IsChunkKeyOf, HasNoneBeside, HasSomeBeside}
 use Rattle.zarr_run_opening.specs.Creations.{IsOpened}
 use Rattle.zarr_run_opening.specs.Sessions.{Arrays, array_at}
@@ -77,7 +78,7 @@ NothingRefused meaning arrays path store c = ⊥
 
 -- what a reopening of a node path answers where an array was held, or none, and the array that is held then
 abbrev pub Reopened : {B : Type 0} → (B → ByteCodec) → ReadsCodecs → Arrays B → Option (HeldArray B) → List ℕ → SubchunkWriteOrder → StoreMap → Result (Unit {0}) Cause → Arrays B → Type 0
-Reopened meaning reads old (Some array) path order store (Ok x) new = HasSameDocument path array store × (array_at new path ≡ Some (record array { order = order }))
+Reopened meaning reads old (Some array) path order store (Ok x) new = HasSameDocument path array store × IsReorderedAt meaning order array new path
 Reopened meaning reads old (Some array) path order store (Err c) new = ComparisonRefused path array store c
 Reopened {B} meaning reads old None path order store (Ok x) new = (array : HeldArray B) × (array_at new path ≡ Some array) × IsOpenedFrom meaning reads old path store order array
 Reopened meaning reads old None path order store (Err c) new = OpeningRefused meaning reads old path store c

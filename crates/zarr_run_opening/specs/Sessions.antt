@@ -1,20 +1,24 @@
 -- Held arrays in a world.
-use Rattle.std.specs.Prelude.{◌≡◌, ℕ, List, [], ◌∷◌, Option, Some, None, Ok, Err, Result, String, bytes_eq, true, false}
+use Rattle.std.specs.Prelude.{◌≡◌, ℕ, List, [], ◌∷◌, Option, Some, None, Ok, Err, Result, String, bytes_eq, IsTrue, ◌||◌, true, false}
 use Rattle.std.specs.BTreeMap.{BTreeMap, get_by_text}
 use Rattle.std.specs.List.{list_any}
 use Rattle.std.specs.declared.alloc.Global.{Global}
 use Rattle.serde_json.specs.View.{view}
 use Rattle.zarr_grids_keys.specs.Paths.{is_node_path}
-use Rattle.zarr_codecs_chains.specs.Views.{meaning_of}
 use Rattle.zarr_codecs_meaning.specs.Chains.{ByteCodec}
+use Rattle.zarr_codecs_meaning.specs.Fits.{is_plain}
 use Rattle.zarr_codecs_metadata.specs.Chains.{ReadsCodecs}
+use Rattle.zarr_codecs_options.specs.declared.subchunk_write_order.SubchunkWriteOrder.{SubchunkWriteOrder}
+use Rattle.zarr_sharding_arrays.specs.ArrayChains.{array_function, array_meaning}
+use Rattle.zarr_sharding_arrays.specs.declared.array_chain.ArrayChain.{ArrayChain}
 use Rattle.zarr_array_core.specs.Views as core
+use Rattle.zarr_array_core.specs.declared.array_core.ArrayCore.{ArrayCore}
 use Rattle.zarr_array_meaning.specs.Documents.{Document, read_document}
 use Rattle.zarr_array_meaning.specs.StoreMaps.{StoreMap}
 use Rattle.zarr_run_meaning.specs.declared.cause.Cause.{Cause}
 use Rattle.zarr_run_meaning.specs.Requests.{Request, Answer, done, refused}
 use Rattle.zarr_run_meaning.specs.Steps.{Step}
-use Rattle.zarr_run_meaning.specs.Worlds.{Held, World, held_at, IsTableAt}
+use Rattle.zarr_run_meaning.specs.Worlds.{Held, World, held_at, is_row_major, writes_exactly, IsTableAt}
 use Rattle.zarr_run_opening.specs.declared.held.HeldArray.{HeldArray}
 
 -- arrays by their paths
@@ -27,9 +31,13 @@ array_at arrays path = get_by_text arrays path
 
 -- what the document of an array says, given what the caller's codecs are
 abbrev pub document_of : {B : Type 0} → (B → ByteCodec) → HeldArray B → Document
-document_of meaning array = core.document_of (meaning_of meaning) array.core
+document_of meaning array = core.document_of (array_meaning meaning) array.core
 
--- the array is the one of a world, at a node path, and what is stored shows only its table's cells
+-- what the codecs of an array make of elements depends on these alone where the chain makes no shard, or the order is row-major
+abbrev pub FollowsOrder : {B : Type 0} → (B → ByteCodec) → SubchunkWriteOrder → ArrayCore (ArrayChain B) → Type 0
+FollowsOrder meaning order array = IsTrue (is_plain (core.document_of (array_meaning meaning) array).chain || is_row_major order) → IsTrue (core.is_exact array_function array)
+
+-- the array is the one of a world, at a node path, what is stored shows only its table's cells, and values depend on cells alone where the world says so
 pub record IsHeld {B : Type 0} (meaning : B → ByteCodec) (reads : ReadsCodecs) (store : StoreMap) (array : HeldArray B) (h : Held) : Type 0 where
   pub node : is_node_path h.path ≡ true
   pub path : h.path ≡ core.path_of array.core
@@ -37,6 +45,7 @@ pub record IsHeld {B : Type 0} (meaning : B → ByteCodec) (reads : ReadsCodecs)
   pub document : h.document ≡ document_of meaning array
   pub order : h.order ≡ array.order
   pub says : read_document reads h.tree ≡ Ok h.document
+  pub exact : IsTrue (writes_exactly h) → IsTrue (core.is_exact array_function array.core)
   pub table : IsTableAt h.path h.document store h.table
 
 -- what is held at a path is what a world has there

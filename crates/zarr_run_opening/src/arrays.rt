@@ -1,11 +1,12 @@
 //! The arrays that are held, by their paths.
 ghost use Rattle.std.specs.Prelude.{◌≡◌, ◌++◌, false, IsTrue, Some, None, IfOk, OnOk, OnErr, option_copied, string_bytes};
 ghost use Rattle.zarr_grids_keys.specs.Paths.{is_node_path};
-ghost use Rattle.zarr_run_opening.specs.Arrays.{IsTakenIn, IsFreeIn, IsFreeAbove, IsFreeUnder, KeepsArrays, KeepsOtherArrays};
+ghost use Rattle.zarr_run_opening.specs.Arrays.{IsTakenIn, IsFreeIn, IsFreeAbove, IsFreeUnder, IsReorderedAt, KeepsArrays, KeepsOtherArrays};
 ghost use Rattle.zarr_run_opening.specs.Sessions.{array_at};
 ghost use Rattle.zarr_run_opening.specs.declared.held.HeldArray.{HeldArray};
 
 use crate::held::HeldArray;
+use crate::write_order::set_write_order;
 use std::alloc::{AllocError, Global};
 use std::collections::BTreeMap;
 use zarr_codecs_options::SubchunkWriteOrder;
@@ -116,17 +117,19 @@ pub(crate) fn release<B: BytesToBytesCodecTraits>(
     let _ = arrays.remove(path);
 }
 
-/// Gives the array at a path, if there is one, another write order.
+/// Gives the array at a path, if there is one, another write order. It needs no memory.
 pub(crate) fn set_order<B: BytesToBytesCodecTraits>(
+    alloc: Global,
     arrays: &mut BTreeMap<String, HeldArray<B>>,
     path: &str,
     order: SubchunkWriteOrder,
 )
     ensures ordered { (array : HeldArray B) → array_at arrays.old path.now ≡ Some array
-        → array_at arrays.new path.now ≡ Some (record array { order = order }) }
+        → IsReorderedAt B.meaning order array arrays.new path.now }
     ensures others { KeepsOtherArrays path.now arrays.old arrays.new }
 {
     if let Some(array) = arrays.get_mut(path) {
         array.order = order;
+        set_write_order(alloc, &mut array.core, order);
     }
 }

@@ -6,7 +6,7 @@ ghost use Rattle.zarr_grids_keys.specs.Encodings.{suffixed_keys};
 ghost use Rattle.zarr_grids_keys.specs.Keys.{chunk_key, numbers_after};
 ghost use Rattle.zarr_grids_keys.specs.Paths.{is_node_path};
 ghost use Rattle.zarr_grids_keys.specs.Separators.{separator_byte};
-ghost use Rattle.zarr_codecs_chains.specs.Views.{meaning_of};
+ghost use Rattle.zarr_sharding_arrays.specs.ArrayChains.{array_meaning};
 ghost use Rattle.zarr_array_core.specs.Views.{document_of};
 ghost use Rattle.zarr_run_meaning.specs.Causes.{IsChunkKey};
 ghost use Rattle.zarr_run_opening.specs.ChunkKeys.{IsChunkKeyAt, IsChunkKeyOf, IsDocumentKey, length_above};
@@ -15,7 +15,6 @@ use crate::held::HeldArray;
 use std::alloc::{AllocError, Global};
 use std::collections::BTreeMap;
 use zarr_array_core::ArrayCore;
-use zarr_codecs_chains::CodecChain;
 use zarr_codecs_traits::BytesToBytesCodecTraits;
 use zarr_grids_chunk_grids::ChunkGridTraits;
 use zarr_grids_cover::is_in_grid;
@@ -23,6 +22,7 @@ use zarr_grids_keys::{
     ChunkKeyEncoding, ChunkKeySeparator, DefaultSuffixChunkKeyEncoding, DocumentName, chunk_key,
     document_key, parent_path,
 };
+use zarr_sharding_arrays::ArrayChain;
 
 /// Whether the key of a document of the node at a path is that of a chunk in the grid of an array
 /// that is held. Such an array stands above the path, so the paths above are looked up one by one.
@@ -70,13 +70,13 @@ fn is_chunk_at<B: BytesToBytesCodecTraits>(
 fn is_chunk_of<B: BytesToBytesCodecTraits>(
     alloc: Global,
     path: &str,
-    array: &ArrayCore<CodecChain<B>>,
+    array: &ArrayCore<ArrayChain<B>>,
     key: &str,
 ) -> Result<bool, AllocError>
     requires node { IsTrue (is_node_path path.now) }
     requires document { IsDocumentKey key.now }
     ensures { IfOk result (λ is. IsTrue is
-        ↔ IsChunkKey path.now (document_of (meaning_of B.meaning) array.now) key.now) }
+        ↔ IsChunkKey path.now (document_of (array_meaning B.meaning) array.now) key.now) }
 {
     let keys = array.keys();
     let encoding = match keys {

@@ -5,12 +5,12 @@ ghost use Rattle.serde_json.specs.View.{view};
 ghost use Rattle.zarr_grids_keys.specs.Paths.{is_node_path};
 ghost use Rattle.zarr_array_core.specs.Views.{path_of, document_of};
 ghost use Rattle.zarr_array_meaning.specs.Documents.{read_document};
-ghost use Rattle.zarr_codecs_chains.specs.Views.{meaning_of};
+ghost use Rattle.zarr_sharding_arrays.specs.ArrayChains.{array_meaning};
 ghost use Rattle.zarr_run_meaning.specs.Requests as ask;
 ghost use Rattle.zarr_run_opening.specs.Arrays.{IsFreeIn, KeepsArrays, KeepsOtherArrays};
 ghost use Rattle.zarr_run_opening.specs.Calls.{IsStoreCause, refused_by};
 ghost use Rattle.zarr_run_opening.specs.Creations.{IsPrepared, PreparationRefused, HasNeither, HasEither, IsStored, StoringRefused};
-ghost use Rattle.zarr_run_opening.specs.Sessions.{StepsFrom, answer_of, array_at};
+ghost use Rattle.zarr_run_opening.specs.Sessions.{FollowsOrder, StepsFrom, answer_of, array_at};
 
 use crate::arrays::{hold, is_path_taken, release};
 use crate::held::HeldArray;
@@ -22,11 +22,11 @@ use std::collections::BTreeMap;
 use zarr_array_core::ArrayCore;
 use zarr_array_metadata::written_document;
 use zarr_array_storage::{ReadableStorageTraits, WritableStorageTraits};
-use zarr_codecs_chains::CodecChain;
 use zarr_codecs_options::SubchunkWriteOrder;
 use zarr_codecs_traits::BytesToBytesCodecTraits;
 use zarr_grids_keys::{DocumentName, StoreKey, is_node_path};
 use zarr_run_meaning::Cause;
+use zarr_sharding_arrays::ArrayChain;
 
 /// A new array that isn't held yet, its path, the keys of its documents of Zarr version 3 and 2,
 /// and the text that is stored under the first.
@@ -87,7 +87,7 @@ fn prepare<B: BytesToBytesCodecTraits>(
         Ok(true) => return Err(Cause::PathTaken),
         Err(_) => return Err(Cause::Memory),
     }
-    let core = match open_tree(alloc, path, document) {
+    let core = match open_tree(alloc, path, document, order) {
         Ok(core) => core,
         Err(cause) => return Err(cause),
     };
@@ -102,13 +102,14 @@ fn with_text<B: BytesToBytesCodecTraits>(
     alloc: Global,
     path: &str,
     document: &Value,
-    core: ArrayCore<CodecChain<B>>,
+    core: ArrayCore<ArrayChain<B>>,
     order: SubchunkWriteOrder,
 ) -> Result<Prepared<B>, AllocError>
     requires node { IsTrue (is_node_path path.now) }
     requires path { path_of core ≡ path.now }
     requires opens { read_document B.reads (view document.now)
-        ≡ Ok (document_of (meaning_of B.meaning) core) }
+        ≡ Ok (document_of (array_meaning B.meaning) core) }
+    requires exact { FollowsOrder B.meaning order core }
     ensures { IfOk result
         (IsPrepared B.meaning B.reads path.now (view document.now) order) }
 {

@@ -9,6 +9,7 @@ pub mod laws;
 mod opening;
 pub mod reopening;
 mod store_calls;
+mod write_order;
 
 pub use creating::create;
 pub use held::HeldArray;

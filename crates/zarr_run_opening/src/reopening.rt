@@ -79,7 +79,7 @@ fn reopened<B: BytesToBytesCodecTraits, S: ReadableStorageTraits>(
             Ok(()) => {}
             Err(cause) => return Err(cause),
         }
-        set_order(arrays, path, order);
+        set_order(alloc, arrays, path, order);
         return Ok(());
     }
     let array = match open(alloc, arrays, store, path, order) {
@@ -147,7 +147,7 @@ fn open<B: BytesToBytesCodecTraits, S: ReadableStorageTraits>(
         Ok(StoredDocument::Nothing) => return Err(cause_of_none(alloc, arrays, store, path)),
         Err(cause) => return Err(cause),
     };
-    match open_tree(alloc, path, &tree) {
+    match open_tree(alloc, path, &tree, order) {
         Ok(core) => Ok(HeldArray { core, tree, order }),
         Err(cause) => Err(cause),
     }

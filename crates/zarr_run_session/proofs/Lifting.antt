@@ -83,7 +83,7 @@ module _ (B : Type 0) (meaning : B → ByteCodec) (reads : ReadsCodecs) where
       (a.2.node, a.2.says, subst P (sym k.store) a.2.table)
 
   held_with : (array : HeldArray B) (old new : StoreMap) (h : Held) (table : Table) → IsHeld meaning reads old array h → IsTableAt h.path h.document new table → IsHeld meaning reads new array (record h { table = table })
-  held_with array old new h table k shows = record { node = k.node; path = k.path; tree = k.tree; document = k.document; order = k.order; says = k.says; table = shows }
+  held_with array old new h table k shows = record { node = k.node; path = k.path; tree = k.tree; document = k.document; order = k.order; says = k.says; exact = k.exact; table = shows }
 
   -- what is held at a path stays one of the session's, where the world after has tables
   agrees_after : (path : List ℕ) (table : Table) (old new : StoreMap) (olds news : List Held) → WithTable path table new olds news

@@ -1,12 +1,13 @@
 -- What a write of cells answered and left for one array is a step of each world that the session was in.
-use Rattle.std.proofs.Common.{◌≡◌, ◌∙◌, ℕ, List, take, sym, ap, subst, ⊎_elim, inl, inr, refl, Bool, true, IsTrue, Some, Result, Ok, Err, OnOk, IfErr}
+use Rattle.std.proofs.Common.{◌≡◌, ◌∙◌, ℕ, List, take, sym, ap, subst, ⊎_elim, inl, inr, Bool, IsTrue, Some, Result, Ok, Err, OnOk, IfErr}
 use Rattle.zarr_grids_chunks.specs.Grids.{intersecting}
 use Rattle.zarr_grids_keys.specs.Paths.{is_node_path}
 use Rattle.zarr_codecs_meaning.specs.Chains.{ByteCodec}
 use Rattle.zarr_codecs_metadata.specs.Chains.{ReadsCodecs}
 use Rattle.zarr_codecs_options.specs.declared.codec_options.CodecOptions.{CodecOptions}
 use Rattle.zarr_codecs_types.specs.Given.{GivenCells}
-use Rattle.zarr_array_core.specs.Views.{path_of}
+use Rattle.zarr_sharding_arrays.specs.ArrayChains.{array_function}
+use Rattle.zarr_array_core.specs.Views.{is_exact, path_of}
 use Rattle.zarr_array_meaning.specs.Documents.{Document}
 use Rattle.zarr_array_meaning.specs.StoreMaps.{StoreMap}
 use Rattle.zarr_array_meaning.proofs.Weaker.{wrote_weaker}
@@ -126,17 +127,17 @@ module _ (B : Type 0) (meaning : B → ByteCodec) (reads : ReadsCodecs) (arrays 
 
   -- what was answered and left for the array that is found is a step of each world
   pub write_steps : (array : HeldArray B) (result : Result (Unit {0}) Refusal) (answer : Answer) → IsFound arrays path array → n' ≡ refused_by n result → answer ≡ answer_after result
-      → OnOk result (WritesTarget (path_of array.core) (document_of meaning array) true target given options store store') → IfErr result (WriteRefused (path_of array.core) (document_of meaning array) true target given options store store')
+      → OnOk result (WritesTarget (path_of array.core) (document_of meaning array) (is_exact array_function array.core) target given options store store') → IfErr result (WriteRefused (path_of array.core) (document_of meaning array) (is_exact array_function array.core) target given options store store')
       → StepsFrom meaning reads (arrays, (store, n)) (write path target given options) answer (arrays, (store', n'))
   write_steps array result answer is calls says ok err w k =
       let held = agreed_held B meaning reads store (array_at arrays path) (held_at path w.arrays) array (k.agree path) is.found in
       let h = held.0 in
-      let exact : Bool = true in
+      let exact = is_exact array_function array.core in
       let P : List ℕ → Type 0 = λ p. OnOk result (WritesTarget p (document_of meaning array) exact target given options store store') in
       let P' : Document → Type 0 = λ d. OnOk result (WritesTarget h.path d exact target given options store store') in
       let Q : List ℕ → Type 0 = λ p. IfErr result (WriteRefused p (document_of meaning array) exact target given options store store') in
       let Q' : Document → Type 0 = λ d. IfErr result (WriteRefused h.path d exact target given options store store') in
       let A : Answer → Type 0 = λ a. LeadsTo meaning reads w (write path target given options) a arrays store' n' in
       subst A (sym says) (write_answered w k h is.node held.1 result calls
-      (writes_weaker h.path h.document exact (writes_exactly h) (λ less. refl) target given options store store' result (subst P' (sym held.2.document) (subst P (sym held.2.path) ok)))
-      (refused_weaker h.path h.document exact (writes_exactly h) (λ less. refl) target given options store store' result (subst Q' (sym held.2.document) (subst Q (sym held.2.path) err))))
+      (writes_weaker h.path h.document exact (writes_exactly h) held.2.exact target given options store store' result (subst P' (sym held.2.document) (subst P (sym held.2.path) ok)))
+      (refused_weaker h.path h.document exact (writes_exactly h) held.2.exact target given options store store' result (subst Q' (sym held.2.document) (subst Q (sym held.2.path) err))))

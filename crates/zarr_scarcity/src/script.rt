@@ -14,6 +14,8 @@ pub(crate) enum Asks {
     Put(Cells),
     /// To read the cells at these places.
     Read(&'static [usize]),
+    /// To compact a chunk, which has no gaps.
+    Compact,
 }
 
 /// A line of the script, and the array that it names.
@@ -56,8 +58,8 @@ pub(crate) const REOPEN_ROW: Line = Line {
 /// which take two keys out; one chunk as a whole; the erasure of the two chunks on the left; and
 /// zeros that keep their key, in a whole chunk and in a part of one. On `/b/c`: a box that
 /// intersects both chunks; one chunk as a whole; the erasure of the other one. Both are reopened,
-/// and read by box and by chunk.
-pub(crate) const LINES: [Line; 18] = [
+/// rewritten, and read by box and by chunk.
+pub(crate) const LINES: [Line; 21] = [
     Line {
         text: r#"{"op":"create","path":"/a","document":{"zarr_format":3,"node_type":"array","shape":[4,4],"data_type":"uint8","chunk_grid":{"name":"regular","configuration":{"chunk_shape":[2,2]}},"chunk_key_encoding":{"name":"default"},"fill_value":0,"codecs":["bytes"]}}"#,
         array: Array::Square,
@@ -146,6 +148,21 @@ pub(crate) const LINES: [Line; 18] = [
         asks: Asks::Put(&[(0, 8, 0)]),
     },
     Line {
+        text: r#"{"op":"compact","path":"/a","chunk":[1,1]}"#,
+        array: Array::Square,
+        asks: Asks::Compact,
+    },
+    Line {
+        text: r#"{"op":"rewrite","path":"/a","options":{"empty":true}}"#,
+        array: Array::Square,
+        asks: Asks::Put(&[]),
+    },
+    Line {
+        text: r#"{"op":"rewrite","path":"/b/c"}"#,
+        array: Array::Row,
+        asks: Asks::Put(&[]),
+    },
+    Line {
         text: r#"{"op":"read_chunk","path":"/a","chunk":[1,1]}"#,
         array: Array::Square,
         asks: Asks::Read(&[10, 11, 14, 15]),
@@ -198,6 +215,11 @@ pub(crate) fn applied_in(reply: &Reply) -> Option<u64> {
 
 pub(crate) fn is_done(reply: &Reply) -> bool {
     matches!(reply, Reply::Done)
+}
+
+/// Whether a reply says that a compaction changed nothing.
+pub(crate) fn is_compact(reply: &Reply) -> bool {
+    matches!(reply, Reply::Compacted(false))
 }
 
 /// Whether a reply gives the cells that stand at these places of a table, each in so many bytes, of

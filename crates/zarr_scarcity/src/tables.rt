@@ -1,6 +1,6 @@
 //! The arrays of the script and their cells, as they are expected.
 
-use crate::script::{Asks, Line, applied_in, gives_cells, is_done, is_refused};
+use crate::script::{Asks, Line, applied_in, gives_cells, is_compact, is_done, is_refused};
 use crate::stop::Stop;
 use std::alloc::Global;
 use zarr_run::{Cause, MemoryStore, ReadableStorageTraits, Reply, StoreKey};
@@ -113,6 +113,7 @@ fn answers_held(table: &mut Table, line: Line, reply: &Reply) -> bool {
             None => false,
         },
         Asks::Read(places) => gives_cells(reply, table, places, line.array.width()),
+        Asks::Compact => is_compact(reply),
     }
 }
 

@@ -1,4 +1,5 @@
 pub mod Telling
+pub mod Functions
 pub mod ShardsNest
 pub mod Reading
 pub mod Written

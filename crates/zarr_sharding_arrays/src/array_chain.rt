@@ -91,8 +91,9 @@ impl<B: BytesToBytesCodecTraits> ArrayChain<B> {
     }
 }
 
-/// The chain that metadata says, however deep it nests.
-fn read_array_chain<B: BytesToBytesCodecTraits>(
+/// The chain that metadata says, as `ArrayChain::from_metadata` reads it and with its other errors,
+/// however deep it nests: the caller has tested the depth, as of a whole document.
+pub fn read_array_chain<B: BytesToBytesCodecTraits>(
     alloc: Global,
     codecs: &[MetadataV3],
 ) -> Result<ArrayChain<B>, PluginCreateError>

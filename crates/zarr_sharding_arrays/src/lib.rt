@@ -9,5 +9,5 @@ pub mod sharded_chain;
 mod sharded_metadata;
 mod sharded_values;
 
-pub use array_chain::ArrayChain;
+pub use array_chain::{ArrayChain, read_array_chain};
 pub use sharded_chain::ShardedChain;

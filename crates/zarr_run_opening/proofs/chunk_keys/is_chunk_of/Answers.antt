@@ -3,7 +3,7 @@ use Rattle.std.proofs.lemmas.Bool.{false≢true}
 use Rattle.std.proofs.lemmas.Slice.Eq.{bytes_eq-Decides}
 use Rattle.zarr_grids_chunks.specs.Grids.{Grid, IsInGrid}
 use Rattle.zarr_grids_dimensions.specs.Dimensions.{grid_of}
-use Rattle.zarr_codecs_chains.specs.Views.{meaning_of}
+use Rattle.zarr_sharding_arrays.specs.ArrayChains.{array_meaning}
 use Rattle.zarr_array_core.specs.Views.{document_of}
 use Rattle.zarr_grids_keys.specs.Encodings.{keys_of}
 use Rattle.zarr_grids_keys.specs.Keys.{chunk_key, has_flat_suffix}
@@ -13,18 +13,18 @@ use Rattle.zarr_run_opening.proofs.chunk_keys.is_chunk_of.Goals as goal
 pub returns-in-Default : goal.returns-in-Default
 returns-in-Default g c = (
   λ t. absurd (false≢true t),
-  λ k. absurd (no_flat c.args.path.now c.args.key.now (document_of (meaning_of g.B.BytesToBytesCodecTraits.meaning) c.args.array.now) c.keys-keys.result.now c.keys-keys.ensures (ap (λ x. has_flat_suffix (keys_of x)) c.in-Default.is) c.requires.document k),
+  λ k. absurd (no_flat c.args.path.now c.args.key.now (document_of (array_meaning g.B.BytesToBytesCodecTraits.meaning) c.args.array.now) c.keys-keys.result.now c.keys-keys.ensures (ap (λ x. has_flat_suffix (keys_of x)) c.in-Default.is) c.requires.document k),
 )
 
 pub returns-in-V2 : goal.returns-in-V2
 returns-in-V2 g c = (
   λ t. absurd (false≢true t),
-  λ k. absurd (no_flat c.args.path.now c.args.key.now (document_of (meaning_of g.B.BytesToBytesCodecTraits.meaning) c.args.array.now) c.keys-keys.result.now c.keys-keys.ensures (ap (λ x. has_flat_suffix (keys_of x)) c.in-V2.is) c.requires.document k),
+  λ k. absurd (no_flat c.args.path.now c.args.key.now (document_of (array_meaning g.B.BytesToBytesCodecTraits.meaning) c.args.array.now) c.keys-keys.result.now c.keys-keys.ensures (ap (λ x. has_flat_suffix (keys_of x)) c.in-V2.is) c.requires.document k),
 )
 
 pub returns-then-not-is_in_grid : goal.returns-then-not-is_in_grid
 returns-then-not-is_in_grid g c =
-    let document = document_of (meaning_of g.B.BytesToBytesCodecTraits.meaning) c.args.array.now in
+    let document = document_of (array_meaning g.B.BytesToBytesCodecTraits.meaning) c.args.array.now in
     let chunk : List ℕ = c.in_ok-chunk.chunk.items in (
       λ t. absurd (false≢true t),
       λ k.
@@ -36,7 +36,7 @@ returns-then-not-is_in_grid g c =
 
 pub returns : goal.returns
 returns g c =
-    let document = document_of (meaning_of g.B.BytesToBytesCodecTraits.meaning) c.args.array.now in
+    let document = document_of (array_meaning g.B.BytesToBytesCodecTraits.meaning) c.args.array.now in
     let chunk : List ℕ = c.in_ok-chunk.chunk.items in
     let b = c.is_in_grid.ensures.0 c.if-not-is_in_grid.false in
     let P : Grid → Type 0 = λ grid. IsInGrid grid chunk b.0 in
