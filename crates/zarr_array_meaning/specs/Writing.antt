@@ -17,7 +17,7 @@ use Rattle.zarr_sharding_changes.specs.Compactions.{compaction, damaged}
 use Rattle.zarr_array_meaning.specs.Boxes.{cell_of_box, with_chunks}
 use Rattle.zarr_array_meaning.specs.Chunks.{stored_at, fits_box, decoded_at, part_at, ReadsCell, holds_box, is_listed, KeepsOtherKeys}
 use Rattle.zarr_array_meaning.specs.Documents.{Document}
-use Rattle.zarr_array_meaning.specs.Standing.{ChunkStandsAt, IsLossless, AreValues}
+use Rattle.zarr_array_meaning.specs.Standing.{ChunkStandsAt, ChunkTightAt, IsLossless, AreValues}
 use Rattle.zarr_array_meaning.specs.StoreMaps.{StoreMap}
 
 -- whether a write may encode a chunk in part: the option says so, a part of the chunk is to stay, and the chain can
@@ -117,7 +117,7 @@ ShowsWritten path document region values chunks old new = (chunk : List ℕ) (bo
     → MatchBool (is_in_box region.start region.shape place) (ReadsCell path document new chunk box place (cell_of_box region values document.elements.fill place))
     (part_at path document new chunk box place ≡ part_at path document old chunk box place)
 
--- the cells of a box are given to some of the chunks that it intersects. Where the chain keeps every bit, each chunk is read so afterwards; one that stood for its cells stands for its new ones;
+-- the cells of a box are given to some of the chunks that it intersects. Where the chain keeps every bit, each chunk is read so afterwards; one that stood for its cells stands for its new ones, and one whose slices are what encoding writes keeps such slices, where encoding depends on the cells alone (`exact`);
 -- and one that lies in the box stands for the given cells, whatever was stored. Whatever the chain keeps, each chunk fits, one of which a part is to stay was not damaged, each has a key exactly where its new cells call for one, and only those chunks' keys changed; and where what encoding makes of cells depends on these alone (`exact`), each value is the encoding of its chunk's new cells, if the box holds the whole chunk or the chunk was decoded before
 pub record WroteChunks (path : List ℕ) (document : Document) (exact : Bool) (region : Region) (values : List Cell) (options : CodecOptions) (chunks : List (List ℕ)) (old new : StoreMap) : Type 0 where
   pub fit : (chunk : List ℕ) (box : Region) → IsInGrid document.grid chunk box → is_listed chunks chunk ≡ true → fits_box document box ≡ true
@@ -126,6 +126,8 @@ pub record WroteChunks (path : List ℕ) (document : Document) (exact : Bool) (r
   pub shows : IsLossless document → ShowsWritten path document region values chunks old new
   pub keeps : IsLossless document → (cells : List ℕ → Cell) → AreValues document cells → (chunk : List ℕ) (box : Region) → IsInGrid document.grid chunk box → ChunkStandsAt path document old chunk box cells
       → ChunkStandsAt path document new chunk box (with_chunks document.grid region chunks (cell_of_box region values document.elements.fill) cells)
+  pub tight : IsTrue exact → IsLossless document → (cells : List ℕ → Cell) → AreValues document cells → (chunk : List ℕ) (box : Region) → IsInGrid document.grid chunk box → ChunkTightAt path document old chunk box cells
+      → ChunkTightAt path document new chunk box (with_chunks document.grid region chunks (cell_of_box region values document.elements.fill) cells)
   pub makes : IsLossless document → (chunk : List ℕ) (box : Region) → IsInGrid document.grid chunk box → is_listed chunks chunk ≡ true → holds_box region box ≡ true
       → ChunkStandsAt path document new chunk box (cell_of_box region values document.elements.fill)
   pub others : KeepsOtherKeys path document chunks old new
