@@ -208,30 +208,31 @@ order_then reads old new request answer path g h at order asks s found =
     orders reads old new path (λ x e. let P : Held → Type 0 = λ y. is_row_major y.order ≡ true in subst P (same_Some g x (sym at ∙ e)) order) request answer asks s h found
 
 pub runs_keep_tight : RunsKeepTight
-runs_keep_tight reads old new [] [] path good tables apart asks t order r = let P : World → Type 0 = λ w. IsTightAlone reads w path in subst P (sym r) t
-runs_keep_tight reads old new [] (answer ∷ answers) path good tables apart asks t order r = absurd r
-runs_keep_tight reads old new (request ∷ requests) [] path good tables apart asks t order r = absurd r
-runs_keep_tight reads old new (request ∷ requests) (answer ∷ answers) path good tables apart asks t order r =
-    let away = reopens_apart reads old r.0 path t.sound request answer (All-head (ReopensApart path) request requests apart) in
+runs_keep_tight reads old new [] [] path good tables beside asks t order r = let P : World → Type 0 = λ w. IsTightAlone reads w path in subst P (sym r) t
+runs_keep_tight reads old new [] (answer ∷ answers) path good tables beside asks t order r = absurd r
+runs_keep_tight reads old new (request ∷ requests) [] path good tables beside asks t order r = absurd r
+runs_keep_tight reads old new (request ∷ requests) (answer ∷ answers) path good tables beside asks t order r =
+    let away = reopens_apart reads old r.0 path t.sound request answer (All-head (ReopensApart path) request requests beside) in
     let next = steps_keep_tight reads old r.0 request answer path good tables away t (exactly_written t.sound.array order) r.1 in
     let then = order_then reads old r.0 request answer path t.sound.array next.sound.array t.sound.found order asks.0 r.1 next.sound.found in
-    runs_keep_tight reads r.0 new requests answers path good (steps_show reads old r.0 request answer tables r.1) (All-tail (ReopensApart path) request requests apart) asks.1 next then r.2
+    runs_keep_tight reads r.0 new requests answers path good (steps_show reads old r.0 request answer tables r.1) (All-tail (ReopensApart path) request requests beside) asks.1 next then r.2
 
 -- ---- runs from sound worlds
+
+-- the array has no chunks, and its chain keeps every bit
+abbrev IsEmptyIn : StoreMap → Held → Type 0
+IsEmptyIn store h = IsLossless h.document × HasNoChunks h.path h.document store
 
 -- an array that begins in a sound world over keys that aren't foreign has no chunks
 begun_empty : (reads : ReadsCodecs) (old new : World) (request : Request) (answer : Answer) (path : List ℕ) (h : Held) → IsSound reads old → AsksOwned old request → AsksLossless reads request answer → held_at path old.arrays ≡ None
     → Step reads old request answer new → held_at path new.arrays ≡ Some h → IsLossless h.document × HasNoChunks path h.document old.store
 begun_empty reads old new request answer path h sound owned lossless none s found = go (step_begun reads old new request answer s) where
-  abbrev Empty : Held → Type 0
-  Empty x = IsLossless x.document × HasNoChunks x.path x.document old.store
-
-  there : Empty h → IsLossless h.document × HasNoChunks path h.document old.store
+  there : IsEmptyIn old.store h → IsLossless h.document × HasNoChunks path h.document old.store
   there e = let P : List ℕ → Type 0 = λ p. HasNoChunks p h.document old.store in (e.0, subst P (sym (held_at-path path new.arrays h found)) e.1)
 
-  created_empty : (p : List ℕ) (document : Data) (order : SubchunkWriteOrder) → AsksOwned old (create p document order) → AsksLossless reads (create p document order) done → Creates reads p document order old new → Empty h
+  created_empty : (p : List ℕ) (document : Data) (order : SubchunkWriteOrder) → AsksOwned old (create p document order) → AsksLossless reads (create p document order) done → Creates reads p document order old new → IsEmptyIn old.store h
   created_empty p document order own keeps c =
-      let P : Held → Type 0 = λ x. Empty x in
+      let P : Held → Type 0 = λ x. IsEmptyIn old.store x in
       ⊎_elim
       (λ same. subst P (sym same) (keeps c.meaning c.opens, owned_has_no_chunks reads old p c.meaning sound own c.node c.free))
       (λ before. absurd (none-some h (sym none ∙ before)))
@@ -261,10 +262,10 @@ module _ (reads : ReadsCodecs) (old new : World) (request : Request) (answer : A
     held : (g : Held) → held_at path old.arrays ≡ Some g → IsTightHeld new.store h
     held g at =
         let alone = sound_alone reads old path g sound at in
-        let was = there g at in
+        let was = there alone.array alone.found in
         let t : IsTightAlone reads old path = record { sound = alone; tight = was.1 } in
         let away = begins_apart reads old new path alone request answer (owned_begins reads old new request answer good owned lossless sound s) s in
-        let next = steps_keep_tight reads old new request answer path good (sound_tables reads old good sound) away t (exactly_written g was.0) s in
+        let next = steps_keep_tight reads old new request answer path good (sound_tables reads old good sound) away t (exactly_written alone.array was.0) s in
         let P : Held → Type 0 = λ x. IsTightHeld new.store x in
         subst P (same_Some next.sound.array h (sym next.sound.found ∙ found)) next.tight
 

@@ -21,13 +21,13 @@ use Rattle.zarr_run_meaning.proofs.Effects.{at_cases, held_cases}
 -- another path has the array that it had
 other_order : (p q : List ℕ) (order : SubchunkWriteOrder) (w : List Held) → q ≢ p → held_at q (with_order p order w) ≡ held_at q w
 other_order p q order [] ne = refl
-other_order p q order (x ∷ w) ne = go (bytes_eq p x.path) refl where
-  go : (b : Bool) → bytes_eq p x.path ≡ b → held_at q (if b then record x { order = order } ∷ w else x ∷ with_order p order w) ≡ held_at q (x ∷ w)
-  go true t =
+other_order p q order (x ∷ w) ne = go (bytes_eq p x.path) refl (other_order p q order w ne) where
+  go : (b : Bool) → bytes_eq p x.path ≡ b → held_at q (with_order p order w) ≡ held_at q w → held_at q (if b then record x { order = order } ∷ w else x ∷ with_order p order w) ≡ held_at q (x ∷ w)
+  go true t rest =
       let same = (bytes_eq-Decides p x.path).0 t in
       let differs = λ (e : q ≡ x.path). ne (e ∙ sym same) in
       held_at-later q (record x { order = order }) w differs ∙ sym (held_at-later q x w differs)
-  go false t = ap (λ (o : Option Held). if bytes_eq q x.path then Some x else o) (other_order p q order w ne)
+  go false t rest = ap (λ (o : Option Held). if bytes_eq q x.path then Some x else o) rest
 
 -- how an array stays but for its table
 stayed_order : (p : List ℕ) (t : Table) (store : StoreMap) (old new : Held) → Stayed p t store old new → new.order ≡ old.order
@@ -135,7 +135,7 @@ module _ (reads : ReadsCodecs) (old new : World) (path : List ℕ) (there : IsRo
   pub orders : (request : Request) (answer : Answer) → AsksRowMajor path request answer → Step reads old request answer new → IsRowMajorThere new path
   orders request answer asks s = go (step_begun reads old new request answer s) where
     go : Begun reads request answer old new → IsRowMajorThere new path
-    go (none_began none) h e = let g = none path h e in ap is_row_major g.2 ∙ there g.0 g.1
+    go (none_began none) = λ h e. let g = none path h e in ap is_row_major g.2 ∙ there g.0 g.1
     go (creates p document order is ends c) =
         let asked : AsksRowMajor path (create p document order) done = subst (λ (a : Answer). AsksRowMajor path (create p document order) a) ends (subst (λ (q : Request). AsksRowMajor path q answer) is asks) in
         more_order _ (free_none p old.arrays c.free) asked c.begins.holds

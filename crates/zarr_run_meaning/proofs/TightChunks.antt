@@ -112,16 +112,15 @@ canon_tight reads store h good s canon chunk box below = go (value_at (array_of 
   shown : List Cell
   shown = map (cell h.document.elements.fill h.table) (places box.start box.shape)
 
-  abbrev TightOf : Option (List ℕ) → Type 0
-  TightOf o = ChunkTight h.document.chain h.document.elements box.shape o shown
-
-  go : (o : Option (List ℕ)) → value_at (array_of h) store chunk ≡ o → TightOf (value_at (array_of h) store chunk)
+  go : (o : Option (List ℕ)) → value_at (array_of h) store chunk ≡ o → ChunkTight h.document.chain h.document.elements box.shape (value_at (array_of h) store chunk) shown
   go None e =
+      let Q : Option (List ℕ) → Type 0 = λ o. ChunkTight h.document.chain h.document.elements box.shape o shown in
       let P : Option (List ℕ) → Type 0 = λ o. IsStored h.document.chain h.document.elements box.shape o shown in
-      subst TightOf (sym e) (filled (fits h.document.chain h.document.elements.type box.shape) _ _ (subst P e (s.stands chunk box below)))
+      subst Q (sym e) (filled (fits h.document.chain h.document.elements.type box.shape) _ _ (subst P e (s.stands chunk box below)))
   go (Some value) e =
+      let Q : Option (List ℕ) → Type 0 = λ o. ChunkTight h.document.chain h.document.elements box.shape o shown in
       let is = canon chunk box below in
       let fit = is.1 (ap is_some e) in
       let good_document = good h.tree h.document s.says in
-      subst TightOf (sym e) (fresh_tight h.document.chain h.document.elements box.shape value shown good_document.lawful fit s.lossless
+      subst Q (sym e) (fresh_tight h.document.chain h.document.elements box.shape value shown good_document.lawful fit s.lossless
       (are_cells h.document chunk box (cell h.document.elements.fill h.table) (box_same h.document chunk box below) good_document s.values below) (is.0 fit ∙ ap Some e))
