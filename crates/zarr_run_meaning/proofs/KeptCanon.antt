@@ -4,7 +4,7 @@ use Rattle.std.specs.FinMap.{get, empty}
 use Rattle.std.specs.Prelude.{All}
 use Rattle.std.proofs.lemmas.Bool.{false≢true}
 use Rattle.std.proofs.lemmas.List.Elements.{All-head, All-tail, All-nil, All-cons}
-use Rattle.std.proofs.lemmas.Option.{none-some, same_Some}
+use Rattle.std.proofs.lemmas.Option.{same_Some}
 use Rattle.std.proofs.lemmas.Slice.Eq.{bytes_eq-Decides}
 use Rattle.zarr_grids_boxes.specs.Boxes.{places}
 use Rattle.zarr_grids_chunks.proofs.Filters.{told}
@@ -34,7 +34,7 @@ use Rattle.zarr_run_meaning.specs.Laws.{HasTables}
 use Rattle.zarr_run_meaning.specs.Requests.{Target, Request, create, reopen, write, read, erase, compact, rewrite, path_of, Answer, done, cells, compacted, refused}
 use Rattle.zarr_run_meaning.specs.Rewrites.{IsHeldStill, IsCanonHeld, IsCanonAlone, LeavesCells, ReopensApart, KeepsCanon, RunsKeepCanon, SoundRunsKeepCanon, RunsLeaveCanon, RewrittenTwice}
 use Rattle.zarr_run_meaning.specs.Runs.{world_over}
-use Rattle.zarr_run_meaning.specs.Sound.{IsSoundAt, IsSound, IsSoundAlone, OpensApart, OwnsAllKeys, BeginsSound, AsksOwned, ReadsGood}
+use Rattle.zarr_run_meaning.specs.Sound.{IsSoundAt, IsSound, IsSoundAlone, OpensApart, OwnsAllKeys, AsksOwned, ReadsGood}
 use Rattle.zarr_run_meaning.specs.Steps.{Stays, RefusesHeld, RefusesWrite, RefusesRead, RefusesErase, RefusesCompact, RefusesRewrite, Refuses, RefusesAt, Step}
 use Rattle.zarr_run_meaning.specs.Tables.{cell}
 use Rattle.zarr_run_meaning.specs.Worlds.{Held, World, array_of, held_at, writes_exactly}

@@ -1,7 +1,6 @@
 -- What is stored for an array stays tight.
 use Rattle.std.proofs.Common.{◌≡◌, ◌∙◌, ⊎_elim, ℕ, Bool, true, false, List, [], ◌∷◌, ◌++◌, ◌||◌, map, refl, sym, ap, subst, Option, Some, None}
 use Rattle.std.specs.FinMap.{insert, empty}
-use Rattle.std.specs.Prelude.{All}
 use Rattle.std.proofs.lemmas.Bool.{false≢true}
 use Rattle.std.proofs.lemmas.List.Elements.{All-head, All-tail}
 use Rattle.std.proofs.lemmas.Option.{none-some, same_Some}
@@ -26,11 +25,11 @@ use Rattle.zarr_run_meaning.specs.Changes.{Creates, Reopens, Opens}
 use Rattle.zarr_run_meaning.specs.Laws.{HasTables}
 use Rattle.zarr_run_meaning.specs.Requests.{Request, create, reopen, Answer, done}
 use Rattle.zarr_run_meaning.specs.Rewrites.{ReopensApart}
-use Rattle.zarr_run_meaning.specs.Runs.{Run, world_over}
-use Rattle.zarr_run_meaning.specs.Sound.{IsSoundAt, IsSound, IsSoundAlone, OpensApart, HasNoChunks, IsStoredAs, AllAskLossless, AsksLossless, AsksOwned, ReadsGood}
+use Rattle.zarr_run_meaning.specs.Runs.{world_over}
+use Rattle.zarr_run_meaning.specs.Sound.{IsSoundAt, IsSound, HasNoChunks, IsStoredAs, AsksLossless, AsksOwned, ReadsGood}
 use Rattle.zarr_run_meaning.specs.Steps.{Step}
 use Rattle.zarr_run_meaning.specs.Tables.{Table, cell}
-use Rattle.zarr_run_meaning.specs.Tight.{StoreTight, IsTightHeld, IsTightAlone, IsTightThere, BeginsTight, StepsKeepTight, IsEncodedAt, CompactsExactly, AsksRowMajor, AllAskRowMajor, RunsKeepTight, OwnedRunsTight, RunsTight}
+use Rattle.zarr_run_meaning.specs.Tight.{StoreTight, IsTightHeld, IsTightAlone, IsTightThere, BeginsTight, StepsKeepTight, IsEncodedAt, CompactsExactly, AsksRowMajor, RunsKeepTight, OwnedRunsTight, RunsTight}
 use Rattle.zarr_run_meaning.specs.Worlds.{Held, World, array_of, held_at, is_row_major, writes_exactly, IsTableAt, WithTable}
 use Rattle.zarr_run_meaning.proofs.Alone.{sound_alone, steps_keep_sound, reopens_apart, begins_apart}
 use Rattle.zarr_run_meaning.proofs.Arrays.{Stayed, at_path, near, apart, held_at-path, held_once, held_at-before, held_at-more, held_at-ordered, held_at-reordered, held_after, free_of, free_none}
