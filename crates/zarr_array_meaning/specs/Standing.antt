@@ -6,6 +6,7 @@ use Rattle.zarr_codecs_meaning.specs.Types.{Cell, is_value}
 use Rattle.zarr_codecs_meaning.specs.Fits.{is_lossless}
 use Rattle.zarr_codecs_meaning.specs.Chunks.{IsStored}
 use Rattle.zarr_codecs_meaning.specs.Laws.{IsLawfulChain}
+use Rattle.zarr_codecs_traits.specs.PartWriting.{ChunkTight}
 use Rattle.zarr_array_meaning.specs.Chunks.{stored_at, fits_box, ReadsCell}
 use Rattle.zarr_array_meaning.specs.Documents.{Document}
 use Rattle.zarr_array_meaning.specs.StoreMaps.{StoreMap}
@@ -13,6 +14,10 @@ use Rattle.zarr_array_meaning.specs.StoreMaps.{StoreMap}
 -- what is stored for a chunk stands for its cells
 abbrev pub ChunkStandsAt : List ℕ → Document → StoreMap → List ℕ → Region → (List ℕ → Cell) → Type 0
 ChunkStandsAt path document store chunk box cells = IsStored document.chain document.elements box.shape (stored_at path document store chunk) (map cells (places box.start box.shape))
+
+-- the same, and each slice of a shard in it is what encoding writes
+abbrev pub ChunkTightAt : List ℕ → Document → StoreMap → List ℕ → Region → (List ℕ → Cell) → Type 0
+ChunkTightAt path document store chunk box cells = ChunkTight document.chain document.elements box.shape (stored_at path document store chunk) (map cells (places box.start box.shape))
 
 -- what is stored for each chunk in the grid stands for its cells
 abbrev pub StoreStands : List ℕ → Document → StoreMap → (List ℕ → Cell) → Type 0

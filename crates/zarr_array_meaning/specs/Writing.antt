@@ -1,5 +1,5 @@
 -- What writing a box of cells makes of the chunks that it intersects.
-use Rattle.std.specs.Prelude.{◌≡◌, ◌⊎◌, ℕ, ◌^◌, ◌≤◌, List, [], length, get_or, replicate, Option, Some, None, Bool, IsTrue, true, false, not, ◌&&◌, ◌||◌, if◌then◌else◌, is_some, unwrap_or, MatchBool}
+use Rattle.std.specs.Prelude.{◌≡◌, ◌⊎◌, ℕ, ◌^◌, ◌≤◌, List, [], length, get_or, replicate, Option, Some, None, Bool, IsTrue, true, false, not, ◌&&◌, ◌||◌, if◌then◌else◌, is_some, unwrap_or, MatchBool, MatchOption}
 use Rattle.zarr_grids_boxes.specs.Boxes.{Region, product, is_in_box}
 use Rattle.zarr_grids_chunks.specs.Grids.{IsInGrid}
 use Rattle.zarr_codecs_meaning.specs.Types.{Cell, is_fill}
@@ -10,11 +10,14 @@ use Rattle.zarr_codecs_meaning.specs.Encoding.{encoded}
 use Rattle.zarr_codecs_meaning.specs.Fits.{is_plain}
 use Rattle.zarr_codecs_meaning.specs.Partial.{encodes_in_part}
 use Rattle.zarr_codecs_meaning.specs.Refusals.{CodecRefuses, PassesIndex}
-use Rattle.zarr_codecs_meaning.specs.Standing.{Stands}
+use Rattle.zarr_codecs_meaning.specs.Laws.{AreCells}
+use Rattle.zarr_codecs_meaning.specs.Standing.{Stands, ChunkStands}
+use Rattle.zarr_codecs_traits.specs.PartWriting.{PassesLength}
+use Rattle.zarr_sharding_changes.specs.Compactions.{compaction, damaged}
 use Rattle.zarr_array_meaning.specs.Boxes.{cell_of_box, with_chunks}
 use Rattle.zarr_array_meaning.specs.Chunks.{stored_at, fits_box, decoded_at, part_at, ReadsCell, holds_box, is_listed, KeepsOtherKeys}
 use Rattle.zarr_array_meaning.specs.Documents.{Document}
-use Rattle.zarr_array_meaning.specs.Standing.{ChunkStandsAt, IsLossless, AreValues}
+use Rattle.zarr_array_meaning.specs.Standing.{ChunkStandsAt, ChunkTightAt, IsLossless, AreValues}
 use Rattle.zarr_array_meaning.specs.StoreMaps.{StoreMap}
 
 -- whether a write may encode a chunk in part: the option says so, a part of the chunk is to stay, and the chain can
@@ -25,9 +28,13 @@ may_be_in_part document options region box = options.experimental_partial_encodi
 abbrev pub is_in_part : Document → CodecOptions → Region → Region → Bool
 is_in_part document options region box = may_be_in_part document options region box && is_plain document.chain
 
--- whether a chunk that is written has a key even if all its cells are fill: empty chunks are stored, or it is written in part
+-- whether a write puts a part of a chunk into the chunk's shard: it may encode it so, and the chain makes a shard
+abbrev pub is_into_shard : Document → CodecOptions → Region → Region → Bool
+is_into_shard document options region box = may_be_in_part document options region box && not (is_plain document.chain)
+
+-- whether a chunk that is written has a key even if all its cells are fill: it is written in part, or empty chunks are stored; a shard into which a part was put has none
 abbrev pub stores_fill : Document → CodecOptions → Region → Region → Bool
-stores_fill document options region box = options.store_empty_chunks || is_in_part document options region box
+stores_fill document options region box = (options.store_empty_chunks && not (is_into_shard document options region box)) || is_in_part document options region box
 
 -- whether what is stored for a chunk opens: nothing, or a value that can be read at places; through `bytes` it is one of the chunk's length, whatever its cells are
 abbrev pub opens_in : Document → Region → Option (List ℕ) → Bool
@@ -37,16 +44,30 @@ opens_in document box stored = elim stored [ None ↦ true | Some value ↦ open
 abbrev pub takes_cells : Document → CodecOptions → Region → Region → Option (List ℕ) → Bool
 takes_cells document options region box stored = if is_in_part document options region box then opens_in document box stored else is_some (chunk_decoded document.chain document.elements box.shape stored)
 
+-- a value has a present slice that lies outside its shard's data part
+abbrev pub HasSliceOutside : Document → Region → Option (List ℕ) → Type 0
+HasSliceOutside document box stored = MatchOption stored ⊥ (λ value. compaction document.chain box.shape value ≡ damaged)
+
+-- what is stored for a chunk takes the cells of a write: a shard, if it opens and has no slice outside its data part; then the subchunks that the write doesn't meet don't matter
+abbrev pub Takes : Document → CodecOptions → Region → Region → Option (List ℕ) → Type 0
+Takes document options region box stored =
+    MatchBool (is_into_shard document options region box) ((opens_in document box stored ≡ true) × (¬ HasSliceOutside document box stored)) (takes_cells document options region box stored ≡ true)
+
+-- what is stored for a chunk doesn't take them: of a shard a subchunk isn't decoded, or it has a slice outside its data part
+abbrev pub Loses : Document → CodecOptions → Region → Region → Option (List ℕ) → Type 0
+Loses document options region box stored =
+    MatchBool (is_into_shard document options region box) ((chunk_decoded document.chain document.elements box.shape stored ≡ None) ⊎ HasSliceOutside document box stored) (takes_cells document options region box stored ≡ false)
+
 -- the cell that is read at a place of a chunk, and the fill value where none can be
 abbrev pub cell_read : List ℕ → Document → StoreMap → List ℕ → Region → List ℕ → Cell
 cell_read path document store chunk box place = get_or (unwrap_or (part_at path document store chunk box place) []) 0 document.elements.fill
 
--- the cells of a chunk after a write of a box: the given ones in the box, and those that are read where cells are to stay, which what is stored takes
+-- the cells of a chunk after a write of a box: the given ones in the box, and those that are read where cells are to stay, or the fill value where none can be. What is stored takes them; where a part is put into a shard, only that of a write that is done is known to
 pub record ChunkBecomes (path : List ℕ) (document : Document) (store : StoreMap) (region : Region) (values : List Cell) (options : CodecOptions) (chunk : List ℕ) (box : Region) (cells : List Cell) : Type 0 where
   pub many : length cells ≡ product box.shape
   pub written : (place : List ℕ) → is_in_box region.start region.shape place ≡ true → is_in_box box.start box.shape place ≡ true
       → cell_of_box box cells document.elements.fill place ≡ cell_of_box region values document.elements.fill place
-  pub takes : holds_box region box ≡ false → takes_cells document options region box (stored_at path document store chunk) ≡ true
+  pub takes : is_into_shard document options region box ≡ false → holds_box region box ≡ false → takes_cells document options region box (stored_at path document store chunk) ≡ true
   pub kept : holds_box region box ≡ false → (place : List ℕ) → is_in_box region.start region.shape place ≡ false → is_in_box box.start box.shape place ≡ true
       → cell_of_box box cells document.elements.fill place ≡ cell_read path document store chunk box place
 
@@ -54,37 +75,40 @@ pub record ChunkBecomes (path : List ℕ) (document : Document) (store : StoreMa
 pub record IsPartDamaged (path : List ℕ) (document : Document) (store : StoreMap) (region : Region) (options : CodecOptions) (chunk : List ℕ) (box : Region) : Type 0 where
   pub fit : fits_box document box ≡ true
   pub part : holds_box region box ≡ false
-  pub lost : takes_cells document options region box (stored_at path document store chunk) ≡ false
+  pub lost : Loses document options region box (stored_at path document store chunk)
 
 -- the caller's codec refuses bytes that encoding the chunk's new cells calls for; cells that are all fill are encoded only where such a chunk is stored
 pub record IsCodecRefused (path : List ℕ) (document : Document) (store : StoreMap) (region : Region) (values : List Cell) (options : CodecOptions) (chunk : List ℕ) (box : Region) : Type 0 where
   pub fit : fits_box document box ≡ true
   pub cells : List Cell
   pub becomes : ChunkBecomes path document store region values options chunk box cells
-  pub called : stores_fill document options region box ≡ false → is_fill document.elements.fill cells ≡ false
+  pub called : is_into_shard document options region box ≡ false → stores_fill document options region box ≡ false → is_fill document.elements.fill cells ≡ false
   pub refuses : CodecRefuses document.chain document.elements box.shape cells
 
--- an offset or a length passes where it is written, or the chunk's value has 2^63 bytes or more
+-- an offset or a length passes where it is written, or the chunk's value has 2^63 bytes or more; new slices put behind a shard may make it so long
 pub record IsOversized (path : List ℕ) (document : Document) (store : StoreMap) (region : Region) (values : List Cell) (options : CodecOptions) (chunk : List ℕ) (box : Region) : Type 0 where
   pub fit : fits_box document box ≡ true
   pub cells : List Cell
   pub becomes : ChunkBecomes path document store region values options chunk box cells
-  pub called : stores_fill document options region box ≡ false → is_fill document.elements.fill cells ≡ false
+  pub called : is_into_shard document options region box ≡ false → stores_fill document options region box ≡ false → is_fill document.elements.fill cells ≡ false
   pub passes : PassesIndex document.chain document.elements box.shape cells ⊎ ((value : List ℕ) × (encoded document.chain document.elements box.shape cells ≡ Some value) × (2 ^ 63 ≤ length value))
+      ⊎ ((is_into_shard document options region box ≡ true) × PassesLength document.chain document.elements box.shape (stored_at path document store chunk) cells)
 
--- a chunk that was written has its new cells, and a key exactly where these are not all fill or such a chunk is stored, whatever the chain keeps of them; its value is what encoding makes of these cells, where that depends on them alone (`exact`), as without shards, and the box holds the whole chunk or the chunk was decoded before
+-- a chunk that was written has its new cells, and a key exactly where these are not all fill or such a chunk is stored, whatever the chain keeps of them; its value is what encoding makes of these cells, where that depends on them alone (`exact`), as without shards, and the box holds the whole chunk or the chunk was decoded before. Where a part was put into its shard, it has a key exactly where its cells aren't all fill, if what was stored stood for cells
 pub record IsKeyed (path : List ℕ) (document : Document) (exact : Bool) (region : Region) (values : List Cell) (options : CodecOptions) (old new : StoreMap) (chunk : List ℕ) (box : Region) : Type 0 where
   pub cells : List Cell
   pub becomes : ChunkBecomes path document old region values options chunk box cells
-  pub key : is_some (stored_at path document new chunk) ≡ (stores_fill document options region box || not (is_fill document.elements.fill cells))
-  pub encodes : IsTrue exact → (holds_box region box ≡ false → is_some (decoded_at path document old chunk box) ≡ true)
+  pub key : is_into_shard document options region box ≡ false → is_some (stored_at path document new chunk) ≡ (stores_fill document options region box || not (is_fill document.elements.fill cells))
+  pub taken : is_into_shard document options region box ≡ true → IsLossless document → (before : List Cell) → AreCells document.elements box.shape before
+      → ChunkStands document.chain document.elements box.shape (stored_at path document old chunk) before → is_some (stored_at path document new chunk) ≡ not (is_fill document.elements.fill cells)
+  pub encodes : IsTrue exact → is_into_shard document options region box ≡ false → (holds_box region box ≡ false → is_some (decoded_at path document old chunk box) ≡ true)
       → (value : List ℕ) → stored_at path document new chunk ≡ Some value → encoded document.chain document.elements box.shape cells ≡ Some value
 
 -- of these chunks each that is stored even if all its cells are fill has a key; no other has a value that stands for the fill value alone
 pub record HasKeys (path : List ℕ) (document : Document) (region : Region) (options : CodecOptions) (chunks : List (List ℕ)) (store : StoreMap) : Type 0 where
   pub stored : (chunk : List ℕ) (box : Region) → IsInGrid document.grid chunk box → stores_fill document options region box ≡ true → is_listed chunks chunk ≡ true
       → is_some (stored_at path document store chunk) ≡ true
-  pub erased : IsLossless document → (chunk : List ℕ) (box : Region) → IsInGrid document.grid chunk box → stores_fill document options region box ≡ false → is_listed chunks chunk ≡ true
+  pub erased : IsLossless document → (chunk : List ℕ) (box : Region) → IsInGrid document.grid chunk box → is_into_shard document options region box ≡ false → stores_fill document options region box ≡ false → is_listed chunks chunk ≡ true
       → (value : List ℕ) → stored_at path document store chunk ≡ Some value → ¬ Stands document.chain document.elements box.shape value (replicate (product box.shape) document.elements.fill)
 
 -- whatever was stored, each of these chunks is read as the given cells at the places of the box, and as before at its other places
@@ -93,15 +117,17 @@ ShowsWritten path document region values chunks old new = (chunk : List ℕ) (bo
     → MatchBool (is_in_box region.start region.shape place) (ReadsCell path document new chunk box place (cell_of_box region values document.elements.fill place))
     (part_at path document new chunk box place ≡ part_at path document old chunk box place)
 
--- the cells of a box are given to some of the chunks that it intersects. Where the chain keeps every bit, each chunk is read so afterwards; one that stood for its cells stands for its new ones;
+-- the cells of a box are given to some of the chunks that it intersects. Where the chain keeps every bit, each chunk is read so afterwards; one that stood for its cells stands for its new ones, and one whose slices are what encoding writes keeps such slices, where encoding depends on the cells alone (`exact`);
 -- and one that lies in the box stands for the given cells, whatever was stored. Whatever the chain keeps, each chunk fits, one of which a part is to stay was not damaged, each has a key exactly where its new cells call for one, and only those chunks' keys changed; and where what encoding makes of cells depends on these alone (`exact`), each value is the encoding of its chunk's new cells, if the box holds the whole chunk or the chunk was decoded before
 pub record WroteChunks (path : List ℕ) (document : Document) (exact : Bool) (region : Region) (values : List Cell) (options : CodecOptions) (chunks : List (List ℕ)) (old new : StoreMap) : Type 0 where
   pub fit : (chunk : List ℕ) (box : Region) → IsInGrid document.grid chunk box → is_listed chunks chunk ≡ true → fits_box document box ≡ true
   pub undamaged : (chunk : List ℕ) (box : Region) → IsInGrid document.grid chunk box → is_listed chunks chunk ≡ true → holds_box region box ≡ false
-      → takes_cells document options region box (stored_at path document old chunk) ≡ true
+      → Takes document options region box (stored_at path document old chunk)
   pub shows : IsLossless document → ShowsWritten path document region values chunks old new
   pub keeps : IsLossless document → (cells : List ℕ → Cell) → AreValues document cells → (chunk : List ℕ) (box : Region) → IsInGrid document.grid chunk box → ChunkStandsAt path document old chunk box cells
       → ChunkStandsAt path document new chunk box (with_chunks document.grid region chunks (cell_of_box region values document.elements.fill) cells)
+  pub tight : IsTrue exact → IsLossless document → (cells : List ℕ → Cell) → AreValues document cells → (chunk : List ℕ) (box : Region) → IsInGrid document.grid chunk box → ChunkTightAt path document old chunk box cells
+      → ChunkTightAt path document new chunk box (with_chunks document.grid region chunks (cell_of_box region values document.elements.fill) cells)
   pub makes : IsLossless document → (chunk : List ℕ) (box : Region) → IsInGrid document.grid chunk box → is_listed chunks chunk ≡ true → holds_box region box ≡ true
       → ChunkStandsAt path document new chunk box (cell_of_box region values document.elements.fill)
   pub others : KeepsOtherKeys path document chunks old new
@@ -115,15 +141,15 @@ pub record ErasedChunks (path : List ℕ) (document : Document) (chunks : List (
 
 -- ---- no two of these
 
--- no chunk that was written was damaged where a part of it is to stay
+-- no chunk that was written was damaged where a part of it is to stay, save that a part may be put into a shard whose other subchunks are damaged
 abbrev pub WrittenUndamaged : Type 0
 WrittenUndamaged = (path : List ℕ) (document : Document) (exact : Bool) (region : Region) (values : List Cell) (options : CodecOptions) (chunks : List (List ℕ)) (old new : StoreMap) (chunk : List ℕ) (box : Region)
-    → WroteChunks path document exact region values options chunks old new → IsInGrid document.grid chunk box → is_listed chunks chunk ≡ true → IsPartDamaged path document old region options chunk box → ⊥
+    → WroteChunks path document exact region values options chunks old new → IsInGrid document.grid chunk box → is_listed chunks chunk ≡ true → is_into_shard document options region box ≡ false → IsPartDamaged path document old region options chunk box → ⊥
 
 -- two writes of the same cells over the same store leave keys to the same chunks of those that they wrote, whatever the chain keeps
 abbrev pub WrittenKeysAlike : Type 0
 WrittenKeysAlike = (path : List ℕ) (document : Document) (exact : Bool) (region : Region) (values : List Cell) (options : CodecOptions) (chunks : List (List ℕ)) (old new other : StoreMap) (chunk : List ℕ) (box : Region)
-    → WroteChunks path document exact region values options chunks old new → WroteChunks path document exact region values options chunks old other → IsInGrid document.grid chunk box → is_listed chunks chunk ≡ true
+    → WroteChunks path document exact region values options chunks old new → WroteChunks path document exact region values options chunks old other → IsInGrid document.grid chunk box → is_listed chunks chunk ≡ true → is_into_shard document options region box ≡ false
     → length region.start ≡ length region.shape → length region.start ≡ length document.grid → is_some (stored_at path document new chunk) ≡ is_some (stored_at path document other chunk)
 
 -- two stores are decoded, to the same cells at the places of a chunk that lie outside a box
@@ -136,5 +162,5 @@ DecodesAlikeOutside path document region old before chunk box = (a : List Cell) 
 abbrev pub RewrittenAlike : Type 0
 RewrittenAlike = (path : List ℕ) (document : Document) (region : Region) (values : List Cell) (options : CodecOptions) (chunks others : List (List ℕ)) (old new before after : StoreMap) (chunk : List ℕ) (box : Region)
     → WroteChunks path document true region values options chunks old new → WroteChunks path document true region values options others before after
-    → IsInGrid document.grid chunk box → is_listed chunks chunk ≡ true → is_listed others chunk ≡ true → length region.start ≡ length region.shape → length region.start ≡ length document.grid
+    → IsInGrid document.grid chunk box → is_listed chunks chunk ≡ true → is_listed others chunk ≡ true → is_into_shard document options region box ≡ false → length region.start ≡ length region.shape → length region.start ≡ length document.grid
     → (holds_box region box ≡ false → DecodesAlikeOutside path document region old before chunk box) → stored_at path document new chunk ≡ stored_at path document after chunk
