@@ -1,7 +1,7 @@
 -- No two answers to one read, or to one write.
 use Rattle.std.proofs.Common.{◌≡◌, ◌∙◌, ℕ, ◌<◌, Bool, true, false, ◌||◌, List, length, get_or, slice_get, refl, sym, ap, arith, Option, Some, None, is_some, ⊎_elim}
 use Rattle.std.specs.Prelude.{not}
-use Rattle.std.proofs.lemmas.Bool.{cases_order, false≢true}
+use Rattle.std.proofs.lemmas.Bool.{cases_order, false≢true, MatchBool-at_false}
 use Rattle.std.proofs.lemmas.List.{ext_get_or}
 use Rattle.std.proofs.lemmas.Option.{none-some}
 use Rattle.zarr_grids_boxes.specs.Boxes.{Region, product, place_at, is_in_box}
@@ -56,8 +56,8 @@ reads_one_way path document store region cells = (
 
 -- what was written was not damaged
 pub written_undamaged : WrittenUndamaged
-written_undamaged path document exact region values options chunks old new chunk box wrote below listed damaged =
-    false≢true (sym damaged.lost ∙ wrote.undamaged chunk box below listed damaged.part)
+written_undamaged path document exact region values options chunks old new chunk box wrote below listed whole damaged =
+    false≢true (sym (MatchBool-at_false _ _ whole damaged.lost) ∙ MatchBool-at_false _ _ whole (wrote.undamaged chunk box below listed damaged.part))
 
 -- where a part of a chunk is to stay, the same cells are read of two stores
 abbrev SameRead : List ℕ → Document → Region → List ℕ → Region → StoreMap → StoreMap → Type 0
@@ -90,12 +90,12 @@ one_list path document old before region values options chunk box a b r l s alik
 
 -- two writes of the same cells leave keys to the same chunks
 pub written_keys_alike : WrittenKeysAlike
-written_keys_alike path document exact region values options chunks old new other chunk box first second below listed region_rank grid_rank =
+written_keys_alike path document exact region values options chunks old new other chunk box first second below listed whole region_rank grid_rank =
     let rank = chunk_box-rank document.grid chunk box below.has_box in
     let one = first.keyed chunk box below listed in
     let two = second.keyed chunk box below listed in
     let same = one_list path document old old region values options chunk box one.cells two.cells region_rank (rank.0 ∙ sym rank.1) (grid_rank ∙ sym rank.0) (λ part place out inside. refl) one.becomes two.becomes in
-    one.key ∙ (ap (λ (cells : List Cell). stores_fill document options region box || not (is_fill document.elements.fill cells)) same ∙ sym two.key)
+    one.key whole ∙ (ap (λ (cells : List Cell). stores_fill document options region box || not (is_fill document.elements.fill cells)) same ∙ sym (two.key whole))
 
 -- no value and no value, or a value and the same value
 one_stored : (a b : Option (List ℕ)) → is_some a ≡ is_some b → ((x y : List ℕ) → a ≡ Some x → b ≡ Some y → x ≡ y) → a ≡ b
@@ -115,13 +115,13 @@ read_alike path document region chunk box old before fit alike part place out in
 
 -- two writes of the same cells leave the same values
 pub rewritten_alike : RewrittenAlike
-rewritten_alike path document region values options chunks others old new before after chunk box first second below listed other_listed region_rank grid_rank alike =
+rewritten_alike path document region values options chunks others old new before after chunk box first second below listed other_listed whole region_rank grid_rank alike =
     let rank = chunk_box-rank document.grid chunk box below.has_box in
     let one = first.keyed chunk box below listed in
     let two = second.keyed chunk box below other_listed in
     let read = read_alike path document region chunk box old before (first.fit chunk box below listed) alike in
     let same = one_list path document old before region values options chunk box one.cells two.cells region_rank (rank.0 ∙ sym rank.1) (grid_rank ∙ sym rank.0) read one.becomes two.becomes in
     one_stored (stored_at path document new chunk) (stored_at path document after chunk)
-    (one.key ∙ (ap (λ (cells : List Cell). stores_fill document options region box || not (is_fill document.elements.fill cells)) same ∙ sym two.key))
+    (one.key whole ∙ (ap (λ (cells : List Cell). stores_fill document options region box || not (is_fill document.elements.fill cells)) same ∙ sym (two.key whole)))
     (λ x y is other.
-    some_same (sym (one.encodes refl (λ part. ap is_some (alike part).2) x is) ∙ (ap (encoded document.chain document.elements box.shape) same ∙ two.encodes refl (λ part. ap is_some (alike part).3) y other)))
+    some_same (sym (one.encodes refl whole (λ part. ap is_some (alike part).2) x is) ∙ (ap (encoded document.chain document.elements box.shape) same ∙ two.encodes refl whole (λ part. ap is_some (alike part).3) y other)))

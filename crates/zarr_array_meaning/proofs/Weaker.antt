@@ -14,6 +14,7 @@ module _ (path : List ℕ) (document : Document) (exact weak : Bool) (region : R
     cells = k.cells;
     becomes = k.becomes;
     key = k.key;
+    taken = k.taken;
     encodes = λ is. k.encodes (less is);
   }
 
@@ -25,6 +26,7 @@ wrote_weaker path document exact weak region values options chunks old new w les
   undamaged = w.undamaged;
   shows = w.shows;
   keeps = w.keeps;
+  tight = λ is. w.tight (less is);
   makes = w.makes;
   others = w.others;
   keys = w.keys;

@@ -62,12 +62,12 @@ Loses document options region box stored =
 abbrev pub cell_read : List ℕ → Document → StoreMap → List ℕ → Region → List ℕ → Cell
 cell_read path document store chunk box place = get_or (unwrap_or (part_at path document store chunk box place) []) 0 document.elements.fill
 
--- the cells of a chunk after a write of a box: the given ones in the box, and those that are read where cells are to stay, which what is stored takes
+-- the cells of a chunk after a write of a box: the given ones in the box, and those that are read where cells are to stay, and the fill value where none can be; what is stored takes them, but where a part is put into a shard this is said of writes that are done alone
 pub record ChunkBecomes (path : List ℕ) (document : Document) (store : StoreMap) (region : Region) (values : List Cell) (options : CodecOptions) (chunk : List ℕ) (box : Region) (cells : List Cell) : Type 0 where
   pub many : length cells ≡ product box.shape
   pub written : (place : List ℕ) → is_in_box region.start region.shape place ≡ true → is_in_box box.start box.shape place ≡ true
       → cell_of_box box cells document.elements.fill place ≡ cell_of_box region values document.elements.fill place
-  pub takes : holds_box region box ≡ false → Takes document options region box (stored_at path document store chunk)
+  pub takes : is_into_shard document options region box ≡ false → holds_box region box ≡ false → takes_cells document options region box (stored_at path document store chunk) ≡ true
   pub kept : holds_box region box ≡ false → (place : List ℕ) → is_in_box region.start region.shape place ≡ false → is_in_box box.start box.shape place ≡ true
       → cell_of_box box cells document.elements.fill place ≡ cell_read path document store chunk box place
 
