@@ -197,7 +197,7 @@ opened_of document box None h = refl
 opened_of document box (Some value) h = h
 
 -- what a codec put into what is stored
-puts_cells : (document : Document) (exact : Bool) (region box : Region) (given : List Cell) (payload : Payload) (sub cells : List Cell) (old new : Option (List ℕ)) → ArePut document region box given payload sub
+pub puts_cells : (document : Document) (exact : Bool) (region box : Region) (given : List Cell) (payload : Payload) (sub cells : List Cell) (old new : Option (List ℕ)) → ArePut document region box given payload sub
     → IsEncodedInto document.chain exact document.elements box.shape (in_box (part_of region box)) payload cells old new → PutsCells document region given box old new
 puts_cells document exact region box given payload sub cells old new are h = record {
   opened = opened_of document box old h.opened;
@@ -241,7 +241,7 @@ IsPutStop document box stored codec_error.Memory = Unit {0}
 IsPutStop document box stored codec_error.Source = Unit {0}
 IsPutStop document box stored e = ⊥
 
-counted_asked : (document : Document) (region box : Region) (given : List Cell) (payload : Payload) (sub : List Cell) → ArePut document region box given payload sub → IsCounted document.elements.type payload (length (numbers_of box.shape (part_of region box))) sub
+pub counted_asked : (document : Document) (region box : Region) (given : List Cell) (payload : Payload) (sub : List Cell) → ArePut document region box given payload sub → IsCounted document.elements.type payload (length (numbers_of box.shape (part_of region box))) sub
 counted_asked document region box given payload sub are =
     subst (λ n. IsCounted document.elements.type payload n sub) (sym (meeting region box are.share).many) are.are.valid.is
 

@@ -2,6 +2,7 @@
 use Rattle.std.specs.Prelude.{◌≡◌, ◌⊎◌, ℕ, List, [], ◌∷◌, map, length, Option, Bool, IsTrue, true, false, if◌then◌else◌, None, MatchBool, OnErr, Result, Err}
 use Rattle.std.specs.List.{list_all}
 use Rattle.zarr_grids_boxes.specs.Boxes.{Region, product, places, is_in_box, share_place}
+use Rattle.zarr_grids_boxes.specs.Subsets.{region_of}
 use Rattle.zarr_grids_boxes.specs.declared.subset.ArraySubset.{ArraySubset}
 use Rattle.zarr_grids_overlay.specs.Overlays.{extent_of}
 use Rattle.zarr_codecs_meaning.specs.Chains.{Chain}
@@ -15,10 +16,9 @@ use Rattle.zarr_codecs_arrays.specs.Views.{elements_of, payload_of}
 use Rattle.zarr_codecs_arrays.specs.declared.array_bytes.ArrayBytes.{ArrayBytes}
 use Rattle.zarr_codecs_arrays.specs.declared.error.CodecError.{CodecError}
 use Rattle.zarr_codecs_arrays.specs.declared.error.CodecError.TheVariants as codec_error
-use Rattle.zarr_codecs_traits.specs.Indexers.{Asked, asked_of}
+use Rattle.zarr_codecs_traits.specs.Indexers.{Asked, in_box}
 use Rattle.zarr_codecs_traits.specs.PartWriting.{ChunkTight, IsEncodedInto, IsPlaced, NotEncodedInto, OnCells, PassesLength, WritesOnce, only_cell}
 use Rattle.zarr_codecs_traits.specs.Sources.{refused_after}
-use Rattle.zarr_codecs_traits.specs.declared.array_part.ArrayPart.{ArrayPart}
 use Rattle.zarr_codecs_traits.specs.declared.array_to_bytes.ArrayToBytesCodecTraits as codecs
 use Rattle.zarr_array_meaning.specs.Arrays.{Array}
 use Rattle.zarr_array_meaning.specs.Boxes.{cell_of_box}
@@ -127,9 +127,9 @@ pub record Putting : Type 0 where
   pub asked : Asked
   pub payload : Payload
 
--- elements for a part of an array
-abbrev pub putting_of : {C : Type 0} → codecs.Ghosts C → C → ArrayPart → ArrayBytes → Putting
-putting_of c codec part bytes = record { chain = c.meaning codec; exact = c.is_function codec; elements = elements_of part.elements.now; shape = part.shape.now; asked = asked_of part.indexer; payload = payload_of bytes }
+-- elements for a part of a chunk of this shape
+abbrev pub putting_of : {C : Type 0} → codecs.Ghosts C → ArrayCore C → List ℕ → ArraySubset → ArrayBytes → Putting
+putting_of c array shape part bytes = record { chain = c.meaning array.codecs; exact = c.is_function array.codecs; elements = elements_of array.elements; shape = shape; asked = in_box (region_of part); payload = payload_of bytes }
 
 -- they were put into what is stored for the array
 pub record IsPutInto (put : Putting) (stored made : Option (List ℕ)) : Type 0 where
@@ -155,10 +155,3 @@ shard_refusal_of codec_error.Size refusal = error.Size
 shard_refusal_of codec_error.Memory refusal = error.Memory
 shard_refusal_of codec_error.Source refusal = error.Storage refusal
 shard_refusal_of e refusal = error.Damage
-
--- what a refusal of a codec means for a chunk
-pub record IsRefusedPutting (put : Putting) (stored : Option (List ℕ)) (e : ChunkError) : Type 0 where
-  pub by : CodecError
-  pub refusal : StorageError
-  pub told : e ≡ shard_refusal_of by refusal
-  pub why : NotPutInto {A = Unit {0}} put stored (Err by)

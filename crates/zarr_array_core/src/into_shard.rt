@@ -34,67 +34,43 @@ impl<C: ArrayToBytesCodecTraits> ArrayCore<C> {
     ghost use Rattle.std.specs.FinMap as map;
     ghost use Rattle.zarr_array_core.specs.Arrays.{array_of, Called, IfHonestErr, OnHonestOk};
     ghost use Rattle.zarr_array_core.specs.ChunkValues.{with_value};
-    ghost use Rattle.zarr_array_core.specs.IntoShards.{CalledByCodec, IntoShardStops, IsPutInto, IsRefusedPutting, NotPutInto, PutsIntoShard, putting_of, write_of, WritesTo};
+    ghost use Rattle.zarr_array_core.specs.IntoShards.{CalledByCodec, IntoShardStops, IsPutInto, NotPutInto, PutsIntoShard, putting_of, write_of, WritesTo};
     ghost use Rattle.zarr_array_meaning.specs.Chunks.{fits_box};
     ghost use Rattle.zarr_array_meaning.specs.Writing.{is_into_shard};
     ghost use Rattle.zarr_grids_boxes.specs.Subsets.{region_of};
 
-    /// Puts elements in the place of those of a part of a chunk, in the value that a target holds.
-    fn put_into_target<S: WritableStorageTraits>(
-        &self,
+    /// Puts elements in the place of those of a box of a chunk of this shape, in the value that a
+    /// target holds.
+    fn put_into_target<'x, S: WritableStorageTraits>(
+        &'x self,
         target: &mut StoreTarget<'_, S>,
         write: &BoxWrite,
-        bytes: ArrayBytes,
-        part: ArrayPart<'_>,
+        given: ArrayBytes,
+        shape: &'x [u64],
+        part: &'x ArraySubset,
     ) -> Result<(), CodecError>
         ensures same_store { target.new.store.ghost_name ≡ target.old.store.ghost_name }
         ensures ok { IsTrue (S.is_honest target.old.store.now) → OnOk result
             ((made : Option (List ℕ)) × IsPutInto
-            (putting_of C.ArrayToBytesCodecTraits self.now.codecs part.entry bytes)
+            (putting_of C.ArrayToBytesCodecTraits self.now shape.now part.now given)
             (map.get (S.held target.old.store.now) target.old.key.now) made
             × (S.held target.new.store.now
             ≡ with_value (S.held target.old.store.now) target.old.key.now made)) }
         ensures cause { IsTrue (S.is_honest target.old.store.now) → NotPutInto
-            (putting_of C.ArrayToBytesCodecTraits self.now.codecs part.entry bytes)
+            (putting_of C.ArrayToBytesCodecTraits self.now shape.now part.now given)
             (map.get (S.held target.old.store.now) target.old.key.now) result }
         ensures store { CalledByCodec S.ReadableStorageTraits target.old.store.now
             target.new.store.now result }
     {
-        self.codecs
-            .partial_encode(write.alloc, target, bytes, part, write.options)
-    }
-
-    /// Puts elements in the place of those of a part of a chunk, in the value that a store holds at
-    /// a key.
-    fn put_at_key<S: WritableStorageTraits>(
-        &self,
-        store: &mut S,
-        key: &StoreKey,
-        write: &BoxWrite,
-        bytes: ArrayBytes,
-        part: ArrayPart<'_>,
-    ) -> Result<(), ChunkError>
-        ensures ok { OnHonestOk S.ReadableStorageTraits store.old store.new result
-            (λ before after. (made : Option (List ℕ)) × IsPutInto
-            (putting_of C.ArrayToBytesCodecTraits self.now.codecs part.entry bytes)
-            (map.get before key.now) made × (after ≡ with_value before key.now made)) }
-        ensures err { IfHonestErr S.ReadableStorageTraits store.old store.new result
-            (λ e before after. IsRefusedPutting
-            (putting_of C.ArrayToBytesCodecTraits self.now.codecs part.entry bytes)
-            (map.get before key.now) e) }
-        ensures store { Called S.ReadableStorageTraits 1 store.old store.new result }
-    {
-        let mut refused = None;
-        let refusal = &mut refused;
-        let mut target = StoreTarget {
-            store,
-            key,
-            refusal,
+        let elements = &self.elements;
+        let indexer = Indexer::Subset(part);
+        let asked = ArrayPart {
+            elements,
+            shape,
+            indexer,
         };
-        match self.put_into_target(&mut target, write, bytes, part) {
-            Ok(()) => Ok(()),
-            Err(error) => Err(of_sharding(error, refused.unwrap_or(StorageError::Io))),
-        }
+        self.codecs
+            .partial_encode(write.alloc, target, given, asked, write.options)
     }
 
     /// Puts the elements of a box that lie in a chunk into the chunk's shard, by one writing call of
@@ -127,14 +103,16 @@ impl<C: ArrayToBytesCodecTraits> ArrayCore<C> {
         let shared = overlap_in(rooms.take_shared(), write.subset, own)?;
         let bytes = self.whole_cells(write, &shared)?;
         let part = seen_from(shared, own.start());
-        let (elements, shape, indexer) = (&self.elements, own.shape(), Indexer::Subset(&part));
-        let asked = ArrayPart {
-            elements,
-            shape,
-            indexer,
+        let mut refused = None;
+        let refusal = &mut refused;
+        let mut target = StoreTarget {
+            store,
+            key,
+            refusal,
         };
-        self.put_at_key(store, key, write, bytes, asked)?;
-        rooms.keep_shared(part);
-        Ok(())
+        match self.put_into_target(&mut target, write, bytes, own.shape(), &part) {
+            Ok(()) => Ok(()),
+            Err(error) => Err(of_sharding(error, refused.unwrap_or(StorageError::Io))),
+        }
     }
 }
