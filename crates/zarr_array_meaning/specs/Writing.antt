@@ -62,7 +62,7 @@ Loses document options region box stored =
 abbrev pub cell_read : List ℕ → Document → StoreMap → List ℕ → Region → List ℕ → Cell
 cell_read path document store chunk box place = get_or (unwrap_or (part_at path document store chunk box place) []) 0 document.elements.fill
 
--- the cells of a chunk after a write of a box: the given ones in the box, and those that are read where cells are to stay, and the fill value where none can be; what is stored takes them, but where a part is put into a shard this is said of writes that are done alone
+-- the cells of a chunk after a write of a box: the given ones in the box, and those that are read where cells are to stay, or the fill value where none can be. What is stored takes them; where a part is put into a shard, only that of a write that is done is known to
 pub record ChunkBecomes (path : List ℕ) (document : Document) (store : StoreMap) (region : Region) (values : List Cell) (options : CodecOptions) (chunk : List ℕ) (box : Region) (cells : List Cell) : Type 0 where
   pub many : length cells ≡ product box.shape
   pub written : (place : List ℕ) → is_in_box region.start region.shape place ≡ true → is_in_box box.start box.shape place ≡ true

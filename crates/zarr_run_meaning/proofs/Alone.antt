@@ -14,8 +14,10 @@ use Rattle.zarr_array_meaning.specs.Chunks.{KeepsOtherKeys}
 use Rattle.zarr_array_meaning.specs.StoreMaps.{StoreMap}
 use Rattle.zarr_run_meaning.specs.Changes.{Creates, Reopens, Opens}
 use Rattle.zarr_run_meaning.specs.Laws.{HasTables, SoundAlone, BeginsAlone, StepsKeepSound}
-use Rattle.zarr_run_meaning.specs.Requests.{Request, Answer}
+use Rattle.zarr_run_meaning.specs.Requests.{Request, reopen, Answer, done}
+use Rattle.zarr_run_meaning.specs.Rewrites.{ReopensApart}
 use Rattle.zarr_run_meaning.specs.Sound.{IsSoundAt, IsSoundAlone, OpensApart, BeginsSound, ReadsGood}
+use Rattle.zarr_run_meaning.specs.Steps.{Step}
 use Rattle.zarr_run_meaning.specs.Tables.{Table}
 use Rattle.zarr_run_meaning.specs.Worlds.{Held, World, held_at, is_taken, WithTable}
 use Rattle.zarr_run_meaning.proofs.Arrays.{Stayed, at_path, near, apart, held_at-path, held_once, held_at-before, held_at-more, held_at-ordered, held_at-reordered, held_before, held_after, free_of, free_none, unrelated_paths}
@@ -130,6 +132,24 @@ module _ (reads : ReadsCodecs) (old new : World) (path : List ℕ) (good : Reads
 
 pub steps_keep_sound : StepsKeepSound
 steps_keep_sound reads old new request answer path good tables away sound s = effect_alone reads old new path good tables sound request answer away (step_effect reads old new request answer s)
+
+-- ---- which arrays a step opens
+
+module _ (reads : ReadsCodecs) (old new : World) (path : List ℕ) (sound : IsSoundAlone reads old path) where
+  -- no array is opened at a related path, where each reopening names the path or an unrelated one
+  pub reopens_apart : (request : Request) (answer : Answer) → ReopensApart path request → OpensApart path old request answer
+  reopens_apart (reopen p order) done asks = λ none. ⊎_elim (λ same. absurd (none-some sound.array (sym none ∙ ap (λ q. held_at q old.arrays) same ∙ sound.found))) (λ away. away) asks
+  reopens_apart request answer asks = tt
+
+  -- nor where each array begins over chunks that stand for cells
+  pub begins_apart : (request : Request) (answer : Answer) → BeginsSound reads old request answer → Step reads old request answer new → OpensApart path old request answer
+  begins_apart (reopen p order) done begins s = λ none. ⊎_elim
+      (λ (r : Reopens p order old new). absurd (none-some r.held (sym none ∙ r.found)))
+      (λ (o : Opens reads p order old new).
+      let free = begins o.tree o.meaning none o.stored o.opens in
+      is_related-comm path p ∙ ap (is_related p) (held_at-path path old.arrays sound.array sound.found) ∙ free_of p path old.arrays sound.array free.0 sound.found)
+      s.0
+  begins_apart request answer begins s = tt
 
 -- ---- an array that begins
 

@@ -45,7 +45,7 @@ reads_apart reads old new other path target options payload n m = (whole_damaged
       (reads_one_way h.path h.document old.store is.box is.values).2 is.read (subst (λ (box : Region). IsUnfitIn h.path h.document old.store box) same r.0.3)
 
 pub writes_apart : WritesApart
-writes_apart reads old new other path target given options n s t =
+writes_apart reads old new other path target given options n puts s t =
     let is = s.0 in
     let h = is.held in
     let r = subst (λ (o : Option Held). RefusesHeld o (RefusesWrite target given options) cause.Damage n old other) is.found t.1 in
@@ -58,5 +58,6 @@ writes_apart reads old new other path target given options n s t =
     let listed = number_listed _ n first.stops.chunk nth.listed in
     let among = listed_below h.document.grid is.box first.stops.chunk listed in
     let below : IsInGrid h.document.grid first.stops.chunk first.stops.box = record { below = among.1.below; has_box = nth.has_box } in
-    written_undamaged h.path h.document (writes_exactly h) is.box is.values options _ old.store new.store first.stops.chunk first.stops.box is.writes.stores below listed damaged)
+    written_undamaged h.path h.document (writes_exactly h) is.box is.values options _ old.store new.store first.stops.chunk first.stops.box is.writes.stores below listed
+    (puts h is.box first.stops.chunk first.stops.box is.found is.is.is below) damaged)
     r

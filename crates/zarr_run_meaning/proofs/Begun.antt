@@ -66,7 +66,7 @@ module _ (reads : ReadsCodecs) (old new : World) (path : List ℕ) (document : D
   created_array = record { path = path; tree = written_document document; document = c.meaning; order = order; table = c.begins.table }
 
   -- the array that is held afterwards at the path is the new one
-  created_held : (h : Held) → held_at path new.arrays ≡ Some h → h ≡ created_array
+  pub created_held : (h : Held) → held_at path new.arrays ≡ Some h → h ≡ created_array
   created_held h e = same_Some h created_array (sym e ∙ ap (held_at path) c.begins.holds ∙ held_at-new path old.arrays created_array (free_none path old.arrays c.free) refl)
 
   -- and it is sound, where its chunks stand for cells
@@ -82,7 +82,7 @@ module _ (reads : ReadsCodecs) (old new : World) (path : List ℕ) (order : Subc
   abbrev pub opened_array : Held
   opened_array = record { path = path; tree = o.tree; document = o.meaning; order = order; table = o.begins.table }
 
-  opened_held : (h : Held) → held_at path new.arrays ≡ Some h → h ≡ opened_array
+  pub opened_held : (h : Held) → held_at path new.arrays ≡ Some h → h ≡ opened_array
   opened_held h e = same_Some h opened_array (sym e ∙ ap (held_at path) o.begins.holds ∙ held_at-new path old.arrays opened_array o.begins.free refl)
 
   pub opened_there : ReadsGood reads → (cells : List ℕ → Cell) × IsStoredAs path o.meaning old.store cells → IsSoundAt reads old.store opened_array

@@ -4,7 +4,7 @@ use Rattle.std.specs.FinMap.{get, empty}
 use Rattle.std.specs.Prelude.{All}
 use Rattle.std.proofs.lemmas.Bool.{false≢true}
 use Rattle.std.proofs.lemmas.List.Elements.{All-head, All-tail, All-nil, All-cons}
-use Rattle.std.proofs.lemmas.Option.{none-some, same_Some}
+use Rattle.std.proofs.lemmas.Option.{same_Some}
 use Rattle.std.proofs.lemmas.Slice.Eq.{bytes_eq-Decides}
 use Rattle.zarr_grids_boxes.specs.Boxes.{places}
 use Rattle.zarr_grids_chunks.proofs.Filters.{told}
@@ -34,11 +34,11 @@ use Rattle.zarr_run_meaning.specs.Laws.{HasTables}
 use Rattle.zarr_run_meaning.specs.Requests.{Target, Request, create, reopen, write, read, erase, compact, rewrite, path_of, Answer, done, cells, compacted, refused}
 use Rattle.zarr_run_meaning.specs.Rewrites.{IsHeldStill, IsCanonHeld, IsCanonAlone, LeavesCells, ReopensApart, KeepsCanon, RunsKeepCanon, SoundRunsKeepCanon, RunsLeaveCanon, RewrittenTwice}
 use Rattle.zarr_run_meaning.specs.Runs.{world_over}
-use Rattle.zarr_run_meaning.specs.Sound.{IsSoundAt, IsSound, IsSoundAlone, OpensApart, OwnsAllKeys, BeginsSound, AsksOwned, ReadsGood}
+use Rattle.zarr_run_meaning.specs.Sound.{IsSoundAt, IsSound, IsSoundAlone, OpensApart, OwnsAllKeys, AsksOwned, ReadsGood}
 use Rattle.zarr_run_meaning.specs.Steps.{Stays, RefusesHeld, RefusesWrite, RefusesRead, RefusesErase, RefusesCompact, RefusesRewrite, Refuses, RefusesAt, Step}
 use Rattle.zarr_run_meaning.specs.Tables.{cell}
 use Rattle.zarr_run_meaning.specs.Worlds.{Held, World, array_of, held_at, writes_exactly}
-use Rattle.zarr_run_meaning.proofs.Alone.{sound_alone, steps_keep_sound}
+use Rattle.zarr_run_meaning.proofs.Alone.{sound_alone, steps_keep_sound, reopens_apart, begins_apart}
 use Rattle.zarr_run_meaning.proofs.Arrays.{held_at-path, free_of}
 use Rattle.zarr_run_meaning.proofs.Beginning.{no_arrays_sound}
 use Rattle.zarr_run_meaning.proofs.Canon.{rewrites_canon, canon_stays}
@@ -197,21 +197,6 @@ module _ (reads : ReadsCodecs) (old new : World) (path : List ℕ) (good : Reads
   after (rewrite p options) (compacted changed) differs away s = absurd s
   after (rewrite p options) (refused c n) differs away s = refused_there (rewrite p options) c n (RefusesRewrite options) differs s s (λ q. q)
 
-  -- no array is opened at a related path, where each reopening names the path or an unrelated one
-  reopens_apart : (request : Request) (answer : Answer) → ReopensApart path request → OpensApart path old request answer
-  reopens_apart (reopen p order) done asks = λ none. ⊎_elim (λ same. absurd (none-some h (sym none ∙ ap (λ q. held_at q old.arrays) same ∙ k.sound.found))) (λ away. away) asks
-  reopens_apart request answer asks = tt
-
-  -- nor where each array begins over chunks that stand for cells
-  begins_apart : (request : Request) (answer : Answer) → BeginsSound reads old request answer → Step reads old request answer new → OpensApart path old request answer
-  begins_apart (reopen p order) done begins s = λ none. ⊎_elim
-      (λ (r : Reopens p order old new). absurd (none-some r.held (sym none ∙ r.found)))
-      (λ (o : Opens reads p order old new).
-      let free = begins o.tree o.meaning none o.stored o.opens in
-      is_related-comm path p ∙ ap (is_related p) here ∙ free_of p path old.arrays h free.0 k.sound.found)
-      s.0
-  begins_apart request answer begins s = tt
-
 -- an array whose chunks were rewritten
 rewritten_alone : (reads : ReadsCodecs) (old new : World) (path : List ℕ) (options : CodecOptions) (h : Held) → ReadsGood reads → HasTables reads old → IsSoundAlone reads old path → Step reads old (rewrite path options) done new
     → (held_at path new.arrays ≡ Some h) × IsCanonHeld new.store h → IsCanonAlone reads new path
@@ -231,7 +216,7 @@ runs_keep_canon reads old new [] [] path good tables asks apart k r = let P : Wo
 runs_keep_canon reads old new [] (answer ∷ answers) path good tables asks apart k r = absurd r
 runs_keep_canon reads old new (request ∷ requests) [] path good tables asks apart k r = absurd r
 runs_keep_canon reads old new (request ∷ requests) (answer ∷ answers) path good tables asks apart k r =
-    let away = reopens_apart reads old r.0 path good tables k request answer (All-head (ReopensApart path) request requests apart) in
+    let away = reopens_apart reads old r.0 path k.sound request answer (All-head (ReopensApart path) request requests apart) in
     let next = keeps_canon reads old r.0 request answer path good tables (All-head (LeavesCells path) request requests asks) away k r.1 in
     runs_keep_canon reads r.0 new requests answers path good (steps_show reads old r.0 request answer tables r.1)
     (All-tail (LeavesCells path) request requests asks) (All-tail (ReopensApart path) request requests apart) next r.2
@@ -246,7 +231,7 @@ rewritten_twice reads old mid last new path options more h g requests answers an
 -- ---- runs from sound worlds
 
 -- what is stored in a sound world shows only the cells of its tables
-sound_tables : (reads : ReadsCodecs) (world : World) → ReadsGood reads → IsSound reads world → HasTables reads world
+pub sound_tables : (reads : ReadsCodecs) (world : World) → ReadsGood reads → IsSound reads world → HasTables reads world
 sound_tables reads world good sound path h found =
     let s = sound.each path h found in
     (s.node, s.says, λ lossless. standing_shows h.path h.document world.store (cell h.document.elements.fill h.table) (good h.tree h.document s.says) lossless s.values s.stands)
@@ -257,11 +242,11 @@ sound_runs_keep_canon reads old new [] (answer ∷ answers) path good sound asks
 sound_runs_keep_canon reads old new (request ∷ requests) [] path good sound asks k r = absurd r
 sound_runs_keep_canon reads old new (request ∷ requests) (answer ∷ answers) path good sound asks k r =
     let tables = sound_tables reads old good sound in
-    let next = keeps_canon reads old r.0 request answer path good tables (All-head (LeavesCells path) request requests asks) (begins_apart reads old r.0 path good tables k request answer r.1 r.2) k r.2 in
+    let next = keeps_canon reads old r.0 request answer path good tables (All-head (LeavesCells path) request requests asks) (begins_apart reads old r.0 path k.sound request answer r.1 r.2) k r.2 in
     sound_runs_keep_canon reads r.0 new requests answers path good (steps_sound reads old r.0 request answer good r.1 sound r.2) (All-tail (LeavesCells path) request requests asks) next r.3
 
 -- where no key is foreign, each command asks for what is owned
-all_owned : (world : World) → OwnsAllKeys world → (requests : List Request) → All (AsksOwned world) requests
+pub all_owned : (world : World) → OwnsAllKeys world → (requests : List Request) → All (AsksOwned world) requests
 all_owned world owned [] = All-nil (AsksOwned world)
 all_owned world owned (request ∷ requests) = All-cons (AsksOwned world) request requests (one request) (all_owned world owned requests) where
   one : (other : Request) → AsksOwned world other

@@ -25,3 +25,6 @@ pub mod Alone
 pub mod One
 pub mod Canon
 pub mod KeptCanon
+pub mod TightChunks
+pub mod Orders
+pub mod KeptTight

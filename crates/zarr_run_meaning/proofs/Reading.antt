@@ -6,6 +6,7 @@ use Rattle.std.proofs.lemmas.Option.{none-some, same_Some}
 use Rattle.zarr_grids_boxes.specs.Boxes.{Region, product, places, is_in_box}
 use Rattle.zarr_grids_boxes.proofs.Steps.{number_in_grid}
 use Rattle.zarr_grids_chunks.specs.Grids.{IsInGrid}
+use Rattle.zarr_grids_chunks.proofs.Filters.{told}
 use Rattle.zarr_grids_cover.proofs.ChunkBoxes.{chunk_box-rank}
 use Rattle.zarr_codecs_meaning.specs.Chunks.{IsStored, chunk_decoded}
 use Rattle.zarr_codecs_meaning.specs.Standing.{Stands}
@@ -21,7 +22,7 @@ use Rattle.zarr_array_meaning.specs.Documents.{Document}
 use Rattle.zarr_array_meaning.specs.Standing.{ChunkStandsAt, IsLossless, IsGood, AreValues}
 use Rattle.zarr_array_meaning.specs.StoreMaps.{StoreMap}
 use Rattle.zarr_array_meaning.specs.Texts.{HasDocument}
-use Rattle.zarr_array_meaning.specs.Writing.{IsPartDamaged}
+use Rattle.zarr_array_meaning.specs.Writing.{IsPartDamaged, is_into_shard, HasSliceOutside}
 use Rattle.zarr_array_meaning.proofs.Showing.{are_cells, listed_at}
 use Rattle.zarr_array_meaning.proofs.TakenParts.{takes_decoded}
 use Rattle.zarr_run_meaning.specs.declared.cause.Cause.TheVariants as cause
@@ -56,13 +57,27 @@ module _ (path : List ℕ) (document : Document) (store : StoreMap) (chunk : Lis
 -- ---- nothing is damaged
 
 module _ (reads : ReadsCodecs) (store : StoreMap) (h : Held) (good : ReadsGood reads) (sound : IsSoundAt reads store h) where
+  -- what stands is no shard with a slice outside its data part
+  none_outside : (chunk : List ℕ) (box : Region) (o : Option (List ℕ)) → fits_box h.document box ≡ true → IsStored h.document.chain h.document.elements box.shape o (map (cell h.document.elements.fill h.table) (places box.start box.shape)) → HasSliceOutside h.document box o → ⊥
+  none_outside chunk box None fit stands outside = outside
+  none_outside chunk box (Some value) fit stands outside =
+      let cells = map (cell h.document.elements.fill h.table) (places box.start box.shape) in
+      let stood : Stands h.document.chain h.document.elements box.shape value cells = MatchBool-at_true _ _ fit stands in
+      standing_undamaged standing_slices h.document.chain h.document.elements box.shape value cells stood outside
+
   no_part_damaged : (region : Region) (options : CodecOptions) (n : ℕ) (chunk : List ℕ) (box : Region) → IsNthIntersecting h.document.grid region n chunk box → IsPartDamaged h.path h.document store region options chunk box → ⊥
-  no_part_damaged region options n chunk box nth damaged =
-      let among = listed_below h.document.grid region chunk (number_listed _ n chunk nth.listed) in
-      let below : IsInGrid h.document.grid chunk box = record { below = among.1.below; has_box = nth.has_box } in
-      false≢true (sym damaged.lost
-      ∙ takes_decoded h.document options region box (stored_at h.path h.document store chunk) (map (cell h.document.elements.fill h.table) (places box.start box.shape)) damaged.fit
-      (standing_decoded h.path h.document store chunk box (cell h.document.elements.fill h.table) (good h.tree h.document sound.says) sound.lossless sound.values below (sound.stands chunk box below)))
+  no_part_damaged region options n chunk box nth damaged = ⊎_elim
+      (λ into. ⊎_elim (λ lost. none-some _ (sym lost ∙ decoded)) (none_outside chunk box stored damaged.fit (sound.stands chunk box below)) (MatchBool-at_true _ _ into damaged.lost))
+      (λ whole. false≢true (sym (MatchBool-at_false _ _ whole damaged.lost) ∙ takes_decoded h.document options region box stored (map (cell h.document.elements.fill h.table) (places box.start box.shape)) damaged.fit decoded))
+      (told (is_into_shard h.document options region box)) where
+        stored : Option (List ℕ)
+        stored = stored_at h.path h.document store chunk
+
+        below : IsInGrid h.document.grid chunk box
+        below = let among = listed_below h.document.grid region chunk (number_listed _ n chunk nth.listed) in record { below = among.1.below; has_box = nth.has_box }
+
+        decoded : chunk_decoded h.document.chain h.document.elements box.shape stored ≡ Some (map (cell h.document.elements.fill h.table) (places box.start box.shape))
+        decoded = standing_decoded h.path h.document store chunk box (cell h.document.elements.fill h.table) (good h.tree h.document sound.says) sound.lossless sound.values below (sound.stands chunk box below)
 
   none_damaged : (region : Region) → IsDamagedIn h.path h.document store region → ⊥
   none_damaged region damaged =

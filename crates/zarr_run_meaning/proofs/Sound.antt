@@ -154,12 +154,12 @@ owned_begins reads old new (reopen path order) done good owned lossless sound s 
 owned_begins reads old new request answer good owned lossless sound s = tt
 
 -- what a command asks is owned still after a step
-asks_still : (reads : ReadsCodecs) (old mid : World) (request : Request) (answer : Answer) → Step reads old request answer mid → (other : Request) → AsksOwned old other → AsksOwned mid other
+pub asks_still : (reads : ReadsCodecs) (old mid : World) (request : Request) (answer : Answer) → Step reads old request answer mid → (other : Request) → AsksOwned old other → AsksOwned mid other
 asks_still reads old mid request answer s (create path document order) owned = λ name. steps_own reads old mid request answer _ s (owned name)
 asks_still reads old mid request answer s (reopen path order) owned = steps_own reads old mid request answer (document_key path ZarrJson) s owned
 asks_still reads old mid request answer s other owned = tt
 
-all_still : (old mid : World) → ((other : Request) → AsksOwned old other → AsksOwned mid other) → (requests : List Request) → All (AsksOwned old) requests → All (AsksOwned mid) requests
+pub all_still : (old mid : World) → ((other : Request) → AsksOwned old other → AsksOwned mid other) → (requests : List Request) → All (AsksOwned old) requests → All (AsksOwned mid) requests
 all_still old mid still [] owned = All-nil (AsksOwned mid)
 all_still old mid still (request ∷ requests) owned =
     All-cons (AsksOwned mid) request requests (still request (All-head (AsksOwned old) request requests owned)) (all_still old mid still requests (All-tail (AsksOwned old) request requests owned))

@@ -36,7 +36,7 @@ use Rattle.zarr_run_meaning.proofs.Tables.{unlisted_lies}
 
 -- ---- cells by another function
 
-each_same : (f g : List ℕ → Cell) (ps : List (List ℕ)) → Each (λ p. f p ≡ g p) ps → map f ps ≡ map g ps
+pub each_same : (f g : List ℕ → Cell) (ps : List (List ℕ)) → Each (λ p. f p ≡ g p) ps → map f ps ≡ map g ps
 each_same f g [] h = refl
 each_same f g (p ∷ ps) h = ap (λ c. c ∷ map f ps) h.0 ∙ ap (λ (cs : List Cell). g p ∷ cs) (each_same f g ps h.1)
 

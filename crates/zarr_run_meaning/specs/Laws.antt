@@ -19,8 +19,9 @@ use Rattle.zarr_array_meaning.specs.Documents.{Document, read_document}
 use Rattle.zarr_array_meaning.specs.Standing.{IsGood, IsLossless, AreValues, ValuesFit}
 use Rattle.zarr_array_meaning.specs.StoreMaps.{StoreMap}
 use Rattle.zarr_array_meaning.specs.Texts.{HasDocument}
+use Rattle.zarr_array_meaning.specs.Writing.{is_into_shard}
 use Rattle.zarr_run_meaning.specs.declared.cause.Cause.TheVariants as cause
-use Rattle.zarr_run_meaning.specs.Causes.{IsChunkKeyIn}
+use Rattle.zarr_run_meaning.specs.Causes.{IsTarget, IsChunkKeyIn}
 use Rattle.zarr_run_meaning.specs.Printing.{PrintsValues, IsFormed, GivesValues}
 use Rattle.zarr_run_meaning.specs.Requests.{Target, Request, create, reopen, read, write, compact, rewrite, path_of, Answer, done, cells as gives, refused}
 use Rattle.zarr_run_meaning.specs.Runs.{Run, world_over}
@@ -61,9 +62,14 @@ ReadsApart = (reads : ReadsCodecs) (old new other : World) (path : List ℕ) (ta
     × (Step reads old (read path target options) (gives payload) new → Step reads old (read path target options) (refused cause.Fit n) other → ⊥)
     × (Step reads old (read path target options) (refused cause.Damage n) new → Step reads old (read path target options) (refused cause.Fit m) other → ⊥)
 
--- in one world, whatever is stored: a write that is done is not refused for damage
+-- a write puts no part of a chunk into the chunk's shard
+abbrev pub PutsNoPart : World → List ℕ → Target → CodecOptions → Type 0
+PutsNoPart world path target options = (h : Held) (region : Region) (chunk : List ℕ) (box : Region) → held_at path world.arrays ≡ Some h → IsTarget h.document.grid target region → IsInGrid h.document.grid chunk box
+    → is_into_shard h.document options region box ≡ false
+
+-- in one world, whatever is stored: a write that is done is not refused for damage, where it puts no part of a chunk into a shard
 abbrev pub WritesApart : Type 0
-WritesApart = (reads : ReadsCodecs) (old new other : World) (path : List ℕ) (target : Target) (given : GivenCells) (options : CodecOptions) (n : ℕ)
+WritesApart = (reads : ReadsCodecs) (old new other : World) (path : List ℕ) (target : Target) (given : GivenCells) (options : CodecOptions) (n : ℕ) → PutsNoPart old path target options
     → Step reads old (write path target given options) done new → Step reads old (write path target given options) (refused cause.Damage n) other → ⊥
 
 -- in a sound world nothing is refused for damage or for a document that has changed

@@ -9,3 +9,4 @@ pub mod Sound
 pub mod Printing
 pub mod Laws
 pub mod Rewrites
+pub mod Tight

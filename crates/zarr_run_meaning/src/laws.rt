@@ -6,6 +6,8 @@ ghost use Rattle.zarr_run_meaning.specs.Laws.{RunsUndamaged, OwnedRunsUndamaged,
 ghost use Rattle.zarr_run_meaning.specs.Laws.{ReadsApart, WritesApart};
 ghost use Rattle.zarr_run_meaning.specs.Rewrites.{StepsLeaveUnrelated, ChangesNoCell, RewritesCanon, KeepsCanon};
 ghost use Rattle.zarr_run_meaning.specs.Rewrites.{RunsKeepCanon, SoundRunsKeepCanon, RunsLeaveCanon, CanonStays, RewrittenTwice};
+ghost use Rattle.zarr_run_meaning.specs.Tight.{NoChunksAreTight, BeginsTight, CanonTight, StepsKeepTight, CompactsExactly};
+ghost use Rattle.zarr_run_meaning.specs.Tight.{RunsKeepTight, OwnedRunsTight, RunsTight};
 ghost use Rattle.zarr_run_meaning.specs.Laws.{SoundAlone, BeginsAlone, StepsKeepSound, AloneUndamaged, RunsPrint, ReadsPrint};
 
 /// Whatever is stored, there is a table of the cells that it shows.
@@ -205,7 +207,8 @@ pub fn reads_apart()
     ensures { ReadsApart }
 {}
 
-/// Whatever is stored, a write that is done is not refused for damage.
+/// Whatever is stored, a write that is done is not refused for damage, where it puts no part of a
+/// chunk into a shard.
 pub fn writes_apart()
     ensures { WritesApart }
 {}
@@ -258,4 +261,49 @@ pub fn canon_stays()
 /// the array.
 pub fn rewritten_twice()
     ensures { RewrittenTwice }
+{}
+
+/// Where no chunk has a value, what is stored is tight: each slice of a shard is what encoding
+/// writes for its subchunk.
+pub fn no_chunks_are_tight()
+    ensures { NoChunksAreTight }
+{}
+
+/// An array that begins over tight chunks is tight, whatever is stored for the others.
+pub fn begins_tight()
+    ensures { BeginsTight }
+{}
+
+/// What storing an array's cells afresh leaves is tight.
+pub fn canon_tight()
+    ensures { CanonTight }
+{}
+
+/// A step keeps an array tight where a chunk's value depends on its cells alone, whatever is
+/// stored for the others: writes of parts into shards, refused commands and reopenings too.
+pub fn steps_keep_tight()
+    ensures { StepsKeepTight }
+{}
+
+/// A compaction of a tight array that writes a chunk anew leaves just what encoding the chunk's
+/// cells writes.
+pub fn compacts_exactly()
+    ensures { CompactsExactly }
+{}
+
+/// A run keeps an array tight that is written row-major, as long as it is reopened so.
+pub fn runs_keep_tight()
+    ensures { RunsKeepTight }
+{}
+
+/// So does one from a sound world over keys that aren't foreign, and an array that begins in it so
+/// is tight.
+pub fn owned_runs_tight()
+    ensures { OwnedRunsTight }
+{}
+
+/// Over a store that began without keys, an array whose creates and reopenings that are done ask
+/// for row-major order is tight at the end of the run.
+pub fn runs_tight()
+    ensures { RunsTight }
 {}
