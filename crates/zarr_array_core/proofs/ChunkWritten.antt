@@ -515,7 +515,7 @@ pub record IsChange (path : List ℕ) (document : Document) (region : Region) (c
 
 pub wrote_changed : (path : List ℕ) (document : Document) (exact : Bool) (region : Region) (given : List Cell) (options : CodecOptions) (chunk : List ℕ) (box : Region) (old : StoreMap) (made : Option (List ℕ)) → IsChange path document region chunk box → is_into_shard document options region box ≡ false
     → ChangesValue document exact region given options box (stored_at path document old chunk) made → WroteChunks path document exact region given options (chunk ∷ []) old (new_store path document old chunk made)
-wrote_changed path document exact region given options chunk box old made is whole (inl makes) =
-    wrote_one path document exact region given options chunk box old made (record { good = is.good; apart = is.apart; region_rank = is.region_rank; rank = is.rank; below = is.below; whole = whole; makes = makes })
-wrote_changed path document exact region given options chunk box old made is whole (inr puts) =
+wrote_changed path document exact region given options chunk box old made is t (inl makes) =
+    wrote_one path document exact region given options chunk box old made (record { good = is.good; apart = is.apart; region_rank = is.region_rank; rank = is.rank; below = is.below; whole = t; makes = makes })
+wrote_changed path document exact region given options chunk box old made is t (inr puts) =
     wrote_put path document exact region given options chunk box old made (record { good = is.good; apart = is.apart; below = is.below; puts = puts })

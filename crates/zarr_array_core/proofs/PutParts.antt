@@ -288,6 +288,10 @@ put_refusal_told A document box stored (codec_error.Other text) h none = absurd 
 
 -- ---- a call of a codec
 
+-- the places that a write and a chunk share
+pub shared_is : (subset region own met : Region) → subset ≡ region → met ≡ overlapped subset own → met ≡ overlapped region own
+shared_is subset region own met e f = f ∙ ap (λ (r : Region). overlapped r own) e
+
 -- elements were taken out of those of a write for a part of a chunk, and a codec was given these and that part
 pub record IsPutCall (document : Document) (region box shared part : Region) (shape start : List ℕ) (given : List Cell) (payload : Payload) (sub : List Cell) : Type 0 where
   pub same : shared ≡ overlapped region box

@@ -1,6 +1,7 @@
 -- One chunk written, where a part of it is put into its shard, or otherwise.
 use Rattle.std.proofs.Common.{◌≡◌, ◌≢◌, ◌∙◌, ℕ, Bool, IsTrue, true, false, if◌then◌else◌, ◌&&◌, ◌||◌, List, [], ◌∷◌, length, map, refl, sym, ap, subst, Option, Some, None, is_some, ⊎_elim, inl, inr, ◌⊎◌}
 use Rattle.std.specs.Prelude.{MatchBool, not}
+use Rattle.std.specs.FinMap.{get}
 use Rattle.std.proofs.lemmas.Bool.{false≢true}
 use Rattle.zarr_grids_boxes.specs.Boxes.{Region, product, places, is_in_box}
 use Rattle.zarr_grids_chunks.specs.Grids.{IsInGrid}
@@ -22,7 +23,7 @@ use Rattle.zarr_array_meaning.specs.Standing.{AreValues, ChunkStandsAt, ChunkTig
 use Rattle.zarr_array_meaning.specs.StoreMaps.{StoreMap}
 use Rattle.zarr_array_meaning.specs.Writing.{ChunkBecomes, HasSliceOutside, IsKeyed, Loses, Takes, WroteChunks, cell_read, is_in_part, is_into_shard, may_be_in_part, opens_in, stores_fill, takes_cells}
 use Rattle.zarr_array_meaning.proofs.TakenParts.{read_of_decoded}
-use Rattle.zarr_array_core.specs.ChunkValues.{ChangesValue, ChangeStops}
+use Rattle.zarr_array_core.specs.ChunkValues.{ChangesValue, ChangeStops, with_value}
 use Rattle.zarr_array_core.specs.IntoShards.{FittingStops, IntoShardStops, PutsIntoShard, Write, WritesChunk, WritingStops, cells_over, cells_then}
 use Rattle.zarr_array_core.specs.Outcomes.{ChunkStops}
 use Rattle.zarr_array_core.specs.declared.error.ChunkError.{ChunkError}
@@ -190,6 +191,21 @@ module _ (path : List ℕ) (document : Document) (exact : Bool) (region : Region
   }
 
 -- ---- a chunk that is written
+
+pub writes_into : (write : Write) (box : Region) (stored made : Option (List ℕ)) → is_into_shard write.array.document write.options write.region box ≡ true → PutsIntoShard write box stored made → WritesChunk write box stored made
+writes_into write box stored made t h = subst (λ (b : Bool). MatchBool b (PutsIntoShard write box stored made) (ChangesValue write.array.document write.array.exact write.region write.cells write.options box stored made)) (sym t) h
+
+pub writes_whole : (write : Write) (box : Region) (stored made : Option (List ℕ)) → is_into_shard write.array.document write.options write.region box ≡ false → ChangesValue write.array.document write.array.exact write.region write.cells write.options box stored made → WritesChunk write box stored made
+writes_whole write box stored made t h = subst (λ (b : Bool). MatchBool b (PutsIntoShard write box stored made) (ChangesValue write.array.document write.array.exact write.region write.cells write.options box stored made)) (sym t) h
+
+-- the same store and the same key
+pub changed_alike : (write : Write) (box : Region) (mid old new : StoreMap) (k key : List ℕ) (made : Option (List ℕ)) → mid ≡ old → k ≡ key → ChangesValue write.array.document write.array.exact write.region write.cells write.options box (get mid k) made → new ≡ with_value mid k made
+    → ChangesValue write.array.document write.array.exact write.region write.cells write.options box (get old key) made × (new ≡ with_value old key made)
+changed_alike write box mid old new k key made same at changes is = (
+  subst (λ (j : List ℕ). ChangesValue write.array.document write.array.exact write.region write.cells write.options box (get old j) made) at
+  (subst (λ (m : StoreMap). ChangesValue write.array.document write.array.exact write.region write.cells write.options box (get m k) made) same changes),
+  is ∙ (ap (λ (m : StoreMap). with_value m k made) same ∙ ap (λ (j : List ℕ). with_value old j made) at),
+)
 
 pub wrote_chunk : (path : List ℕ) (document : Document) (exact : Bool) (region : Region) (given : List Cell) (options : CodecOptions) (chunk : List ℕ) (box : Region) (old : StoreMap) (made : Option (List ℕ)) → IsChange path document region chunk box
     → WritesChunk (write_at path document exact region given options) box (stored_at path document old chunk) made → WroteChunks path document exact region given options (chunk ∷ []) old (new_store path document old chunk made)

@@ -13,12 +13,9 @@ use Rattle.zarr_array_core.specs.Views.{array_cells, document_of}
 use Rattle.zarr_array_elements.proofs.Meeting.{meeting, starts_alike}
 use Rattle.zarr_array_elements.proofs.Shared.{large_grows, shared_held, shared_smaller}
 use Rattle.zarr_array_core.proofs.InParts.{parts_of_write}
-use Rattle.zarr_array_core.proofs.PutParts.{IsPutCall, was_put, was_refused}
+use Rattle.zarr_array_core.proofs.PutParts.{IsPutCall, shared_is, was_put, was_refused}
 use Rattle.zarr_array_core.proofs.SeenFrom.{later_start}
 use Rattle.zarr_array_core.proofs.array_core.ArrayCore.put_into.Goals as goal
-
-shared_is : (subset region own shared : Region) → subset ≡ region → shared ≡ overlapped subset own → shared ≡ overlapped region own
-shared_is subset region own shared e f = f ∙ ap (λ (r : Region). overlapped r own) e
 
 pub whole_cells-requires-clause-small : goal.whole_cells-requires-clause-small
 whole_cells-requires-clause-small g c = λ large.
