@@ -1,12 +1,10 @@
 -- A part of a chunk that a codec put into the chunk's shard, or why it did not.
-use Rattle.std.proofs.Common.{◌≡◌, ◌∙◌, ℕ, ◌<◌, Bool, true, false, ◌&&◌, if◌then◌else◌, List, [], ◌∷◌, length, map, get_or, set, refl, sym, ap, subst, arith, Option, Some, None, Err, inl, inr, ◌⊎◌, ⊎_elim}
-use Rattle.std.specs.Prelude.{not, MatchOption}
+use Rattle.std.proofs.Common.{◌≡◌, ◌∙◌, ℕ, ◌<◌, Bool, true, false, ◌&&◌, if◌then◌else◌, List, [], ◌∷◌, length, map, get_or, set, refl, sym, ap, subst, arith, Option, Some, None, Err, inl, inr, ◌⊎◌}
+use Rattle.std.specs.Prelude.{not}
 use Rattle.std.specs.List.{list_all}
-use Rattle.std.proofs.Math.Bool.{and-true}
 use Rattle.std.proofs.lemmas.Bool.{and_parts, false≢true}
 use Rattle.std.proofs.lemmas.List.{get_or-map, length-map, length-set}
 use Rattle.std.proofs.lemmas.List.FromFn.{get_or-map-range_with_len, length-map-range_with_len}
-use Rattle.std.proofs.lemmas.Option.{none-some}
 use Rattle.zarr_grids_boxes.specs.Boxes.{Region, product, places, is_in_box}
 use Rattle.zarr_grids_boxes.specs.Cuts.{overlapped}
 use Rattle.zarr_codecs_meaning.specs.Chains.{Chain}

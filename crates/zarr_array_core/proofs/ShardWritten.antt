@@ -1,9 +1,9 @@
 -- One chunk written, where a part of it is put into its shard, or otherwise.
-use Rattle.std.proofs.Common.{◌≡◌, ◌≢◌, ◌∙◌, ℕ, Bool, IsTrue, true, false, if◌then◌else◌, ◌&&◌, ◌||◌, List, [], ◌∷◌, length, map, refl, sym, ap, subst, Option, Some, None, is_some, ⊎_elim, inl, inr, ◌⊎◌}
+use Rattle.std.proofs.Common.{◌≡◌, ◌∙◌, ℕ, Bool, IsTrue, true, false, if◌then◌else◌, ◌&&◌, ◌||◌, List, [], ◌∷◌, length, map, refl, sym, ap, subst, Option, Some, None, is_some, ⊎_elim, inl, inr, ◌⊎◌}
 use Rattle.std.specs.Prelude.{MatchBool, not}
 use Rattle.std.specs.FinMap.{get}
 use Rattle.std.proofs.lemmas.Bool.{false≢true}
-use Rattle.zarr_grids_boxes.specs.Boxes.{Region, product, places, is_in_box}
+use Rattle.zarr_grids_boxes.specs.Boxes.{Region, places, is_in_box}
 use Rattle.zarr_grids_chunks.specs.Grids.{IsInGrid}
 use Rattle.zarr_grids_chunks.proofs.Filters.{told}
 use Rattle.zarr_grids_keys.specs.Keys.{chunk_key}
@@ -21,14 +21,14 @@ use Rattle.zarr_array_meaning.specs.Chunks.{fits_box, holds_box, number_in, part
 use Rattle.zarr_array_meaning.specs.Documents.{Document}
 use Rattle.zarr_array_meaning.specs.Standing.{AreValues, ChunkStandsAt, ChunkTightAt, IsLossless}
 use Rattle.zarr_array_meaning.specs.StoreMaps.{StoreMap}
-use Rattle.zarr_array_meaning.specs.Writing.{ChunkBecomes, HasSliceOutside, IsKeyed, Loses, Takes, WroteChunks, cell_read, is_in_part, is_into_shard, may_be_in_part, opens_in, stores_fill, takes_cells}
+use Rattle.zarr_array_meaning.specs.Writing.{ChunkBecomes, HasSliceOutside, IsKeyed, Takes, WroteChunks, cell_read, is_in_part, is_into_shard, may_be_in_part, opens_in, stores_fill, takes_cells}
 use Rattle.zarr_array_meaning.proofs.TakenParts.{read_of_decoded}
 use Rattle.zarr_array_core.specs.ChunkValues.{ChangesValue, ChangeStops, with_value}
 use Rattle.zarr_array_core.specs.IntoShards.{FittingStops, IntoShardStops, PutsIntoShard, Write, WritesChunk, WritingStops, cells_over, cells_then}
 use Rattle.zarr_array_core.specs.Outcomes.{ChunkStops}
 use Rattle.zarr_array_core.specs.declared.error.ChunkError.{ChunkError}
 use Rattle.zarr_array_core.specs.declared.error.ChunkError.TheVariants as error
-use Rattle.zarr_array_core.proofs.ChunkWritten.{IsChange, at_each, at_one, becomes_at, box_rank, cell_with, chunk_stands, kept_apart, length-at_places, listed_cells, new_store, same_at_places, stored_where, tight_apart, value_other, value_same, wrote_changed}
+use Rattle.zarr_array_core.proofs.ChunkWritten.{IsChange, at_each, at_one, becomes_at, box_rank, cell_with, kept_apart, length-at_places, listed_cells, new_store, same_at_places, stored_where, tight_apart, value_other, value_same, wrote_changed}
 use Rattle.zarr_array_core.proofs.IntoShards.{IsIntoShard, shard_write}
 use Rattle.zarr_array_core.proofs.Listed.{one_listed}
 
@@ -203,7 +203,7 @@ pub changed_alike : (write : Write) (box : Region) (mid old new : StoreMap) (k k
     → ChangesValue write.array.document write.array.exact write.region write.cells write.options box (get old key) made × (new ≡ with_value old key made)
 changed_alike write box mid old new k key made same at changes is = (
   subst (λ (j : List ℕ). ChangesValue write.array.document write.array.exact write.region write.cells write.options box (get old j) made) at
-  (subst (λ (m : StoreMap). ChangesValue write.array.document write.array.exact write.region write.cells write.options box (get m k) made) same changes),
+      (subst (λ (m : StoreMap). ChangesValue write.array.document write.array.exact write.region write.cells write.options box (get m k) made) same changes),
   is ∙ (ap (λ (m : StoreMap). with_value m k made) same ∙ ap (λ (j : List ℕ). with_value old j made) at),
 )
 

@@ -1,5 +1,5 @@
 -- A part of a chunk, put into the chunk's shard.
-use Rattle.std.specs.Prelude.{◌≡◌, ◌⊎◌, ℕ, List, [], ◌∷◌, map, length, Option, Bool, IsTrue, true, false, if◌then◌else◌, None, MatchBool, OnErr, Result, Err}
+use Rattle.std.specs.Prelude.{◌≡◌, ◌⊎◌, ℕ, List, [], ◌∷◌, map, length, Option, Bool, IsTrue, true, false, if◌then◌else◌, None, MatchBool, OnErr, Result}
 use Rattle.std.specs.List.{list_all}
 use Rattle.zarr_grids_boxes.specs.Boxes.{Region, product, places, is_in_box, share_place}
 use Rattle.zarr_grids_boxes.specs.Subsets.{region_of}

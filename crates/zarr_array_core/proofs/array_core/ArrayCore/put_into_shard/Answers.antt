@@ -1,4 +1,4 @@
-use Rattle.std.proofs.Common.{◌≡◌, ◌∙◌, ◌<◌, ℕ, List, Option, None, Err, length, true, ap, sym, subst, rules}
+use Rattle.std.proofs.Common.{◌≡◌, ◌∙◌, ◌<◌, ℕ, List, Option, None, length, true, ap, sym, subst, rules}
 use Rattle.std.specs.FinMap as map
 use Rattle.zarr_grids_boxes.specs.Boxes.{Region, product}
 use Rattle.zarr_grids_boxes.specs.Cuts.{IsAtMost, overlapped}
@@ -67,8 +67,7 @@ returns-in-Ok-clause-ok g c = λ honest.
     let into = shard_write write.array.document write.options region box c.requires.into in
     let stored : Option (List ℕ) = map.get (g.S.ReadableStorageTraits.held c.args.store.now) c.args.key.now in
     let found = c.in-Ok.ensures.ok honest in
-    let now : g.S.ReadableStorageTraits.held c.store-1.given.0 ≡ g.S.ReadableStorageTraits.held c.put_into_target.new.target.store.now = search rules in
-    (found.0, was_into write box shared part c.shape.result.now c.start.result.now payload sub (sym c.args.own.now.same) into call stored found.0 found.1, now ∙ found.2)
+    (found.0, was_into write box shared part c.shape.result.now c.start.result.now payload sub (sym c.args.own.now.same) into call stored found.0 found.1, search (rules, found.2))
 
 pub returns-clause-err : goal.returns-clause-err
 returns-clause-err g c = λ honest.

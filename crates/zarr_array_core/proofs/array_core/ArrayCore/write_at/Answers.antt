@@ -1,4 +1,4 @@
-use Rattle.std.proofs.Common.{◌≡◌, ◌∙◌, ℕ, List, Option, IsTrue, true, false, ap, refl, subst, sym, inl}
+use Rattle.std.proofs.Common.{◌∙◌, ℕ, List, IsTrue, ap, refl, subst, sym, inl}
 use Rattle.std.specs.FinMap.{get}
 use Rattle.zarr_grids_boxes.specs.Boxes.{Region}
 use Rattle.zarr_grids_boxes.specs.Subsets.{region_of}
@@ -6,9 +6,8 @@ use Rattle.zarr_grids_cover.proofs.ChunkBoxes.{chunk_box-rank}
 use Rattle.zarr_grids_keys.specs.Keys.{chunk_key}
 use Rattle.zarr_grids_overlay.specs.Overlays.{extent_of}
 use Rattle.zarr_array_elements.proofs.Meeting.{shares_own}
-use Rattle.zarr_array_meaning.specs.Writing.{is_into_shard}
-use Rattle.zarr_array_core.specs.ChunkValues.{ChangesValue, with_value}
-use Rattle.zarr_array_core.specs.IntoShards.{PutsIntoShard, WritesChunk, write_of}
+use Rattle.zarr_array_core.specs.ChunkValues.{with_value}
+use Rattle.zarr_array_core.specs.IntoShards.{PutsIntoShard, write_of}
 use Rattle.zarr_array_core.specs.Views.{document_of, path_of}
 use Rattle.zarr_array_core.proofs.ShardWritten.{changed_alike, writes_into, writes_whole}
 use Rattle.zarr_array_core.proofs.array_core.ArrayCore.write_at.Goals as goal
@@ -61,9 +60,13 @@ returns-clause-ok g c = λ honest.
     let told = c.in_ok-is_into_shard.ensures.ok in
     elim c.if-branch.branch [
       | then-branch+in_ok-put_into_shard w ↦
-          let put = w.in_ok-put_into_shard.ensures.ok honest in
-          (box, put.0, c.in_ok-own.ensures, writes_into write box (get old key) put.0 (sym told ∙ w.if-branch.true) (subst (λ (k : List ℕ). PutsIntoShard write box (get old k) put.0) at put.1),
-          ap held w.store-is ∙ (put.2 ∙ ap (λ (k : List ℕ). with_value old k put.0) at))
+          let put = w.in_ok-put_into_shard.ensures.ok honest in (
+            box,
+            put.0,
+            c.in_ok-own.ensures,
+            writes_into write box (get old key) put.0 (sym told ∙ w.if-branch.true) (subst (λ (k : List ℕ). PutsIntoShard write box (get old k) put.0) at put.1),
+            ap held w.store-is ∙ (put.2 ∙ ap (λ (k : List ℕ). with_value old k put.0) at),
+          )
       | else-branch+in_ok-patch_chunk+then-not-branch+in_ok-write_chunk w ↦
           let same = w.in_ok-patch_chunk.ensures.undone honest w.if-not-branch.true in
           let still : IsTrue (g.S.ReadableStorageTraits.is_honest w.patch_chunk.new.store) = subst IsTrue (sym w.in_ok-patch_chunk.ensures.honest) honest in
