@@ -125,14 +125,16 @@ class Optionals(Chain):
 
 
 class Turned(Chain):
-    """The cells with these numbers in turn, as a codec between arrays gives them to others."""
+    """The cells with these numbers in turn, as a codec between arrays of this kind gives them to others."""
 
-    def __init__(self, codec, numbers, inside):
-        self.codec, self.numbers, self.inside, self.name = codec, numbers, inside, inside.name
-        self.takes_parts = inside.takes_parts
+    def __init__(self, kind, configuration, numbers, inside):
+        self.kind, self.configuration = kind, configuration
+        self.numbers, self.inside, self.name = numbers, inside, inside.name
+        self.takes_parts = inside.takes_parts and not (kind == "reshape" and isinstance(inside, Shard))
 
     def codecs(self):
-        return [self.codec, *self.inside.codecs()]
+        codec = {"name": self.kind, "configuration": self.configuration} if self.configuration else self.kind
+        return [codec, *self.inside.codecs()]
 
     def stored(self, cells):
         return self.inside.stored([cells[n] for n in self.numbers])
@@ -146,30 +148,68 @@ class Turned(Chain):
 
 
 class Shard(Chain):
-    """Subchunks, row-major, by what stores the cells of one, with an index in front or behind; the order of all bytes is turned so often."""
+    """Subchunks, row-major, by what stores the cells of one, with an index in front or behind; the order of all bytes is turned so
+    often."""
 
     def __init__(self, shape, subchunk, inside, fill, at_start, reversals=0):
         self.subchunk, self.inside, self.fill = subchunk, inside, fill
         self.at_start, self.reversals, self.name = at_start, reversals, inside.name
+        self.takes_parts = not reversals
         numbers = {place: n for n, place in enumerate(places_below(shape))}
-        boxes = [[[n * edge, (n + 1) * edge] for n, edge in zip(at, subchunk)] for at in places_below(map(int.__floordiv__, shape, subchunk))]
+        counts = [size // edge for size, edge in zip(shape, subchunk)]
+        boxes = [[[n * edge, (n + 1) * edge] for n, edge in zip(at, subchunk)] for at in places_below(counts)]
         # For each subchunk the numbers of its cells.
         self.subchunks = [[numbers[place] for place in places(box)] for box in boxes]
+        self.index_size = 16 * len(boxes)
 
     def codecs(self):
         location = "start" if self.at_start else "end"
         parts = {"chunk_shape": list(self.subchunk), "codecs": self.inside.codecs(), "index_codecs": [LITTLE], "index_location": location}
         return [{"name": "sharding_indexed", "configuration": parts}] + ["x-reverse"] * self.reversals
 
+    def value_of(self, data, pairs):
+        """The value with these slices, and for each subchunk where its slice starts in them and how long it is, or none."""
+        first = self.index_size if self.at_start else 0
+        index = b"".join(number(first + pair[0]) + number(pair[1]) if pair else b"\xff" * 16 for pair in pairs)
+        return index + data if self.at_start else data + index
+
+    def parts_of(self, value):
+        """The slices of a value, and the pairs."""
+        size = self.index_size
+        index, data = (value[:size], value[size:]) if self.at_start else (value[-size:], value[:-size])
+        first = size if self.at_start else 0
+        numbers = [int.from_bytes(index[n : n + 8], "little") for n in range(0, size, 8)]
+        return data, [(start - first, length) if start + 1 < 1 << 64 else None for start, length in zip(numbers[::2], numbers[1::2])]
+
+    def appended(self, data, pairs, cells, numbers):
+        """The slices and pairs once each subchunk that has one of these numbers is encoded anew, behind the others."""
+        pairs = list(pairs)
+        for k, own in enumerate(self.subchunks):
+            if numbers.isdisjoint(own):
+                continue
+            inner, pairs[k] = [cells[n] for n in own], None
+            if any(cell != self.fill for cell in inner):
+                value = self.inside.stored(inner)
+                pairs[k] = (len(data), len(value))
+                data += value
+        return data, pairs
+
     def stored(self, cells):
-        index, slices, offset = b"", b"", 16 * len(self.subchunks) if self.at_start else 0
-        for own in self.subchunks:
-            value = self.slice_of([cells[n] for n in own])
-            index += number(offset + len(slices)) + number(len(value)) if value else b"\xff" * 16
-            slices += value
-        value = index + slices if self.at_start else slices + index
+        nothing = [None] * len(self.subchunks)
+        value = self.value_of(*self.appended(b"", nothing, cells, set(range(len(cells)))))
         return value[::-1] if self.reversals % 2 else value
 
-    def slice_of(self, cells):
-        """Nothing where all cells are fill."""
-        return b"" if all(cell == self.fill for cell in cells) else self.inside.stored(cells)
+    def put(self, value, cells, numbers):
+        data, pairs = self.parts_of(value) if value else (b"", [None] * len(self.subchunks))
+        data, pairs = self.appended(data, pairs, cells, numbers)
+        return self.value_of(data, pairs) if any(pairs) else None
+
+    def compacted(self, value):
+        """The slices row-major and without gaps, where the value has another length then. Whole values have no gaps."""
+        if self.reversals:
+            return value
+        data, pairs = self.parts_of(value)
+        slices = [data[pair[0] : sum(pair)] if pair else b"" for pair in pairs]
+        starts = itertools.accumulate(map(len, slices), initial=0)
+        made = self.value_of(b"".join(slices), [pair and (start, pair[1]) for pair, start in zip(pairs, starts)])
+        return value if len(made) == len(value) else made
