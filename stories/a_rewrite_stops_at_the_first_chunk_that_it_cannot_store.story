@@ -41,3 +41,36 @@ before:
 after:
   a/zarr.json = $stored
   b/zarr.json = $stored{"shape":[4],"data_type":"uint16","chunk_grid":{"name":"regular","configuration":{"chunk_shape":[2]}},"fill_value":7}
+
+# Three shards, of which the first and the third have gaps, and the second has a pair past its end.
+before:
+  s/c/0 = 0102 63 0000000000000000 0200000000000000 ffffffffffffffff ffffffffffffffff
+  s/c/1 = 0304 0000000000000000 0200000000000000 6400000000000000 0200000000000000
+  s/c/2 = 63 0506 0100000000000000 0200000000000000 ffffffffffffffff ffffffffffffffff
+  s/zarr.json = $stored_shard{"shape":[12]}
+
+> {"op":"reopen","path":"/s","order":"C"}
+< {"done":true}
+> {"op":"rewrite","path":"/s"}
+< {"applied":1,"refused":"Damage"}
+
+after:
+  a/zarr.json = $stored
+  b/zarr.json = $stored{"shape":[4],"data_type":"uint16","chunk_grid":{"name":"regular","configuration":{"chunk_shape":[2]}},"fill_value":7}
+  s/c/0 = 0102 0000000000000000 0200000000000000 ffffffffffffffff ffffffffffffffff
+  s/c/1 = 0304 0000000000000000 0200000000000000 6400000000000000 0200000000000000
+  s/c/2 = 63 0506 0100000000000000 0200000000000000 ffffffffffffffff ffffffffffffffff
+  s/zarr.json = $stored_shard{"shape":[12]}
+
+> {"op":"reopen","path":"/s","order":"C"}
+> {"op":"write_chunk","path":"/s","chunk":[1],"cells":[3,4,0,0]}
+> {"op":"rewrite","path":"/s"}
+< {"done":true}
+
+after:
+  a/zarr.json = $stored
+  b/zarr.json = $stored{"shape":[4],"data_type":"uint16","chunk_grid":{"name":"regular","configuration":{"chunk_shape":[2]}},"fill_value":7}
+  s/c/0 = 0102 0000000000000000 0200000000000000 ffffffffffffffff ffffffffffffffff
+  s/c/1 = 0304 0000000000000000 0200000000000000 ffffffffffffffff ffffffffffffffff
+  s/c/2 = 0506 0000000000000000 0200000000000000 ffffffffffffffff ffffffffffffffff
+  s/zarr.json = $stored_shard{"shape":[12]}

@@ -17,3 +17,22 @@ after:
   a/c/0 = 0102 ffffffffffffffff ffffffffffffffff 0000000000000000 0200000000000000
   a/c/1 = 0304 0000000000000000 0200000000000000 ffffffffffffffff ffffffffffffffff
   a/zarr.json = $stored_shard{"shape":[8]}
+
+# So is a shard that is rewritten. Each has a gap before, and the second of three calls is refused.
+before:
+  a/c/0 = 63 0102 0100000000000000 0200000000000000 ffffffffffffffff ffffffffffffffff
+  a/c/1 = 63 0304 0100000000000000 0200000000000000 ffffffffffffffff ffffffffffffffff
+  a/c/2 = 63 0506 0100000000000000 0200000000000000 ffffffffffffffff ffffffffffffffff
+  a/zarr.json = $stored_shard{"shape":[12]}
+  refuse write 2
+
+> {"op":"reopen","path":"/a","order":"C"}
+< {"done":true}
+> {"op":"rewrite","path":"/a"}
+< {"applied":1,"refused":"Store"}
+
+after:
+  a/c/0 = 0102 0000000000000000 0200000000000000 ffffffffffffffff ffffffffffffffff
+  a/c/1 = 63 0304 0100000000000000 0200000000000000 ffffffffffffffff ffffffffffffffff
+  a/c/2 = 63 0506 0100000000000000 0200000000000000 ffffffffffffffff ffffffffffffffff
+  a/zarr.json = $stored_shard{"shape":[12]}

@@ -52,3 +52,27 @@ after:
   a/c/0 = ffffffffffffffff ffffffffffffffff ffffffffffffffff ffffffffffffffff
   a/zarr.json = $stored{"shape":[8],"chunk_grid":{"name":"regular","configuration":{"chunk_shape":[4]}},"fill_value":7,"codecs":[{"name":"sharding_indexed","configuration":{"chunk_shape":[2],"codecs":["bytes"],"index_codecs":[{"name":"bytes","configuration":{"endian":"little"}}]}}]}
   n/zarr.json = $stored{"shape":[4,4],"chunk_grid":{"name":"regular","configuration":{"chunk_shape":[4,4]}},"codecs":[{"name":"sharding_indexed","configuration":{"chunk_shape":[2,2],"codecs":[{"name":"sharding_indexed","configuration":{"chunk_shape":[1,2],"codecs":["bytes"],"index_codecs":[{"name":"bytes","configuration":{"endian":"little"}}]}}],"index_codecs":[{"name":"bytes","configuration":{"endian":"little"}}]}}]}
+
+# A rewrite that stores empty chunks leaves them as they are, and there is no gap in an index alone. Another rewrite takes their keys.
+> {"op":"reopen","path":"/a","order":"C"}
+> {"op":"reopen","path":"/n","order":"C"}
+> {"op":"rewrite","path":"/a","options":{"empty":true}}
+> {"op":"rewrite","path":"/n","options":{"empty":true}}
+< {"done":true}
+> {"op":"compact","path":"/a","chunk":[0]}
+> {"op":"compact","path":"/n","chunk":[0,0]}
+< {"compacted":false}
+
+after: as before
+
+> {"op":"reopen","path":"/a","order":"C"}
+> {"op":"reopen","path":"/n","order":"C"}
+> {"op":"rewrite","path":"/a"}
+> {"op":"rewrite","path":"/n"}
+< {"done":true}
+> {"op":"read_box","path":"/a","box":[[0,8]]}
+< {"cells":[7,7,7,7,7,7,7,7]}
+
+after:
+  a/zarr.json = $stored{"shape":[8],"chunk_grid":{"name":"regular","configuration":{"chunk_shape":[4]}},"fill_value":7,"codecs":[{"name":"sharding_indexed","configuration":{"chunk_shape":[2],"codecs":["bytes"],"index_codecs":[{"name":"bytes","configuration":{"endian":"little"}}]}}]}
+  n/zarr.json = $stored{"shape":[4,4],"chunk_grid":{"name":"regular","configuration":{"chunk_shape":[4,4]}},"codecs":[{"name":"sharding_indexed","configuration":{"chunk_shape":[2,2],"codecs":[{"name":"sharding_indexed","configuration":{"chunk_shape":[1,2],"codecs":["bytes"],"index_codecs":[{"name":"bytes","configuration":{"endian":"little"}}]}}],"index_codecs":[{"name":"bytes","configuration":{"endian":"little"}}]}}]}

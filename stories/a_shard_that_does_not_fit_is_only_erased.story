@@ -1,4 +1,4 @@
-A chunk that its shards don't fit is read where none is stored, and erased, but not written.
+A chunk that its shards don't fit is read where none is stored, and erased, but not written, compacted or rewritten.
 
 # The last chunk has three cells, which subchunks of two don't divide.
 > {"op":"create","path":"/a","document":$zeros{"shape":[7],"chunk_grid":{"name":"regular_bounded","configuration":{"chunk_shape":[4]}},"codecs":[{"name":"sharding_indexed","configuration":{"chunk_shape":[2],"codecs":["bytes"],"index_codecs":[{"name":"bytes","configuration":{"endian":"little"}}]}}]},"order":"C"}
@@ -13,6 +13,10 @@ A chunk that its shards don't fit is read where none is stored, and erased, but 
 < {"applied":1,"refused":"Fit"}
 > {"op":"read_box","path":"/a","box":[[2,6]]}
 < {"cells":[0,1,0,0]}
+# It has no key, so it is neither compacted nor rewritten.
+> {"op":"compact","path":"/a","chunk":[1]}
+< {"compacted":false}
+> {"op":"rewrite","path":"/a"}
 > {"op":"erase_chunks","path":"/a","box":[[1,2]]}
 < {"done":true}
 
@@ -45,7 +49,10 @@ before:
 > {"op":"write_box","path":"/f","box":[[0,1]],"cells":[0]}
 > {"op":"write_box","path":"/g","box":[[0,1]],"cells":[0]}
 > {"op":"write_chunk","path":"/o","chunk":[0],"cells":[null,[1],[2],[3]]}
+# This one has a key.
 > {"op":"read_box","path":"/g","box":[[0,1]]}
+> {"op":"compact","path":"/g","chunk":[0]}
+> {"op":"rewrite","path":"/g"}
 < {"applied":0,"refused":"Fit"}
 > {"op":"read_box","path":"/b","box":[[0,4]]}
 > {"op":"read_box","path":"/c","box":[[0,4]]}
