@@ -1,5 +1,5 @@
 -- What the new value of one chunk makes of a store.
-use Rattle.std.proofs.Common.{◌≡◌, ◌≢◌, ◌∙◌, ℕ, zero, suc, ◌<◌, Bool, true, false, if◌then◌else◌, ◌&&◌, ◌||◌, cond, List, [], ◌∷◌, length, map, get_or, replicate, refl, sym, ap, subst, arith, Option, Some, None, is_some, ⊎_elim, inl, inr, bytes_eq}
+use Rattle.std.proofs.Common.{◌≡◌, ◌≢◌, ◌∙◌, ℕ, zero, suc, ◌<◌, Bool, IsTrue, true, false, if◌then◌else◌, ◌&&◌, ◌||◌, cond, List, [], ◌∷◌, length, map, get_or, replicate, refl, sym, ap, subst, arith, Option, Some, None, is_some, ⊎_elim, inl, inr, bytes_eq}
 use Rattle.std.specs.Prelude.{MatchBool, not}
 use Rattle.std.specs.List.{range_with_len, list_all}
 use Rattle.std.specs.FinMap.{get, get-insert, get-remove}
@@ -21,21 +21,25 @@ use Rattle.zarr_grids_chunks.proofs.Partition.{lies_here}
 use Rattle.zarr_grids_cover.proofs.ChunkBoxes.{chunk_box-rank}
 use Rattle.zarr_grids_cover.proofs.ChunkLaws.{chunks_apart}
 use Rattle.zarr_grids_keys.specs.Keys.{chunk_key}
+use Rattle.zarr_codecs_meaning.specs.Chains.{Chain}
 use Rattle.zarr_codecs_meaning.specs.Chunks.{chunk_decoded, chunk_part, IsStored}
-use Rattle.zarr_codecs_meaning.specs.Laws.{AreCells}
+use Rattle.zarr_codecs_meaning.specs.Fits.{fits, is_lossless, is_plain}
+use Rattle.zarr_codecs_meaning.specs.Laws.{AreCells, IsLawfulChain}
 use Rattle.zarr_codecs_meaning.specs.Standing.{Stands, ChunkStands}
-use Rattle.zarr_codecs_meaning.specs.Types.{Cell, of_bytes, absent, present, is_value, is_fill, same_cell}
+use Rattle.zarr_codecs_meaning.specs.Types.{Cell, Elements, of_bytes, absent, present, is_value, is_fill, same_cell}
 use Rattle.zarr_codecs_meaning.proofs.Chunks.{stored_decoded, stored_part, stored_once}
 use Rattle.zarr_codecs_meaning.proofs.DecodedElements.{all_filled}
 use Rattle.zarr_codecs_meaning.proofs.Lists.{some_same}
+use Rattle.zarr_codecs_meaning.proofs.Tight.{encoded_tight, tight_stands}
+use Rattle.zarr_codecs_traits.specs.PartWriting.{ChunkTight}
 use Rattle.zarr_codecs_options.specs.declared.codec_options.CodecOptions.{CodecOptions}
 use Rattle.zarr_array_meaning.specs.Boxes.{cell_of_box, with_chunks}
 use Rattle.zarr_array_meaning.specs.Chunks.{number_in, stored_at, fits_box, part_at, ReadsCell, holds_box, is_listed}
 use Rattle.zarr_array_meaning.specs.Documents.{Document}
-use Rattle.zarr_array_meaning.specs.Standing.{ChunkStandsAt, IsLossless, IsGood, AreValues}
+use Rattle.zarr_array_meaning.specs.Standing.{ChunkStandsAt, ChunkTightAt, IsLossless, IsGood, AreValues}
 use Rattle.zarr_array_meaning.specs.StoreMaps.{StoreMap}
-use Rattle.zarr_array_meaning.specs.Writing.{ChunkBecomes, IsKeyed, HasKeys, WroteChunks, cell_read, opens_in, stores_fill, takes_cells}
-use Rattle.zarr_array_core.specs.ChunkValues.{CellsBecome, ChangesValue, MakesValue, PutsPart, with_value}
+use Rattle.zarr_array_meaning.specs.Writing.{ChunkBecomes, HasSliceOutside, IsKeyed, HasKeys, Takes, WroteChunks, cell_read, is_into_shard, may_be_in_part, opens_in, stores_fill, takes_cells}
+use Rattle.zarr_array_core.specs.ChunkValues.{CellsBecome, ChangesValue, IsNewValue, MakesValue, PutsPart, with_value}
 use Rattle.zarr_array_meaning.proofs.HeldBoxes.{held_place, not_held}
 use Rattle.zarr_array_meaning.proofs.TakenParts.{part_of_decoded, read_of_decoded, takes_decoded}
 use Rattle.zarr_array_core.proofs.InParts.{parts_of_write}
@@ -58,7 +62,7 @@ cells_at_places box cells at_place fill rank many h =
     ap (λ k. get_or cells k fill) (sym (ravel-place_at box.start box.shape i rank low)) ∙ (h (at i) (in_box-place_at box.start box.shape i rank low) ∙ sym (get_or-map-range_with_len (λ k. at_place (at k)) 0 count i i fill low (omega arith))))
     ∙ sym listed
 
-length-at_places : (box : Region) (at_place : List ℕ → Cell) → length box.start ≡ length box.shape → length (map at_place (places box.start box.shape)) ≡ product box.shape
+pub length-at_places : (box : Region) (at_place : List ℕ → Cell) → length box.start ≡ length box.shape → length (map at_place (places box.start box.shape)) ≡ product box.shape
 length-at_places box at_place rank = ap length (ap (map at_place) (places_by_number box.start box.shape rank) ∙ map-map at_place (place_at box.start box.shape) (range_with_len 0 (product box.shape))) ∙ length-map-range_with_len (λ k. at_place (place_at box.start box.shape k)) 0 (product box.shape)
 
 -- functions that agree on the places of a box
@@ -74,13 +78,13 @@ values_at_places test box cells rank h =
 
 -- ---- a chunk's value
 
-box_rank : (grid : Grid) (chunk : List ℕ) (box : Region) → IsInGrid grid chunk box → length box.start ≡ length box.shape
+pub box_rank : (grid : Grid) (chunk : List ℕ) (box : Region) → IsInGrid grid chunk box → length box.start ≡ length box.shape
 box_rank grid chunk box below = let r = chunk_box-rank grid chunk box below.has_box in r.0 ∙ sym r.1
 
 cells_are : (document : Document) (region : Region) (given : List Cell) (stored : Option (List ℕ)) (box : Region) (cells : List Cell) → IsGood document → CellsBecome document region given stored box cells → AreCells document.elements box.shape cells
 cells_are document region given stored box cells good becomes = record { fill = good.fill; values = becomes.values; whole = becomes.many }
 
-stored_where : (document : Document) (box : Region) (stored : Option (List ℕ)) (cells : List Cell) → fits_box document box ≡ true → ChunkStands document.chain document.elements box.shape stored cells → IsStored document.chain document.elements box.shape stored cells
+pub stored_where : (document : Document) (box : Region) (stored : Option (List ℕ)) (cells : List Cell) → fits_box document box ≡ true → ChunkStands document.chain document.elements box.shape stored cells → IsStored document.chain document.elements box.shape stored cells
 stored_where document box stored cells fit stands = subst (λ (b : Bool). MatchBool b (ChunkStands document.chain document.elements box.shape stored cells) ((stored ≡ None) × (is_fill document.elements.fill cells ≡ true))) (sym fit) stands
 
 -- ---- a key that got a value
@@ -111,6 +115,7 @@ pub record IsWrite (path : List ℕ) (document : Document) (exact : Bool) (regio
   pub region_rank : length region.start ≡ length region.shape
   pub rank : length region.start ≡ length box.start
   pub below : IsInGrid document.grid chunk box
+  pub whole : is_into_shard document options region box ≡ false
   pub makes : MakesValue document exact region given (stores_fill document options region box) box (stored_at path document old chunk) made
 
 -- a fact of the one chunk that is listed
@@ -148,6 +153,33 @@ shows_at path document exact region given options chunk box old made place false
     chunk_part_now path document exact region given options chunk box old made place w lossless inside
     ∙ (ap (λ c. Some (c ∷ [])) (kept.2 place e inside) ∙ sym (part_of_decoded document.chain document.elements box.shape (stored_at path document old chunk) kept.0 (number_in box place) w.makes.fit (number_below box place inside) kept.1))
 
+-- the cells of a chunk are an array's
+pub listed_cells : (document : Document) (chunk : List ℕ) (box : Region) (cells : List ℕ → Cell) → IsGood document → IsInGrid document.grid chunk box → AreValues document cells → AreCells document.elements box.shape (map cells (places box.start box.shape))
+listed_cells document chunk box cells good below values =
+    let rank = box_rank document.grid chunk box below in
+    record { fill = good.fill; values = values_at_places (is_value document.elements.type) box cells rank (λ p i. values chunk box p below i); whole = length-at_places box cells rank }
+
+-- a cell of the chunk after the write
+pub cell_with : (document : Document) (region : Region) (given : List Cell) (chunk : List ℕ) (box : Region) (cells : List ℕ → Cell) (place : List ℕ) → IsInGrid document.grid chunk box → is_in_box box.start box.shape place ≡ true
+    → with_chunks document.grid region (chunk ∷ []) (cell_of_box region given document.elements.fill) cells place ≡ (if is_in_box region.start region.shape place then cell_of_box region given document.elements.fill place else cells place)
+cell_with document region given chunk box cells place below inside =
+    let fill = document.elements.fill in
+    let in_region = is_in_box region.start region.shape place in
+    let lies : lies_in_chunk document.grid place chunk ≡ true = lies_here document.grid chunk place box below.has_box ∙ inside in
+    ap (λ (b : Bool). if in_region && (b || false) then cell_of_box region given fill place else cells place) lies ∙ ap (λ (b : Bool). if b then cell_of_box region given fill place else cells place) (and-true in_region)
+
+-- what is stored with such slices stands
+pub chunk_stands : (chain : Chain) (elements : Elements) (shape : List ℕ) (stored : Option (List ℕ)) (cells : List Cell) → IsLawfulChain chain → fits chain elements.type shape ≡ true → is_lossless chain elements.type ≡ true → AreCells elements shape cells
+    → ChunkTight chain elements shape stored cells → ChunkStands chain elements shape stored cells
+chunk_stands chain elements shape None cells lawful fit lossless are h = h
+chunk_stands chain elements shape (Some value) cells lawful fit lossless are h = tight_stands chain elements shape value cells lawful fit lossless are h
+
+-- what is encoded has such slices
+new_tight : (document : Document) (exact store_empty : Bool) (shape : List ℕ) (cells : List Cell) (made : Option (List ℕ)) → IsLawfulChain document.chain → fits document.chain document.elements.type shape ≡ true → is_lossless document.chain document.elements.type ≡ true → AreCells document.elements shape cells
+    → IsTrue exact → IsNewValue document exact store_empty shape cells made → ChunkTight document.chain document.elements shape made cells
+new_tight document exact store_empty shape cells None lawful fit lossless are one is = (is.absent refl).1
+new_tight document exact store_empty shape cells (Some value) lawful fit lossless are one is = encoded_tight document.chain document.elements shape value cells lawful fit lossless are (is.encodes one value refl)
+
 -- the new cells, where the chunk stood for others
 cell_after : (path : List ℕ) (document : Document) (exact : Bool) (region : Region) (given : List Cell) (options : CodecOptions) (chunk : List ℕ) (box : Region) (old : StoreMap) (made : Option (List ℕ)) (cells : List ℕ → Cell) (place : List ℕ) (t : Bool) (w : IsWrite path document exact region given options chunk box old made) → IsLossless document
     → AreValues document cells → ChunkStandsAt path document old chunk box cells → is_in_box box.start box.shape place ≡ true → is_in_box region.start region.shape place ≡ t
@@ -157,55 +189,95 @@ cell_after path document exact region given options chunk box old made cells pla
     let rank = box_rank document.grid chunk box w.below in
     let kept = w.makes.becomes.kept (not_held region box place (holds_box region box) refl w.region_rank rank w.rank inside e) in
     let listed = map cells (places box.start box.shape) in
-    let are : AreCells document.elements box.shape listed = record { fill = w.good.fill; values = values_at_places (is_value document.elements.type) box cells rank (λ p i. values chunk box p w.below i); whole = length-at_places box cells rank } in
+    let are : AreCells document.elements box.shape listed = listed_cells document chunk box cells w.good w.below values in
     let before : kept.0 ≡ listed = some_same (sym kept.1 ∙ stored_decoded document.chain document.elements box.shape (stored_at path document old chunk) listed w.good.lawful lossless are st) in
     kept.2 place e inside ∙ (ap (λ (cs : List Cell). cell_of_box box cs document.elements.fill place) before ∙ cell_of_places box cells document.elements.fill place rank inside)
+
+-- the new cells are those of the chunk after the write
+new_cells : (path : List ℕ) (document : Document) (exact : Bool) (region : Region) (given : List Cell) (options : CodecOptions) (chunk : List ℕ) (box : Region) (old : StoreMap) (made : Option (List ℕ)) (cells : List ℕ → Cell) (w : IsWrite path document exact region given options chunk box old made) → IsLossless document
+    → AreValues document cells → ChunkStandsAt path document old chunk box cells
+    → w.makes.cells ≡ map (with_chunks document.grid region (chunk ∷ []) (cell_of_box region given document.elements.fill) cells) (places box.start box.shape)
+new_cells path document exact region given options chunk box old made cells w lossless values st =
+    let rank = box_rank document.grid chunk box w.below in
+    let fill = document.elements.fill in
+    let after = with_chunks document.grid region (chunk ∷ []) (cell_of_box region given fill) cells in
+    cells_at_places box w.makes.cells after fill rank w.makes.becomes.many (λ place inside.
+    cell_after path document exact region given options chunk box old made cells place (is_in_box region.start region.shape place) w lossless values st inside refl ∙ sym (cell_with document region given chunk box cells place w.below inside))
 
 keeps_here : (path : List ℕ) (document : Document) (exact : Bool) (region : Region) (given : List Cell) (options : CodecOptions) (chunk : List ℕ) (box : Region) (old : StoreMap) (made : Option (List ℕ)) (cells : List ℕ → Cell) (w : IsWrite path document exact region given options chunk box old made) → IsLossless document
     → AreValues document cells → ChunkStandsAt path document old chunk box cells
     → ChunkStandsAt path document (new_store path document old chunk made) chunk box (with_chunks document.grid region (chunk ∷ []) (cell_of_box region given document.elements.fill) cells)
 keeps_here path document exact region given options chunk box old made cells w lossless values st =
-    let rank = box_rank document.grid chunk box w.below in
-    let fill = document.elements.fill in
-    let after = with_chunks document.grid region (chunk ∷ []) (cell_of_box region given fill) cells in
-    let same : w.makes.cells ≡ map after (places box.start box.shape) = cells_at_places box w.makes.cells after fill rank w.makes.becomes.many (λ place inside.
-    let in_region = is_in_box region.start region.shape place in
-    let lies : lies_in_chunk document.grid place chunk ≡ true = lies_here document.grid chunk place box w.below.has_box ∙ inside in
-    cell_after path document exact region given options chunk box old made cells place in_region w lossless values st inside refl
-    ∙ sym (ap (λ (b : Bool). if in_region && (b || false) then cell_of_box region given fill place else cells place) lies ∙ ap (λ (b : Bool). if b then cell_of_box region given fill place else cells place) (and-true in_region))) in
-    subst (λ (cs : List Cell). IsStored document.chain document.elements box.shape (stored_at path document (new_store path document old chunk made) chunk) cs) same (chunk_stored_now path document exact region given options chunk box old made w lossless)
+    subst (λ (cs : List Cell). IsStored document.chain document.elements box.shape (stored_at path document (new_store path document old chunk made) chunk) cs)
+    (new_cells path document exact region given options chunk box old made cells w lossless values st) (chunk_stored_now path document exact region given options chunk box old made w lossless)
 
-stored_apart : (path : List ℕ) (document : Document) (exact : Bool) (region : Region) (given : List Cell) (options : CodecOptions) (chunk d : List ℕ) (box other : Region) (old : StoreMap) (made : Option (List ℕ)) (w : IsWrite path document exact region given options chunk box old made) → IsInGrid document.grid d other → d ≢ chunk
-    → stored_at path document (new_store path document old chunk made) d ≡ stored_at path document old d
-stored_apart path document exact region given options chunk d box other old made w over ne =
-    value_other old (chunk_key path document.keys chunk) (chunk_key path document.keys d) made (w.apart.keys chunk d box other w.below over ne)
+-- slices that were what encoding writes are such ones afterwards
+tight_here : (path : List ℕ) (document : Document) (exact : Bool) (region : Region) (given : List Cell) (options : CodecOptions) (chunk : List ℕ) (box : Region) (old : StoreMap) (made : Option (List ℕ)) (cells : List ℕ → Cell) (w : IsWrite path document exact region given options chunk box old made) → IsTrue exact → IsLossless document
+    → AreValues document cells → ChunkTightAt path document old chunk box cells
+    → ChunkTightAt path document (new_store path document old chunk made) chunk box (with_chunks document.grid region (chunk ∷ []) (cell_of_box region given document.elements.fill) cells)
+tight_here path document exact region given options chunk box old made cells w one lossless values st =
+    let are = listed_cells document chunk box cells w.good w.below values in
+    let stands = stored_where document box (stored_at path document old chunk) (map cells (places box.start box.shape)) w.makes.fit
+    (chunk_stands document.chain document.elements box.shape (stored_at path document old chunk) (map cells (places box.start box.shape)) w.good.lawful w.makes.fit lossless are st) in
+    let now = new_tight document exact (stores_fill document options region box) box.shape w.makes.cells made w.good.lawful w.makes.fit lossless
+    (cells_are document region given (stored_at path document old chunk) box w.makes.cells w.good w.makes.becomes) one w.makes.is in
+    subst (λ (cs : List Cell). ChunkTight document.chain document.elements box.shape (stored_at path document (new_store path document old chunk made) chunk) cs)
+    (new_cells path document exact region given options chunk box old made cells w lossless values stands)
+    (subst (λ (o : Option (List ℕ)). ChunkTight document.chain document.elements box.shape o w.makes.cells) (sym (value_same old (chunk_key path document.keys chunk) made)) now)
 
 -- cells of a chunk whose value stays
-kept_apart : (path : List ℕ) (document : Document) (region : Region) (given : List Cell) (chunk d : List ℕ) (other : Region) (old new : StoreMap) (cells : List ℕ → Cell) → IsInGrid document.grid d other → d ≢ chunk → stored_at path document new d ≡ stored_at path document old d
-    → ChunkStandsAt path document old d other cells → ChunkStandsAt path document new d other (with_chunks document.grid region (chunk ∷ []) (cell_of_box region given document.elements.fill) cells)
-kept_apart path document region given chunk d other old new cells over ne stays st =
+cells_apart : (document : Document) (region : Region) (given : List Cell) (chunk d : List ℕ) (other : Region) (cells : List ℕ → Cell) → IsInGrid document.grid d other → d ≢ chunk
+    → map cells (places other.start other.shape) ≡ map (with_chunks document.grid region (chunk ∷ []) (cell_of_box region given document.elements.fill) cells) (places other.start other.shape)
+cells_apart document region given chunk d other cells over ne =
     let fill = document.elements.fill in
     let after = with_chunks document.grid region (chunk ∷ []) (cell_of_box region given fill) cells in
     let rank = box_rank document.grid d other over in
-    let same : map cells (places other.start other.shape) ≡ map after (places other.start other.shape) = same_at_places other cells after fill rank (λ place inside.
+    same_at_places other cells after fill rank (λ place inside.
     let in_region = is_in_box region.start region.shape place in
     ⊎_elim
     (λ lies. absurd (ne (chunks_apart document.grid d chunk place (lies_here document.grid d place other over.has_box ∙ inside) lies)))
     (λ lies. sym (ap (λ (b : Bool). if in_region && (b || false) then cell_of_box region given fill place else cells place) lies ∙ ap (λ (b : Bool). if b then cell_of_box region given fill place else cells place) (and-false in_region)))
-    (told (lies_in_chunk document.grid place chunk))) in
-    subst (λ (cs : List Cell). IsStored document.chain document.elements other.shape (stored_at path document new d) cs) same
+    (told (lies_in_chunk document.grid place chunk)))
+
+pub kept_apart : (path : List ℕ) (document : Document) (region : Region) (given : List Cell) (chunk d : List ℕ) (other : Region) (old new : StoreMap) (cells : List ℕ → Cell) → IsInGrid document.grid d other → d ≢ chunk → stored_at path document new d ≡ stored_at path document old d
+    → ChunkStandsAt path document old d other cells → ChunkStandsAt path document new d other (with_chunks document.grid region (chunk ∷ []) (cell_of_box region given document.elements.fill) cells)
+kept_apart path document region given chunk d other old new cells over ne stays st =
+    subst (λ (cs : List Cell). IsStored document.chain document.elements other.shape (stored_at path document new d) cs) (cells_apart document region given chunk d other cells over ne)
     (subst (λ (o : Option (List ℕ)). IsStored document.chain document.elements other.shape o (map cells (places other.start other.shape))) (sym stays) st)
+
+pub tight_apart : (path : List ℕ) (document : Document) (region : Region) (given : List Cell) (chunk d : List ℕ) (other : Region) (old new : StoreMap) (cells : List ℕ → Cell) → IsInGrid document.grid d other → d ≢ chunk → stored_at path document new d ≡ stored_at path document old d
+    → ChunkTightAt path document old d other cells → ChunkTightAt path document new d other (with_chunks document.grid region (chunk ∷ []) (cell_of_box region given document.elements.fill) cells)
+tight_apart path document region given chunk d other old new cells over ne stays st =
+    subst (λ (cs : List Cell). ChunkTight document.chain document.elements other.shape (stored_at path document new d) cs) (cells_apart document region given chunk d other cells over ne)
+    (subst (λ (o : Option (List ℕ)). ChunkTight document.chain document.elements other.shape o (map cells (places other.start other.shape))) (sym stays) st)
+
+-- what is so of the chunk that is written, and of each other one
+pub at_each : (path : List ℕ) (document : Document) (P : List ℕ → Region → Type 0) (chunk d : List ℕ) (box other : Region) (old : StoreMap) (made : Option (List ℕ)) → AreApart path document → IsInGrid document.grid chunk box → IsInGrid document.grid d other
+    → P chunk box → (d ≢ chunk → stored_at path document (new_store path document old chunk made) d ≡ stored_at path document old d → P d other) → P d other
+at_each path document P chunk d box other old made apart below over here there = ⊎_elim
+    (λ t. at_one document.grid P chunk d box other below over (one_listed chunk d ((bytes_eq-Decides d chunk).0 t)) here)
+    (λ t.
+    let ne : d ≢ chunk = λ e. false≢true (sym t ∙ (bytes_eq-Decides d chunk).1 e) in
+    there ne (value_other old (chunk_key path document.keys chunk) (chunk_key path document.keys d) made (apart.keys chunk d box other below over ne)))
+    (told (bytes_eq d chunk))
 
 keeps_one : (path : List ℕ) (document : Document) (exact : Bool) (region : Region) (given : List Cell) (options : CodecOptions) (chunk d : List ℕ) (box other : Region) (old : StoreMap) (made : Option (List ℕ)) (cells : List ℕ → Cell) (w : IsWrite path document exact region given options chunk box old made) → IsLossless document
     → AreValues document cells → IsInGrid document.grid d other → ChunkStandsAt path document old d other cells
     → ChunkStandsAt path document (new_store path document old chunk made) d other (with_chunks document.grid region (chunk ∷ []) (cell_of_box region given document.elements.fill) cells)
-keeps_one path document exact region given options chunk d box other old made cells w lossless values over st = ⊎_elim
-    (λ t. at_one document.grid (λ k r. ChunkStandsAt path document old k r cells → ChunkStandsAt path document (new_store path document old chunk made) k r (with_chunks document.grid region (chunk ∷ []) (cell_of_box region given document.elements.fill) cells))
-    chunk d box other w.below over (one_listed chunk d ((bytes_eq-Decides d chunk).0 t)) (λ s. keeps_here path document exact region given options chunk box old made cells w lossless values s) st)
-    (λ t.
-    let ne : d ≢ chunk = λ e. false≢true (sym t ∙ (bytes_eq-Decides d chunk).1 e) in
-    kept_apart path document region given chunk d other old (new_store path document old chunk made) cells over ne (stored_apart path document exact region given options chunk d box other old made w over ne) st)
-    (told (bytes_eq d chunk))
+keeps_one path document exact region given options chunk d box other old made cells w lossless values over st =
+    let new = new_store path document old chunk made in
+    let after = with_chunks document.grid region (chunk ∷ []) (cell_of_box region given document.elements.fill) cells in
+    at_each path document (λ k r. ChunkStandsAt path document old k r cells → ChunkStandsAt path document new k r after) chunk d box other old made w.apart w.below over
+    (λ s. keeps_here path document exact region given options chunk box old made cells w lossless values s) (λ ne stays s. kept_apart path document region given chunk d other old new cells over ne stays s) st
+
+tight_one : (path : List ℕ) (document : Document) (exact : Bool) (region : Region) (given : List Cell) (options : CodecOptions) (chunk d : List ℕ) (box other : Region) (old : StoreMap) (made : Option (List ℕ)) (cells : List ℕ → Cell) (w : IsWrite path document exact region given options chunk box old made) → IsTrue exact → IsLossless document
+    → AreValues document cells → IsInGrid document.grid d other → ChunkTightAt path document old d other cells
+    → ChunkTightAt path document (new_store path document old chunk made) d other (with_chunks document.grid region (chunk ∷ []) (cell_of_box region given document.elements.fill) cells)
+tight_one path document exact region given options chunk d box other old made cells w one lossless values over st =
+    let new = new_store path document old chunk made in
+    let after = with_chunks document.grid region (chunk ∷ []) (cell_of_box region given document.elements.fill) cells in
+    at_each path document (λ k r. ChunkTightAt path document old k r cells → ChunkTightAt path document new k r after) chunk d box other old made w.apart w.below over
+    (λ s. tight_here path document exact region given options chunk box old made cells w one lossless values s) (λ ne stays s. tight_apart path document region given chunk d other old new cells over ne stays s) st
 
 makes_here : (path : List ℕ) (document : Document) (exact : Bool) (region : Region) (given : List Cell) (options : CodecOptions) (chunk : List ℕ) (box : Region) (old : StoreMap) (made : Option (List ℕ)) (w : IsWrite path document exact region given options chunk box old made) → IsLossless document → holds_box region box ≡ true
     → ChunkStandsAt path document (new_store path document old chunk made) chunk box (cell_of_box region given document.elements.fill)
@@ -250,7 +322,7 @@ keys_one path document exact region given options chunk box old made w = record 
   stored = λ d other over empty l.
       at_one document.grid (λ k r. stores_fill document options region r ≡ true → is_some (stored_at path document (new_store path document old chunk made) k) ≡ true) chunk d box other w.below over l
       (λ e. ap is_some (value_same old (chunk_key path document.keys chunk) made) ∙ some_or made (λ none. false≢true (sym (w.makes.is.absent none).0 ∙ e))) empty;
-  erased = λ lossless d other over empty l value found.
+  erased = λ lossless d other over whole empty l value found.
       at_one document.grid (λ k r. stores_fill document options region r ≡ false → stored_at path document (new_store path document old chunk made) k ≡ Some value → Stands document.chain document.elements r.shape value (replicate (product r.shape) document.elements.fill) → ⊥) chunk d box other w.below over l
       (λ e f s. no_fill_value path document exact region given options chunk box old made value w lossless e f s) empty found;
 }
@@ -261,12 +333,17 @@ called_for None store_empty fill none some = let h = none refl in sym (ap (λ (b
 called_for (Some value) true fill none some = refl
 called_for (Some value) false fill none some = sym (ap not (some value refl refl))
 
+-- what takes the cells of a write that isn't into a shard
+taken_whole : (document : Document) (options : CodecOptions) (region box : Region) (stored : Option (List ℕ)) → is_into_shard document options region box ≡ false → takes_cells document options region box stored ≡ true → Takes document options region box stored
+taken_whole document options region box stored whole h =
+    subst (λ (b : Bool). MatchBool b ((opens_in document box stored ≡ true) × (¬ HasSliceOutside document box stored)) (takes_cells document options region box stored ≡ true)) (sym whole) h
+
 pub becomes_at : (path : List ℕ) (document : Document) (region : Region) (given : List Cell) (options : CodecOptions) (chunk : List ℕ) (box : Region) (store : StoreMap) (cells : List Cell) → fits_box document box ≡ true
     → CellsBecome document region given (stored_at path document store chunk) box cells → ChunkBecomes path document store region given options chunk box cells
 becomes_at path document region given options chunk box store cells fit becomes = record {
   many = becomes.many;
   written = becomes.written;
-  takes = λ part. let kept = becomes.kept part in takes_decoded document options region box (stored_at path document store chunk) kept.0 fit kept.1;
+  takes = λ whole part. let kept = becomes.kept part in takes_decoded document options region box (stored_at path document store chunk) kept.0 fit kept.1;
   kept = λ part place out inside.
       let kept = becomes.kept part in
       kept.2 place out inside ∙ sym (read_of_decoded path document store chunk box place kept.0 fit (number_below box place inside) kept.1);
@@ -277,8 +354,9 @@ keyed_here : (path : List ℕ) (document : Document) (exact : Bool) (region : Re
 keyed_here path document exact region given options chunk box old made w = record {
   cells = w.makes.cells;
   becomes = becomes_at path document region given options chunk box old w.makes.cells w.makes.fit w.makes.becomes;
-  key = ap is_some (value_same old (chunk_key path document.keys chunk) made) ∙ called_for made (stores_fill document options region box) (is_fill document.elements.fill w.makes.cells) w.makes.is.absent w.makes.is.present;
-  encodes = λ one whole value is. w.makes.is.encodes one value (sym (value_same old (chunk_key path document.keys chunk) made) ∙ is);
+  key = λ whole. ap is_some (value_same old (chunk_key path document.keys chunk) made) ∙ called_for made (stores_fill document options region box) (is_fill document.elements.fill w.makes.cells) w.makes.is.absent w.makes.is.present;
+  taken = λ into. absurd (false≢true (sym w.whole ∙ into));
+  encodes = λ one whole held value is. w.makes.is.encodes one value (sym (value_same old (chunk_key path document.keys chunk) made) ∙ is);
 }
 
 -- ---- one chunk written
@@ -288,13 +366,14 @@ pub wrote_one : (path : List ℕ) (document : Document) (exact : Bool) (region :
 wrote_one path document exact region given options chunk box old made w = record {
   fit = λ d other over l. at_one document.grid (λ k r. fits_box document r ≡ true) chunk d box other w.below over l w.makes.fit;
   undamaged = λ d other over l part.
-      at_one document.grid (λ k r. holds_box region r ≡ false → takes_cells document options region r (stored_at path document old k) ≡ true) chunk d box other w.below over l
-      (λ h. let kept = w.makes.becomes.kept h in takes_decoded document options region box (stored_at path document old chunk) kept.0 w.makes.fit kept.1) part;
+      at_one document.grid (λ k r. holds_box region r ≡ false → Takes document options region r (stored_at path document old k)) chunk d box other w.below over l
+      (λ h. let kept = w.makes.becomes.kept h in taken_whole document options region box (stored_at path document old chunk) w.whole (takes_decoded document options region box (stored_at path document old chunk) kept.0 w.makes.fit kept.1)) part;
   shows = λ lossless d other place over l inside.
       at_one document.grid (λ k r. is_in_box r.start r.shape place ≡ true → MatchBool (is_in_box region.start region.shape place) (ReadsCell path document (new_store path document old chunk made) k r place (cell_of_box region given document.elements.fill place))
       (part_at path document (new_store path document old chunk made) k r place ≡ part_at path document old k r place)) chunk d box other w.below over l
       (λ i. shows_at path document exact region given options chunk box old made place (is_in_box region.start region.shape place) w lossless i refl) inside;
   keeps = λ lossless cells values d other over st. keeps_one path document exact region given options chunk d box other old made cells w lossless values over st;
+  tight = λ one lossless cells values d other over st. tight_one path document exact region given options chunk d box other old made cells w one lossless values over st;
   makes = λ lossless d other over l holds.
       at_one document.grid (λ k r. holds_box region r ≡ true → ChunkStandsAt path document (new_store path document old chunk made) k r (cell_of_box region given document.elements.fill)) chunk d box other w.below over l
       (λ h. makes_here path document exact region given options chunk box old made w lossless h) holds;
@@ -322,16 +401,30 @@ module _ (path : List ℕ) (document : Document) (exact : Bool) (region : Region
   -- what is stored stands for no cells
   stands_for_none : IsLossless document → (cells : List ℕ → Cell) → AreValues document cells → ChunkStandsAt path document old chunk box cells → ⊥
   stands_for_none lossless cells values st =
-      let rank = box_rank document.grid chunk box w.below in
       let listed = map cells (places box.start box.shape) in
-      let are : AreCells document.elements box.shape listed = record { fill = w.good.fill; values = values_at_places (is_value document.elements.type) box cells rank (λ p i. values chunk box p w.below i); whole = length-at_places box cells rank } in
+      let are : AreCells document.elements box.shape listed = listed_cells document chunk box cells w.good w.below values in
       none-some listed (sym w.puts.lost ∙ stored_decoded document.chain document.elements box.shape (stored_at path document old chunk) listed w.good.lawful lossless are st)
 
   stays_stored : stores_fill document options region box ≡ true
-  stays_stored = ap (λ (b : Bool). options.store_empty_chunks || b) w.puts.in_part ∙ or-true options.store_empty_chunks where
+  stays_stored = ap (λ (b : Bool). (options.store_empty_chunks && not (is_into_shard document options region box)) || b) w.puts.in_part ∙ or-true (options.store_empty_chunks && not (is_into_shard document options region box)) where
     or-true : (b : Bool) → (b || true) ≡ true
     or-true true = refl
     or-true false = refl
+
+  -- the write isn't into a shard
+  whole : is_into_shard document options region box ≡ false
+  whole = plain_not (may_be_in_part document options region box) (is_plain document.chain) w.puts.in_part where
+    plain_not : (may plain : Bool) → (may && plain) ≡ true → (may && not plain) ≡ false
+    plain_not true true h = refl
+    plain_not true false h = absurd (false≢true h)
+    plain_not false plain h = refl
+
+  tight_for_none : IsLossless document → (cells : List ℕ → Cell) → AreValues document cells → ChunkTightAt path document old chunk box cells → ⊥
+  tight_for_none lossless cells values st =
+      let listed = map cells (places box.start box.shape) in
+      let stored = stored_at path document old chunk in
+      stands_for_none lossless cells values
+      (stored_where document box stored listed w.puts.fit (chunk_stands document.chain document.elements box.shape stored listed w.good.lawful w.puts.fit lossless (listed_cells document chunk box cells w.good w.below values) st))
 
   part : holds_box region box ≡ false
   part = (parts_of_write document options region box w.puts.in_part).1
@@ -357,11 +450,12 @@ module _ (path : List ℕ) (document : Document) (exact : Bool) (region : Region
     becomes = record {
       many = length-at_places box cell_then (box_rank document.grid chunk box w.below);
       written = λ place r inside. cell_there place true r inside;
-      takes = λ p. takes;
+      takes = λ _ p. takes;
       kept = λ p place r inside. cell_there place false r inside;
     };
-    key = ap is_some stored_now ∙ (w.puts.some ∙ sym (ap (λ (b : Bool). b || not (is_fill document.elements.fill cells_then)) stays_stored));
-    encodes = λ one whole value is. absurd (false≢true (sym (ap is_some w.puts.lost) ∙ whole part));
+    key = λ _. ap is_some stored_now ∙ (w.puts.some ∙ sym (ap (λ (b : Bool). b || not (is_fill document.elements.fill cells_then)) stays_stored));
+    taken = λ into. absurd (false≢true (sym whole ∙ into));
+    encodes = λ one _ decodes value is. absurd (false≢true (sym (ap is_some w.puts.lost) ∙ decodes part));
   }
 
   shows_there : IsLossless document → (place : List ℕ) → is_in_box box.start box.shape place ≡ true
@@ -374,36 +468,42 @@ module _ (path : List ℕ) (document : Document) (exact : Bool) (region : Region
 
   keeps_there : IsLossless document → (cells : List ℕ → Cell) → AreValues document cells → (d : List ℕ) (other : Region) → IsInGrid document.grid d other → ChunkStandsAt path document old d other cells
       → ChunkStandsAt path document after d other (with_chunks document.grid region (chunk ∷ []) (cell_of_box region given document.elements.fill) cells)
-  keeps_there lossless cells values d other over st = ⊎_elim
-      (λ t.
-      absurd (at_one document.grid (λ k r. ChunkStandsAt path document old k r cells → ⊥) chunk d box other w.below over (one_listed chunk d ((bytes_eq-Decides d chunk).0 t)) (λ s. stands_for_none lossless cells values s) st))
-      (λ t.
-      let ne : d ≢ chunk = λ e. false≢true (sym t ∙ (bytes_eq-Decides d chunk).1 e) in
-      kept_apart path document region given chunk d other old after cells over ne (value_other old (chunk_key path document.keys chunk) (chunk_key path document.keys d) made (w.apart.keys chunk d box other w.below over ne)) st)
-      (told (bytes_eq d chunk))
+  keeps_there lossless cells values d other over st =
+      let after_cells = with_chunks document.grid region (chunk ∷ []) (cell_of_box region given document.elements.fill) cells in
+      at_each path document (λ k r. ChunkStandsAt path document old k r cells → ChunkStandsAt path document after k r after_cells) chunk d box other old made w.apart w.below over
+      (λ s. absurd (stands_for_none lossless cells values s)) (λ ne stays s. kept_apart path document region given chunk d other old after cells over ne stays s) st
+
+  tight_there : IsLossless document → (cells : List ℕ → Cell) → AreValues document cells → (d : List ℕ) (other : Region) → IsInGrid document.grid d other → ChunkTightAt path document old d other cells
+      → ChunkTightAt path document after d other (with_chunks document.grid region (chunk ∷ []) (cell_of_box region given document.elements.fill) cells)
+  tight_there lossless cells values d other over st =
+      let after_cells = with_chunks document.grid region (chunk ∷ []) (cell_of_box region given document.elements.fill) cells in
+      at_each path document (λ k r. ChunkTightAt path document old k r cells → ChunkTightAt path document after k r after_cells) chunk d box other old made w.apart w.below over
+      (λ s. absurd (tight_for_none lossless cells values s)) (λ ne stays s. tight_apart path document region given chunk d other old after cells over ne stays s) st
 
   pub wrote_put : WroteChunks path document exact region given options (chunk ∷ []) old after
   wrote_put = record {
     fit = λ d other over l. at_one document.grid (λ k r. fits_box document r ≡ true) chunk d box other w.below over l w.puts.fit;
-    undamaged = λ d other over l whole.
-        at_one document.grid (λ k r. holds_box region r ≡ false → takes_cells document options region r (stored_at path document old k) ≡ true) chunk d box other w.below over l (λ h. takes) whole;
+    undamaged = λ d other over l held.
+        at_one document.grid (λ k r. holds_box region r ≡ false → Takes document options region r (stored_at path document old k)) chunk d box other w.below over l
+        (λ h. taken_whole document options region box (stored_at path document old chunk) whole takes) held;
     shows = λ lossless d other place over l inside.
         at_one document.grid (λ k r. is_in_box r.start r.shape place ≡ true → MatchBool (is_in_box region.start region.shape place) (ReadsCell path document after k r place (cell_of_box region given document.elements.fill place))
         (part_at path document after k r place ≡ part_at path document old k r place)) chunk d box other w.below over l
         (λ i. shows_there lossless place i) inside;
     keeps = λ lossless cells values d other over st. keeps_there lossless cells values d other over st;
+    tight = λ one lossless cells values d other over st. tight_there lossless cells values d other over st;
     makes = λ lossless d other over l holds.
         absurd (at_one document.grid (λ k r. holds_box region r ≡ true → ⊥) chunk d box other w.below over l (λ h. false≢true (sym part ∙ h)) holds);
     others = λ key ne. value_other old (chunk_key path document.keys chunk) key made (ne chunk (one_listed chunk chunk refl));
     keys = record {
       stored = λ d other over empty l. at_one document.grid (λ k r. is_some (stored_at path document after k) ≡ true) chunk d box other w.below over l (ap is_some stored_now ∙ w.puts.some);
-      erased = λ lossless d other over empty l value found.
+      erased = λ lossless d other over _ empty l value found.
           absurd (at_one document.grid (λ k r. stores_fill document options region r ≡ false → ⊥) chunk d box other w.below over l (λ e. false≢true (sym e ∙ stays_stored)) empty);
     };
     keyed = λ d other over l. at_one document.grid (λ k r. IsKeyed path document exact region given options old after k r) chunk d box other w.below over l keyed_there;
   }
 
--- ---- one chunk written, either way
+-- ---- one chunk written, but for a part put into its shard
 
 -- a chunk in the grid that a write changes
 pub record IsChange (path : List ℕ) (document : Document) (region : Region) (chunk : List ℕ) (box : Region) : Type 0 where
@@ -413,9 +513,9 @@ pub record IsChange (path : List ℕ) (document : Document) (region : Region) (c
   pub rank : length region.start ≡ length box.start
   pub below : IsInGrid document.grid chunk box
 
-pub wrote_changed : (path : List ℕ) (document : Document) (exact : Bool) (region : Region) (given : List Cell) (options : CodecOptions) (chunk : List ℕ) (box : Region) (old : StoreMap) (made : Option (List ℕ)) → IsChange path document region chunk box
+pub wrote_changed : (path : List ℕ) (document : Document) (exact : Bool) (region : Region) (given : List Cell) (options : CodecOptions) (chunk : List ℕ) (box : Region) (old : StoreMap) (made : Option (List ℕ)) → IsChange path document region chunk box → is_into_shard document options region box ≡ false
     → ChangesValue document exact region given options box (stored_at path document old chunk) made → WroteChunks path document exact region given options (chunk ∷ []) old (new_store path document old chunk made)
-wrote_changed path document exact region given options chunk box old made is (inl makes) =
-    wrote_one path document exact region given options chunk box old made (record { good = is.good; apart = is.apart; region_rank = is.region_rank; rank = is.rank; below = is.below; makes = makes })
-wrote_changed path document exact region given options chunk box old made is (inr puts) =
+wrote_changed path document exact region given options chunk box old made is t (inl makes) =
+    wrote_one path document exact region given options chunk box old made (record { good = is.good; apart = is.apart; region_rank = is.region_rank; rank = is.rank; below = is.below; whole = t; makes = makes })
+wrote_changed path document exact region given options chunk box old made is t (inr puts) =
     wrote_put path document exact region given options chunk box old made (record { good = is.good; apart = is.apart; below = is.below; puts = puts })

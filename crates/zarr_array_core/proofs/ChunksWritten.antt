@@ -1,5 +1,5 @@
 -- What a write of a box, chunk by chunk, leaves.
-use Rattle.std.proofs.Common.{◌≡◌, ◌≢◌, ◌∙◌, ℕ, ◌+◌, ◌<◌, Bool, true, false, if◌then◌else◌, ◌&&◌, ◌||◌, List, [], ◌∷◌, ◌++◌, length, map, get_or, refl, sym, ap, subst, arith, Option, Some, is_some, inl, ⊎_elim}
+use Rattle.std.proofs.Common.{◌≡◌, ◌≢◌, ◌∙◌, ℕ, ◌+◌, ◌<◌, Bool, true, false, if◌then◌else◌, ◌&&◌, ◌||◌, List, [], ◌∷◌, ◌++◌, length, map, get_or, refl, sym, ap, subst, arith, Option, Some, is_some, ⊎_elim}
 use Rattle.std.specs.Prelude.{MatchBool, unwrap_or}
 use Rattle.std.specs.List.{list_all, list_any}
 use Rattle.std.proofs.Math.Bool.{and-false}
@@ -13,21 +13,23 @@ use Rattle.zarr_grids_cover.specs.Intersecting.{AreIntersecting}
 use Rattle.zarr_grids_cover.proofs.ChunkBoxes.{chunk_box-rank}
 use Rattle.zarr_grids_keys.specs.Keys.{chunk_key}
 use Rattle.zarr_codecs_meaning.specs.Chunks.{chunk_decoded, chunk_part, IsStored}
+use Rattle.zarr_codecs_meaning.specs.Standing.{ChunkStands}
 use Rattle.zarr_codecs_meaning.specs.Payloads.{Payload, cells_in}
 use Rattle.zarr_codecs_meaning.specs.Types.{Cell, is_value}
 use Rattle.zarr_codecs_options.specs.declared.codec_options.CodecOptions.{CodecOptions}
 use Rattle.zarr_array_meaning.specs.Boxes.{cell_of_box, with_chunks}
 use Rattle.zarr_array_meaning.specs.Chunks.{number_in, stored_at, is_listed}
 use Rattle.zarr_array_meaning.specs.Documents.{Document}
-use Rattle.zarr_array_meaning.specs.Standing.{ChunkStandsAt, IsGood, AreValues}
+use Rattle.zarr_array_meaning.specs.Standing.{ChunkStandsAt, ChunkTightAt, IsGood, AreValues}
 use Rattle.zarr_array_meaning.specs.StoreMaps.{StoreMap}
-use Rattle.zarr_array_meaning.specs.Writing.{IsKeyed, HasKeys, WroteChunks, takes_cells}
-use Rattle.zarr_array_core.specs.ChunkValues.{ChangesValue, ChangeStops, with_value}
-use Rattle.zarr_array_core.specs.Outcomes.{ChunkStops, WriteStops}
+use Rattle.zarr_array_meaning.specs.Writing.{IsKeyed, HasKeys, Takes, WroteChunks, takes_cells}
+use Rattle.zarr_array_core.specs.ChunkValues.{with_value}
+use Rattle.zarr_array_core.specs.IntoShards.{WritesChunk, WritingStops}
+use Rattle.zarr_array_core.specs.Outcomes.{WriteStops}
 use Rattle.zarr_array_core.specs.declared.error.ChunkError.{ChunkError}
-use Rattle.zarr_array_core.specs.declared.error.ChunkError.TheVariants as error
 use Rattle.zarr_array_core.proofs.ChunkCells.{cell_value}
-use Rattle.zarr_array_core.proofs.ChunkWritten.{AreApart, becomes_at, wrote_changed}
+use Rattle.zarr_array_core.proofs.ChunkWritten.{AreApart, box_rank}
+use Rattle.zarr_array_core.proofs.ShardWritten.{chunk_stops, write_at, wrote_chunk}
 use Rattle.zarr_array_core.proofs.Listed.{list_any-append, listed_one, one_listed, listed_more, before_listed, last_listed, listed_number}
 use Rattle.zarr_array_core.proofs.NthChunks.{first_chunks, first_chunks-more, first_chunks-all, first_chunks-take, first_chunks-below, nth_number, length-intersecting}
 
@@ -55,6 +57,9 @@ with_chunks-value test false one other a b = b
 stands_same : (path : List ℕ) (document : Document) (store : StoreMap) (chunk : List ℕ) (box : Region) (f g : List ℕ → Cell) → ((p : List ℕ) → f p ≡ g p) → ChunkStandsAt path document store chunk box f → ChunkStandsAt path document store chunk box g
 stands_same path document store chunk box f g h st = let P : (List ℕ → Cell) → Type 0 = λ k. ChunkStandsAt path document store chunk box k in subst P (λ i p. h p i) st
 
+tight_same : (path : List ℕ) (document : Document) (store : StoreMap) (chunk : List ℕ) (box : Region) (f g : List ℕ → Cell) → ((p : List ℕ) → f p ≡ g p) → ChunkTightAt path document store chunk box f → ChunkTightAt path document store chunk box g
+tight_same path document store chunk box f g h st = let P : (List ℕ → Cell) → Type 0 = λ k. ChunkTightAt path document store chunk box k in subst P (λ i p. h p i) st
+
 -- ---- no chunk
 
 pub wrote_none : (path : List ℕ) (document : Document) (exact : Bool) (region : Region) (given : List Cell) (options : CodecOptions) (store : StoreMap) → WroteChunks path document exact region given options [] store store
@@ -64,9 +69,11 @@ wrote_none path document exact region given options store = record {
   shows = λ lossless d other place over l inside. absurd (false≢true l);
   keeps = λ lossless cells values d other over st.
       stands_same path document store d other cells (with_chunks document.grid region [] (cell_of_box region given document.elements.fill) cells) (λ p. sym (with_chunks-none document.grid region (cell_of_box region given document.elements.fill) cells p)) st;
+  tight = λ one lossless cells values d other over st.
+      tight_same path document store d other cells (with_chunks document.grid region [] (cell_of_box region given document.elements.fill) cells) (λ p. sym (with_chunks-none document.grid region (cell_of_box region given document.elements.fill) cells p)) st;
   makes = λ lossless d other over l holds. absurd (false≢true l);
   others = λ key ne. refl;
-  keys = record { stored = λ d other over e l. absurd (false≢true l); erased = λ lossless d other over e l value found. absurd (false≢true l) };
+  keys = record { stored = λ d other over e l. absurd (false≢true l); erased = λ lossless d other over whole e l value found. absurd (false≢true l) };
   keyed = λ d other over l. absurd (false≢true l);
 }
 
@@ -102,9 +109,9 @@ more_keys path document exact region given options cs c box old mid new is first
       (λ here. next.keys.stored d other over e (one_listed c d here))
       (λ (ne, k). ap is_some (stays path document exact region given options cs c d box other mid new is next over ne) ∙ first.keys.stored d other over e k)
       (listed_more cs c d l);
-  erased = λ lossless d other over e l value found. ⊎_elim
-      (λ here. next.keys.erased lossless d other over e (one_listed c d here) value found)
-      (λ (ne, k). first.keys.erased lossless d other over e k value (sym (stays path document exact region given options cs c d box other mid new is next over ne) ∙ found))
+  erased = λ lossless d other over whole e l value found. ⊎_elim
+      (λ here. next.keys.erased lossless d other over whole e (one_listed c d here) value found)
+      (λ (ne, k). first.keys.erased lossless d other over whole e k value (sym (stays path document exact region given options cs c d box other mid new is next over ne) ∙ found))
       (listed_more cs c d l);
 }
 
@@ -119,7 +126,7 @@ pub wrote_more : (path : List ℕ) (document : Document) (exact : Bool) (region 
 wrote_more path document exact region given options cs c box old mid new is first next = record {
   fit = λ d other over l. ⊎_elim (λ here. next.fit d other over (one_listed c d here)) (λ (ne, k). first.fit d other over k) (listed_more cs c d l);
   undamaged = λ d other over l part. ⊎_elim
-      (λ here. subst (λ (o : Option (List ℕ)). takes_cells document options region other o ≡ true) (before d here) (next.undamaged d other over (one_listed c d here) part))
+      (λ here. subst (λ (o : Option (List ℕ)). Takes document options region other o) (before d here) (next.undamaged d other over (one_listed c d here) part))
       (λ (ne, k). first.undamaged d other over k part)
       (listed_more cs c d l);
   shows = λ lossless d other place over l inside. ⊎_elim
@@ -128,10 +135,14 @@ wrote_more path document exact region given options cs c box old mid new is firs
       (listed_more cs c d l);
   keeps = λ lossless cells values d other over st.
       let middle = with_chunks document.grid region cs (cell_of_box region given fill) cells in
-      let middle_values : AreValues document middle = λ k r p b i. with_chunks-value (is_value document.elements.type) (is_in_box region.start region.shape p && list_any (lies_in_chunk document.grid p) cs) (cell_of_box region given fill p) (cells p)
-      (cell_value (is_value document.elements.type) region given fill p is.good.fill is.values) (values k r p b i) in
+      let middle_values = values_between cells values in
       stands_same path document new d other (with_chunks document.grid region (c ∷ []) (cell_of_box region given fill) middle) (with_chunks document.grid region (cs ++ c ∷ []) (cell_of_box region given fill) cells)
       (with_chunks-more document.grid region cs c (cell_of_box region given fill) cells) (next.keeps lossless middle middle_values d other over (first.keeps lossless cells values d other over st));
+  tight = λ one lossless cells values d other over st.
+      let middle = with_chunks document.grid region cs (cell_of_box region given fill) cells in
+      let middle_values = values_between cells values in
+      tight_same path document new d other (with_chunks document.grid region (c ∷ []) (cell_of_box region given fill) middle) (with_chunks document.grid region (cs ++ c ∷ []) (cell_of_box region given fill) cells)
+      (with_chunks-more document.grid region cs c (cell_of_box region given fill) cells) (next.tight one lossless middle middle_values d other over (first.tight one lossless cells values d other over st));
   makes = λ lossless d other over l holds. ⊎_elim
       (λ here. next.makes lossless d other over (one_listed c d here) holds)
       (λ (ne, k). stands_moved d other (stays path document exact region given options cs c d box other mid new is next over ne) (first.makes lossless d other over k holds))
@@ -145,6 +156,11 @@ wrote_more path document exact region given options cs c box old mid new is firs
 } where
   fill : Cell
   fill = document.elements.fill
+
+  -- the cells after the first writes are values
+  values_between : (cells : List ℕ → Cell) → AreValues document cells → AreValues document (with_chunks document.grid region cs (cell_of_box region given fill) cells)
+  values_between cells values = λ k r p b i. with_chunks-value (is_value document.elements.type) (is_in_box region.start region.shape p && list_any (lies_in_chunk document.grid p) cs) (cell_of_box region given fill p) (cells p)
+      (cell_value (is_value document.elements.type) region given fill p is.good.fill is.values) (values k r p b i)
 
   before : (d : List ℕ) → d ≡ c → stored_at path document mid d ≡ stored_at path document old d
   before d e = subst (λ (k : List ℕ). stored_at path document mid k ≡ stored_at path document old k) (sym e) (untouched path document exact region given options cs c box old mid is first)
@@ -163,15 +179,22 @@ wrote_more path document exact region given options cs c box old mid new is firs
     becomes = record {
       many = k.becomes.many;
       written = k.becomes.written;
-      takes = λ part. ap (takes_cells document options region other) (sym same) ∙ k.becomes.takes part;
+      takes = λ whole part. ap (takes_cells document options region other) (sym same) ∙ k.becomes.takes whole part;
       kept = λ part place out inside. k.becomes.kept part place out inside ∙ ap (cell_of other place) same;
     };
     key = k.key;
-    encodes = λ one whole value is. k.encodes one (λ part. ap (λ (o : Option (List ℕ)). is_some (decoded_of d other o)) same ∙ whole part) value is;
+    taken = λ into lossless cells are st. k.taken into lossless cells are (subst (λ (o : Option (List ℕ)). ChunkStands document.chain document.elements other.shape o cells) (sym same) st);
+    encodes = λ one whole decodes value is. k.encodes one whole (λ part. ap (λ (o : Option (List ℕ)). is_some (decoded_of d other o)) same ∙ decodes part) value is;
   }
 
   keyed_before : (d : List ℕ) (other : Region) → stored_at path document new d ≡ stored_at path document mid d → IsKeyed path document exact region given options old mid d other → IsKeyed path document exact region given options old new d other
-  keyed_before d other same k = record { cells = k.cells; becomes = k.becomes; key = ap is_some same ∙ k.key; encodes = λ one whole value is. k.encodes one whole value (sym same ∙ is) }
+  keyed_before d other same k = record {
+    cells = k.cells;
+    becomes = k.becomes;
+    key = λ whole. ap is_some same ∙ k.key whole;
+    taken = λ into lossless cells are st. ap is_some same ∙ k.taken into lossless cells are st;
+    encodes = λ one whole decodes value is. k.encodes one whole decodes value (sym same ∙ is);
+  }
 
   stands_moved : (d : List ℕ) (other : Region) → stored_at path document new d ≡ stored_at path document mid d → ChunkStandsAt path document mid d other (cell_of_box region given document.elements.fill) → ChunkStandsAt path document new d other (cell_of_box region given document.elements.fill)
   stands_moved d other e st = subst (λ (o : Option (List ℕ)). IsStored document.chain document.elements other.shape o (map (cell_of_box region given document.elements.fill) (places other.start other.shape))) (sym e) st
@@ -209,11 +232,11 @@ next_is path document region chunks given n chunk box walk below e here = record
 }
 
 pub wrote_next : (path : List ℕ) (document : Document) (exact : Bool) (region chunks : Region) (given : List Cell) (options : CodecOptions) (n : ℕ) (chunk : List ℕ) (box : Region) (made : Option (List ℕ)) (old mid new : StoreMap) → IsWalk path document region chunks given → n < product chunks.shape
-    → chunk ≡ place_at chunks.start chunks.shape n → IsInGrid document.grid chunk box → ChangesValue document exact region given options box (stored_at path document mid chunk) made → new ≡ with_value mid (chunk_key path document.keys chunk) made
+    → chunk ≡ place_at chunks.start chunks.shape n → IsInGrid document.grid chunk box → WritesChunk (write_at path document exact region given options) box (stored_at path document mid chunk) made → new ≡ with_value mid (chunk_key path document.keys chunk) made
     → WroteChunks path document exact region given options (first_chunks chunks n) old mid → WroteChunks path document exact region given options (first_chunks chunks (n + 1)) old new
 wrote_next path document exact region chunks given options n chunk box made old mid new walk below e here makes is wrote =
     let rank = walk.grid_rank ∙ sym (chunk_box-rank document.grid chunk box here.has_box).0 in
-    let one = wrote_changed path document exact region given options chunk box mid made (record { good = walk.good; apart = walk.apart; region_rank = walk.region_rank; rank = rank; below = here }) makes in
+    let one = wrote_chunk path document exact region given options chunk box mid made (record { good = walk.good; apart = walk.apart; region_rank = walk.region_rank; rank = rank; below = here }) makes in
     let all = wrote_more path document exact region given options (first_chunks chunks n) chunk box old mid (with_value mid (chunk_key path document.keys chunk) made) (next_is path document region chunks given n chunk box walk below e here) wrote one in
     let listed : first_chunks chunks n ++ chunk ∷ [] ≡ first_chunks chunks (n + 1) = ap (λ k. first_chunks chunks n ++ k ∷ []) e ∙ sym (first_chunks-more chunks n) in
     subst (λ (cs : List (List ℕ)). WroteChunks path document exact region given options cs old new) listed (subst (λ (m : StoreMap). WroteChunks path document exact region given options (first_chunks chunks n ++ chunk ∷ []) old m) (sym is) all)
@@ -226,18 +249,9 @@ wrote_all path document exact region chunks given options n old new walk end wro
 
 -- ---- a chunk that is not written
 
-chunk_stops : (path : List ℕ) (document : Document) (region : Region) (given : List Cell) (options : CodecOptions) (chunk : List ℕ) (box : Region) (store : StoreMap) (e : ChunkError) → ChangeStops document region given options box (stored_at path document store chunk) e
-    → ChunkStops path document store region given options chunk box e
-chunk_stops path document region given options chunk box store error.Fit h = h
-chunk_stops path document region given options chunk box store (error.Storage e) h = h
-chunk_stops path document region given options chunk box store error.Damage h = record { fit = h.0; part = h.1; lost = h.2 }
-chunk_stops path document region given options chunk box store error.Codec h = record { fit = h.fit; cells = h.cells; becomes = becomes_at path document region given options chunk box store h.cells h.fit h.becomes; called = h.refuses.0; refuses = h.refuses.1 }
-chunk_stops path document region given options chunk box store error.Size h = record { fit = h.fit; cells = h.cells; becomes = becomes_at path document region given options chunk box store h.cells h.fit h.becomes; called = h.refuses.0; passes = inl h.refuses.1 }
-chunk_stops path document region given options chunk box store error.Memory h = tt
-
 pub write_stops : (path : List ℕ) (document : Document) (exact : Bool) (region chunks : Region) (given : List Cell) (payload : Payload) (options : CodecOptions) (n : ℕ) (chunk : List ℕ) (box : Region) (e : ChunkError) (old mid new : StoreMap) → IsWalk path document region chunks given
     → cells_in document.elements.type payload ≡ Some given → n < product chunks.shape → chunk ≡ place_at chunks.start chunks.shape n → IsInGrid document.grid chunk box
-    → ChangeStops document region given options box (stored_at path document mid chunk) e → new ≡ mid
+    → WritingStops (write_at path document exact region given options) box (stored_at path document mid chunk) e → new ≡ mid
     → WroteChunks path document exact region given options (first_chunks chunks n) old mid → WriteStops path document exact region payload options old new (record { applied = n; error = e })
 write_stops path document exact region chunks given payload options n chunk box e old mid new walk lists below at here stops same wrote =
     let is = next_is path document region chunks given n chunk box walk below at here in
@@ -248,7 +262,7 @@ write_stops path document exact region chunks given payload options n chunk box 
       chunk = chunk;
       box = box;
       nth = nth_number document.grid region chunks n chunk box walk.chunks_rank walk.intersecting below at here;
-      stops = chunk_stops path document region given options chunk box old e (subst (λ (o : Option (List ℕ)). ChangeStops document region given options box o e) before stops);
+      stops = chunk_stops path document exact region given options chunk box old e (box_rank document.grid chunk box here) (subst (λ (o : Option (List ℕ)). WritingStops (write_at path document exact region given options) box o e) before stops);
       wrote = subst (λ (cs : List (List ℕ)). WroteChunks path document exact region given options cs old new) (first_chunks-take document.grid region chunks n walk.chunks_rank walk.intersecting (omega arith))
           (subst (λ (m : StoreMap). WroteChunks path document exact region given options (first_chunks chunks n) old m) (sym same) wrote);
     }

@@ -11,6 +11,9 @@ pub mod PartBoxes
 pub mod PartPatches
 pub mod ZeroFills
 pub mod ChunkWritten
+pub mod OneKey
+pub mod IntoShards
+pub mod ShardWritten
 pub mod ChunksWritten
 pub mod BoxWalks
 mod SeenFrom

@@ -20,7 +20,6 @@ use Rattle.zarr_codecs_meaning.specs.Types.{Cell, is_fill, is_value, IsTooLarge}
 use Rattle.zarr_codecs_meaning.proofs.Chunks.{stored_decoded}
 use Rattle.zarr_codecs_meaning.proofs.DecodedElements.{all_filled}
 use Rattle.zarr_codecs_meaning.proofs.Lists.{some_same}
-use Rattle.zarr_codecs_options.specs.declared.codec_options.CodecOptions.{CodecOptions}
 use Rattle.zarr_codecs_arrays.specs.Outcomes.{IsCounted}
 use Rattle.zarr_codecs_arrays.specs.declared.error.CodecError.{CodecError}
 use Rattle.zarr_codecs_arrays.specs.declared.error.CodecError.TheVariants as codec_error
@@ -30,11 +29,11 @@ use Rattle.zarr_codecs_traits.specs.Sources.{refused_after}
 use Rattle.zarr_array_meaning.specs.Boxes.{cell_of_box}
 use Rattle.zarr_array_meaning.specs.Chunks.{number_in, fits_box}
 use Rattle.zarr_array_meaning.specs.Documents.{Document}
-use Rattle.zarr_array_meaning.specs.Writing.{is_in_part, opens_in}
+use Rattle.zarr_array_meaning.specs.Writing.{opens_in}
 use Rattle.zarr_array_meaning.proofs.TakenParts.{part_of_decoded}
 use Rattle.zarr_array_core.specs.ChunkValues.{CellsBecome, IsPutRefusal, PutsCells, PutStops, put_refusal_of}
 use Rattle.zarr_array_core.proofs.ChunkPayloads.{AreArrayElements, listed_none, not_counted}
-use Rattle.zarr_array_core.proofs.InParts.{IsInPart, parts_of_write, stopped_closed, no_codec_refuses, none_long, none_passes}
+use Rattle.zarr_array_core.proofs.InParts.{IsInPart, stopped_closed, no_codec_refuses, none_long, none_passes}
 use Rattle.zarr_array_elements.proofs.ByNumber.{AreDistinct}
 use Rattle.zarr_array_elements.proofs.FixedCells.{number_below}
 use Rattle.zarr_array_elements.proofs.Meeting.{IsMeeting, meeting}
@@ -66,21 +65,19 @@ put_at (suc k) (n ∷ ns) (x ∷ xs) ys d distinct same below low =
 pub record ArePut (document : Document) (region box : Region) (given : List Cell) (payload : Payload) (sub : List Cell) : Type 0 where
   pub share : share_place box.start box.shape region.start region.shape ≡ true
   pub fit : fits_box document box ≡ true
-  pub chain : IsInPart document.chain
   pub are : AreArrayElements document.elements (overlapped region box).shape payload sub
   pub becomes : CellsBecome document region given None (overlapped region box) sub
 
 -- elements that were taken out of those of a write
-put_elements : (document : Document) (options : CodecOptions) (region box shared : Region) (given : List Cell) (payload : Payload) (sub : List Cell) → shared ≡ overlapped region box → share_place box.start box.shape region.start region.shape ≡ true
-    → fits_box document box ≡ true → is_in_part document options region box ≡ true → ¬ IsTooLarge document.elements.type (product box.shape) → CellsBecome document region given None shared sub → IsCounted document.elements.type payload (product shared.shape) sub
+put_elements : (document : Document) (region box shared : Region) (given : List Cell) (payload : Payload) (sub : List Cell) → shared ≡ overlapped region box → share_place box.start box.shape region.start region.shape ≡ true
+    → fits_box document box ≡ true → ¬ IsTooLarge document.elements.type (product box.shape) → CellsBecome document region given None shared sub → IsCounted document.elements.type payload (product shared.shape) sub
     → ArePut document region box given payload sub
-put_elements document options region box shared given payload sub same share fit in_part small becomes counted =
+put_elements document region box shared given payload sub same share fit small becomes counted =
     let there : CellsBecome document region given None (overlapped region box) sub = subst (λ (r : Region). CellsBecome document region given None r sub) same becomes in
     let many : IsCounted document.elements.type payload (product (overlapped region box).shape) sub = subst (λ (r : Region). IsCounted document.elements.type payload (product r.shape) sub) same counted in
     record {
       share = share;
       fit = fit;
-      chain = (parts_of_write document options region box in_part).0;
       are = record {
         valid = record { is = many; values = there.values };
         small = λ large. small (large_grows document.elements.type (product (overlapped region box).shape) (product box.shape) (shared_smaller region box share) large);
@@ -91,7 +88,7 @@ put_elements document options region box shared given payload sub same share fit
 abbrev pub part_of : Region → Region → Region
 part_of region box = relative (overlapped region box) box.start
 
-module _ (document : Document) (exact : Bool) (region box : Region) (given : List Cell) (payload : Payload) (sub cells : List Cell) (old new : Option (List ℕ)) (are : ArePut document region box given payload sub) (h : IsEncodedInto document.chain exact document.elements box.shape (in_box (part_of region box)) payload cells old new) (lossless : is_lossless document.chain document.elements.type ≡ true) where
+module _ (document : Document) (region box : Region) (given : List Cell) (payload : Payload) (sub : List Cell) (are : ArePut document region box given payload sub) where
   abbrev shared : Region
   shared = overlapped region box
 
@@ -100,16 +97,6 @@ module _ (document : Document) (exact : Bool) (region box : Region) (given : Lis
 
   abbrev ns : List ℕ
   ns = numbers_of box.shape (part_of region box)
-
-  -- what is stored is read at a place
-  abbrev read : Option (List ℕ) → ℕ → Option (List Cell)
-  read stored n = chunk_part document.chain document.elements box.shape stored (n ∷ [])
-
-  shown_at : (stored : Option (List ℕ)) (n : ℕ) → n < product box.shape → get_or (cells_shown document.chain document.elements box.shape stored) n None ≡ read stored n
-  shown_at stored n below = get_or-map-range_with_len (read stored) 0 (product box.shape) n n None below (omega arith)
-
-  length-shown : length (cells_shown document.chain document.elements box.shape old) ≡ product box.shape
-  length-shown = length-map-range_with_len (read old) 0 (product box.shape)
 
   abbrev place_of : ℕ → List ℕ
   place_of = place_at shared.start shared.shape
@@ -125,6 +112,50 @@ module _ (document : Document) (exact : Bool) (region box : Region) (given : Lis
       let same : place_of j ≡ place_of k = one_place box (place_of j) (place_of k) (in_chunk j low) (in_chunk k under) (sym (meet.number j low) ∙ (e ∙ meet.number k under)) in
       sym (ravel-place_at shared.start shared.shape j meet.rank low) ∙ (ap (number_in shared) same ∙ ravel-place_at shared.start shared.shape k meet.rank under)
 
+  -- a list after others were put at the shared places: at a place in the box
+  put_in : {X : Type 0} (xs before : List X) (d : X) (place : List ℕ) → length xs ≡ length ns → length before ≡ product box.shape → is_in_box region.start region.shape place ≡ true → is_in_box box.start box.shape place ≡ true
+      → (number_in shared place < length ns) × (get_or (put ns xs before) (number_in box place) d ≡ get_or xs (number_in shared place) d)
+  put_in xs before d place counted whole r t =
+      let inside : is_in_box shared.start shared.shape place ≡ true = meet.both place ∙ (ap (λ (b : Bool). b && is_in_box box.start box.shape place) r ∙ t) in
+      let k = number_in shared place in
+      let low : k < product shared.shape = number_below shared place inside in
+      let here : get_or ns k 0 ≡ number_in box place = meet.number k low ∙ ap (number_in box) (place_at-number shared.start shared.shape place inside) in
+      let below : number_in box place < product box.shape = number_below box place t in
+      let under : k < length ns = omega (arith, low, meet.many) in
+      (under, ap (λ n. get_or (put ns xs before) n d) (sym here) ∙ put_at k ns xs before d distinct counted under (omega (arith, here, below, whole)))
+
+  -- at a place outside of it
+  put_out : {X : Type 0} (xs before : List X) (d : X) (place : List ℕ) → is_in_box region.start region.shape place ≡ false → is_in_box box.start box.shape place ≡ true → get_or (put ns xs before) (number_in box place) d ≡ get_or before (number_in box place) d
+  put_out xs before d place r t =
+      let outside : is_in_box shared.start shared.shape place ≡ false = meet.both place ∙ ap (λ (b : Bool). b && is_in_box box.start box.shape place) r in
+      put_other (number_in box place) ns xs before d (λ k under e.
+      let low : k < product shared.shape = omega (arith, under, meet.many) in
+      let same : place_of k ≡ place = one_place box (place_of k) place (in_chunk k low) t (sym (meet.number k low) ∙ e) in
+      false≢true (sym outside ∙ (ap (is_in_box shared.start shared.shape) (sym same) ∙ in_box-place_at shared.start shared.shape k meet.rank low)))
+
+  -- the elements at a place in the box
+  pub cell_in : (before : List Cell) (place : List ℕ) → length before ≡ product box.shape → is_in_box region.start region.shape place ≡ true → is_in_box box.start box.shape place ≡ true
+      → get_or (put ns sub before) (number_in box place) document.elements.fill ≡ cell_of_box region given document.elements.fill place
+  cell_in before place whole r t = (put_in sub before document.elements.fill place (are.are.valid.is.many ∙ sym meet.many) whole r t).1 ∙ are.becomes.written place r (meet.both place ∙ (ap (λ (b : Bool). b && is_in_box box.start box.shape place) r ∙ t))
+
+  -- and outside of it
+  pub cell_out : (before : List Cell) (place : List ℕ) → is_in_box region.start region.shape place ≡ false → is_in_box box.start box.shape place ≡ true → get_or (put ns sub before) (number_in box place) document.elements.fill ≡ get_or before (number_in box place) document.elements.fill
+  cell_out before place r t = put_out sub before document.elements.fill place r t
+
+module _ (document : Document) (exact : Bool) (region box : Region) (given : List Cell) (payload : Payload) (sub cells : List Cell) (old new : Option (List ℕ)) (are : ArePut document region box given payload sub) (h : IsEncodedInto document.chain exact document.elements box.shape (in_box (part_of region box)) payload cells old new) (lossless : is_lossless document.chain document.elements.type ≡ true) where
+  abbrev numbers : List ℕ
+  numbers = numbers_of box.shape (part_of region box)
+
+  -- what is stored is read at a place
+  abbrev read : Option (List ℕ) → ℕ → Option (List Cell)
+  read stored n = chunk_part document.chain document.elements box.shape stored (n ∷ [])
+
+  shown_at : (stored : Option (List ℕ)) (n : ℕ) → n < product box.shape → get_or (cells_shown document.chain document.elements box.shape stored) n None ≡ read stored n
+  shown_at stored n below = get_or-map-range_with_len (read stored) 0 (product box.shape) n n None below (omega arith)
+
+  length-shown : length (cells_shown document.chain document.elements box.shape old) ≡ product box.shape
+  length-shown = length-map-range_with_len (read old) 0 (product box.shape)
+
   abbrev one : Cell → Option (List Cell)
   one cell = Some (cell ∷ [])
 
@@ -135,33 +166,25 @@ module _ (document : Document) (exact : Bool) (region box : Region) (given : Lis
   shows_in : (place : List ℕ) → is_in_box region.start region.shape place ≡ true → is_in_box box.start box.shape place ≡ true → read new (number_in box place) ≡ one (cell_of_box region given document.elements.fill place)
   shows_in place r t =
       let fill = document.elements.fill in
-      let inside : is_in_box shared.start shared.shape place ≡ true = meet.both place ∙ (ap (λ (b : Bool). b && is_in_box box.start box.shape place) r ∙ t) in
-      let k = number_in shared place in
-      let low : k < product shared.shape = number_below shared place inside in
-      let here : get_or ns k 0 ≡ number_in box place = meet.number k low ∙ ap (number_in box) (place_at-number shared.start shared.shape place inside) in
-      let below : number_in box place < product box.shape = number_below box place t in
-      let under : k < length ns = omega (arith, low, meet.many) in
-      let counted : length cells ≡ length ns = h.valid.is.many in
-      let many : length (map one cells) ≡ length ns = length-map cells one ∙ counted in
-      let long : k < length cells = omega (arith, under, counted) in
-      sym (shown_at new (number_in box place) below)
+      let inside : is_in_box (overlapped region box).start (overlapped region box).shape place ≡ true = (meeting region box are.share).both place ∙ (ap (λ (b : Bool). b && is_in_box box.start box.shape place) r ∙ t) in
+      let k = number_in (overlapped region box) place in
+      let counted : length cells ≡ length numbers = h.valid.is.many in
+      let many : length (map one cells) ≡ length numbers = length-map cells one ∙ counted in
+      let there = put_in document region box given payload sub are (map one cells) (cells_shown document.chain document.elements box.shape old) None place many length-shown r t in
+      let long : k < length cells = omega (arith, there.0, counted) in
+      sym (shown_at new (number_in box place) (number_below box place t))
       ∙ (ap (λ (xs : List (Option (List Cell))). get_or xs (number_in box place) None) (h.shows lossless)
-      ∙ (ap (λ n. get_or (put ns (map one cells) (cells_shown document.chain document.elements box.shape old)) n None) (sym here)
-      ∙ (put_at k ns (map one cells) (cells_shown document.chain document.elements box.shape old) None distinct many under (omega (arith, here, below, length-shown))
+      ∙ (there.1
       ∙ (get_or-map one cells k fill None long
-      ∙ ap one (ap (λ (cs : List Cell). get_or cs k fill) same_cells ∙ are.becomes.written place r inside)))))
+      ∙ ap one (ap (λ (cs : List Cell). get_or cs k fill) same_cells ∙ are.becomes.written place r inside))))
 
   -- a place outside of it
   shows_out : (place : List ℕ) → is_in_box region.start region.shape place ≡ false → is_in_box box.start box.shape place ≡ true → read new (number_in box place) ≡ read old (number_in box place)
   shows_out place r t =
-      let outside : is_in_box shared.start shared.shape place ≡ false = meet.both place ∙ ap (λ (b : Bool). b && is_in_box box.start box.shape place) r in
       let below : number_in box place < product box.shape = number_below box place t in
       sym (shown_at new (number_in box place) below)
       ∙ (ap (λ (xs : List (Option (List Cell))). get_or xs (number_in box place) None) (h.shows lossless)
-      ∙ (put_other (number_in box place) ns (map one cells) (cells_shown document.chain document.elements box.shape old) None (λ k under e.
-      let low : k < product shared.shape = omega (arith, under, meet.many) in
-      let same : place_of k ≡ place = one_place box (place_of k) place (in_chunk k low) t (sym (meet.number k low) ∙ e) in
-      false≢true (sym outside ∙ (ap (is_in_box shared.start shared.shape) (sym same) ∙ in_box-place_at shared.start shared.shape k meet.rank low)))
+      ∙ (put_out document region box given payload sub are (map one cells) (cells_shown document.chain document.elements box.shape old) None place r t
       ∙ shown_at old (number_in box place) below))
 
   shows_place : (place : List ℕ) (t : Bool) → is_in_box region.start region.shape place ≡ t → is_in_box box.start box.shape place ≡ true
@@ -174,7 +197,7 @@ opened_of document box None h = refl
 opened_of document box (Some value) h = h
 
 -- what a codec put into what is stored
-puts_cells : (document : Document) (exact : Bool) (region box : Region) (given : List Cell) (payload : Payload) (sub cells : List Cell) (old new : Option (List ℕ)) → ArePut document region box given payload sub
+pub puts_cells : (document : Document) (exact : Bool) (region box : Region) (given : List Cell) (payload : Payload) (sub cells : List Cell) (old new : Option (List ℕ)) → ArePut document region box given payload sub
     → IsEncodedInto document.chain exact document.elements box.shape (in_box (part_of region box)) payload cells old new → PutsCells document region given box old new
 puts_cells document exact region box given payload sub cells old new are h = record {
   opened = opened_of document box old h.opened;
@@ -218,33 +241,33 @@ IsPutStop document box stored codec_error.Memory = Unit {0}
 IsPutStop document box stored codec_error.Source = Unit {0}
 IsPutStop document box stored e = ⊥
 
-counted_asked : (document : Document) (region box : Region) (given : List Cell) (payload : Payload) (sub : List Cell) → ArePut document region box given payload sub → IsCounted document.elements.type payload (length (numbers_of box.shape (part_of region box))) sub
+pub counted_asked : (document : Document) (region box : Region) (given : List Cell) (payload : Payload) (sub : List Cell) → ArePut document region box given payload sub → IsCounted document.elements.type payload (length (numbers_of box.shape (part_of region box))) sub
 counted_asked document region box given payload sub are =
     subst (λ n. IsCounted document.elements.type payload n sub) (sym (meeting region box are.share).many) are.are.valid.is
 
-why_not_put : (A : Type 0) (document : Document) (region box : Region) (given : List Cell) (payload : Payload) (sub : List Cell) (stored : Option (List ℕ)) (e : CodecError) → ArePut document region box given payload sub → ¬ IsTooLarge document.elements.type (product box.shape)
+why_not_put : (A : Type 0) (document : Document) (region box : Region) (given : List Cell) (payload : Payload) (sub : List Cell) (stored : Option (List ℕ)) (e : CodecError) → IsInPart document.chain → ArePut document region box given payload sub → ¬ IsTooLarge document.elements.type (product box.shape)
     → NotEncodedInto {A = A} document.chain document.elements box.shape (in_box (part_of region box)) payload stored (Err e) → IsPutStop document box stored e
-why_not_put A document region box given payload sub stored codec_error.Fit are small h = false≢true (sym h ∙ are.fit)
-why_not_put A document region box given payload sub stored codec_error.Damage are small h = stopped_closed document.chain document.elements box.shape _ payload stored are.chain h.1
-why_not_put A document region box given payload sub stored codec_error.Codec are small h = no_codec_refuses document.chain document.elements box.shape _ are.chain h.is
-why_not_put A document region box given payload sub stored codec_error.Source are small h = tt
-why_not_put A document region box given payload sub stored codec_error.Size are small (inl large) = small large
-why_not_put A document region box given payload sub stored codec_error.Size are small (inr h) = elim h.is [
-  | inl k ↦ none_passes document.chain document.elements box.shape _ are.chain k
-  | inr k ↦ none_long document.chain document.elements box.shape stored _ are.chain k
+why_not_put A document region box given payload sub stored codec_error.Fit chain are small h = false≢true (sym h ∙ are.fit)
+why_not_put A document region box given payload sub stored codec_error.Damage chain are small h = stopped_closed document.chain document.elements box.shape _ payload stored chain h.1
+why_not_put A document region box given payload sub stored codec_error.Codec chain are small h = no_codec_refuses document.chain document.elements box.shape _ chain h.is
+why_not_put A document region box given payload sub stored codec_error.Source chain are small h = tt
+why_not_put A document region box given payload sub stored codec_error.Size chain are small (inl large) = small large
+why_not_put A document region box given payload sub stored codec_error.Size chain are small (inr h) = elim h.is [
+  | inl k ↦ none_passes document.chain document.elements box.shape _ chain k
+  | inr k ↦ none_long document.chain document.elements box.shape stored _ chain k
 ]
-why_not_put A document region box given payload sub stored codec_error.CellOutOfRange are small h =
+why_not_put A document region box given payload sub stored codec_error.CellOutOfRange chain are small h =
     let same = some_same (sym h.1.1.lists ∙ are.are.valid.is.lists) in
     false≢true (sym h.1.2 ∙ (ap (list_all (is_value document.elements.type)) same ∙ are.are.valid.values))
-why_not_put A document region box given payload sub stored codec_error.IncompatibleIndexer are small h = false≢true (sym h ∙ (meeting region box are.share).inside)
-why_not_put A document region box given payload sub stored codec_error.InvalidNumberOfElements are small h =
+why_not_put A document region box given payload sub stored codec_error.IncompatibleIndexer chain are small h = false≢true (sym h ∙ (meeting region box are.share).inside)
+why_not_put A document region box given payload sub stored codec_error.InvalidNumberOfElements chain are small h =
     not_counted document.elements.type payload (length (numbers_of box.shape (part_of region box))) sub (counted_asked document region box given payload sub are) h.1
-why_not_put A document region box given payload sub stored codec_error.ExpectedFixedLengthBytes are small h = listed_none document.elements (overlapped region box).shape payload sub are.are h.1.0
-why_not_put A document region box given payload sub stored codec_error.ExpectedVariableLengthBytes are small h = listed_none document.elements (overlapped region box).shape payload sub are.are h.1.0
-why_not_put A document region box given payload sub stored codec_error.ExpectedOptionalBytes are small h = listed_none document.elements (overlapped region box).shape payload sub are.are h.1.0
-why_not_put A document region box given payload sub stored codec_error.Unsupported are small h = h.1
-why_not_put A document region box given payload sub stored codec_error.Memory are small h = tt
-why_not_put A document region box given payload sub stored (codec_error.Other text) are small h = h.1
+why_not_put A document region box given payload sub stored codec_error.ExpectedFixedLengthBytes chain are small h = listed_none document.elements (overlapped region box).shape payload sub are.are h.1.0
+why_not_put A document region box given payload sub stored codec_error.ExpectedVariableLengthBytes chain are small h = listed_none document.elements (overlapped region box).shape payload sub are.are h.1.0
+why_not_put A document region box given payload sub stored codec_error.ExpectedOptionalBytes chain are small h = listed_none document.elements (overlapped region box).shape payload sub are.are h.1.0
+why_not_put A document region box given payload sub stored codec_error.Unsupported chain are small h = h.1
+why_not_put A document region box given payload sub stored codec_error.Memory chain are small h = tt
+why_not_put A document region box given payload sub stored (codec_error.Other text) chain are small h = h.1
 
 -- such an error as a chunk's: a source in memory refuses nothing
 put_refusal_told : (A : Type 0) (document : Document) (box : Region) (stored : Option (List ℕ)) (e : CodecError) → IsPutStop document box stored e → refused_after {A = A} 0 (Err e) ≡ 0 → IsPutRefusal e × PutStops document box stored (put_refusal_of e)
@@ -265,24 +288,27 @@ put_refusal_told A document box stored (codec_error.Other text) h none = absurd 
 
 -- ---- a call of a codec
 
+-- the places that a write and a chunk share
+pub shared_is : (subset region own met : Region) → subset ≡ region → met ≡ overlapped subset own → met ≡ overlapped region own
+shared_is subset region own met e f = f ∙ ap (λ (r : Region). overlapped r own) e
+
 -- elements were taken out of those of a write for a part of a chunk, and a codec was given these and that part
-pub record IsPutCall (document : Document) (options : CodecOptions) (region box shared part : Region) (shape start : List ℕ) (given : List Cell) (payload : Payload) (sub : List Cell) : Type 0 where
+pub record IsPutCall (document : Document) (region box shared part : Region) (shape start : List ℕ) (given : List Cell) (payload : Payload) (sub : List Cell) : Type 0 where
   pub same : shared ≡ overlapped region box
   pub seen : part ≡ relative shared start
   pub from : start ≡ box.start
   pub whole : shape ≡ box.shape
   pub share : share_place box.start box.shape region.start region.shape ≡ true
   pub fit : fits_box document box ≡ true
-  pub in_part : is_in_part document options region box ≡ true
   pub small : ¬ IsTooLarge document.elements.type (product box.shape)
   pub becomes : CellsBecome document region given None shared sub
   pub counted : IsCounted document.elements.type payload (product shared.shape) sub
 
-module _ (document : Document) (options : CodecOptions) (region box shared part : Region) (shape start : List ℕ) (given : List Cell) (payload : Payload) (sub : List Cell) (call : IsPutCall document options region box shared part shape start given payload sub) where
-  are_put : ArePut document region box given payload sub
-  are_put = put_elements document options region box shared given payload sub call.same call.share call.fit call.in_part call.small call.becomes call.counted
+module _ (document : Document) (region box shared part : Region) (shape start : List ℕ) (given : List Cell) (payload : Payload) (sub : List Cell) (call : IsPutCall document region box shared part shape start given payload sub) where
+  pub are_put : ArePut document region box given payload sub
+  are_put = put_elements document region box shared given payload sub call.same call.share call.fit call.small call.becomes call.counted
 
-  part_is : part ≡ part_of region box
+  pub part_is : part ≡ part_of region box
   part_is = call.seen ∙ (ap (λ (r : Region). relative r start) call.same ∙ ap (relative (overlapped region box)) call.from)
 
   pub was_put : (exact : Bool) (cells : List Cell) (old new : Option (List ℕ)) → IsEncodedInto document.chain exact document.elements shape (in_box part) payload cells old new → PutsCells document region given box old new
@@ -291,8 +317,8 @@ module _ (document : Document) (options : CodecOptions) (region box shared part 
       (subst (λ (s : List ℕ). IsEncodedInto document.chain exact document.elements s (in_box (part_of region box)) payload cells old new) call.whole
       (subst (λ (r : Region). IsEncodedInto document.chain exact document.elements shape (in_box r) payload cells old new) part_is h))
 
-  pub was_refused : (old : Option (List ℕ)) (e : CodecError) → NotEncodedInto {A = Unit {0}} document.chain document.elements shape (in_box part) payload old (Err e) → refused_after {A = Unit {0}} 0 (Err e) ≡ 0 → IsPutRefusal e × PutStops document box old (put_refusal_of e)
-  was_refused old e h none =
-      put_refusal_told (Unit {0}) document box old e (why_not_put (Unit {0}) document region box given payload sub old e are_put call.small
+  pub was_refused : (old : Option (List ℕ)) (e : CodecError) → IsInPart document.chain → NotEncodedInto {A = Unit {0}} document.chain document.elements shape (in_box part) payload old (Err e) → refused_after {A = Unit {0}} 0 (Err e) ≡ 0 → IsPutRefusal e × PutStops document box old (put_refusal_of e)
+  was_refused old e chain h none =
+      put_refusal_told (Unit {0}) document box old e (why_not_put (Unit {0}) document region box given payload sub old e chain are_put call.small
       (subst (λ (s : List ℕ). NotEncodedInto {A = Unit {0}} document.chain document.elements s (in_box (part_of region box)) payload old (Err e)) call.whole
       (subst (λ (r : Region). NotEncodedInto {A = Unit {0}} document.chain document.elements shape (in_box r) payload old (Err e)) part_is h))) none

@@ -6,3 +6,4 @@ pub mod PartWrites
 pub mod Arrays
 pub mod Compacting
 pub mod Rewriting
+pub mod IntoShards

@@ -57,10 +57,11 @@ impl<C: ArrayToBytesCodecTraits> ArrayCore<C> {
     ghost use Rattle.std.specs.Prelude.{◌≡◌, ◌*◌, ◌<◌, ℕ, List, Option, true, length, replicate, IfOk, IfErr, IsTrue, Some};
     ghost use Rattle.std.specs.List.{list_all};
     ghost use Rattle.zarr_array_core.specs.ChunkValues.{CellsBecome, DecodeStops, EncodeRefuses, EncodeStops, IsNewValue};
+    ghost use Rattle.zarr_array_core.specs.IntoShards.{IntoUnknown};
     ghost use Rattle.zarr_array_core.specs.Views.{array_cells, AreSoMany, document_of, is_exact};
     ghost use Rattle.zarr_array_core.specs.declared.error.ChunkError.TheVariants.{Memory};
-    ghost use Rattle.zarr_array_meaning.specs.Writing.{is_in_part, may_be_in_part, stores_fill};
-    ghost use Rattle.zarr_array_meaning.specs.Chunks.{holds_box};
+    ghost use Rattle.zarr_array_meaning.specs.Writing.{is_in_part, is_into_shard, may_be_in_part, stores_fill};
+    ghost use Rattle.zarr_array_meaning.specs.Chunks.{fits_box, holds_box};
     ghost use Rattle.zarr_array_storage.specs.Stores.{value_bytes};
     ghost use Rattle.zarr_codecs_meaning.specs.Chunks.{chunk_decoded};
     ghost use Rattle.zarr_codecs_meaning.specs.Decoding.{decoded};
@@ -246,8 +247,8 @@ impl<C: ArrayToBytesCodecTraits> ArrayCore<C> {
         }
     }
 
-    /// Whether a chunk has a value even if all its elements are fill after a write: where empty
-    /// chunks are stored, or it is written in part.
+    /// Whether a chunk has a value even if all its elements are fill after a write: where it is
+    /// written in part, or empty chunks are stored; a shard into which a part is put has none.
     pub(crate) fn stores_fill(
         &self,
         write: &BoxWrite,
@@ -262,7 +263,10 @@ impl<C: ArrayToBytesCodecTraits> ArrayCore<C> {
             write.now.options.now (extent_of write.now.region) (region_of own.now)) }
         ensures err { IfErr result (λ e. e ≡ Memory) }
     {
-        Ok(write.options.store_empty_chunks || self.is_in_part(write, own)?)
+        if !self.may_be_in_part(write, own) {
+            return Ok(write.options.store_empty_chunks);
+        }
+        self.is_in_part(write, own)
     }
 
     /// Whether a write may encode a chunk in part.
@@ -303,6 +307,34 @@ impl<C: ArrayToBytesCodecTraits> ArrayCore<C> {
             Err(CodecError::Memory) => Err(ChunkError::Memory),
             _ => unreachable!(),
         }
+    }
+
+    /// Whether a write puts a part of a chunk into the chunk's shard: it may encode the chunk in
+    /// part, and the codecs make a shard. `Fit` where the chunk doesn't suit its codecs, which is
+    /// looked at only where a write may encode it in part.
+    pub(crate) fn is_into_shard(
+        &self,
+        write: &BoxWrite,
+        own: &ArraySubset,
+    ) -> Result<bool, ChunkError>
+        requires rank { length write.now.region.start.now ≡ length own.now.start.items }
+        requires small { ¬ IsTooLarge (document_of C.meaning self.now).elements.type
+            (product own.now.shape.items) }
+        ensures ok { IfOk result (λ into. into ≡ is_into_shard (document_of C.meaning self.now)
+            write.now.options.now (extent_of write.now.region) (region_of own.now)) }
+        ensures fit { IfOk result (λ into. into ≡ true →
+            fits_box (document_of C.meaning self.now) (region_of own.now) ≡ true) }
+        ensures err { IfErr result (IntoUnknown (document_of C.meaning self.now)
+            (region_of own.now)) }
+    {
+        if !self.may_be_in_part(write, own) {
+            return Ok(false);
+        }
+        let data_type = self.elements.data_type();
+        if !self.codecs.fits(write.alloc, data_type, own.shape())? {
+            return Err(ChunkError::Fit);
+        }
+        Ok(!self.is_in_part(write, own)?)
     }
 
     /// The value of a chunk with these elements, or `None` where it is to have none: where they are

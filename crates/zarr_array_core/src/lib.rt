@@ -11,6 +11,7 @@ pub mod compacting;
 pub mod erasing;
 pub mod error;
 mod holding;
+mod into_shard;
 pub mod limits;
 mod moving;
 mod part_putting;
@@ -21,6 +22,7 @@ pub mod rewriting;
 pub mod rooms;
 pub mod store_calls;
 mod store_source;
+mod store_target;
 pub mod writing;
 
 pub use array_core::ArrayCore;

@@ -22,7 +22,7 @@ pub(crate) struct StoreSource<'a, S> {
 }
 
 /// What a source answers where the store refuses for this reason to tell a size.
-fn size_refused(error: &StorageError) -> Result<Option<u64>, CodecError>
+pub(crate) fn size_refused(error: &StorageError) -> Result<Option<u64>, CodecError>
     ensures refused { IfByteRange error.now ⊥ → IsErr result }
     ensures cause { ReadRefused result }
     ensures counts { (count : ℕ) → refused_after count result

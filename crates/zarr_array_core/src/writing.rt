@@ -27,20 +27,21 @@ impl<C: ArrayToBytesCodecTraits> ArrayCore<C> {
     ghost use Rattle.zarr_array_meaning.specs.Chunks.{stored_at};
     ghost use Rattle.zarr_array_meaning.specs.Writing.{WroteChunks};
     ghost use Rattle.zarr_array_core.specs.Views.{array_cells, AreSoMany, document_of, is_exact, path_of};
-    ghost use Rattle.zarr_array_core.specs.ChunkValues.{ChangesValue, ChangeStops, with_value};
+    ghost use Rattle.zarr_array_core.specs.ChunkValues.{with_value};
+    ghost use Rattle.zarr_array_core.specs.IntoShards.{write_of, WritesChunk, WritingStops};
     ghost use Rattle.zarr_array_core.specs.Outcomes.{WritesBox, WriteStops, CountsWrites, CountsUpTo, IsSmall, refused_after, refused_by_many};
 
     /// Writes the elements of a region that is not empty, row-major, chunk by chunk: `bytes` are as
     /// many values of the array's data type as the region has places. A chunk that becomes all fill
-    /// loses its key, unless empty chunks are stored. In all, the store accepts no more writing calls
-    /// than the region intersects chunks. A chunk that lies in the region is written whatever is stored for it, and nothing
-    /// is fetched for it.
+    /// loses its key, unless empty chunks are stored. The store accepts at most one writing call for
+    /// each chunk. A chunk that lies in the region is written whatever is stored for it, and nothing
+    /// is fetched for it. With `experimental_partial_encoding` a part is put into its chunk's shard.
     ///
     /// `Fit` where a chunk does not fit its codecs, `Damage` where a part of a chunk is to stay and
-    /// what is stored cannot be decoded, or, if the chunk is written in part, has another length
-    /// than the chunk's elements, `Codec` where a codec refuses to encode, `Size` where an offset
-    /// or a length is too large for where it is written, `Storage` where the store refuses. The
-    /// chunks before the one that stopped stay written.
+    /// what is stored cannot be decoded or, if that part is put into it, cannot take it, `Codec`
+    /// where a codec refuses to encode, `Size` where an offset or a length is too large for where it
+    /// is written, `Storage` where the store refuses. The chunks before the one that stopped stay
+    /// written.
     pub fn write_region<S: WritableStorageTraits>(
         &self,
         rooms: &mut ChunkRooms,
@@ -140,7 +141,8 @@ impl<C: ArrayToBytesCodecTraits> ArrayCore<C> {
         Ok(())
     }
 
-    /// Writes the elements of a box that lie in a chunk.
+    /// Writes the elements of a box that lie in a chunk: a part of it into its shard, or its value.
+    /// Which of both is decided before anything is fetched.
     fn write_at<S: WritableStorageTraits>(
         &self,
         rooms: &mut ChunkRooms,
@@ -162,17 +164,14 @@ impl<C: ArrayToBytesCodecTraits> ArrayCore<C> {
         ensures ok { IsTrue (S.is_honest store.old) → OnOk result
             ((box : Region) × (made : Option (List ℕ))
             × IsInGrid (document_of C.meaning self.now).grid chunk.now box
-            × ChangesValue (document_of C.meaning self.now)
-            (is_exact C.is_function self.now) (extent_of write.now.region)
-            (array_cells self.now write.now.bytes.now) write.now.options.now
+            × WritesChunk (write_of C.ArrayToBytesCodecTraits self.now write.now)
             box (stored_at (path_of self.now)
             (document_of C.meaning self.now) (S.held store.old) chunk.now) made
             × (S.held store.new ≡ with_value (S.held store.old) (chunk_key (path_of self.now)
             (document_of C.meaning self.now).keys chunk.now) made)) }
         ensures err { IsTrue (S.is_honest store.old) → IfErr result (λ e. (box : Region)
             × IsInGrid (document_of C.meaning self.now).grid chunk.now box
-            × ChangeStops (document_of C.meaning self.now) (extent_of write.now.region)
-            (array_cells self.now write.now.bytes.now) write.now.options.now
+            × WritingStops (write_of C.ArrayToBytesCodecTraits self.now write.now)
             box (stored_at (path_of self.now)
             (document_of C.meaning self.now) (S.held store.old) chunk.now) e) }
         ensures kept { IsTrue (S.is_honest store.old) →
@@ -184,7 +183,9 @@ impl<C: ArrayToBytesCodecTraits> ArrayCore<C> {
     {
         let key = self.key_of(write.alloc, chunk)?;
         let own = self.box_of(rooms.take_own(), chunk)?;
-        if !self.patch_chunk(rooms, store, &key, write, &own)? {
+        if self.is_into_shard(write, &own)? {
+            self.put_into_shard(rooms, store, &key, write, &own)?;
+        } else if !self.patch_chunk(rooms, store, &key, write, &own)? {
             self.write_chunk(rooms, store, &key, write, &own)?;
         }
         rooms.keep_own(own);

@@ -70,7 +70,7 @@ impl<'a, S: WritableStorageTraits> StoragePartialEncoder<'a, S> {
 }
 
 /// Why ranges aren't written where a store refuses.
-fn of_storage(error: &StorageError) -> CodecError
+pub fn of_storage(error: &StorageError) -> CodecError
     ensures { result ≡ target_error error.now }
 {
     match error {
@@ -83,7 +83,7 @@ fn of_storage(error: &StorageError) -> CodecError
 /// Writes several ranges into the value at a key, in their order, by one writing call. Nothing is
 /// read where the store takes ranges, else the value once.
 #[tactic(auto, using(crate::proofs::PartialEncoderLemmas::given_by_get))]
-fn write_ranges<S: WritableStorageTraits>(
+pub fn write_ranges<S: WritableStorageTraits>(
     alloc: Global,
     store: &mut S,
     key: &StoreKey,

@@ -12,12 +12,10 @@ use Rattle.zarr_array_core.specs.declared.error.ChunkError.{ChunkError}
 use Rattle.zarr_array_core.specs.Views.{array_cells, document_of}
 use Rattle.zarr_array_elements.proofs.Meeting.{meeting, starts_alike}
 use Rattle.zarr_array_elements.proofs.Shared.{large_grows, shared_held, shared_smaller}
-use Rattle.zarr_array_core.proofs.PutParts.{IsPutCall, was_put, was_refused}
+use Rattle.zarr_array_core.proofs.InParts.{parts_of_write}
+use Rattle.zarr_array_core.proofs.PutParts.{IsPutCall, shared_is, was_put, was_refused}
 use Rattle.zarr_array_core.proofs.SeenFrom.{later_start}
 use Rattle.zarr_array_core.proofs.array_core.ArrayCore.put_into.Goals as goal
-
-shared_is : (subset region own shared : Region) → subset ≡ region → shared ≡ overlapped subset own → shared ≡ overlapped region own
-shared_is subset region own shared e f = f ∙ ap (λ (r : Region). overlapped r own) e
 
 pub whole_cells-requires-clause-small : goal.whole_cells-requires-clause-small
 whole_cells-requires-clause-small g c = λ large.
@@ -58,7 +56,6 @@ seen_from-part-requires g c =
 pub returns-in-Ok-clause-ok : goal.returns-in-Ok-clause-ok
 returns-in-Ok-clause-ok g c =
     let document = document_of g.C.ArrayToBytesCodecTraits.meaning c.args.self.now in
-    let options = c.args.write.now.options.now in
     let region : Region = extent_of c.args.write.now.region in
     let box : Region = region_of c.args.own.now in
     let shared = region_of c.in_ok-shared.shared in
@@ -67,14 +64,13 @@ returns-in-Ok-clause-ok g c =
     let payload = payload_of c.in_ok-bytes.bytes in
     let sub = array_cells c.args.self.now c.in_ok-bytes.bytes in
     let same : shared ≡ overlapped region box = shared_is (region_of c.args.write.now.subset.now) region box shared c.args.write.now.same_box c.in_ok-shared.ensures in
-    let call : IsPutCall document options region box shared part c.shape.result.now c.start.result.now given payload sub = record { same = same; seen = c.seen_from-part.ensures; from = c.start.ensures; whole = c.shape.ensures; share = c.requires.shares; fit = c.requires.fit; in_part = c.requires.in_part; small = c.requires.small; becomes = c.in_ok-bytes.ensures.ok None; counted = c.in_ok-bytes.ensures.counted } in
+    let call : IsPutCall document region box shared part c.shape.result.now c.start.result.now given payload sub = record { same = same; seen = c.seen_from-part.ensures; from = c.start.ensures; whole = c.shape.ensures; share = c.requires.shares; fit = c.requires.fit; small = c.requires.small; becomes = c.in_ok-bytes.ensures.ok None; counted = c.in_ok-bytes.ensures.counted } in
     let found = c.in-Ok.ensures.ok in
-    was_put document options region box shared part c.shape.result.now c.start.result.now given payload sub call (g.C.ArrayToBytesCodecTraits.is_function c.args.self.now.codecs) found.0 (source_contents c.args.source.now) (source_contents c.encode_into.new.source) found.1
+    was_put document region box shared part c.shape.result.now c.start.result.now given payload sub call (g.C.ArrayToBytesCodecTraits.is_function c.args.self.now.codecs) found.0 (source_contents c.args.source.now) (source_contents c.encode_into.new.source) found.1
 
 pub of_putting-requires : goal.of_putting-requires
 of_putting-requires g c =
     let document = document_of g.C.ArrayToBytesCodecTraits.meaning c.args.self.now in
-    let options = c.args.write.now.options.now in
     let region : Region = extent_of c.args.write.now.region in
     let box : Region = region_of c.args.own.now in
     let shared = region_of c.in_ok-shared.shared in
@@ -83,13 +79,12 @@ of_putting-requires g c =
     let payload = payload_of c.in_ok-bytes.bytes in
     let sub = array_cells c.args.self.now c.in_ok-bytes.bytes in
     let same : shared ≡ overlapped region box = shared_is (region_of c.args.write.now.subset.now) region box shared c.args.write.now.same_box c.in_ok-shared.ensures in
-    let call : IsPutCall document options region box shared part c.shape.result.now c.start.result.now given payload sub = record { same = same; seen = c.seen_from-part.ensures; from = c.start.ensures; whole = c.shape.ensures; share = c.requires.shares; fit = c.requires.fit; in_part = c.requires.in_part; small = c.requires.small; becomes = c.in_ok-bytes.ensures.ok None; counted = c.in_ok-bytes.ensures.counted } in
-    (was_refused document options region box shared part c.shape.result.now c.start.result.now given payload sub call (source_contents c.args.source.now) c.in-Err.error c.in-Err.ensures.cause c.in-Err.ensures.refused).0
+    let call : IsPutCall document region box shared part c.shape.result.now c.start.result.now given payload sub = record { same = same; seen = c.seen_from-part.ensures; from = c.start.ensures; whole = c.shape.ensures; share = c.requires.shares; fit = c.requires.fit; small = c.requires.small; becomes = c.in_ok-bytes.ensures.ok None; counted = c.in_ok-bytes.ensures.counted } in
+    (was_refused document region box shared part c.shape.result.now c.start.result.now given payload sub call (source_contents c.args.source.now) c.in-Err.error (parts_of_write document c.args.write.now.options.now region box c.requires.in_part).0 c.in-Err.ensures.cause c.in-Err.ensures.refused).0
 
 pub returns-clause-err : goal.returns-clause-err
 returns-clause-err g c =
     let document = document_of g.C.ArrayToBytesCodecTraits.meaning c.args.self.now in
-    let options = c.args.write.now.options.now in
     let region : Region = extent_of c.args.write.now.region in
     let box : Region = region_of c.args.own.now in
     let shared = region_of c.in_ok-shared.shared in
@@ -98,6 +93,6 @@ returns-clause-err g c =
     let payload = payload_of c.in_ok-bytes.bytes in
     let sub = array_cells c.args.self.now c.in_ok-bytes.bytes in
     let same : shared ≡ overlapped region box = shared_is (region_of c.args.write.now.subset.now) region box shared c.args.write.now.same_box c.in_ok-shared.ensures in
-    let call : IsPutCall document options region box shared part c.shape.result.now c.start.result.now given payload sub = record { same = same; seen = c.seen_from-part.ensures; from = c.start.ensures; whole = c.shape.ensures; share = c.requires.shares; fit = c.requires.fit; in_part = c.requires.in_part; small = c.requires.small; becomes = c.in_ok-bytes.ensures.ok None; counted = c.in_ok-bytes.ensures.counted } in
+    let call : IsPutCall document region box shared part c.shape.result.now c.start.result.now given payload sub = record { same = same; seen = c.seen_from-part.ensures; from = c.start.ensures; whole = c.shape.ensures; share = c.requires.shares; fit = c.requires.fit; small = c.requires.small; becomes = c.in_ok-bytes.ensures.ok None; counted = c.in_ok-bytes.ensures.counted } in
     subst (λ (e : ChunkError). PutStops document box (source_contents c.args.source.now) e) (sym c.of_putting.ensures)
-    (was_refused document options region box shared part c.shape.result.now c.start.result.now given payload sub call (source_contents c.args.source.now) c.in-Err.error c.in-Err.ensures.cause c.in-Err.ensures.refused).1
+    (was_refused document region box shared part c.shape.result.now c.start.result.now given payload sub call (source_contents c.args.source.now) c.in-Err.error (parts_of_write document c.args.write.now.options.now region box c.requires.in_part).0 c.in-Err.ensures.cause c.in-Err.ensures.refused).1

@@ -1,0 +1,86 @@
+use Rattle.std.proofs.Common.{◌≡◌, ◌∙◌, ◌<◌, ℕ, List, Option, None, length, true, ap, sym, subst, rules}
+use Rattle.std.specs.FinMap as map
+use Rattle.zarr_grids_boxes.specs.Boxes.{Region, product}
+use Rattle.zarr_grids_boxes.specs.Cuts.{IsAtMost, overlapped}
+use Rattle.zarr_grids_boxes.specs.Subsets.{region_of}
+use Rattle.zarr_grids_overlay.specs.Overlays.{extent_of}
+use Rattle.zarr_codecs_meaning.specs.Types.{IsTooLarge}
+use Rattle.zarr_array_meaning.specs.Chunks.{holds_box}
+use Rattle.zarr_codecs_arrays.specs.Views.{payload_of}
+use Rattle.zarr_array_core.specs.IntoShards.{IntoShardStops, write_of}
+use Rattle.zarr_array_core.specs.declared.error.ChunkError.{ChunkError}
+use Rattle.zarr_array_core.specs.Views.{array_cells, document_of}
+use Rattle.zarr_array_elements.proofs.Meeting.{meeting, starts_alike}
+use Rattle.zarr_array_elements.proofs.Shared.{large_grows, shared_held, shared_smaller}
+use Rattle.zarr_array_core.proofs.IntoShards.{shard_write, was_into, was_not_into}
+use Rattle.zarr_array_core.proofs.PutParts.{IsPutCall, shared_is}
+use Rattle.zarr_array_core.proofs.SeenFrom.{later_start}
+use Rattle.zarr_array_core.proofs.array_core.ArrayCore.put_into_shard.Goals as goal
+
+pub whole_cells-requires-clause-small : goal.whole_cells-requires-clause-small
+whole_cells-requires-clause-small g c = λ large.
+    let document = document_of g.C.ArrayToBytesCodecTraits.meaning c.args.self.now in
+    let region : Region = extent_of c.args.write.now.region in
+    let box : Region = region_of c.args.own.now in
+    let shared : region_of c.in_ok-shared.shared ≡ overlapped region box = shared_is (region_of c.args.write.now.subset.now) region box (region_of c.in_ok-shared.shared) c.args.write.now.same_box c.in_ok-shared.ensures in
+    c.requires.writes.small (large_grows document.elements.type (product (overlapped region box).shape) (product box.shape) (shared_smaller region box c.requires.writes.shares) (subst (λ (r : Region). IsTooLarge document.elements.type (product r.shape)) shared large))
+
+pub whole_cells-requires-clause-some : goal.whole_cells-requires-clause-some
+whole_cells-requires-clause-some g c =
+    let region : Region = extent_of c.args.write.now.region in
+    let box : Region = region_of c.args.own.now in
+    let shared : region_of c.in_ok-shared.shared ≡ overlapped region box = shared_is (region_of c.args.write.now.subset.now) region box (region_of c.in_ok-shared.shared) c.args.write.now.same_box c.in_ok-shared.ensures in
+    subst (λ (r : Region). 0 < product r.shape) (sym shared) (meeting region box c.requires.writes.shares).some
+
+pub whole_cells-requires-clause-rank : goal.whole_cells-requires-clause-rank
+whole_cells-requires-clause-rank g c =
+    let region : Region = extent_of c.args.write.now.region in
+    let box : Region = region_of c.args.own.now in
+    let shared : region_of c.in_ok-shared.shared ≡ overlapped region box = shared_is (region_of c.args.write.now.subset.now) region box (region_of c.in_ok-shared.shared) c.args.write.now.same_box c.in_ok-shared.ensures in
+    sym (ap (λ (r : Region). length r.start) shared ∙ starts_alike region box c.requires.writes.rank)
+
+pub whole_cells-requires-clause-holds : goal.whole_cells-requires-clause-holds
+whole_cells-requires-clause-holds g c =
+    let region : Region = extent_of c.args.write.now.region in
+    let box : Region = region_of c.args.own.now in
+    let shared : region_of c.in_ok-shared.shared ≡ overlapped region box = shared_is (region_of c.args.write.now.subset.now) region box (region_of c.in_ok-shared.shared) c.args.write.now.same_box c.in_ok-shared.ensures in
+    subst (λ (r : Region). holds_box region r ≡ true) (sym shared) (shared_held region box c.requires.writes.shares)
+
+pub seen_from-part-requires : goal.seen_from-part-requires
+seen_from-part-requires g c =
+    let region : Region = extent_of c.args.write.now.region in
+    let box : Region = region_of c.args.own.now in
+    let shared : region_of c.in_ok-shared.shared ≡ overlapped region box = shared_is (region_of c.args.write.now.subset.now) region box (region_of c.in_ok-shared.shared) c.args.write.now.same_box c.in_ok-shared.ensures in
+    subst (λ (os : List ℕ). IsAtMost os c.in_ok-shared.shared.start.items) (sym c.start.ensures) (subst (λ (r : Region). IsAtMost box.start r.start) (sym shared) (later_start region.start box.start c.requires.writes.rank))
+
+pub returns-in-Ok-clause-ok : goal.returns-in-Ok-clause-ok
+returns-in-Ok-clause-ok g c = λ honest.
+    let write = write_of g.C.ArrayToBytesCodecTraits c.args.self.now c.args.write.now in
+    let region : Region = extent_of c.args.write.now.region in
+    let box : Region = region_of c.args.own.now in
+    let shared = region_of c.in_ok-shared.shared in
+    let part = region_of c.seen_from-part.result in
+    let payload = payload_of c.in_ok-bytes.bytes in
+    let sub = array_cells c.args.self.now c.in_ok-bytes.bytes in
+    let same : shared ≡ overlapped region box = shared_is (region_of c.args.write.now.subset.now) region box shared c.args.write.now.same_box c.in_ok-shared.ensures in
+    let call : IsPutCall write.array.document region box shared part c.shape.result.now c.start.result.now write.cells payload sub = record { same = same; seen = c.seen_from-part.ensures; from = c.start.ensures; whole = c.shape.ensures; share = c.requires.writes.shares; fit = c.requires.fit; small = c.requires.writes.small; becomes = c.in_ok-bytes.ensures.ok None; counted = c.in_ok-bytes.ensures.counted } in
+    let into = shard_write write.array.document write.options region box c.requires.into in
+    let stored : Option (List ℕ) = map.get (g.S.ReadableStorageTraits.held c.args.store.now) c.args.key.now in
+    let found = c.in-Ok.ensures.ok honest in
+    (found.0, was_into write box shared part c.shape.result.now c.start.result.now payload sub (sym c.args.own.now.same) into call stored found.0 found.1, search (rules, found.2))
+
+pub returns-clause-err : goal.returns-clause-err
+returns-clause-err g c = λ honest.
+    let write = write_of g.C.ArrayToBytesCodecTraits c.args.self.now c.args.write.now in
+    let region : Region = extent_of c.args.write.now.region in
+    let box : Region = region_of c.args.own.now in
+    let shared = region_of c.in_ok-shared.shared in
+    let part = region_of c.seen_from-part.result in
+    let payload = payload_of c.in_ok-bytes.bytes in
+    let sub = array_cells c.args.self.now c.in_ok-bytes.bytes in
+    let same : shared ≡ overlapped region box = shared_is (region_of c.args.write.now.subset.now) region box shared c.args.write.now.same_box c.in_ok-shared.ensures in
+    let call : IsPutCall write.array.document region box shared part c.shape.result.now c.start.result.now write.cells payload sub = record { same = same; seen = c.seen_from-part.ensures; from = c.start.ensures; whole = c.shape.ensures; share = c.requires.writes.shares; fit = c.requires.fit; small = c.requires.writes.small; becomes = c.in_ok-bytes.ensures.ok None; counted = c.in_ok-bytes.ensures.counted } in
+    let into = shard_write write.array.document write.options region box c.requires.into in
+    let stored : Option (List ℕ) = map.get (g.S.ReadableStorageTraits.held c.args.store.now) c.args.key.now in
+    subst (λ (e : ChunkError). IntoShardStops write box stored e) (sym c.of_sharding.ensures)
+    (was_not_into write box shared part c.shape.result.now c.start.result.now payload sub (sym c.args.own.now.same) into call stored c.in-Err.error c.unwrap_or.result (c.in-Err.ensures.cause honest))

@@ -1,0 +1,157 @@
+-- A part of a chunk, put into the chunk's shard.
+use Rattle.std.specs.Prelude.{◌≡◌, ◌⊎◌, ℕ, List, [], ◌∷◌, map, length, Option, Bool, IsTrue, true, false, if◌then◌else◌, None, MatchBool, OnErr, Result}
+use Rattle.std.specs.List.{list_all}
+use Rattle.zarr_grids_boxes.specs.Boxes.{Region, product, places, is_in_box, share_place}
+use Rattle.zarr_grids_boxes.specs.Subsets.{region_of}
+use Rattle.zarr_grids_boxes.specs.declared.subset.ArraySubset.{ArraySubset}
+use Rattle.zarr_grids_overlay.specs.Overlays.{extent_of}
+use Rattle.zarr_codecs_meaning.specs.Chains.{Chain}
+use Rattle.zarr_codecs_meaning.specs.Chunks.{chunk_decoded, chunk_part}
+use Rattle.zarr_codecs_meaning.specs.Payloads.{Payload}
+use Rattle.zarr_codecs_meaning.specs.Refusals.{CodecRefuses, PassesIndex}
+use Rattle.zarr_codecs_meaning.specs.Standing.{ChunkStands}
+use Rattle.zarr_codecs_meaning.specs.Types.{Cell, Elements, is_value, is_fill, IsTooLarge}
+use Rattle.zarr_codecs_options.specs.declared.codec_options.CodecOptions.{CodecOptions}
+use Rattle.zarr_codecs_arrays.specs.Views.{elements_of, payload_of}
+use Rattle.zarr_codecs_arrays.specs.declared.array_bytes.ArrayBytes.{ArrayBytes}
+use Rattle.zarr_codecs_arrays.specs.declared.error.CodecError.{CodecError}
+use Rattle.zarr_codecs_arrays.specs.declared.error.CodecError.TheVariants as codec_error
+use Rattle.zarr_codecs_traits.specs.Indexers.{Asked, in_box}
+use Rattle.zarr_codecs_traits.specs.PartWriting.{ChunkTight, IsEncodedInto, IsPlaced, NotEncodedInto, OnCells, PassesLength, WritesOnce, only_cell}
+use Rattle.zarr_codecs_traits.specs.Sources.{refused_after}
+use Rattle.zarr_codecs_traits.specs.declared.array_to_bytes.ArrayToBytesCodecTraits as codecs
+use Rattle.zarr_array_meaning.specs.Arrays.{Array}
+use Rattle.zarr_array_meaning.specs.Boxes.{cell_of_box}
+use Rattle.zarr_array_meaning.specs.Chunks.{fits_box, number_in}
+use Rattle.zarr_array_meaning.specs.Documents.{Document}
+use Rattle.zarr_array_meaning.specs.Standing.{IsLossless}
+use Rattle.zarr_array_meaning.specs.Writing.{HasSliceOutside, is_into_shard}
+use Rattle.zarr_array_storage.specs.declared.traits.ReadableStorageTraits as stores
+use Rattle.zarr_array_storage.specs.declared.error.StorageError.{StorageError}
+use Rattle.zarr_array_core.specs.Arrays.{array_of}
+use Rattle.zarr_array_core.specs.ChunkValues.{ChangesValue, ChangeStops, PutsCells}
+use Rattle.zarr_array_core.specs.Views.{array_cells, AreSoMany}
+use Rattle.zarr_array_core.specs.declared.array_core.ArrayCore.{ArrayCore}
+use Rattle.zarr_array_core.specs.declared.chunk_value.BoxWrite.{BoxWrite}
+use Rattle.zarr_array_core.specs.declared.error.ChunkError.{ChunkError}
+use Rattle.zarr_array_core.specs.declared.error.ChunkError.TheVariants as error
+
+-- the cells of a box that are written to an array, and how they are stored
+pub record Write : Type 0 where
+  pub array : Array
+  pub region : Region
+  pub cells : List Cell
+  pub options : CodecOptions
+
+-- the cells that elements written to an array are
+abbrev pub write_of : {C : Type 0} → codecs.Ghosts C → ArrayCore C → BoxWrite → Write
+write_of c array write = record { array = array_of c array; region = extent_of write.region; cells = array_cells array write.bytes.now; options = write.options.now }
+
+-- elements are written to a box that shares a place with a chunk: both have as many numbers, the chunk isn't too large, and there are as many values of the array as the box has places
+pub record WritesTo {C : Type 0} (array : ArrayCore C) (write : BoxWrite) (own : ArraySubset) : Type 0 where
+  pub small : ¬ IsTooLarge (elements_of array.elements).type (product own.shape.items)
+  pub shares : share_place own.start.items own.shape.items write.region.start.now write.region.shape.now ≡ true
+  pub rank : length write.region.start.now ≡ length own.start.items
+  pub many : AreSoMany array write.bytes.now (product write.region.shape.now)
+  pub values : list_all (is_value (elements_of array.elements).type) (array_cells array write.bytes.now) ≡ true
+
+-- why it isn't known whether a write puts a part of a chunk into its shard
+abbrev pub IntoUnknown : Document → Region → ChunkError → Type 0
+IntoUnknown document box error.Fit = fits_box document box ≡ false
+IntoUnknown document box error.Memory = Unit {0}
+IntoUnknown document box e = ⊥
+
+-- ---- what is put
+
+-- the cells of a chunk after those of a write were put over them
+abbrev pub cells_over : Write → Region → List Cell → List Cell
+cells_over write box before =
+    let fill = write.array.document.elements.fill in
+    map (λ place. if is_in_box write.region.start write.region.shape place then cell_of_box write.region write.cells fill place else cell_of_box box before fill place) (places box.start box.shape)
+
+-- the cells of a chunk after those of a write were put over what is read of it; where a cell can't be read the fill value stands
+abbrev pub cells_then : Write → Region → Option (List ℕ) → List Cell
+cells_then write box stored =
+    let fill = write.array.document.elements.fill in
+    let read = λ (place : List ℕ). only_cell fill (chunk_part write.array.document.chain write.array.document.elements box.shape stored (number_in box place ∷ [])) in
+    map (λ place. if is_in_box write.region.start write.region.shape place then cell_of_box write.region write.cells fill place else read place) (places box.start box.shape)
+
+-- the cells of a write were put into a chunk's shard, which opens and has no slice outside its data part: each place is read so, what stood for cells stands for them with the new ones, and a shard that is all fill then is taken away
+pub record PutsIntoShard (write : Write) (box : Region) (stored made : Option (List ℕ)) : Type 0 where
+  pub fit : fits_box write.array.document box ≡ true
+  pub placed : ¬ HasSliceOutside write.array.document box stored
+  pub puts : PutsCells write.array.document write.region write.cells box stored made
+  pub stands : IsLossless write.array.document → OnCells write.array.document.elements box.shape (λ before. ChunkStands write.array.document.chain write.array.document.elements box.shape stored before
+      → ChunkStands write.array.document.chain write.array.document.elements box.shape made (cells_over write box before))
+  pub tight : IsTrue write.array.exact → IsLossless write.array.document → OnCells write.array.document.elements box.shape (λ before. ChunkTight write.array.document.chain write.array.document.elements box.shape stored before
+      → ChunkTight write.array.document.chain write.array.document.elements box.shape made (cells_over write box before))
+  pub absent : IsLossless write.array.document → OnCells write.array.document.elements box.shape (λ before. ChunkStands write.array.document.chain write.array.document.elements box.shape stored before
+      → is_fill write.array.document.elements.fill (cells_over write box before) ≡ true → made ≡ None)
+
+-- why the cells of a write are not put into a chunk's shard
+abbrev pub IntoShardStops : Write → Region → Option (List ℕ) → ChunkError → Type 0
+IntoShardStops write box stored error.Fit = ⊥
+IntoShardStops write box stored (error.Storage e) = Unit {0}
+IntoShardStops write box stored error.Damage = (chunk_decoded write.array.document.chain write.array.document.elements box.shape stored ≡ None) ⊎ HasSliceOutside write.array.document box stored
+IntoShardStops write box stored error.Codec = CodecRefuses write.array.document.chain write.array.document.elements box.shape (cells_then write box stored)
+IntoShardStops write box stored error.Size =
+    PassesIndex write.array.document.chain write.array.document.elements box.shape (cells_then write box stored) ⊎ PassesLength write.array.document.chain write.array.document.elements box.shape stored (cells_then write box stored)
+IntoShardStops write box stored error.Memory = Unit {0}
+
+-- ---- what a write does
+
+-- what a write makes of a chunk: it puts a part of it into its shard, or changes its value otherwise
+abbrev pub WritesChunk : Write → Region → Option (List ℕ) → Option (List ℕ) → Type 0
+WritesChunk write box stored made = MatchBool (is_into_shard write.array.document write.options write.region box) (PutsIntoShard write box stored made)
+    (ChangesValue write.array.document write.array.exact write.region write.cells write.options box stored made)
+
+-- why a write doesn't change a chunk that fits
+abbrev pub FittingStops : Write → Region → Option (List ℕ) → ChunkError → Type 0
+FittingStops write box stored e = MatchBool (is_into_shard write.array.document write.options write.region box) ((fits_box write.array.document box ≡ true) × IntoShardStops write box stored e)
+    (ChangeStops write.array.document write.region write.cells write.options box stored e)
+
+-- why a write changes nothing in a chunk
+abbrev pub WritingStops : Write → Region → Option (List ℕ) → ChunkError → Type 0
+WritingStops write box stored error.Fit = fits_box write.array.document box ≡ false
+WritingStops write box stored error.Memory = Unit {0}
+WritingStops write box stored e = FittingStops write box stored e
+
+-- ---- a codec's call
+
+-- elements that a codec is to put at the places that are asked for
+pub record Putting : Type 0 where
+  pub chain : Chain
+  pub exact : Bool
+  pub elements : Elements
+  pub shape : List ℕ
+  pub asked : Asked
+  pub payload : Payload
+
+-- elements for a part of a chunk of this shape
+abbrev pub putting_of : {C : Type 0} → codecs.Ghosts C → ArrayCore C → List ℕ → ArraySubset → ArrayBytes → Putting
+putting_of c array shape part bytes = record { chain = c.meaning array.codecs; exact = c.is_function array.codecs; elements = elements_of array.elements; shape = shape; asked = in_box (region_of part); payload = payload_of bytes }
+
+-- they were put into what is stored for the array
+pub record IsPutInto (put : Putting) (stored made : Option (List ℕ)) : Type 0 where
+  pub cells : List Cell
+  pub encoded : IsEncodedInto put.chain put.exact put.elements put.shape put.asked put.payload cells stored made
+  pub placed : IsPlaced put.chain put.shape stored
+
+-- or why they were not
+abbrev pub NotPutInto : {A : Type 0} → Putting → Option (List ℕ) → Result A CodecError → Type 0
+NotPutInto put stored result = NotEncodedInto put.chain put.elements put.shape put.asked put.payload stored result
+
+-- a codec called a store, of which a call may have been refused: the store stays as honest as it was, its refusal is counted, at most one writing call is accepted, and an error changes nothing
+pub record CalledByCodec {S A : Type 0} (s : stores.Ghosts S) (old new : S) (result : Result A CodecError) : Type 0 where
+  pub honest : s.is_honest new ≡ s.is_honest old
+  pub refused : s.refused_calls new ≡ refused_after (s.refused_calls old) result
+  pub once : WritesOnce (s.accepted_writes old) (s.accepted_writes new) result
+  pub kept : IsTrue (s.is_honest old) → OnErr result (s.held new ≡ s.held old)
+
+-- why a part is not put into a chunk's shard where a codec refuses, and why the store does, if that is what refuses
+abbrev pub shard_refusal_of : CodecError → StorageError → ChunkError
+shard_refusal_of codec_error.Codec refusal = error.Codec
+shard_refusal_of codec_error.Size refusal = error.Size
+shard_refusal_of codec_error.Memory refusal = error.Memory
+shard_refusal_of codec_error.Source refusal = error.Storage refusal
+shard_refusal_of e refusal = error.Damage
