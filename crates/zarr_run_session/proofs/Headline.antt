@@ -1,4 +1,4 @@
--- Both halves of the headline, and tight layout, by the laws of steps and runs.
+-- The headline and tight layout, by the laws of steps and runs.
 use Rattle.std.proofs.Common.{◌≡◌, ◌≢◌, ◌∙◌, ◌⊎◌, inl, inr, ⊎_elim, ℕ, zero, Bool, true, false, if◌then◌else◌, List, [], ◌∷◌, ◌++◌, ◌||◌, length, bytes_eq, refl, sym, ap, subst, Option, Some, None}
 use Rattle.std.specs.FinMap.{empty}
 use Rattle.std.specs.Option.{option_map_or}

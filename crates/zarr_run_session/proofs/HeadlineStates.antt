@@ -1,4 +1,4 @@
--- Both halves of the headline, and tight layout, of sessions and of stores.
+-- The headline and tight layout, of sessions and of stores.
 use Rattle.std.proofs.Common.{◌≡◌, ⊎_elim, List, sym, subst}
 use Rattle.std.specs.FinMap.{empty}
 use Rattle.std.specs.Prelude.{All}

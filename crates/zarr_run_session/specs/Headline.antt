@@ -1,4 +1,4 @@
--- Both halves of the headline, and tight layout: of one command, and of a run.
+-- The headline, of one command and of a run: each array answers as a table of its own, and a rewrite leaves what storing the cells of that table afresh leaves. And tight layout.
 use Rattle.std.specs.Prelude.{◌≡◌, ◌⊎◌, ℕ, List, [], ◌∷◌, ◌++◌, length, take, All, bytes_eq, Bool, true, false, if◌then◌else◌, Some}
 use Rattle.std.specs.FinMap.{empty}
 use Rattle.std.specs.Option.{option_map_or}

@@ -18,9 +18,9 @@ pub struct GiveBack<S, E> {
 }
 
 /// Runs commands in order, and answers each. Over an honest store whose keys are the arrays' own,
-/// each array answers as a table of cells; what its last rewrite left, if that stored no empty
-/// chunk, stands at the end; and the slices of its shards stay what encoding writes. Room for all
-/// replies is made first; where it is refused, nothing has been run.
+/// each array answers as a table of its own, and what its last rewrite left stands at the end, if
+/// that stored no empty chunk. Room for all replies is made first; where it is refused, nothing has
+/// been run.
 pub fn run_on<S: WritableStorageTraits, B: BytesToBytesCodecTraits>(
     alloc: Global,
     session: &mut Session<S, B>,
@@ -30,7 +30,7 @@ pub fn run_on<S: WritableStorageTraits, B: BytesToBytesCodecTraits>(
         RunsFrom B.meaning B.reads (state_of S.held S.refused_calls session.old)
         (map asked commands.now) (map answered replies.items)
         (state_of S.held S.refused_calls session.new)) }
-    // both halves of the headline, and tight layout
+    // the arrays' tables, what rewrites leave, and tight layout
     ensures tables { IsTrue (S.is_honest (store_of session.old)) → IfOk result (λ replies.
         TablesFrom (B.meaning, B.reads) (state_of S.held S.refused_calls session.old)
         (map asked commands.now, map answered replies.items)
@@ -65,9 +65,8 @@ fn enter(replies: &mut Vec<Reply>, reply: Reply)
 }
 
 /// Runs commands in order over a store, in a session that begins with no array. Over an empty
-/// honest store, each array answers as a table of cells that begins as fill, and at the end the
-/// bytes of a rewritten array, and its shards, are as said of `run_on`. Room for all replies is
-/// made first; where it is refused, the store comes back untouched.
+/// honest store each array answers as a table of its own that begins as fill. Room for all replies
+/// is made first; where it is refused, the store comes back untouched.
 pub fn run<S: WritableStorageTraits + Drop, B: BytesToBytesCodecTraits>(
     alloc: Global,
     store: S,
@@ -77,7 +76,7 @@ pub fn run<S: WritableStorageTraits + Drop, B: BytesToBytesCodecTraits>(
         RunsOver B.reads (S.held store, S.refused_calls store)
         (map asked commands.now) (map answered end.0.items)
         (S.held end.1, S.refused_calls end.1)) }
-    // both halves of the headline, and tight layout
+    // the arrays' tables, what rewrites leave, and tight layout
     ensures tables { IsTrue (S.is_honest store) → IfOk result (λ end.
         TablesOver B.reads (S.held store, S.refused_calls store)
         (map asked commands.now, map answered end.0.items)

@@ -61,27 +61,27 @@ impl<S: WritableStorageTraits, B: BytesToBytesCodecTraits> Session<S, B> {
     }
 
     /// Runs one command. A refused command changes at most what it says it applied. Over an honest
-    /// store each array answers as a table of cells; a rewrite that stores no empty chunk leaves
-    /// what storing these cells afresh leaves; and the slices of shards stay what encoding writes.
-    /// Over any store, one more of its calls is counted as refused with the cause `Store`, and with
-    /// no other answer.
+    /// store each array answers as a table, and a rewrite that stores no empty chunk leaves what
+    /// storing its cells afresh leaves. Over any store, one more call is counted as refused with
+    /// the cause `Store`, and with no other answer.
     pub fn step(&mut self, command: &Command) -> Reply
         ensures steps { IsTrue (S.is_honest (store_of self.old)) → StepsFrom B.meaning B.reads
             (state_of S.held S.refused_calls self.old) (asked command.now) (answered result)
             (state_of S.held S.refused_calls self.new) }
-        // both halves of the headline, and tight layout
-        ensures tables { IsTrue (S.is_honest (store_of self.old)) → KeepsTables (B.meaning, B.reads)
-            (state_of S.held S.refused_calls self.old) (asked command.now, answered result)
-            (state_of S.held S.refused_calls self.new) }
-        ensures table { IsTrue (S.is_honest (store_of self.old)) → KeepsTable (B.meaning, B.reads)
-            (state_of S.held S.refused_calls self.old) (asked command.now, answered result)
-            (state_of S.held S.refused_calls self.new) }
-        ensures canon { IsTrue (S.is_honest (store_of self.old)) → RewritesAfresh (B.meaning, B.reads)
-            (state_of S.held S.refused_calls self.old) (asked command.now, answered result)
-            (state_of S.held S.refused_calls self.new) }
-        ensures tight { IsTrue (S.is_honest (store_of self.old)) → KeepsTight (B.meaning, B.reads)
-            (state_of S.held S.refused_calls self.old) (asked command.now, answered result)
-            (state_of S.held S.refused_calls self.new) }
+        // the arrays' tables, what rewrites leave, and tight layout
+        ensures tables { IsTrue (S.is_honest (store_of self.old)) → KeepsTables
+            (B.meaning, B.reads) (state_of S.held S.refused_calls self.old)
+            (asked command.now, answered result) (state_of S.held S.refused_calls self.new) }
+        ensures table { IsTrue (S.is_honest (store_of self.old)) → KeepsTable
+            (B.meaning, B.reads) (state_of S.held S.refused_calls self.old)
+            (asked command.now, answered result) (state_of S.held S.refused_calls self.new) }
+        ensures canon { IsTrue (S.is_honest (store_of self.old)) → RewritesAfresh
+            (B.meaning, B.reads) (state_of S.held S.refused_calls self.old)
+            (asked command.now, answered result) (state_of S.held S.refused_calls self.new) }
+        ensures tight { IsTrue (S.is_honest (store_of self.old)) → KeepsTight
+            (B.meaning, B.reads) (state_of S.held S.refused_calls self.old)
+            (asked command.now, answered result) (state_of S.held S.refused_calls self.new) }
+        // the store
         ensures honest { S.is_honest (store_of self.new) ≡ S.is_honest (store_of self.old) }
         ensures counts { S.refused_calls (store_of self.new)
             ≡ refused_with (S.refused_calls (store_of self.old)) (answered result) }
