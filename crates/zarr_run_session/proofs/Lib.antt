@@ -2,6 +2,8 @@ mod Alike
 pub mod CompactSteps
 mod Counts
 pub mod EraseSteps
+pub mod Headline
+pub mod HeadlineStates
 pub mod HeldSteps
 pub mod Lifting
 pub mod ReadSteps

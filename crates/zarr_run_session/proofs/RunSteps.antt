@@ -44,7 +44,7 @@ module _ (B : Type 0) (meaning : B → ByteCodec) (reads : ReadsCodecs) (old : S
 
   -- ---- the tables of the arrays
 
-  tables_in : (world : World) → IsIn meaning reads old world → HasTables reads world
+  pub tables_in : (world : World) → IsIn meaning reads old world → HasTables reads world
   tables_in world k path h e =
       let a = agreed_some B meaning reads old.1.0 (array_at old.0 path) (held_at path world.arrays) h (k.agree path) e in
       (a.2.node, a.2.says, subst (λ s. IsTableAt h.path h.document s h.table) (sym k.store) a.2.table)

@@ -1,3 +1,4 @@
 pub mod Finding
+pub mod Headline
 pub mod Replies
 pub mod Sessions

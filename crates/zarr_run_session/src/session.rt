@@ -25,6 +25,7 @@ impl<S: WritableStorageTraits, B: BytesToBytesCodecTraits> Session<S, B> {
     ghost use Rattle.zarr_run_commands.specs.Commands.{asked, answered};
     ghost use Rattle.zarr_run_meaning.specs.Runs.{world_over};
     ghost use Rattle.zarr_run_opening.specs.Sessions.{IsIn, StepsFrom};
+    ghost use Rattle.zarr_run_session.specs.Headline.{KeepsTables, KeepsTable, RewritesAfresh, KeepsTight};
     ghost use Rattle.zarr_run_session.specs.Sessions.{refused_with, state_of, store_of, type_at};
 
     /// A session over a store, whatever it holds. It holds no array yet.
@@ -59,9 +60,37 @@ impl<S: WritableStorageTraits, B: BytesToBytesCodecTraits> Session<S, B> {
         }
     }
 
-    /// Runs one command. A refused command changes at most what it says it applied. Over any store,
-    /// one more of its calls is counted as refused with the cause `Store`, and with no other answer.
+    /// Runs one command. A refused command changes at most what it says it applied. Over an honest
+    /// store each array answers as a table, and a rewrite that stores no empty chunk leaves what
+    /// storing its cells afresh leaves. Over any store, one more call is counted as refused with
+    /// the cause `Store`, and with no other answer.
     pub fn step(&mut self, command: &Command) -> Reply
+        ensures steps { IsTrue (S.is_honest (store_of self.old)) → StepsFrom B.meaning B.reads
+            (state_of S.held S.refused_calls self.old) (asked command.now) (answered result)
+            (state_of S.held S.refused_calls self.new) }
+        // the arrays' tables, what rewrites leave, and tight layout
+        ensures tables { IsTrue (S.is_honest (store_of self.old)) → KeepsTables
+            (B.meaning, B.reads) (state_of S.held S.refused_calls self.old)
+            (asked command.now, answered result) (state_of S.held S.refused_calls self.new) }
+        ensures table { IsTrue (S.is_honest (store_of self.old)) → KeepsTable
+            (B.meaning, B.reads) (state_of S.held S.refused_calls self.old)
+            (asked command.now, answered result) (state_of S.held S.refused_calls self.new) }
+        ensures canon { IsTrue (S.is_honest (store_of self.old)) → RewritesAfresh
+            (B.meaning, B.reads) (state_of S.held S.refused_calls self.old)
+            (asked command.now, answered result) (state_of S.held S.refused_calls self.new) }
+        ensures tight { IsTrue (S.is_honest (store_of self.old)) → KeepsTight
+            (B.meaning, B.reads) (state_of S.held S.refused_calls self.old)
+            (asked command.now, answered result) (state_of S.held S.refused_calls self.new) }
+        // the store
+        ensures honest { S.is_honest (store_of self.new) ≡ S.is_honest (store_of self.old) }
+        ensures counts { S.refused_calls (store_of self.new)
+            ≡ refused_with (S.refused_calls (store_of self.old)) (answered result) }
+    {
+        self.answer(command)
+    }
+
+    /// The answer to a command, by the function of its kind.
+    fn answer(&mut self, command: &Command) -> Reply
         ensures steps { IsTrue (S.is_honest (store_of self.old)) → StepsFrom B.meaning B.reads
             (state_of S.held S.refused_calls self.old)
             (asked command.now) (answered result)

@@ -1,6 +1,8 @@
 use Rattle.std.proofs.Common.{◌∙◌, map, ap}
 use Rattle.zarr_run_commands.specs.Commands.{asked, answered}
+use Rattle.zarr_run_meaning.proofs.GoodDocuments.{lawful_good}
 use Rattle.zarr_run_session.specs.Sessions.{state_of}
+use Rattle.zarr_run_session.proofs.HeadlineStates.{tables_over, canon_over, tight_over}
 use Rattle.zarr_run_session.proofs.RunSteps.{runs_over}
 use Rattle.zarr_run_session.proofs.runs.run.Goals as goal
 
@@ -12,3 +14,27 @@ returns-in-Ok-clause-runs g c = λ honest.
     (runs_over g.row.B.Denot g.B.BytesToBytesCodecTraits.meaning g.B.BytesToBytesCodecTraits.reads (state_of held calls c.new-session.result) (state_of held calls c.run_on.new.session)
     (held c.args.store, calls c.args.store) (map asked c.args.commands.now) (map answered c.in-Ok.replies.items) c.new-session.ensures.begins
     (c.in-Ok.ensures.runs (ap g.S.ReadableStorageTraits.is_honest c.new-session.ensures.store ∙ honest)))
+
+pub returns-in-Ok-clause-tables : goal.returns-in-Ok-clause-tables
+returns-in-Ok-clause-tables g c = λ honest.
+    let codec = g.B.BytesToBytesCodecTraits in
+    let readable = g.S.ReadableStorageTraits in
+    tables_over codec.reads (lawful_good codec.reads g.met.B.BytesToBytesCodecTraits.reads_lawful)
+    (readable.held c.args.store, readable.refused_calls c.args.store) (readable.held c.close.result, readable.refused_calls c.close.result)
+    (map asked c.args.commands.now, map answered c.in-Ok.replies.items) (returns-in-Ok-clause-runs g c honest)
+
+pub returns-in-Ok-clause-canon : goal.returns-in-Ok-clause-canon
+returns-in-Ok-clause-canon g c = λ honest.
+    let codec = g.B.BytesToBytesCodecTraits in
+    let readable = g.S.ReadableStorageTraits in
+    canon_over codec.reads (lawful_good codec.reads g.met.B.BytesToBytesCodecTraits.reads_lawful)
+    (readable.held c.args.store, readable.refused_calls c.args.store) (readable.held c.close.result, readable.refused_calls c.close.result)
+    (map asked c.args.commands.now, map answered c.in-Ok.replies.items) (returns-in-Ok-clause-runs g c honest)
+
+pub returns-in-Ok-clause-tight : goal.returns-in-Ok-clause-tight
+returns-in-Ok-clause-tight g c = λ honest.
+    let codec = g.B.BytesToBytesCodecTraits in
+    let readable = g.S.ReadableStorageTraits in
+    tight_over codec.reads (lawful_good codec.reads g.met.B.BytesToBytesCodecTraits.reads_lawful)
+    (readable.held c.args.store, readable.refused_calls c.args.store) (readable.held c.close.result, readable.refused_calls c.close.result)
+    (map asked c.args.commands.now, map answered c.in-Ok.replies.items) (returns-in-Ok-clause-runs g c honest)

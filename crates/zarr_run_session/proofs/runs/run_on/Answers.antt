@@ -1,9 +1,11 @@
-use Rattle.std.proofs.Common.{◌∙◌, rules, refl, subst}
+use Rattle.std.proofs.Common.{◌∙◌, map, rules, refl, subst}
 use Rattle.std.proofs.lemmas.List.{take_all}
 use Rattle.zarr_run_commands.specs.Commands.{asked, answered}
 use Rattle.zarr_run_commands.specs.declared.command.Command.{Command}
 use Rattle.zarr_run_opening.specs.Sessions.{StepsFrom}
+use Rattle.zarr_run_meaning.proofs.GoodDocuments.{lawful_good}
 use Rattle.zarr_run_session.specs.Sessions.{state_of}
+use Rattle.zarr_run_session.proofs.HeadlineStates.{tables_from, canon_from, tight_from}
 use Rattle.zarr_run_session.proofs.RunSteps.{runs_none, runs_more}
 use Rattle.zarr_run_session.proofs.runs.run_on.Goals as goal
 
@@ -34,3 +36,27 @@ loop-command-preserved g c = record {
 
 pub returns-clause-runs : goal.returns-clause-runs
 returns-clause-runs g c = λ honest. rw (take_all c.loop-command.command-index c.args.commands.now c.loop-command-test.false) at (c.loop-command.invariant.ran honest)
+
+pub returns-clause-tables : goal.returns-clause-tables
+returns-clause-tables g c = λ honest.
+    let codec = g.B.BytesToBytesCodecTraits in
+    let readable = g.S.ReadableStorageTraits in
+    tables_from g.row.B.Denot (codec.meaning, codec.reads) (lawful_good codec.reads g.met.B.BytesToBytesCodecTraits.reads_lawful)
+    (state_of readable.held readable.refused_calls c.args.session.now) (state_of readable.held readable.refused_calls c.loop-command.session)
+    (map asked c.args.commands.now, map answered c.loop-command.replies.items) (returns-clause-runs g c honest)
+
+pub returns-clause-canon : goal.returns-clause-canon
+returns-clause-canon g c = λ honest.
+    let codec = g.B.BytesToBytesCodecTraits in
+    let readable = g.S.ReadableStorageTraits in
+    canon_from g.row.B.Denot (codec.meaning, codec.reads) (lawful_good codec.reads g.met.B.BytesToBytesCodecTraits.reads_lawful)
+    (state_of readable.held readable.refused_calls c.args.session.now) (state_of readable.held readable.refused_calls c.loop-command.session)
+    (map asked c.args.commands.now, map answered c.loop-command.replies.items) (returns-clause-runs g c honest)
+
+pub returns-clause-tight : goal.returns-clause-tight
+returns-clause-tight g c = λ honest.
+    let codec = g.B.BytesToBytesCodecTraits in
+    let readable = g.S.ReadableStorageTraits in
+    tight_from g.row.B.Denot (codec.meaning, codec.reads) (lawful_good codec.reads g.met.B.BytesToBytesCodecTraits.reads_lawful)
+    (state_of readable.held readable.refused_calls c.args.session.now) (state_of readable.held readable.refused_calls c.loop-command.session)
+    (map asked c.args.commands.now, map answered c.loop-command.replies.items) (returns-clause-runs g c honest)

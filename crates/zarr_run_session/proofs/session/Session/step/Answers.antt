@@ -1,28 +1,38 @@
+use Rattle.zarr_codecs_metadata.specs.Chains.{ReadsCodecs}
+use Rattle.zarr_run_commands.specs.Commands.{asked, answered}
+use Rattle.zarr_run_meaning.proofs.GoodDocuments.{lawful_good}
+use Rattle.zarr_run_session.specs.Sessions.{state_of}
+use Rattle.zarr_run_session.proofs.HeadlineStates.{keeps_tables, keeps_table, rewrites_afresh, keeps_tight}
 use Rattle.zarr_run_session.proofs.session.Session.step.Goals as goal
 
-pub returns-in-Create-clause-steps : goal.returns-in-Create-clause-steps
-returns-in-Create-clause-steps g c = rw c.in-Create.is (rw c.as_str.ensures.value at c.create.ensures.steps)
+pub returns-clause-tables : goal.returns-clause-tables
+returns-clause-tables g c = λ honest.
+    let codec = g.B.BytesToBytesCodecTraits in
+    let readable = g.S.ReadableStorageTraits in
+    keeps_tables g.row.B.Denot (codec.meaning, codec.reads) (lawful_good codec.reads g.met.B.BytesToBytesCodecTraits.reads_lawful)
+    (state_of readable.held readable.refused_calls c.args.self.now) (state_of readable.held readable.refused_calls c.answer.new.self)
+    (asked c.args.command.now, answered c.answer.result) (c.answer.ensures.steps honest)
 
-pub returns-in-Reopen-clause-steps : goal.returns-in-Reopen-clause-steps
-returns-in-Reopen-clause-steps g c = rw c.in-Reopen.is (rw c.as_str-in-Reopen.ensures.value at c.reopen.ensures.steps)
+pub returns-clause-table : goal.returns-clause-table
+returns-clause-table g c = λ honest.
+    let codec = g.B.BytesToBytesCodecTraits in
+    let readable = g.S.ReadableStorageTraits in
+    keeps_table g.row.B.Denot (codec.meaning, codec.reads) (lawful_good codec.reads g.met.B.BytesToBytesCodecTraits.reads_lawful)
+    (state_of readable.held readable.refused_calls c.args.self.now) (state_of readable.held readable.refused_calls c.answer.new.self)
+    (asked c.args.command.now, answered c.answer.result) (c.answer.ensures.steps honest)
 
-pub returns-in-WriteBox-clause-steps : goal.returns-in-WriteBox-clause-steps
-returns-in-WriteBox-clause-steps g c = rw c.in-WriteBox.is (rw c.as_str-in-WriteBox.ensures.value at c.write_box.ensures.steps)
+pub returns-clause-canon : goal.returns-clause-canon
+returns-clause-canon g c = λ honest.
+    let codec = g.B.BytesToBytesCodecTraits in
+    let readable = g.S.ReadableStorageTraits in
+    rewrites_afresh g.row.B.Denot (codec.meaning, codec.reads) (lawful_good codec.reads g.met.B.BytesToBytesCodecTraits.reads_lawful)
+    (state_of readable.held readable.refused_calls c.args.self.now) (state_of readable.held readable.refused_calls c.answer.new.self)
+    (asked c.args.command.now, answered c.answer.result) (c.answer.ensures.steps honest)
 
-pub returns-in-WriteChunk-clause-steps : goal.returns-in-WriteChunk-clause-steps
-returns-in-WriteChunk-clause-steps g c = rw c.in-WriteChunk.is (rw (c.as_str-in-WriteChunk.ensures.value, c.as_slice.ensures.value) at c.write_chunk.ensures.steps)
-
-pub returns-in-ReadBox-clause-steps : goal.returns-in-ReadBox-clause-steps
-returns-in-ReadBox-clause-steps g c = rw c.in-ReadBox.is (rw c.as_str-in-ReadBox.ensures.value at c.read_box.ensures.steps)
-
-pub returns-in-ReadChunk-clause-steps : goal.returns-in-ReadChunk-clause-steps
-returns-in-ReadChunk-clause-steps g c = rw c.in-ReadChunk.is (rw (c.as_str-in-ReadChunk.ensures.value, c.as_slice-in-ReadChunk.ensures.value) at c.read_chunk.ensures.steps)
-
-pub returns-in-EraseChunks-clause-steps : goal.returns-in-EraseChunks-clause-steps
-returns-in-EraseChunks-clause-steps g c = rw c.in-EraseChunks.is (rw c.as_str-in-EraseChunks.ensures.value at c.erase_chunks.ensures.steps)
-
-pub returns-in-Compact-clause-steps : goal.returns-in-Compact-clause-steps
-returns-in-Compact-clause-steps g c = rw c.in-Compact.is (rw (c.as_str-in-Compact.ensures.value, c.as_slice-in-Compact.ensures.value) at c.compact.ensures.steps)
-
-pub returns-in-Rewrite-clause-steps : goal.returns-in-Rewrite-clause-steps
-returns-in-Rewrite-clause-steps g c = rw c.in-Rewrite.is (rw c.as_str-in-Rewrite.ensures.value at c.rewrite.ensures.steps)
+pub returns-clause-tight : goal.returns-clause-tight
+returns-clause-tight g c = λ honest.
+    let codec = g.B.BytesToBytesCodecTraits in
+    let readable = g.S.ReadableStorageTraits in
+    keeps_tight g.row.B.Denot (codec.meaning, codec.reads) (lawful_good codec.reads g.met.B.BytesToBytesCodecTraits.reads_lawful)
+    (state_of readable.held readable.refused_calls c.args.self.now) (state_of readable.held readable.refused_calls c.answer.new.self)
+    (asked c.args.command.now, answered c.answer.result) (c.answer.ensures.steps honest)

@@ -1,0 +1,183 @@
+-- The headline, of one command and of a run: each array answers as a table of its own, and a rewrite leaves what storing the cells of that table afresh leaves. And tight layout.
+use Rattle.std.specs.Prelude.{◌≡◌, ◌⊎◌, ℕ, List, [], ◌∷◌, ◌++◌, length, take, All, bytes_eq, Bool, true, false, if◌then◌else◌, Some}
+use Rattle.std.specs.FinMap.{empty}
+use Rattle.std.specs.Option.{option_map_or}
+use Rattle.zarr_codecs_meaning.specs.Chains.{ByteCodec}
+use Rattle.zarr_codecs_metadata.specs.Chains.{ReadsCodecs}
+use Rattle.zarr_codecs_options.specs.declared.codec_options.CodecOptions.{CodecOptions}
+use Rattle.zarr_array_meaning.specs.Rewriting.{keyed_chunks}
+use Rattle.zarr_array_meaning.specs.StoreMaps.{StoreMap}
+use Rattle.zarr_run_meaning.specs.declared.cause.Cause.TheVariants as cause
+use Rattle.zarr_run_meaning.specs.Laws.{HasCells, IsUndamaged}
+use Rattle.zarr_run_meaning.specs.Requests.{Request, create, reopen, compact, rewrite, path_of, Answer, done, compacted, refused}
+use Rattle.zarr_run_meaning.specs.Rewrites.{IsHeldStill, IsCanonHeld, AreCanonFirst, LeavesCells}
+use Rattle.zarr_run_meaning.specs.Runs.{world_over}
+use Rattle.zarr_run_meaning.specs.Sound.{IsSound, IsSoundAlone, BeginsSound, OpensApart, AsksOwned, AllAskLossless}
+use Rattle.zarr_run_meaning.specs.Steps.{Step}
+use Rattle.zarr_run_meaning.specs.Tight.{IsTightAlone, IsTightThere, IsEncodedAt, AllAskRowMajor}
+use Rattle.zarr_run_meaning.specs.Worlds.{Held, World, array_of, held_at, is_row_major, writes_exactly}
+use Rattle.zarr_run_opening.specs.Sessions.{State, IsIn}
+use Rattle.zarr_run_session.specs.Sessions.{Contents}
+
+-- a command with its answer
+abbrev pub Exchange : Type 0
+Exchange = Request × Answer
+
+-- commands with their answers
+abbrev pub Exchanges : Type 0
+Exchanges = List Request × List Answer
+
+-- ---- what a command leaves
+
+-- an answer is neither damage nor that a document has changed
+abbrev pub IsIntact : Answer → Type 0
+IsIntact (refused cause.Damage n) = ⊥
+IsIntact (refused cause.DocumentChanged n) = ⊥
+IsIntact answer = Unit {0}
+
+-- what a rewrite leaves of an array by its answer: where it is done, what storing the cells of its table afresh leaves; where it is refused, just that for the first chunks that had a key, and all other keys as they were
+abbrev pub LeavesCanon : Held → Answer → StoreMap → StoreMap → Type 0
+LeavesCanon h done old new = IsCanonHeld new h
+LeavesCanon h (refused c n) old new = AreCanonFirst h (take n (keyed_chunks (array_of h) old)) old new
+LeavesCanon h answer old new = ⊥
+
+-- a compaction of the array at a path that writes a chunk anew leaves just what encoding the chunk's cells writes
+abbrev pub CompactsAfresh : List ℕ → Held → Request → Answer → StoreMap → Type 0
+CompactsAfresh path h (compact other chunk options) (compacted true) store = other ≡ path → IsEncodedAt h store chunk
+CompactsAfresh path h request answer store = Unit {0}
+
+-- ---- what a run leaves
+
+-- an array whose create is done begins as fill
+abbrev pub BeginsFill : Request → Answer → World → Type 0
+BeginsFill (create path document order) done new = (h : Held) × (held_at path new.arrays ≡ Some h) × HasCells h (λ place. h.document.elements.fill)
+BeginsFill request answer new = Unit {0}
+
+-- a step to a sound world, whose answer is no damage; an array that it creates begins as fill
+pub record TableStep (reads : ReadsCodecs) (old : World) (request : Request) (answer : Answer) (new : World) : Type 0 where
+  pub step : Step reads old request answer new
+  pub sound : IsSound reads new
+  pub undamaged : IsUndamaged request answer
+  pub fill : BeginsFill request answer new
+
+-- a run of such steps: each array answers as a table of its own that begins as fill, and its stored chunks stand for the cells of that table
+abbrev pub TableRun : ReadsCodecs → World → List Request → List Answer → World → Type 0
+TableRun reads old [] [] new = new ≡ old
+TableRun reads old (request ∷ requests) (answer ∷ answers) new = (mid : World) × TableStep reads old request answer mid × TableRun reads mid requests answers new
+TableRun reads old [] (answer ∷ answers) new = ⊥
+TableRun reads old (request ∷ requests) [] new = ⊥
+
+-- these commands are answered so by such a run, to a world of which this holds
+abbrev pub AnswersAsTables : ReadsCodecs → World → Exchanges → (World → Type 0) → Type 0
+AnswersAsTables reads before es Holds = (after : World) × TableRun reads before es.0 es.1 after × Holds after
+
+-- whether the array at a path is written row-major
+abbrev pub is_row_major_at : List ℕ → World → Bool
+is_row_major_at path world = option_map_or (λ (h : Held). is_row_major h.order) (held_at path world.arrays) false
+
+-- whether it is after a command, by whether it was before
+abbrev pub is_row_major_by : List ℕ → Request → Answer → Bool → Bool
+is_row_major_by path (create other document order) done was = if bytes_eq other path then is_row_major order else was
+is_row_major_by path (reopen other order) done was = if bytes_eq other path then is_row_major order else was
+is_row_major_by path request answer was = was
+
+-- whether it is after some commands: the last create or reopening of the path that is done says it
+abbrev pub is_row_major_after : List ℕ → List Request → List Answer → Bool → Bool
+is_row_major_after path [] answers was = was
+is_row_major_after path (request ∷ requests) [] was = was
+is_row_major_after path (request ∷ requests) (answer ∷ answers) was = is_row_major_after path requests answers (is_row_major_by path request answer was)
+
+-- among the commands is a rewrite of a path, in row-major order, that stores no empty chunk and is done; those after it leave the cells of the array alone
+pub record IsRewrittenLast (path : List ℕ) (before : World) (es : Exchanges) : Type 0 where
+  pub options : CodecOptions
+  pub unstored : options.store_empty_chunks ≡ false
+  pub first : Exchanges
+  pub last : Exchanges
+  pub requests : es.0 ≡ first.0 ++ rewrite path options ∷ last.0
+  pub answers : es.1 ≡ first.1 ++ done ∷ last.1
+  pub many : length first.0 ≡ length first.1
+  pub order : is_row_major_after path first.0 first.1 (is_row_major_at path before) ≡ true
+  pub leaves : All (LeavesCells path) last.0
+
+-- each array that was rewritten last is held at the end, and the store holds for it what storing the cells of its table afresh leaves
+abbrev pub EndsCanon : World → Exchanges → World → Type 0
+EndsCanon before es after = (path : List ℕ) → IsRewrittenLast path before es → (h : Held) × (held_at path after.arrays ≡ Some h) × IsCanonHeld after.store h
+
+-- at each path whose creates and reopenings that are done all ask for row-major order, what is stored is tight at the end, if it was
+abbrev pub EndsTight : World → Exchanges → World → Type 0
+EndsTight before es after = (path : List ℕ) → AllAskRowMajor path es.0 es.1 → IsTightThere before path → IsTightThere after path
+
+-- ---- one command of a session
+
+-- what the caller's codecs do, and which of them metadata says
+abbrev pub Codecs : Type 0 → Type 0
+Codecs B = (B → ByteCodec) × ReadsCodecs
+
+-- from a world, a step with this answer leads to one that the new state is in, and of which this holds
+abbrev pub StepsTo : {B : Type 0} → Codecs B → World → Exchange → State B → (World → Type 0) → Type 0
+StepsTo codecs before e new Holds = (after : World) × Step codecs.1 before e.0 e.1 after × IsIn codecs.0 codecs.1 new after × Holds after
+
+-- the tables: from each sound world that the old state is in, in which the command begins an array only over chunks that stand for cells, it leads to a sound world, and isn't refused for damage
+abbrev pub KeepsTables : {B : Type 0} → Codecs B → State B → Exchange → State B → Type 0
+KeepsTables codecs old e new = (before : World) → IsIn codecs.0 codecs.1 old before → IsSound codecs.1 before → BeginsSound codecs.1 before e.0 e.1
+    → StepsTo codecs before e new (IsSound codecs.1) × IsUndamaged e.0 e.1
+
+-- one table, whatever is stored for the other arrays: an array that is sound alone stays so, if the command opens none at a related path, and no command on it is refused for damage
+abbrev pub KeepsTable : {B : Type 0} → Codecs B → State B → Exchange → State B → Type 0
+KeepsTable codecs old e new = (before : World) (path : List ℕ) → IsIn codecs.0 codecs.1 old before → IsSoundAlone codecs.1 before path → OpensApart path before e.0 e.1
+    → StepsTo codecs before e new (λ after. IsSoundAlone codecs.1 after path) × (path_of e.0 ≡ path → IsIntact e.1)
+
+-- rewrites: one that stores no empty chunk, of an array that is sound alone and whose chunks' values depend on their cells alone, changes no cell and leaves what storing the cells of its table afresh leaves; if it is refused, just that for the first chunks that had a key
+abbrev pub RewritesAfresh : {B : Type 0} → Codecs B → State B → Exchange → State B → Type 0
+RewritesAfresh codecs old e new = (before : World) (path : List ℕ) (options : CodecOptions) → IsIn codecs.0 codecs.1 old before → (alone : IsSoundAlone codecs.1 before path) → writes_exactly alone.array ≡ true → options.store_empty_chunks ≡ false
+    → e.0 ≡ rewrite path options → StepsTo codecs before e new (λ after. IsHeldStill path alone.array after × LeavesCanon alone.array e.1 before.store after.store)
+
+-- tight layout: what is stored for an array that is sound alone, and whose chunks' values depend on their cells alone, stays tight, if the command opens none at a related path; and a compaction that writes a chunk anew leaves just what encoding the chunk's cells writes
+abbrev pub KeepsTight : {B : Type 0} → Codecs B → State B → Exchange → State B → Type 0
+KeepsTight codecs old e new = (before : World) (path : List ℕ) → IsIn codecs.0 codecs.1 old before → (tight : IsTightAlone codecs.1 before path) → writes_exactly tight.sound.array ≡ true → OpensApart path before e.0 e.1
+    → StepsTo codecs before e new (λ after. IsTightAlone codecs.1 after path × CompactsAfresh path tight.sound.array e.0 e.1 after.store)
+
+-- ---- runs of a session
+
+-- what is asked of a run: the creates that are done name lossless documents, and no key is foreign of those that the commands may begin an array over
+pub record AsksFresh (reads : ReadsCodecs) (before : World) (es : Exchanges) : Type 0 where
+  pub lossless : AllAskLossless reads es.0 es.1
+  pub owned : All (AsksOwned before) es.0
+
+-- the tables: from each sound world that the old state is in, the commands are answered as those of tables, to a world that the new state is in
+abbrev pub TablesFrom : {B : Type 0} → Codecs B → State B → Exchanges → State B → Type 0
+TablesFrom codecs old es new = (before : World) → IsIn codecs.0 codecs.1 old before → IsSound codecs.1 before → AsksFresh codecs.1 before es
+    → AnswersAsTables codecs.1 before es (IsIn codecs.0 codecs.1 new)
+
+-- rewrites: so they are, and what the last rewrite of an array left stands at the end
+abbrev pub CanonFrom : {B : Type 0} → Codecs B → State B → Exchanges → State B → Type 0
+CanonFrom codecs old es new = (before : World) → IsIn codecs.0 codecs.1 old before → IsSound codecs.1 before → AsksFresh codecs.1 before es
+    → AnswersAsTables codecs.1 before es (λ after. IsIn codecs.0 codecs.1 new after × EndsCanon before es after)
+
+-- tight layout: so they are, and what was tight is so at the end
+abbrev pub TightFrom : {B : Type 0} → Codecs B → State B → Exchanges → State B → Type 0
+TightFrom codecs old es new = (before : World) → IsIn codecs.0 codecs.1 old before → IsSound codecs.1 before → AsksFresh codecs.1 before es
+    → AnswersAsTables codecs.1 before es (λ after. IsIn codecs.0 codecs.1 new after × EndsTight before es after)
+
+-- ---- runs over a store
+
+-- what is asked of a run over a store: the creates that are done name lossless documents, and the store is empty, or no key has a value of those that the commands may begin an array over
+pub record BeginsFresh (reads : ReadsCodecs) (old : Contents) (es : Exchanges) : Type 0 where
+  pub lossless : AllAskLossless reads es.0 es.1
+  pub free : (old.0 ≡ empty) ⊎ All (AsksOwned (world_over old.0 old.1)) es.0
+
+-- a world is over these contents
+abbrev pub IsOver : Contents → World → Type 0
+IsOver contents world = (world.store ≡ contents.0) × (world.refused ≡ contents.1)
+
+-- the tables: from the world without arrays over the old contents, the commands are answered as those of tables, to one over the new contents
+abbrev pub TablesOver : ReadsCodecs → Contents → Exchanges → Contents → Type 0
+TablesOver reads old es new = BeginsFresh reads old es → AnswersAsTables reads (world_over old.0 old.1) es (IsOver new)
+
+-- rewrites: so they are, and what the last rewrite of an array left stands at the end
+abbrev pub CanonOver : ReadsCodecs → Contents → Exchanges → Contents → Type 0
+CanonOver reads old es new = BeginsFresh reads old es → AnswersAsTables reads (world_over old.0 old.1) es (λ after. IsOver new after × EndsCanon (world_over old.0 old.1) es after)
+
+-- tight layout: so they are, and what is stored for each array that was always asked for in row-major order is tight at the end
+abbrev pub TightOver : ReadsCodecs → Contents → Exchanges → Contents → Type 0
+TightOver reads old es new = BeginsFresh reads old es → AnswersAsTables reads (world_over old.0 old.1) es (λ after. IsOver new after × EndsTight (world_over old.0 old.1) es after)
