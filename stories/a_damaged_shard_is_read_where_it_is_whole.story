@@ -44,7 +44,7 @@ before:
 > {"op":"read_box","path":"/cut","box":[[0,1]]}
 > {"op":"read_box","path":"/cut","box":[[3,4]]}
 > {"op":"read_chunk","path":"/cut","chunk":[0]}
-# A part is written only where the whole chunk is read.
+# A part is written only where the whole chunk is read, or, with `partial`, where its shard's present slices lie in the value and those met are decoded.
 > {"op":"write_box","path":"/past","box":[[0,1]],"cells":[9]}
 > {"op":"write_box","path":"/past","box":[[0,1]],"cells":[9],"options":{"partial":true}}
 > {"op":"write_box","path":"/long","box":[[0,1]],"cells":[9]}

@@ -33,9 +33,10 @@ impl<C: ArrayToBytesCodecTraits> ArrayCore<C> {
 
     /// Writes the elements of a region that is not empty, row-major, chunk by chunk: `bytes` are as
     /// many values of the array's data type as the region has places. A chunk that becomes all fill
-    /// loses its key, unless empty chunks are stored. The store accepts at most one writing call for
-    /// each chunk. A chunk that lies in the region is written whatever is stored for it, and nothing
-    /// is fetched for it. With `experimental_partial_encoding` a part is put into its chunk's shard.
+    /// loses its key, unless empty chunks are stored. In all, the store accepts no more writing calls
+    /// than the region meets chunks. A chunk that lies in the region is written whatever is stored
+    /// for it, and nothing is fetched for it. With `experimental_partial_encoding` a part is put into
+    /// its chunk's shard.
     ///
     /// `Fit` where a chunk does not fit its codecs, `Damage` where a part of a chunk is to stay and
     /// what is stored cannot be decoded or, if that part is put into it, cannot take it, `Codec`

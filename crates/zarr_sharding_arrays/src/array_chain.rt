@@ -91,8 +91,8 @@ impl<B: BytesToBytesCodecTraits> ArrayChain<B> {
     }
 }
 
-/// The chain that metadata says, as `ArrayChain::from_metadata` reads it and with its other errors,
-/// however deep it nests: the caller has tested the depth, as of a whole document.
+/// The chain that metadata says. It is read as `ArrayChain::from_metadata` does, but how deep the
+/// metadata nests isn't tested: the caller has done so, of the whole document.
 pub fn read_array_chain<B: BytesToBytesCodecTraits>(
     alloc: Global,
     codecs: &[MetadataV3],
