@@ -1,6 +1,5 @@
 -- The headline and tight layout, by the laws of steps and runs.
 use Rattle.std.proofs.Common.{◌≡◌, ◌≢◌, ◌∙◌, ◌⊎◌, inl, inr, ⊎_elim, ℕ, zero, Bool, true, false, if◌then◌else◌, List, [], ◌∷◌, ◌++◌, ◌||◌, length, bytes_eq, refl, sym, ap, subst, Option, Some, None}
-use Rattle.std.specs.FinMap.{empty}
 use Rattle.std.specs.Option.{option_map_or}
 use Rattle.std.specs.Prelude.{All}
 use Rattle.std.proofs.lemmas.Bool.{false≢true}
@@ -17,25 +16,25 @@ use Rattle.zarr_run_meaning.specs.Changes.{Reopens, Opens}
 use Rattle.zarr_run_meaning.specs.Laws.{IsUndamaged}
 use Rattle.zarr_run_meaning.specs.Requests.{Request, create, reopen, compact, rewrite, path_of, Answer, done, cells, compacted, refused}
 use Rattle.zarr_run_meaning.specs.Rewrites.{IsHeldStill, IsCanonHeld, IsCanonAlone, LeavesCells}
-use Rattle.zarr_run_meaning.specs.Runs.{Run, world_over}
+use Rattle.zarr_run_meaning.specs.Runs.{Run}
 use Rattle.zarr_run_meaning.specs.Sound.{IsSound, IsSoundAlone, BeginsSound, AsksOwned, AsksLossless, AllAskLossless, ReadsGood}
 use Rattle.zarr_run_meaning.specs.Steps.{Step}
-use Rattle.zarr_run_meaning.specs.Tight.{IsTightHeld, AsksRowMajor}
+use Rattle.zarr_run_meaning.specs.Tight.{IsTightHeld}
 use Rattle.zarr_run_meaning.specs.Worlds.{Held, World, held_at, with_order, is_row_major, writes_exactly}
 use Rattle.zarr_run_meaning.proofs.Again.{runs_go_on}
 use Rattle.zarr_run_meaning.proofs.Alone.{sound_alone, steps_keep_sound}
-use Rattle.zarr_run_meaning.proofs.Arrays.{held_at-path, held_at-new, free_none}
+use Rattle.zarr_run_meaning.proofs.Arrays.{held_at-new, free_none}
 use Rattle.zarr_run_meaning.proofs.Begun.{created_array, creates_fill}
 use Rattle.zarr_run_meaning.proofs.Canon.{rewrites_canon}
 use Rattle.zarr_run_meaning.proofs.Changed.{changes_no_cell}
 use Rattle.zarr_run_meaning.proofs.KeptCanon.{sound_tables, sound_runs_keep_canon}
 use Rattle.zarr_run_meaning.proofs.KeptTight.{owned_runs_tight, compacts_exactly}
 use Rattle.zarr_run_meaning.proofs.Orders.{IsRowMajorThere, orders}
-use Rattle.zarr_run_meaning.proofs.Owning.{steps_own, runs_own, owned_has_no_chunks}
+use Rattle.zarr_run_meaning.proofs.Owning.{runs_own, owned_has_no_chunks}
 use Rattle.zarr_run_meaning.proofs.Reading.{alone_undamaged}
 use Rattle.zarr_run_meaning.proofs.Sound.{steps_sound, owned_begins, asks_still, all_still, owned_run, owned_runs_sound}
 use Rattle.zarr_run_meaning.proofs.Undamaged.{runs_undamaged}
-use Rattle.zarr_run_session.specs.Headline.{Exchanges, IsIntact, LeavesCanon, CompactsAfresh, BeginsFill, TableStep, TableRun, is_row_major_at, is_row_major_by, is_row_major_after, IsRewrittenLast, EndsCanon, EndsTight, AsksFresh}
+use Rattle.zarr_run_session.specs.Headline.{Exchanges, IsIntact, LeavesCanon, CompactsAfresh, BeginsFill, TableRun, is_row_major_at, is_row_major_by, is_row_major_after, EndsCanon, EndsTight, AsksFresh}
 
 -- ---- lists of commands in two parts
 
@@ -82,11 +81,11 @@ module _ (reads : ReadsCodecs) (path : List ℕ) where
       (asked_by path other order was now)
   order_by old new (reopen other order) done was there now s = ⊎_elim
       (λ here. ⊎_elim
-          (λ (r : Reopens other order old new). λ h e.
-          let P : List ℕ → Type 0 = λ p. held_at path (with_order p order old.arrays) ≡ Some h in
-          ap is_row_major (ordered_at path order old.arrays h (subst P here.0 (sym (ap (held_at path) r.updates) ∙ e))) ∙ here.1)
-          (λ (o : Opens reads other order old new). orders reads old new path (none_there old other here.0 o.begins.free) (reopen other order) done (λ same. here.1) s)
-          s.0)
+      (λ (r : Reopens other order old new). λ h e.
+      let P : List ℕ → Type 0 = λ p. held_at path (with_order p order old.arrays) ≡ Some h in
+      ap is_row_major (ordered_at path order old.arrays h (subst P here.0 (sym (ap (held_at path) r.updates) ∙ e))) ∙ here.1)
+      (λ (o : Opens reads other order old new). orders reads old new path (none_there old other here.0 o.begins.free) (reopen other order) done (λ same. here.1) s)
+      s.0)
       (λ away. orders reads old new path (there away.1) (reopen other order) done (λ same. absurd (away.0 same)) s)
       (asked_by path other order was now)
   order_by old new request answer was there now s = orders reads old new path (there now) request answer tt s

@@ -1,5 +1,5 @@
 -- The headline and tight layout, of sessions and of stores.
-use Rattle.std.proofs.Common.{◌≡◌, ⊎_elim, List, sym, subst}
+use Rattle.std.proofs.Common.{⊎_elim, sym, subst}
 use Rattle.std.specs.FinMap.{empty}
 use Rattle.std.specs.Prelude.{All}
 use Rattle.zarr_codecs_metadata.specs.Chains.{ReadsCodecs}

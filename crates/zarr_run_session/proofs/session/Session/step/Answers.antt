@@ -1,4 +1,3 @@
-use Rattle.zarr_codecs_metadata.specs.Chains.{ReadsCodecs}
 use Rattle.zarr_run_commands.specs.Commands.{asked, answered}
 use Rattle.zarr_run_meaning.proofs.GoodDocuments.{lawful_good}
 use Rattle.zarr_run_session.specs.Sessions.{state_of}
