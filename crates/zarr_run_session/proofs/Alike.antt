@@ -1,5 +1,5 @@
 -- What compactions and rewrites say of an array, where the values that they leave are told of in fewer cases.
-use Rattle.std.proofs.Common.{ℕ, Bool, List, Option, Some, inl, inr, ⊎_elim, Result, Ok, Err, IsTrue, OnOk, IfErr, take}
+use Rattle.std.proofs.Common.{ℕ, Bool, List, Option, inl, inr, Result, Ok, Err, IsTrue, OnOk, IfErr, take}
 use Rattle.std.specs.Prelude.{IfOk}
 use Rattle.zarr_array_meaning.specs.Arrays.{Array}
 use Rattle.zarr_array_meaning.specs.Compacting.{CompactsChunk}
@@ -7,7 +7,7 @@ use Rattle.zarr_array_meaning.specs.Documents.{Document}
 use Rattle.zarr_array_meaning.specs.Rewriting.{IsRewritten, RewroteChunks, keyed_chunks}
 use Rattle.zarr_array_meaning.specs.StoreMaps.{StoreMap}
 use Rattle.zarr_run_boxes.specs.Compacting.{CompactsTarget, CompactRefused}
-use Rattle.zarr_run_boxes.specs.Rewriting.{RewritesTarget, RewroteFirst, RewriteRefused}
+use Rattle.zarr_run_boxes.specs.Rewriting.{RewritesTarget, RewriteRefused}
 use Rattle.zarr_run_boxes.specs.declared.refusal.Refusal.{Refusal}
 use Rattle.zarr_run_meaning.specs.declared.cause.Cause.{Cause}
 use Rattle.zarr_run_meaning.specs.declared.cause.Cause.TheVariants as cause

@@ -1,11 +1,12 @@
 -- What a compaction answered and left for one array is a step of each world that the session was in.
-use Rattle.std.proofs.Common.{◌≡◌, ◌∙◌, ℕ, List, Bool, refl, sym, subst, ⊎_elim, IsTrue, Some, Result, Ok, Err, IfErr, OnErr, true}
+use Rattle.std.proofs.Common.{◌≡◌, ◌∙◌, ℕ, List, Bool, refl, sym, subst, ⊎_elim, IsTrue, Some, Result, Ok, Err, IfErr, OnErr}
 use Rattle.std.specs.Prelude.{IfOk}
 use Rattle.zarr_grids_keys.specs.Paths.{is_node_path}
 use Rattle.zarr_codecs_meaning.specs.Chains.{ByteCodec}
 use Rattle.zarr_codecs_metadata.specs.Chains.{ReadsCodecs}
 use Rattle.zarr_codecs_options.specs.declared.codec_options.CodecOptions.{CodecOptions}
-use Rattle.zarr_array_core.specs.Views.{path_of}
+use Rattle.zarr_sharding_arrays.specs.ArrayChains.{array_function}
+use Rattle.zarr_array_core.specs.Views.{is_exact, path_of}
 use Rattle.zarr_array_meaning.specs.Arrays.{Array}
 use Rattle.zarr_array_meaning.specs.Documents.{Document}
 use Rattle.zarr_array_meaning.specs.StoreMaps.{StoreMap}
@@ -71,13 +72,13 @@ module _ (B : Type 0) (meaning : B → ByteCodec) (reads : ReadsCodecs) (arrays 
 
   -- what was answered and left for the array that is found is a step of each world
   pub compact_steps : (array : HeldArray B) (result : Result Bool Cause) (answer : Answer) → IsFound arrays path array → n' ≡ refused_with n result → answer ≡ answer_changed result
-      → IfOk result (λ changed. CompactsTarget (record { path = path_of array.core; document = document_of meaning array; exact = true }) chunk changed store store')
-      → IfErr result (λ c. CompactRefused (record { path = path_of array.core; document = document_of meaning array; exact = true }) chunk c store) → OnErr result (store' ≡ store)
+      → IfOk result (λ changed. CompactsTarget (record { path = path_of array.core; document = document_of meaning array; exact = is_exact array_function array.core }) chunk changed store store')
+      → IfErr result (λ c. CompactRefused (record { path = path_of array.core; document = document_of meaning array; exact = is_exact array_function array.core }) chunk c store) → OnErr result (store' ≡ store)
       → StepsFrom meaning reads (arrays, (store, n)) (compact path chunk options) answer (arrays, (store', n'))
   compact_steps array result answer is calls says ok err kept w k =
       let held = agreed_held B meaning reads store (array_at arrays path) (held_at path w.arrays) array (k.agree path) is.found in
       let h = held.0 in
-      let exact = true in
+      let exact = is_exact array_function array.core in
       let at : List ℕ → Document → Array = λ p d. record { path = p; document = d; exact = exact } in
       let Done : List ℕ → Document → Type 0 = λ p d. IfOk result (λ changed. CompactsTarget (at p d) chunk changed store store') in
       let Why : List ℕ → Document → Type 0 = λ p d. IfErr result (λ c. CompactRefused (at p d) chunk c store) in

@@ -1,5 +1,5 @@
 -- How many calls of the store were refused, by what is answered.
-use Rattle.std.proofs.Common.{◌≡◌, ◌∙◌, ℕ, List, Bool, refl, ap, Result, Ok, Err}
+use Rattle.std.proofs.Common.{◌≡◌, ℕ, List, Bool, refl, Result, Ok, Err}
 use Rattle.zarr_codecs_arrays.specs.declared.array_bytes.ArrayBytes.{ArrayBytes}
 use Rattle.zarr_run_boxes.specs.Outcomes as boxes
 use Rattle.zarr_run_boxes.specs.declared.refusal.Refusal.{Refusal}

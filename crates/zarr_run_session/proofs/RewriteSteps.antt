@@ -1,10 +1,11 @@
 -- What a rewrite answered and left for one array is a step of each world that the session was in.
-use Rattle.std.proofs.Common.{◌≡◌, ◌∙◌, ℕ, List, Bool, sym, ap, subst, ⊎_elim, inl, inr, IsTrue, Some, Result, Ok, Err, OnOk, IfErr, refl, true}
+use Rattle.std.proofs.Common.{◌≡◌, ◌∙◌, ℕ, List, sym, ap, subst, ⊎_elim, inl, inr, IsTrue, Some, Result, Ok, Err, OnOk, IfErr}
 use Rattle.zarr_grids_keys.specs.Paths.{is_node_path}
 use Rattle.zarr_codecs_meaning.specs.Chains.{ByteCodec}
 use Rattle.zarr_codecs_metadata.specs.Chains.{ReadsCodecs}
 use Rattle.zarr_codecs_options.specs.declared.codec_options.CodecOptions.{CodecOptions}
-use Rattle.zarr_array_core.specs.Views.{path_of}
+use Rattle.zarr_sharding_arrays.specs.ArrayChains.{array_function}
+use Rattle.zarr_array_core.specs.Views.{is_exact, path_of}
 use Rattle.zarr_array_meaning.specs.Arrays.{Array}
 use Rattle.zarr_array_meaning.specs.Documents.{Document}
 use Rattle.zarr_array_meaning.specs.StoreMaps.{StoreMap}
@@ -89,13 +90,13 @@ module _ (B : Type 0) (meaning : B → ByteCodec) (reads : ReadsCodecs) (arrays 
 
   -- what was answered and left for the array that is found is a step of each world
   pub rewrite_steps : (array : HeldArray B) (result : Result (Unit {0}) Refusal) (answer : Answer) → IsFound arrays path array → n' ≡ refused_by n result → answer ≡ answer_after result
-      → OnOk result (RewritesTarget (record { path = path_of array.core; document = document_of meaning array; exact = true }) options.store_empty_chunks store store')
-      → IfErr result (λ refusal. RewriteRefused (record { path = path_of array.core; document = document_of meaning array; exact = true }) options.store_empty_chunks refusal store store')
+      → OnOk result (RewritesTarget (record { path = path_of array.core; document = document_of meaning array; exact = is_exact array_function array.core }) options.store_empty_chunks store store')
+      → IfErr result (λ refusal. RewriteRefused (record { path = path_of array.core; document = document_of meaning array; exact = is_exact array_function array.core }) options.store_empty_chunks refusal store store')
       → StepsFrom meaning reads (arrays, (store, n)) (rewrite path options) answer (arrays, (store', n'))
   rewrite_steps array result answer is calls says ok err w k =
       let held = agreed_held B meaning reads store (array_at arrays path) (held_at path w.arrays) array (k.agree path) is.found in
       let h = held.0 in
-      let exact = true in
+      let exact = is_exact array_function array.core in
       let empty = options.store_empty_chunks in
       let at : List ℕ → Document → Array = λ p d. record { path = p; document = d; exact = exact } in
       let Done : List ℕ → Document → Type 0 = λ p d. OnOk result (RewritesTarget (at p d) empty store store') in
@@ -104,5 +105,5 @@ module _ (B : Type 0) (meaning : B → ByteCodec) (reads : ReadsCodecs) (arrays 
       let done = subst (λ d. Done h.path d) (sym held.2.document) (subst (λ p. Done p (document_of meaning array)) (sym held.2.path) ok) in
       let why = subst (λ d. Why h.path d) (sym held.2.document) (subst (λ p. Why p (document_of meaning array)) (sym held.2.path) err) in
       subst A (sym says) (rewrite_answered w k h is.node held.1 result calls
-      (rewrites_alike h.path h.document exact (writes_exactly h) (λ less. refl) empty store store' result done)
-      (rewrite_refused_alike h.path h.document exact (writes_exactly h) (λ less. refl) empty store store' result why))
+      (rewrites_alike h.path h.document exact (writes_exactly h) held.2.exact empty store store' result done)
+      (rewrite_refused_alike h.path h.document exact (writes_exactly h) held.2.exact empty store store' result why))
