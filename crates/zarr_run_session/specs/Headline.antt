@@ -60,14 +60,14 @@ pub record TableStep (reads : ReadsCodecs) (old : World) (request : Request) (an
   pub undamaged : IsUndamaged request answer
   pub fill : BeginsFill request answer new
 
--- a run of such steps: each array answers as a table of its own that begins as fill, and its stored chunks stand for the cells of that table
+-- a run through sound worlds, in which no answer is damage: each array answers as a table of its own that begins as fill, and its stored chunks stand for the cells of that table
 abbrev pub TableRun : ReadsCodecs → World → List Request → List Answer → World → Type 0
 TableRun reads old [] [] new = new ≡ old
 TableRun reads old (request ∷ requests) (answer ∷ answers) new = (mid : World) × TableStep reads old request answer mid × TableRun reads mid requests answers new
 TableRun reads old [] (answer ∷ answers) new = ⊥
 TableRun reads old (request ∷ requests) [] new = ⊥
 
--- these commands are answered so by such a run, to a world of which this holds
+-- these commands have these answers in a run of tables, from a world to one of which this holds
 abbrev pub AnswersAsTables : ReadsCodecs → World → Exchanges → (World → Type 0) → Type 0
 AnswersAsTables reads before es Holds = (after : World) × TableRun reads before es.0 es.1 after × Holds after
 
@@ -75,13 +75,13 @@ AnswersAsTables reads before es Holds = (after : World) × TableRun reads before
 abbrev pub is_row_major_at : List ℕ → World → Bool
 is_row_major_at path world = option_map_or (λ (h : Held). is_row_major h.order) (held_at path world.arrays) false
 
--- whether it is after a command, by whether it was before
+-- whether the array at a path is written row-major after a command, by whether it was before
 abbrev pub is_row_major_by : List ℕ → Request → Answer → Bool → Bool
 is_row_major_by path (create other document order) done was = if bytes_eq other path then is_row_major order else was
 is_row_major_by path (reopen other order) done was = if bytes_eq other path then is_row_major order else was
 is_row_major_by path request answer was = was
 
--- whether it is after some commands: the last create or reopening of the path that is done says it
+-- whether the array at a path is written row-major after some commands: the last create or reopening of the path that is done says it
 abbrev pub is_row_major_after : List ℕ → List Request → List Answer → Bool → Bool
 is_row_major_after path [] answers was = was
 is_row_major_after path (request ∷ requests) [] was = was
@@ -117,7 +117,7 @@ Codecs B = (B → ByteCodec) × ReadsCodecs
 abbrev pub StepsTo : {B : Type 0} → Codecs B → World → Exchange → State B → (World → Type 0) → Type 0
 StepsTo codecs before e new Holds = (after : World) × Step codecs.1 before e.0 e.1 after × IsIn codecs.0 codecs.1 new after × Holds after
 
--- the tables: from each sound world that the old state is in, in which the command begins an array only over chunks that stand for cells, it leads to a sound world, and isn't refused for damage
+-- the tables: from each sound world that the old state is in, a command that begins an array only over chunks that stand for cells leads to a sound world, and isn't refused for damage
 abbrev pub KeepsTables : {B : Type 0} → Codecs B → State B → Exchange → State B → Type 0
 KeepsTables codecs old e new = (before : World) → IsIn codecs.0 codecs.1 old before → IsSound codecs.1 before → BeginsSound codecs.1 before e.0 e.1
     → StepsTo codecs before e new (IsSound codecs.1) × IsUndamaged e.0 e.1
@@ -144,17 +144,17 @@ pub record AsksFresh (reads : ReadsCodecs) (before : World) (es : Exchanges) : T
   pub lossless : AllAskLossless reads es.0 es.1
   pub owned : All (AsksOwned before) es.0
 
--- the tables: from each sound world that the old state is in, the commands are answered as those of tables, to a world that the new state is in
+-- the tables: from each sound world that the old state is in, a run of tables with these answers leads to one that the new state is in
 abbrev pub TablesFrom : {B : Type 0} → Codecs B → State B → Exchanges → State B → Type 0
 TablesFrom codecs old es new = (before : World) → IsIn codecs.0 codecs.1 old before → IsSound codecs.1 before → AsksFresh codecs.1 before es
     → AnswersAsTables codecs.1 before es (IsIn codecs.0 codecs.1 new)
 
--- rewrites: so they are, and what the last rewrite of an array left stands at the end
+-- rewrites: such a run leads to a world in which what the last rewrite of each array left still stands
 abbrev pub CanonFrom : {B : Type 0} → Codecs B → State B → Exchanges → State B → Type 0
 CanonFrom codecs old es new = (before : World) → IsIn codecs.0 codecs.1 old before → IsSound codecs.1 before → AsksFresh codecs.1 before es
     → AnswersAsTables codecs.1 before es (λ after. IsIn codecs.0 codecs.1 new after × EndsCanon before es after)
 
--- tight layout: so they are, and what was tight is so at the end
+-- tight layout: such a run leads to a world in which what was tight is so still
 abbrev pub TightFrom : {B : Type 0} → Codecs B → State B → Exchanges → State B → Type 0
 TightFrom codecs old es new = (before : World) → IsIn codecs.0 codecs.1 old before → IsSound codecs.1 before → AsksFresh codecs.1 before es
     → AnswersAsTables codecs.1 before es (λ after. IsIn codecs.0 codecs.1 new after × EndsTight before es after)
@@ -170,14 +170,14 @@ pub record BeginsFresh (reads : ReadsCodecs) (old : Contents) (es : Exchanges) :
 abbrev pub IsOver : Contents → World → Type 0
 IsOver contents world = (world.store ≡ contents.0) × (world.refused ≡ contents.1)
 
--- the tables: from the world without arrays over the old contents, the commands are answered as those of tables, to one over the new contents
+-- the tables: from the world without arrays over the old contents, a run of tables with these answers leads to one over the new contents
 abbrev pub TablesOver : ReadsCodecs → Contents → Exchanges → Contents → Type 0
 TablesOver reads old es new = BeginsFresh reads old es → AnswersAsTables reads (world_over old.0 old.1) es (IsOver new)
 
--- rewrites: so they are, and what the last rewrite of an array left stands at the end
+-- rewrites: such a run over a store leads to a world in which what the last rewrite of each array left still stands
 abbrev pub CanonOver : ReadsCodecs → Contents → Exchanges → Contents → Type 0
 CanonOver reads old es new = BeginsFresh reads old es → AnswersAsTables reads (world_over old.0 old.1) es (λ after. IsOver new after × EndsCanon (world_over old.0 old.1) es after)
 
--- tight layout: so they are, and what is stored for each array that was always asked for in row-major order is tight at the end
+-- tight layout: such a run over a store leads to a world in which what is stored for each array that was only asked for in row-major order is tight
 abbrev pub TightOver : ReadsCodecs → Contents → Exchanges → Contents → Type 0
 TightOver reads old es new = BeginsFresh reads old es → AnswersAsTables reads (world_over old.0 old.1) es (λ after. IsOver new after × EndsTight (world_over old.0 old.1) es after)
