@@ -1,0 +1,6 @@
+pub mod Apart
+pub mod Converted
+pub mod Falling
+pub mod Listed
+pub mod Named
+pub mod Removed

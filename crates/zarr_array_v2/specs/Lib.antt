@@ -1,0 +1,7 @@
+pub mod Attributes
+pub mod Codecs
+pub mod Dtypes
+pub mod Fields
+pub mod Laws
+pub mod Conversion
+pub mod Views
