@@ -5,3 +5,4 @@ pub mod Fields
 pub mod Laws
 pub mod Conversion
 pub mod Views
+pub mod Worked

@@ -13,8 +13,8 @@ use zarr_grids_metadata::member;
 
 /// The members of the version 3 document that says the same as a version 2 document with these
 /// members, its attributes among them. `None` where a field is missing, or the order is neither C
-/// nor F. What is no dtype or codec that is known becomes null. Additional fields are left out.
-/// `Err` only where an allocation failed.
+/// nor F. A dtype that is not known, and a codec without an `id`, become null, which no reader
+/// takes. Other fields are left out. `Err` only where an allocation failed.
 pub fn to_v3(
     alloc: Global,
     members: &Map<String, Value>,

@@ -1,5 +1,21 @@
-//! Laws of version 2 documents and of the version 3 documents that say the same.
+//! Worked examples and laws of version 2 documents and of the version 3 documents that say the same.
 ghost use Rattle.zarr_array_v2.specs.Laws.{ConvertsFields, ReadsByName, ReadsOnlyNames, ConvertsAttributes, TakesAttributes, JoinsAgain, ConvertsParts, ConvertsDot};
+ghost use Rattle.zarr_array_v2.specs.Worked.{DocumentRows, FillRows, RefusalRows};
+
+/// Whole documents of both versions.
+pub fn document_rows()
+    ensures { DocumentRows }
+{}
+
+/// Fill values of both versions.
+pub fn fill_rows()
+    ensures { FillRows }
+{}
+
+/// What has no place in version 3.
+pub fn refusal_rows()
+    ensures { RefusalRows }
+{}
 
 /// What stands at each name of a version 3 document that was made from version 2.
 pub fn converts_fields()

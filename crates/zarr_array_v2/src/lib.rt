@@ -10,3 +10,4 @@ pub mod laws;
 
 pub use attributes::{attributes_of, with_attributes, without_attributes};
 pub use conversion::to_v3;
+pub use fields::Order;
