@@ -3,4 +3,5 @@ pub mod Converted
 pub mod Falling
 pub mod Listed
 pub mod Named
+pub mod Read
 pub mod Removed

@@ -4,5 +4,6 @@ pub mod Dtypes
 pub mod Fields
 pub mod Laws
 pub mod Conversion
+pub mod Reading
 pub mod Views
 pub mod Worked

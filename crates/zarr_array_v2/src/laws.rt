@@ -1,5 +1,6 @@
 //! Worked examples and laws of version 2 documents and of the version 3 documents that say the same.
 ghost use Rattle.zarr_array_v2.specs.Laws.{ConvertsFields, ReadsByName, ReadsOnlyNames, ConvertsAttributes, TakesAttributes, JoinsAgain, ConvertsParts, ConvertsDot};
+ghost use Rattle.zarr_array_v2.specs.Reading.{GridSays, KeysSay, CodecsSay, ChainsSay, RefusesDtypes, TypeRows};
 ghost use Rattle.zarr_array_v2.specs.Worked.{DocumentRows, FillRows, RefusalRows};
 
 /// Whole documents of both versions.
@@ -55,4 +56,34 @@ pub fn converts_parts()
 /// A document without a separator converts as one with a dot.
 pub fn converts_dot()
     ensures { ConvertsDot }
+{}
+
+/// The grid that a reader of version 3 finds is `regular`, of the sizes in `chunks`.
+pub fn grid_says()
+    ensures { GridSays }
+{}
+
+/// The keys that a reader of version 3 finds are those of `v2`.
+pub fn keys_say()
+    ensures { KeysSay }
+{}
+
+/// The codecs that a reader of version 3 finds, in their order.
+pub fn codecs_say()
+    ensures { CodecsSay }
+{}
+
+/// Behind `bytes` a reader of version 3 takes the caller's codecs alone.
+pub fn chains_say()
+    ensures { ChainsSay }
+{}
+
+/// A dtype that is not known gives no data type.
+pub fn refuses_dtypes()
+    ensures { RefusesDtypes }
+{}
+
+/// The data types of known dtypes.
+pub fn type_rows()
+    ensures { TypeRows }
 {}
