@@ -12,7 +12,7 @@ use Rattle.zarr_grids_metadata.proofs.PutLemmas.{get_put_same, get_put_other, pu
 use Rattle.zarr_array_v2.specs.Attributes.{without, attributes_of, without_attributes, with_attributes}
 use Rattle.zarr_array_v2.specs.Conversion.{v3_fields, to_v3}
 use Rattle.zarr_array_v2.specs.Fields.{Fields, order_in, fields_in}
-use Rattle.zarr_array_v2.specs.Laws.{IsWithoutAttributes, field_names}
+use Rattle.zarr_array_v2.specs.Laws.{IsWithoutAttributes, IsJoined, field_names}
 use Rattle.zarr_array_v2.specs.declared.fields.Order.{Order}
 use Rattle.zarr_array_v2.proofs.Named.{fields_at, same_fields}
 
@@ -61,6 +61,33 @@ joins_at false ms attributes name is given =
 
 pub joins : (ms : Members) (attributes : Data) → get_member (codes "attributes") ms ≡ Some attributes → (name : List ℕ) → get_member name (with_attributes (Some (attributes_of ms)) (without_attributes ms)) ≡ get_member name ms
 joins ms attributes given name = joins_at (bytes_eq name (codes "attributes")) ms attributes name refl given
+
+without_put_at : (o : Ordering) (k l : List ℕ) (d e : Data) (ms : Members) → slice_cmp nat_cmp k l ≡ o → without k (put k d ms) ≡ without k ms
+    → without k (match_ordering o (member k d (member l e ms)) (member l d ms) (member l e (put k d ms))) ≡ without k (member l e ms)
+without_put_at Less k l d e ms is same = let itself : bytes_eq k k ≡ true = (bytes_eq-Decides k k).1 refl in rw itself
+without_put_at Equal k l d e ms is same = let named : bytes_eq k l ≡ true = sym (is_eq-slice_cmp k l) ∙ ap is_eq is in rw named
+without_put_at Greater k l d e ms is same = ap (λ m. if bytes_eq k l then m else member l e m) same
+
+-- what was put at a name goes with the name
+without_put : (k : List ℕ) (d : Data) (ms : Members) → without k (put k d ms) ≡ without k ms
+without_put k d no_members = let itself : bytes_eq k k ≡ true = (bytes_eq-Decides k k).1 refl in rw itself
+without_put k d (member l e ms) = without_put_at _ k l d e ms refl (without_put k d ms)
+
+once_at : (b : Bool) (name k : List ℕ) (d : Data) (rest : Members) → bytes_eq name k ≡ b → without name rest ≡ rest → without name (if b then rest else member k d rest) ≡ (if b then rest else member k d rest)
+once_at true name k d rest is same = same
+once_at false name k d rest is same = rw is (ap (member k d) same)
+
+-- a name goes once and for all
+once : (name : List ℕ) (ms : Members) → without name (without name ms) ≡ without name ms
+once name no_members = refl
+once name (member k d ms) = once_at (bytes_eq name k) name k d (without name ms) refl (once name ms)
+
+pub splits : (ms : Members) (attributes : Data) → IsJoined ms attributes
+splits ms attributes =
+    let name = codes "attributes" in
+    let rest : without name (put name attributes (without name ms)) ≡ without name ms = without_put name attributes (without name ms) ∙ once name ms in
+    let given : attributes_of (put name attributes (without name ms)) ≡ attributes = ap (λ o. unwrap_or o (object no_members)) (get_put_same name attributes (without name ms)) in
+    record { rest = rest; attributes_are = given; again = ap (λ a. put name a (without name (put name attributes (without name ms)))) given ∙ ap (put name attributes) rest }
 
 -- ---- the version 3 document
 

@@ -20,3 +20,7 @@ without_attributes ms = without (codes "attributes") ms
 abbrev pub with_attributes : Option Data → Members → Members
 with_attributes None ms = ms
 with_attributes (Some attributes) ms = put (codes "attributes") attributes ms
+
+-- the document of these attributes and of what is left of these members
+abbrev pub joined : Members → Data → Members
+joined ms attributes = with_attributes (Some attributes) (without_attributes ms)

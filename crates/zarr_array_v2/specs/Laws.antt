@@ -5,7 +5,7 @@ use Rattle.serde_json.specs.Data.{Data, number, unsigned, string, array, Members
 use Rattle.serde_json.specs.Find.{get_member}
 use Rattle.serde_json.specs.View.{items_of}
 use Rattle.zarr_grids_metadata.specs.Members.{has_only}
-use Rattle.zarr_array_v2.specs.Attributes.{attributes_of, without_attributes, with_attributes}
+use Rattle.zarr_array_v2.specs.Attributes.{attributes_of, without_attributes, with_attributes, joined}
 use Rattle.zarr_array_v2.specs.Conversion.{codecs_of, chunk_grid_of, chunk_key_encoding_of, to_v3}
 use Rattle.zarr_array_v2.specs.Dtypes.{dtype_in, data_type_of, fill_value_of}
 use Rattle.zarr_array_v2.specs.Fields.{Fields, order_in, fields_in}
@@ -77,6 +77,16 @@ TakesAttributes = (ms : Members) → IsWithoutAttributes ms
 abbrev pub JoinsAgain : Type 0
 JoinsAgain = (ms : Members) (attributes : Data) → get_member (codes "attributes") ms ≡ Some attributes
     → (name : List ℕ) → get_member name (with_attributes (Some (attributes_of ms)) (without_attributes ms)) ≡ get_member name ms
+
+-- what was joined comes apart into the same parts, and is the same when it is joined again
+pub record IsJoined (ms : Members) (attributes : Data) : Type 0 where
+  pub rest : without_attributes (joined ms attributes) ≡ without_attributes ms
+  pub attributes_are : attributes_of (joined ms attributes) ≡ attributes
+  pub again : joined (joined ms attributes) (attributes_of (joined ms attributes)) ≡ joined ms attributes
+
+-- what was joined comes apart again
+abbrev pub SplitsAgain : Type 0
+SplitsAgain = (ms : Members) (attributes : Data) → IsJoined ms attributes
 
 -- a document from its two parts says the same as the document with these attributes
 abbrev pub ConvertsParts : Type 0

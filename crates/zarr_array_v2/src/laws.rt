@@ -1,5 +1,5 @@
 //! Worked examples and laws of version 2 documents and of the version 3 documents that say the same.
-ghost use Rattle.zarr_array_v2.specs.Laws.{ConvertsFields, ReadsByName, ReadsOnlyNames, ConvertsAttributes, TakesAttributes, JoinsAgain, ConvertsParts, ConvertsDot};
+ghost use Rattle.zarr_array_v2.specs.Laws.{ConvertsFields, ReadsByName, ReadsOnlyNames, ConvertsAttributes, TakesAttributes, JoinsAgain, SplitsAgain, ConvertsParts, ConvertsDot};
 ghost use Rattle.zarr_array_v2.specs.Reading.{GridSays, KeysSay, CodecsSay, ChainsSay, RefusesDtypes, TypeRows};
 ghost use Rattle.zarr_array_v2.specs.Worked.{DocumentRows, FillRows, RefusalRows};
 
@@ -46,6 +46,11 @@ pub fn takes_attributes()
 /// A document is put together again from its attributes and the rest.
 pub fn joins_again()
     ensures { JoinsAgain }
+{}
+
+/// What was put together comes apart into the same parts.
+pub fn splits_again()
+    ensures { SplitsAgain }
 {}
 
 /// A document that was put together from its two parts converts as a whole one.
