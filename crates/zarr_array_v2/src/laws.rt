@@ -1,4 +1,4 @@
-//! Worked examples and laws of version 2 documents and of the version 3 documents that say the same.
+//! Worked examples and laws of version 2 documents and of their version 3 documents.
 ghost use Rattle.zarr_array_v2.specs.Laws.{ConvertsFields, ReadsByName, ReadsOnlyNames, ConvertsAttributes, TakesAttributes, JoinsAgain, SplitsAgain, ConvertsParts, ConvertsDot};
 ghost use Rattle.zarr_array_v2.specs.Reading.{GridSays, KeysSay, CodecsSay, ChainsSay, RefusesDtypes, TypeRows};
 ghost use Rattle.zarr_array_v2.specs.Worked.{DocumentRows, FillRows, RefusalRows};
