@@ -1,0 +1,13 @@
+//! Array documents of Zarr version 2, as version 3 documents that say the same.
+#![tactic(auto)]
+
+mod attributes;
+mod codecs;
+mod conversion;
+mod dtypes;
+mod fields;
+pub mod laws;
+
+pub use attributes::{attributes_of, with_attributes, without_attributes};
+pub use conversion::to_v3;
+pub use fields::Order;
