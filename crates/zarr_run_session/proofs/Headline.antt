@@ -34,15 +34,16 @@ use Rattle.zarr_run_meaning.proofs.Owning.{runs_own, owned_has_no_chunks}
 use Rattle.zarr_run_meaning.proofs.Reading.{alone_undamaged}
 use Rattle.zarr_run_meaning.proofs.Sound.{steps_sound, owned_begins, asks_still, all_still, owned_run, owned_runs_sound}
 use Rattle.zarr_run_meaning.proofs.Undamaged.{runs_undamaged}
-use Rattle.zarr_run_session.specs.Headline.{Exchanges, IsIntact, LeavesCanon, CompactsAfresh, BeginsFill, TableRun, is_row_major_at, is_row_major_by, is_row_major_after, EndsCanon, EndsTight, AsksFresh}
+use Rattle.zarr_run_session.proofs.Plain.{plain_before}
+use Rattle.zarr_run_session.specs.Headline.{Exchanges, IsIntact, LeavesCanon, CompactsAfresh, BeginsFill, TableRun, is_row_major_at, is_row_major_by, is_row_major_after, IsPlainThere, EndsCanon, EndsTight, AsksFresh}
 
 -- ---- lists of commands in two parts
 
-All-left : {X : Type 0} (P : X → Type 0) (xs ys : List X) → All P (xs ++ ys) → All P xs
+pub All-left : {X : Type 0} (P : X → Type 0) (xs ys : List X) → All P (xs ++ ys) → All P xs
 All-left P [] ys all = All-nil P
 All-left P (x ∷ xs) ys all = All-cons P x xs (All-head P x (xs ++ ys) all) (All-left P xs ys (All-tail P x (xs ++ ys) all))
 
-All-right : {X : Type 0} (P : X → Type 0) (xs ys : List X) → All P (xs ++ ys) → All P ys
+pub All-right : {X : Type 0} (P : X → Type 0) (xs ys : List X) → All P (xs ++ ys) → All P ys
 All-right P [] ys all = all
 All-right P (x ∷ xs) ys all = All-right P xs ys (All-tail P x (xs ++ ys) all)
 
@@ -101,9 +102,21 @@ module _ (reads : ReadsCodecs) (path : List ℕ) where
 row_major_there : (path : List ℕ) (world : World) → is_row_major_at path world ≡ true → IsRowMajorThere world path
 row_major_there path world now h e = sym (ap (λ (o : Option Held). option_map_or (λ (g : Held). is_row_major g.order) o false) e) ∙ now
 
-or_right : (b c : Bool) → c ≡ true → (b || c) ≡ true
+pub or_left : (b c : Bool) → b ≡ true → (b || c) ≡ true
+or_left true c e = refl
+or_left false c e = absurd (false≢true e)
+
+pub or_right : (b c : Bool) → c ≡ true → (b || c) ≡ true
 or_right true c e = refl
 or_right false c e = e
+
+-- how an array is written in the midst of a run
+pub written_exactly : (reads : ReadsCodecs) (path : List ℕ) (before mid after : World) (first last : Exchanges) → Run reads before first.0 first.1 mid → Run reads mid last.0 last.1 after
+    → (is_row_major_after path first.0 first.1 (is_row_major_at path before) ≡ true) ⊎ IsPlainThere path after → (h : Held) → held_at path mid.arrays ≡ Some h → writes_exactly h ≡ true
+written_exactly reads path before mid after first last start rest written h found = ⊎_elim
+    (λ order. or_right (is_plain h.document.chain) (is_row_major h.order) (order_after reads path before mid first.0 first.1 (is_row_major_at path before) (row_major_there path before) order start h found))
+    (λ plain. or_left (is_plain h.document.chain) (is_row_major h.order) (plain_before reads mid after last.0 last.1 path rest plain h found))
+    written
 
 module _ (reads : ReadsCodecs) (good : ReadsGood reads) where
   -- ---- one command
@@ -168,7 +181,7 @@ module _ (reads : ReadsCodecs) (good : ReadsGood reads) where
 
   -- what the last rewrite leaves
   module _ (path : List ℕ) (before after : World) (first last : Exchanges) (options : CodecOptions) (unstored : options.store_empty_chunks ≡ false) (many : length first.0 ≡ length first.1)
-      (order : is_row_major_after path first.0 first.1 (is_row_major_at path before) ≡ true) (leaves : All (LeavesCells path) last.0) (sound : IsSound reads before)
+      (written : (is_row_major_after path first.0 first.1 (is_row_major_at path before) ≡ true) ⊎ IsPlainThere path after) (leaves : All (LeavesCells path) last.0) (sound : IsSound reads before)
       (owned : All (AsksOwned before) (first.0 ++ rewrite path options ∷ last.0)) (lossless : AllAskLossless reads (first.0 ++ rewrite path options ∷ last.0) (first.1 ++ done ∷ last.1)) where
     end_canon : (mid next : World) → Run reads before first.0 first.1 mid → Step reads mid (rewrite path options) done next → Run reads next last.0 last.1 after → (h : Held) × (held_at path after.arrays ≡ Some h) × IsCanonHeld after.store h
     end_canon mid next start s rest =
@@ -176,7 +189,7 @@ module _ (reads : ReadsCodecs) (good : ReadsGood reads) where
         let sound_mid = owned_runs_sound reads before mid first.0 first.1 good (All-left (AsksOwned before) first.0 (rewrite path options ∷ last.0) owned) asks.0 sound start in
         let h = s.0.held in
         let alone = sound_alone reads mid path h sound_mid s.0.found in
-        let exact = or_right (is_plain h.document.chain) (is_row_major h.order) (order_after reads path before mid first.0 first.1 (is_row_major_at path before) (row_major_there path before) order start h s.0.found) in
+        let exact = written_exactly reads path before mid after first (rewrite path options ∷ last.0, done ∷ last.1) start (next, s, rest) written h s.0.found in
         let left = (rewrites_canon reads mid next path options h good alone s.0.found exact unstored).0 s in
         let alone_then = steps_keep_sound reads mid next (rewrite path options) done path good (sound_tables reads mid good sound_mid) tt alone s in
         let P : Held → Type 0 = λ x. IsCanonHeld next.store x in
@@ -195,7 +208,7 @@ module _ (reads : ReadsCodecs) (good : ReadsGood reads) where
       let S : List Request → Type 0 = λ q. Run reads before q es.1 after in
       let T : List Answer → Type 0 = λ a. Run reads before (k.first.0 ++ rewrite path k.options ∷ k.last.0) a after in
       let parts = runs_go_on reads before after k.first.0 (rewrite path k.options ∷ k.last.0) k.first.1 (done ∷ k.last.1) k.many (subst T k.answers (subst S k.requests r)) in
-      end_canon path before after k.first k.last k.options k.unstored k.many k.order k.leaves sound
+      end_canon path before after k.first k.last k.options k.unstored k.many k.exact k.leaves sound
       (subst P k.requests fresh.owned) (subst R k.answers (subst Q k.requests fresh.lossless))
       parts.0 parts.2.0 parts.1 parts.2.1 parts.2.2
 

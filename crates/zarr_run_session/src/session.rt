@@ -25,7 +25,7 @@ impl<S: WritableStorageTraits, B: BytesToBytesCodecTraits> Session<S, B> {
     ghost use Rattle.zarr_run_commands.specs.Commands.{asked, answered};
     ghost use Rattle.zarr_run_meaning.specs.Runs.{world_over};
     ghost use Rattle.zarr_run_opening.specs.Sessions.{IsIn, StepsFrom};
-    ghost use Rattle.zarr_run_session.specs.Headline.{KeepsTables, KeepsTable, RewritesAfresh, KeepsTight};
+    ghost use Rattle.zarr_run_session.specs.Headline.{KeepsTables, KeepsAlone, RewritesAfresh, KeepsTight};
     ghost use Rattle.zarr_run_session.specs.Sessions.{refused_with, state_of, store_of, type_at};
 
     /// A session over a store, whatever it holds. It holds no array yet.
@@ -72,7 +72,7 @@ impl<S: WritableStorageTraits, B: BytesToBytesCodecTraits> Session<S, B> {
         ensures tables { IsTrue (S.is_honest (store_of self.old)) → KeepsTables
             (B.meaning, B.reads) (state_of S.held S.refused_calls self.old)
             (asked command.now, answered result) (state_of S.held S.refused_calls self.new) }
-        ensures table { IsTrue (S.is_honest (store_of self.old)) → KeepsTable
+        ensures alone { IsTrue (S.is_honest (store_of self.old)) → KeepsAlone
             (B.meaning, B.reads) (state_of S.held S.refused_calls self.old)
             (asked command.now, answered result) (state_of S.held S.refused_calls self.new) }
         ensures canon { IsTrue (S.is_honest (store_of self.old)) → RewritesAfresh
