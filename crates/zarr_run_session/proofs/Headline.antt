@@ -17,25 +17,26 @@ use Rattle.zarr_run_meaning.specs.Laws.{IsUndamaged}
 use Rattle.zarr_run_meaning.specs.Requests.{Request, create, reopen, compact, rewrite, path_of, Answer, done, cells, compacted, refused}
 use Rattle.zarr_run_meaning.specs.Rewrites.{IsHeldStill, IsCanonHeld, IsCanonAlone, LeavesCells}
 use Rattle.zarr_run_meaning.specs.Runs.{Run}
-use Rattle.zarr_run_meaning.specs.Sound.{IsSound, IsSoundAlone, BeginsSound, AsksOwned, AsksLossless, AllAskLossless, ReadsGood}
+use Rattle.zarr_run_meaning.specs.Sound.{IsSoundAt, IsSound, IsSoundAlone, BeginsSound, AsksOwned, AsksLossless, AllAskLossless, ReadsGood}
 use Rattle.zarr_run_meaning.specs.Steps.{Step}
 use Rattle.zarr_run_meaning.specs.Tight.{IsTightHeld}
 use Rattle.zarr_run_meaning.specs.Worlds.{Held, World, held_at, with_order, is_row_major, writes_exactly}
 use Rattle.zarr_run_meaning.proofs.Again.{runs_go_on}
-use Rattle.zarr_run_meaning.proofs.Alone.{sound_alone, steps_keep_sound}
-use Rattle.zarr_run_meaning.proofs.Arrays.{held_at-new, free_none}
-use Rattle.zarr_run_meaning.proofs.Begun.{created_array, creates_fill}
+use Rattle.zarr_run_meaning.proofs.Alone.{begins_alone, sound_alone, steps_keep_sound}
+use Rattle.zarr_run_meaning.proofs.Arrays.{held_at-path, held_at-new, free_none}
+use Rattle.zarr_run_meaning.proofs.Begun.{no_chunks_are_fill, created_array, creates_fill}
 use Rattle.zarr_run_meaning.proofs.Canon.{rewrites_canon}
 use Rattle.zarr_run_meaning.proofs.Changed.{changes_no_cell}
 use Rattle.zarr_run_meaning.proofs.KeptCanon.{sound_tables, sound_runs_keep_canon}
-use Rattle.zarr_run_meaning.proofs.KeptTight.{owned_runs_tight, compacts_exactly}
+use Rattle.zarr_run_meaning.proofs.KeptTight.{begins_tight, owned_runs_tight, compacts_exactly}
 use Rattle.zarr_run_meaning.proofs.Orders.{IsRowMajorThere, orders}
 use Rattle.zarr_run_meaning.proofs.Owning.{runs_own, owned_has_no_chunks}
 use Rattle.zarr_run_meaning.proofs.Reading.{alone_undamaged}
 use Rattle.zarr_run_meaning.proofs.Sound.{steps_sound, owned_begins, asks_still, all_still, owned_run, owned_runs_sound}
+use Rattle.zarr_run_meaning.proofs.TightChunks.{no_chunks_are_tight}
 use Rattle.zarr_run_meaning.proofs.Undamaged.{runs_undamaged}
 use Rattle.zarr_run_session.proofs.Plain.{plain_before}
-use Rattle.zarr_run_session.specs.Headline.{Exchanges, IsIntact, LeavesCanon, CompactsAfresh, BeginsFill, TableRun, is_row_major_at, is_row_major_by, is_row_major_after, IsPlainThere, EndsCanon, EndsTight, AsksFresh}
+use Rattle.zarr_run_session.specs.Headline.{Exchanges, IsIntact, LeavesCanon, CompactsAfresh, BeginsFill, TableRun, is_row_major_at, is_row_major_by, is_row_major_after, IsPlainThere, EndsCanon, EndsTight, EndsTables, HasBegun, AsksFresh}
 
 -- ---- lists of commands in two parts
 
@@ -144,6 +145,19 @@ module _ (reads : ReadsCodecs) (good : ReadsGood reads) where
       compacts_exactly reads old new path chunk options h found tight (subst P same s)
   compacted_afresh old new path h request answer found tight s = tt
 
+  pub begun : (old new : World) (request : Request) (answer : Answer) (h : Held) → held_at (path_of request) old.arrays ≡ None → BeginsSound reads old request answer → Step reads old request answer new
+      → held_at (path_of request) new.arrays ≡ Some h → HasBegun reads h old.store new
+  begun old new request answer h none begins s found =
+      let P : List ℕ → Type 0 = λ p. IsSoundAlone reads new p in
+      let at = held_at-path (path_of request) new.arrays h found in
+      let alone = subst P at (begins_alone reads old new request answer (path_of request) h good begins none s found) in
+      let Q : Held → Type 0 = λ x. IsSoundAt reads new.store x in
+      let there = subst Q (same_Some alone.array h (sym alone.found ∙ ap (λ p. held_at p new.arrays) (sym at) ∙ found)) alone.there in (
+        alone,
+        λ empty. begins_tight reads old new request answer h.path h (λ place. h.document.elements.fill) good (ap (λ p. held_at p old.arrays) (sym at) ∙ none) s (ap (λ p. held_at p new.arrays) (sym at) ∙ found)
+            (no_chunks_are_fill h.path h.document old.store (good h.tree h.document there.says) there.lossless empty) (no_chunks_are_tight h.path h.document old.store empty),
+      )
+
   -- ---- runs
 
   begins_fill : (old new : World) (request : Request) (answer : Answer) → AsksOwned old request → AsksLossless reads request answer → IsSound reads old → Step reads old request answer new → BeginsFill request answer new
@@ -214,3 +228,6 @@ module _ (reads : ReadsCodecs) (good : ReadsGood reads) where
 
   pub ends_tight : (before after : World) (es : Exchanges) → IsSound reads before → AsksFresh reads before es → Run reads before es.0 es.1 after → EndsTight before es after
   ends_tight before after es sound fresh r path asks there = owned_runs_tight reads before after es.0 es.1 path good fresh.owned fresh.lossless asks sound there r
+
+  pub ends_tables : (before after : World) (es : Exchanges) → IsSound reads before → AsksFresh reads before es → Run reads before es.0 es.1 after → EndsTables before es after
+  ends_tables before after es sound fresh r = record { canon = ends_canon before after es sound fresh r; tight = ends_tight before after es sound fresh r }

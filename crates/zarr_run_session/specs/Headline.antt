@@ -13,7 +13,7 @@ use Rattle.zarr_run_meaning.specs.Laws.{HasCells, IsUndamaged}
 use Rattle.zarr_run_meaning.specs.Requests.{Request, create, reopen, compact, rewrite, path_of, Answer, done, compacted, refused}
 use Rattle.zarr_run_meaning.specs.Rewrites.{IsHeldStill, IsCanonHeld, IsCanonAlone, AreCanonFirst, LeavesCells, ReopensApart}
 use Rattle.zarr_run_meaning.specs.Runs.{world_over}
-use Rattle.zarr_run_meaning.specs.Sound.{IsSound, IsSoundAlone, BeginsSound, OpensApart, AsksOwned, OwnsKeysUnder, AsksLossless, AllAskLossless}
+use Rattle.zarr_run_meaning.specs.Sound.{IsSound, IsSoundAlone, BeginsSound, OpensApart, HasNoChunks, AsksOwned, OwnsKeysUnder, AsksLossless, AllAskLossless}
 use Rattle.zarr_run_meaning.specs.Steps.{Step}
 use Rattle.zarr_run_meaning.specs.Tight.{IsTightAlone, IsTightHeld, IsTightThere, IsEncodedAt, AllAskRowMajor}
 use Rattle.zarr_run_meaning.specs.Worlds.{Held, World, array_of, held_at, is_row_major, writes_exactly}
@@ -68,10 +68,6 @@ TableRun reads old (request ∷ requests) (answer ∷ answers) new = (mid : Worl
 TableRun reads old [] (answer ∷ answers) new = ⊥
 TableRun reads old (request ∷ requests) [] new = ⊥
 
--- these commands are answered so by such a run, to a world of which this holds
-abbrev pub AnswersAsTables : ReadsCodecs → World → Exchanges → (World → Type 0) → Type 0
-AnswersAsTables reads before es Holds = (after : World) × TableRun reads before es.0 es.1 after × Holds after
-
 -- whether the array at a path is written row-major
 abbrev pub is_row_major_at : List ℕ → World → Bool
 is_row_major_at path world = option_map_or (λ (h : Held). is_row_major h.order) (held_at path world.arrays) false
@@ -115,6 +111,15 @@ EndsCanon before es after = (path : List ℕ) → EndsCanonAt path before es aft
 -- at each path whose creates and reopenings that are done all ask for row-major order, what is stored is tight at the end, if it was
 abbrev pub EndsTight : World → Exchanges → World → Type 0
 EndsTight before es after = (path : List ℕ) → AllAskRowMajor path es.0 es.1 → IsTightThere before path → IsTightThere after path
+
+-- at the end what the last rewrite of each array left stands, and what was tight is so still
+pub record EndsTables (before : World) (es : Exchanges) (after : World) : Type 0 where
+  pub canon : EndsCanon before es after
+  pub tight : EndsTight before es after
+
+-- these commands are answered so by such a run, to a world of which this holds
+abbrev pub AnswersAsTables : ReadsCodecs → World → Exchanges → (World → Type 0) → Type 0
+AnswersAsTables reads before es Holds = (after : World) × TableRun reads before es.0 es.1 after × EndsTables before es after × Holds after
 
 -- ---- what a run leaves of one array, whatever is stored for the others
 
@@ -178,10 +183,23 @@ abbrev pub KeepsTables : {B : Type 0} → Codecs B → State B → Exchange → 
 KeepsTables codecs old e new = (before : World) → IsIn codecs.0 codecs.1 old before → IsSound codecs.1 before → BeginsSound codecs.1 before e.0 e.1
     → StepsTo codecs before e new (IsSound codecs.1) × IsUndamaged e.0 e.1
 
--- one table, whatever is stored for the other arrays: an array that is sound alone stays so, if the command opens none at a related path, and no command on it is refused for damage
-abbrev pub KeepsAlone : {B : Type 0} → Codecs B → State B → Exchange → State B → Type 0
-KeepsAlone codecs old e new = (before : World) (path : List ℕ) → IsIn codecs.0 codecs.1 old before → IsSoundAlone codecs.1 before path → OpensApart path before e.0 e.1
+-- an array that is sound alone stays so, whatever is stored for the others, if the command opens none at a related path, and no command on it is refused for damage
+abbrev pub StaysAlone : {B : Type 0} → Codecs B → State B → Exchange → State B → Type 0
+StaysAlone codecs old e new = (before : World) (path : List ℕ) → IsIn codecs.0 codecs.1 old before → IsSoundAlone codecs.1 before path → OpensApart path before e.0 e.1
     → StepsTo codecs before e new (λ after. IsSoundAlone codecs.1 after path) × (path_of e.0 ≡ path → IsIntact e.1)
+
+-- an array is sound alone, and what is stored for it is tight if no chunk of it had a value
+abbrev pub HasBegun : ReadsCodecs → Held → StoreMap → World → Type 0
+HasBegun reads h store new = IsSoundAlone reads new h.path × (HasNoChunks h.path h.document store → IsTightHeld new.store h)
+
+-- an array that begins over chunks that stand for cells is sound alone, whatever is stored for the others, and tight if no chunk of it had a value
+abbrev pub BeginsAlone : {B : Type 0} → Codecs B → State B → Exchange → State B → Type 0
+BeginsAlone codecs old e new = (before : World) → IsIn codecs.0 codecs.1 old before → held_at (path_of e.0) before.arrays ≡ None → BeginsSound codecs.1 before e.0 e.1
+    → StepsTo codecs before e new (λ after. (h : Held) → held_at (path_of e.0) after.arrays ≡ Some h → HasBegun codecs.1 h before.store after)
+
+-- one table, whatever is stored for the other arrays: it begins so, and stays
+abbrev pub KeepsAlone : {B : Type 0} → Codecs B → State B → Exchange → State B → Type 0
+KeepsAlone codecs old e new = StaysAlone codecs old e new × BeginsAlone codecs old e new
 
 -- rewrites: one that stores no empty chunk, of an array that is sound alone and whose chunks' values depend on their cells alone, leaves the array sound alone, changes no cell and leaves what storing the cells of its table afresh leaves; if it is refused, just that for the first chunks that had a key
 abbrev pub RewritesAfresh : {B : Type 0} → Codecs B → State B → Exchange → State B → Type 0
@@ -205,16 +223,6 @@ abbrev pub TablesFrom : {B : Type 0} → Codecs B → State B → Exchanges → 
 TablesFrom codecs old es new = (before : World) → IsIn codecs.0 codecs.1 old before → IsSound codecs.1 before → AsksFresh codecs.1 before es
     → AnswersAsTables codecs.1 before es (IsIn codecs.0 codecs.1 new)
 
--- rewrites: so they are, and what the last rewrite of an array left stands at the end
-abbrev pub CanonFrom : {B : Type 0} → Codecs B → State B → Exchanges → State B → Type 0
-CanonFrom codecs old es new = (before : World) → IsIn codecs.0 codecs.1 old before → IsSound codecs.1 before → AsksFresh codecs.1 before es
-    → AnswersAsTables codecs.1 before es (λ after. IsIn codecs.0 codecs.1 new after × EndsCanon before es after)
-
--- tight layout: so they are, and what was tight is so at the end
-abbrev pub TightFrom : {B : Type 0} → Codecs B → State B → Exchanges → State B → Type 0
-TightFrom codecs old es new = (before : World) → IsIn codecs.0 codecs.1 old before → IsSound codecs.1 before → AsksFresh codecs.1 before es
-    → AnswersAsTables codecs.1 before es (λ after. IsIn codecs.0 codecs.1 new after × EndsTight before es after)
-
 -- one array, whatever is stored for the others and done to them: from each world that the old state is in, where the array at a path is sound alone or the path is free, the commands are answered so that it stays sound alone
 abbrev pub AloneFrom : {B : Type 0} → Codecs B → State B → Exchanges → State B → Type 0
 AloneFrom codecs old es new = (before : World) (path : List ℕ) → IsIn codecs.0 codecs.1 old before → AsksAlone codecs.1 path before es
@@ -234,14 +242,6 @@ IsOver contents world = (world.store ≡ contents.0) × (world.refused ≡ conte
 -- the tables: from the world without arrays over the old contents, the commands are answered as those of tables, to one over the new contents
 abbrev pub TablesOver : ReadsCodecs → Contents → Exchanges → Contents → Type 0
 TablesOver reads old es new = BeginsFresh reads old es → AnswersAsTables reads (world_over old.0 old.1) es (IsOver new)
-
--- rewrites: so they are, and what the last rewrite of an array left stands at the end
-abbrev pub CanonOver : ReadsCodecs → Contents → Exchanges → Contents → Type 0
-CanonOver reads old es new = BeginsFresh reads old es → AnswersAsTables reads (world_over old.0 old.1) es (λ after. IsOver new after × EndsCanon (world_over old.0 old.1) es after)
-
--- tight layout: so they are, and what is stored for each array that was always asked for in row-major order is tight at the end
-abbrev pub TightOver : ReadsCodecs → Contents → Exchanges → Contents → Type 0
-TightOver reads old es new = BeginsFresh reads old es → AnswersAsTables reads (world_over old.0 old.1) es (λ after. IsOver new after × EndsTight (world_over old.0 old.1) es after)
 
 -- one array, whatever is stored for the others and done to them: at a path under which no key has a value, the commands are answered so that an array that begins there stays sound alone
 abbrev pub AloneOver : ReadsCodecs → Contents → Exchanges → Contents → Type 0

@@ -1,7 +1,7 @@
 //! Lists of commands.
 ghost use Rattle.std.specs.Prelude.{◌≡◌, ◌<◌, ◌≤◌, ◌+◌, ◌++◌, ◌∷◌, [], IsTrue, map, vec_len, vec_capacity, IfOk, IfErr, OnErr};
 ghost use Rattle.zarr_run_commands.specs.Commands.{asked, answered};
-ghost use Rattle.zarr_run_session.specs.Headline.{TablesFrom, CanonFrom, TightFrom, AloneFrom, TablesOver, CanonOver, TightOver, AloneOver};
+ghost use Rattle.zarr_run_session.specs.Headline.{TablesFrom, AloneFrom, TablesOver, AloneOver};
 ghost use Rattle.zarr_run_session.specs.Sessions.{RunsFrom, RunsOver, state_of, store_of};
 
 use crate::session::Session;
@@ -33,14 +33,6 @@ pub fn run_on<S: WritableStorageTraits, B: BytesToBytesCodecTraits>(
     // the arrays' tables, what rewrites leave, and tight layout
     ensures tables { IsTrue (S.is_honest (store_of session.old)) → IfOk result (λ replies.
         TablesFrom (B.meaning, B.reads) (state_of S.held S.refused_calls session.old)
-        (map asked commands.now, map answered replies.items)
-        (state_of S.held S.refused_calls session.new)) }
-    ensures canon { IsTrue (S.is_honest (store_of session.old)) → IfOk result (λ replies.
-        CanonFrom (B.meaning, B.reads) (state_of S.held S.refused_calls session.old)
-        (map asked commands.now, map answered replies.items)
-        (state_of S.held S.refused_calls session.new)) }
-    ensures tight { IsTrue (S.is_honest (store_of session.old)) → IfOk result (λ replies.
-        TightFrom (B.meaning, B.reads) (state_of S.held S.refused_calls session.old)
         (map asked commands.now, map answered replies.items)
         (state_of S.held S.refused_calls session.new)) }
     ensures alone { IsTrue (S.is_honest (store_of session.old)) → IfOk result (λ replies.
@@ -83,14 +75,6 @@ pub fn run<S: WritableStorageTraits + Drop, B: BytesToBytesCodecTraits>(
     // the arrays' tables, what rewrites leave, and tight layout
     ensures tables { IsTrue (S.is_honest store) → IfOk result (λ end.
         TablesOver B.reads (S.held store, S.refused_calls store)
-        (map asked commands.now, map answered end.0.items)
-        (S.held end.1, S.refused_calls end.1)) }
-    ensures canon { IsTrue (S.is_honest store) → IfOk result (λ end.
-        CanonOver B.reads (S.held store, S.refused_calls store)
-        (map asked commands.now, map answered end.0.items)
-        (S.held end.1, S.refused_calls end.1)) }
-    ensures tight { IsTrue (S.is_honest store) → IfOk result (λ end.
-        TightOver B.reads (S.held store, S.refused_calls store)
         (map asked commands.now, map answered end.0.items)
         (S.held end.1, S.refused_calls end.1)) }
     ensures alone { IsTrue (S.is_honest store) → IfOk result (λ end.
