@@ -1,19 +1,18 @@
 -- One array of a run, whatever is stored for the others and done to them.
-use Rattle.std.proofs.Common.{◌≡◌, ◌≢◌, ◌∙◌, ◌⊎◌, inl, inr, ⊎_elim, ℕ, Bool, true, false, List, [], ◌∷◌, ◌++◌, ◌||◌, length, refl, sym, ap, subst, Option, Some, None}
+use Rattle.std.proofs.Common.{◌≡◌, ◌∙◌, ◌⊎◌, inl, inr, ⊎_elim, ℕ, Bool, true, false, List, [], ◌∷◌, ◌++◌, ◌||◌, length, refl, sym, ap, subst, Option, Some, None}
 use Rattle.std.specs.Prelude.{All}
 use Rattle.std.proofs.lemmas.List.Elements.{All-head, All-tail}
 use Rattle.std.proofs.lemmas.Option.{none-some, same_Some}
-use Rattle.zarr_grids_chunks.proofs.Filters.{told}
 use Rattle.zarr_codecs_meaning.specs.Fits.{is_plain}
 use Rattle.zarr_codecs_metadata.specs.Chains.{ReadsCodecs}
 use Rattle.zarr_codecs_options.specs.declared.codec_options.CodecOptions.{CodecOptions}
 use Rattle.zarr_run_meaning.specs.Laws.{HasTables}
 use Rattle.zarr_run_meaning.specs.Requests.{Request, create, rewrite, path_of, Answer, done}
-use Rattle.zarr_run_meaning.specs.Rewrites.{IsCanonHeld, IsCanonAlone, LeavesCells, ReopensApart}
+use Rattle.zarr_run_meaning.specs.Rewrites.{IsCanonHeld, IsCanonAlone, ReopensApart}
 use Rattle.zarr_run_meaning.specs.Runs.{Run}
 use Rattle.zarr_run_meaning.specs.Sound.{IsSoundAlone, OwnsKeysUnder, AsksLossless, ReadsGood}
 use Rattle.zarr_run_meaning.specs.Steps.{Step}
-use Rattle.zarr_run_meaning.specs.Tight.{IsTightAlone, IsTightHeld, AsksRowMajor, AllAskRowMajor}
+use Rattle.zarr_run_meaning.specs.Tight.{IsTightHeld, AsksRowMajor, AllAskRowMajor}
 use Rattle.zarr_run_meaning.specs.Worlds.{Held, World, held_at, is_row_major, writes_exactly}
 use Rattle.zarr_run_meaning.proofs.Again.{runs_go_on}
 use Rattle.zarr_run_meaning.proofs.Alone.{steps_keep_sound, reopens_apart}
@@ -26,7 +25,7 @@ use Rattle.zarr_run_meaning.proofs.KeptTight.{steps_keep_tight, begins_tight}
 use Rattle.zarr_run_meaning.proofs.Orders.{IsRowMajorThere, orders}
 use Rattle.zarr_run_meaning.proofs.Owning.{steps_own}
 use Rattle.zarr_run_meaning.proofs.TightChunks.{no_chunks_are_tight}
-use Rattle.zarr_run_session.specs.Headline.{Exchanges, IsIntact, BeginsFill, IsPlainThere, IsRewrittenLast, EndsCanonAt, IsAloneOrFree, NamesLossless, AsksAlone, AloneStep, RunOf, IsTightExactly, EndsAlone}
+use Rattle.zarr_run_session.specs.Headline.{Exchanges, IsIntact, BeginsFill, IsPlainThere, EndsCanonAt, IsAloneOrFree, NamesLossless, AsksAlone, AloneStep, RunOf, IsTightExactly, EndsAlone}
 use Rattle.zarr_run_session.proofs.Beginning.{free_no_chunks, begins_free, free_intact}
 use Rattle.zarr_run_session.proofs.Headline.{All-left, All-right, intact, or_left, or_right, written_exactly}
 use Rattle.zarr_run_session.proofs.Plain.{document_stays, plain_before}
@@ -197,7 +196,7 @@ module _ (reads : ReadsCodecs) (path : List ℕ) (good : ReadsGood reads) where
       let exact = written_exactly reads path before mid after k.first rest parts.1 parts.2 k.exact alone.array alone.found in
       let canon = rewritten_canon reads path good mid next k.options at.0 alone exact k.unstored s in
       let end = runs_keep_canon reads next after k.last.0 k.last.1 path good (steps_show reads mid next (rewrite path k.options) done at.0 s) k.leaves
-          (All-tail (ReopensApart path) (rewrite path k.options) k.last.0 (All-right (ReopensApart path) k.first.0 rest.0 beside)) canon parts.2.2 in
+      (All-tail (ReopensApart path) (rewrite path k.options) k.last.0 (All-right (ReopensApart path) k.first.0 rest.0 beside)) canon parts.2.2 in
       (end.sound.array, end.sound.found, end.canon)
 
   pub ends_alone : (before after : World) (es : Exchanges) → HasTables reads before → AsksAlone reads path before es → Run reads before es.0 es.1 after → EndsAlone reads path before es after

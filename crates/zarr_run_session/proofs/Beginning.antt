@@ -1,8 +1,8 @@
 -- An array that begins at a path under which no key is foreign, whatever is stored elsewhere.
 use Rattle.std.proofs.Common.{◌≡◌, ◌∙◌, ⊎_elim, ℕ, true, false, List, refl, sym, ap, subst, Option, Some, None}
-use Rattle.std.proofs.lemmas.Option.{none-some, same_Some}
+use Rattle.std.proofs.lemmas.Option.{none-some}
 use Rattle.serde_json.specs.Data.{Data}
-use Rattle.zarr_grids_keys.specs.Documents.{document_key, document_name}
+use Rattle.zarr_grids_keys.specs.Documents.{document_name}
 use Rattle.zarr_grids_keys.specs.Keys.{encoded_key, key_under}
 use Rattle.zarr_grids_keys.specs.Paths.{is_node_path}
 use Rattle.zarr_grids_keys.specs.declared.document_name.DocumentName.TheVariants.{ZarrJson}
@@ -15,7 +15,7 @@ use Rattle.zarr_array_meaning.specs.Documents.{Document}
 use Rattle.zarr_array_meaning.specs.Standing.{IsLossless}
 use Rattle.zarr_run_meaning.specs.declared.cause.Cause.TheVariants as cause
 use Rattle.zarr_run_meaning.specs.Causes.{IsChunkKey, ReopenRefuses}
-use Rattle.zarr_run_meaning.specs.Changes.{Creates, Reopens, Opens}
+use Rattle.zarr_run_meaning.specs.Changes.{Reopens, Opens}
 use Rattle.zarr_run_meaning.specs.Laws.{HasTables}
 use Rattle.zarr_run_meaning.specs.Requests.{Request, create, reopen, write, read, erase, compact, rewrite, path_of, Answer, done, refused}
 use Rattle.zarr_run_meaning.specs.Sound.{IsSoundAlone, BeginsSound, HasNoChunks, OwnsKeysUnder, AsksLossless, ReadsGood}

@@ -18,9 +18,9 @@ pub struct GiveBack<S, E> {
 }
 
 /// Runs commands in order, and answers each. Over an honest store whose keys are the arrays' own,
-/// each array answers as a table of its own, and what its last rewrite left stands at the end, if
-/// that stored no empty chunk. Room for all replies is made first; where it is refused, nothing has
-/// been run.
+/// each array whose codecs keep every bit answers as a table; and what a rewrite without empty
+/// chunks left, in order C or without shards, stands until its cells are changed. Where room for
+/// all replies is refused, nothing has been run.
 pub fn run_on<S: WritableStorageTraits, B: BytesToBytesCodecTraits>(
     alloc: Global,
     session: &mut Session<S, B>,
@@ -30,7 +30,7 @@ pub fn run_on<S: WritableStorageTraits, B: BytesToBytesCodecTraits>(
         RunsFrom B.meaning B.reads (state_of S.held S.refused_calls session.old)
         (map asked commands.now) (map answered replies.items)
         (state_of S.held S.refused_calls session.new)) }
-    // the arrays' tables, what rewrites leave, and tight layout
+    // the tables, what rewrites leave and tight layout: of all arrays, and of one alone
     ensures tables { IsTrue (S.is_honest (store_of session.old)) → IfOk result (λ replies.
         TablesFrom (B.meaning, B.reads) (state_of S.held S.refused_calls session.old)
         (map asked commands.now, map answered replies.items)
@@ -60,9 +60,10 @@ fn enter(replies: &mut Vec<Reply>, reply: Reply)
     replies.push(reply).unwrap();
 }
 
-/// Runs commands in order over a store, in a session that begins with no array. Over an empty
-/// honest store each array answers as a table of its own that begins as fill. Room for all replies
-/// is made first; where it is refused, the store comes back untouched.
+/// Runs commands in order over a store, in a session that begins with no array. Over an honest
+/// store, empty or without keys at the arrays' paths, each array whose codecs keep every bit answers
+/// as a table that begins as fill, whatever becomes of the others. Where room for all replies is
+/// refused, the store comes back untouched.
 pub fn run<S: WritableStorageTraits + Drop, B: BytesToBytesCodecTraits>(
     alloc: Global,
     store: S,
@@ -72,7 +73,7 @@ pub fn run<S: WritableStorageTraits + Drop, B: BytesToBytesCodecTraits>(
         RunsOver B.reads (S.held store, S.refused_calls store)
         (map asked commands.now) (map answered end.0.items)
         (S.held end.1, S.refused_calls end.1)) }
-    // the arrays' tables, what rewrites leave, and tight layout
+    // the tables, what rewrites leave and tight layout: of all arrays, and of one alone
     ensures tables { IsTrue (S.is_honest store) → IfOk result (λ end.
         TablesOver B.reads (S.held store, S.refused_calls store)
         (map asked commands.now, map answered end.0.items)
