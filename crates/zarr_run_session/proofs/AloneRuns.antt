@@ -10,24 +10,25 @@ use Rattle.zarr_run_meaning.specs.Laws.{HasTables}
 use Rattle.zarr_run_meaning.specs.Requests.{Request, create, rewrite, path_of, Answer, done}
 use Rattle.zarr_run_meaning.specs.Rewrites.{IsCanonHeld, IsCanonAlone, ReopensApart}
 use Rattle.zarr_run_meaning.specs.Runs.{Run}
-use Rattle.zarr_run_meaning.specs.Sound.{IsSoundAlone, OwnsKeysUnder, AsksLossless, ReadsGood}
+use Rattle.zarr_run_meaning.specs.Sound.{IsSound, IsSoundAlone, OpensApart, OwnsKeysUnder, AsksOwned, AsksLossless, AllAskLossless, ReadsGood}
 use Rattle.zarr_run_meaning.specs.Steps.{Step}
 use Rattle.zarr_run_meaning.specs.Tight.{IsTightHeld, AsksRowMajor, AllAskRowMajor}
 use Rattle.zarr_run_meaning.specs.Worlds.{Held, World, held_at, is_row_major, writes_exactly}
 use Rattle.zarr_run_meaning.proofs.Again.{runs_go_on}
-use Rattle.zarr_run_meaning.proofs.Alone.{steps_keep_sound, reopens_apart}
+use Rattle.zarr_run_meaning.proofs.Alone.{sound_alone, steps_keep_sound, reopens_apart, begins_apart}
 use Rattle.zarr_run_meaning.proofs.Arrays.{held_at-new, free_none}
 use Rattle.zarr_run_meaning.proofs.Begun.{no_chunks_are_fill, created_array, creates_fill}
 use Rattle.zarr_run_meaning.proofs.Canon.{rewrites_canon}
 use Rattle.zarr_run_meaning.proofs.Frames.{steps_show}
-use Rattle.zarr_run_meaning.proofs.KeptCanon.{runs_keep_canon}
+use Rattle.zarr_run_meaning.proofs.KeptCanon.{sound_tables, runs_keep_canon}
 use Rattle.zarr_run_meaning.proofs.KeptTight.{steps_keep_tight, begins_tight}
 use Rattle.zarr_run_meaning.proofs.Orders.{IsRowMajorThere, orders}
 use Rattle.zarr_run_meaning.proofs.Owning.{steps_own}
+use Rattle.zarr_run_meaning.proofs.Sound.{steps_sound, owned_begins, asks_still, all_still}
 use Rattle.zarr_run_meaning.proofs.TightChunks.{no_chunks_are_tight}
-use Rattle.zarr_run_session.specs.Headline.{Exchanges, IsIntact, BeginsFill, IsPlainThere, EndsCanonAt, IsAloneOrFree, NamesLossless, AsksAlone, AloneStep, RunOf, IsTightExactly, EndsAlone}
-use Rattle.zarr_run_session.proofs.Beginning.{free_no_chunks, begins_free, free_intact}
-use Rattle.zarr_run_session.proofs.Headline.{All-left, All-right, intact, or_left, or_right, written_exactly}
+use Rattle.zarr_run_session.specs.Headline.{Exchanges, IsIntact, BeginsFill, IsPlainThere, EndsCanonAt, IsAloneOrFree, NamesLossless, AsksAlone, AloneStep, RunOf, IsTightExactly, EndsAlone, EndsTables, AsksFresh}
+use Rattle.zarr_run_session.proofs.Beginning.{free_no_chunks, asks_free, begins_free, free_intact}
+use Rattle.zarr_run_session.proofs.Headline.{All-left, All-right, intact, ends_canon, or_left, or_right, written_exactly}
 use Rattle.zarr_run_session.proofs.Plain.{document_stays, plain_before}
 
 names_parts : (reads : ReadsCodecs) (path : List ℕ) (first last : List Request) (firsts lasts : List Answer) → length first ≡ length firsts → NamesLossless reads path (first ++ last) (firsts ++ lasts)
@@ -41,6 +42,24 @@ names_parts reads path (r ∷ first) last (a ∷ firsts) lasts many names =
 
 -- ---- one step
 
+module _ (reads : ReadsCodecs) (path : List ℕ) (good : ReadsGood reads) (old new : World) (request : Request) (answer : Answer) (tables : HasTables reads old) (s : Step reads old request answer new)
+    (h : Held) (found : held_at path new.arrays ≡ Some h) where
+  -- what is stored for an array that was held stays tight
+  tight_kept : (alone : IsSoundAlone reads old path) → OpensApart path old request answer → IsTightExactly path old → IsTightHeld new.store h
+  tight_kept alone away was =
+      let g = was alone.array alone.found in
+      let next = steps_keep_tight reads old new request answer path good tables away (record { sound = alone; tight = g.1 }) g.0 s in
+      let P : Held → Type 0 = λ x. IsTightHeld new.store x in
+      subst P (same_Some next.sound.array h (sym next.sound.found ∙ found)) next.tight
+
+  -- and that of one that begins is
+  tight_begun : held_at path old.arrays ≡ None → (path_of request ≡ path → AsksOwned old request) → (path_of request ≡ path → AsksLossless reads request answer) → IsTightHeld new.store h
+  tight_begun none owned lossless =
+      let b = begins_free reads old new path h good tables none found request answer owned lossless s in
+      begins_tight reads old new request answer path h (λ place. h.document.elements.fill) good none s found
+      (no_chunks_are_fill path h.document old.store (good h.tree h.document (steps_show reads old new request answer tables s path h found).1) b.lossless b.none)
+      (no_chunks_are_tight path h.document old.store b.none)
+
 module _ (reads : ReadsCodecs) (path : List ℕ) (good : ReadsGood reads) (old new : World) (request : Request) (answer : Answer) (tables : HasTables reads old)
     (lossless : path_of request ≡ path → AsksLossless reads request answer) (beside : ReopensApart path request) (s : Step reads old request answer new) where
   alone_after : IsSoundAlone reads old path → IsSoundAlone reads new path
@@ -50,7 +69,7 @@ module _ (reads : ReadsCodecs) (path : List ℕ) (good : ReadsGood reads) (old n
   free_after none owned = go (held_at path new.arrays) refl where
     go : (o : Option Held) → held_at path new.arrays ≡ o → IsAloneOrFree reads path new
     go None e = inr (e, λ name. steps_own reads old new request answer _ s (owned name))
-    go (Some h) e = let b = begins_free reads old new path h good tables none owned e request answer lossless s in inl b.alone
+    go (Some h) e = let b = begins_free reads old new path h good tables none e request answer (asks_free old path request owned) lossless s in inl b.alone
 
   pub there_after : IsAloneOrFree reads path old → IsAloneOrFree reads path new
   there_after there = ⊎_elim (λ alone. inl (alone_after alone)) (λ free. free_after free.0 free.1) there
@@ -61,19 +80,11 @@ module _ (reads : ReadsCodecs) (path : List ℕ) (good : ReadsGood reads) (old n
       (λ free. free_intact reads old new request answer (ap (λ p. held_at p old.arrays) same ∙ free.0) s)
       there
 
-  -- what is stored for the array is tight afterwards, if its chunks' values depend on its cells alone afterwards
+  -- what is stored for the array is tight afterwards
   tight_after : IsAloneOrFree reads path old → IsTightExactly path old → (h : Held) → held_at path new.arrays ≡ Some h → IsTightHeld new.store h
   tight_after there was h found = ⊎_elim
-      (λ alone.
-      let g = was alone.array alone.found in
-      let next = steps_keep_tight reads old new request answer path good tables (reopens_apart reads old new path alone request answer beside) (record { sound = alone; tight = g.1 }) g.0 s in
-      let P : Held → Type 0 = λ x. IsTightHeld new.store x in
-      subst P (same_Some next.sound.array h (sym next.sound.found ∙ found)) next.tight)
-      (λ free.
-      let b = begins_free reads old new path h good tables free.0 free.1 found request answer lossless s in
-      begins_tight reads old new request answer path h (λ place. h.document.elements.fill) good free.0 s found
-      (no_chunks_are_fill path h.document old.store (good h.tree h.document (steps_show reads old new request answer tables s path h found).1) b.lossless b.none)
-      (no_chunks_are_tight path h.document old.store b.none))
+      (λ alone. tight_kept reads path good old new request answer tables s h found alone (reopens_apart reads old new path alone request answer beside) was)
+      (λ free. tight_begun reads path good old new request answer tables s h found free.0 (asks_free old path request free.1) lossless)
       there
 
 -- an array that is created at the path begins as fill
@@ -158,6 +169,14 @@ module _ (reads : ReadsCodecs) (path : List ℕ) (good : ReadsGood reads) where
       alone_end r.0 new requests answers (steps_show reads old r.0 request answer tables r.1)
       (there_after reads path good old r.0 request answer tables names.0 (All-head (ReopensApart path) request requests beside) r.1 there) names.1 (All-tail (ReopensApart path) request requests beside) r.2
 
+  -- how the array is written after the first command
+  exactly_next : (old mid new : World) (request : Request) (answer : Answer) (requests : List Request) (answers : List Answer) → AllAskRowMajor path (request ∷ requests) (answer ∷ answers) ⊎ IsPlainThere path new
+      → ((g : Held) → held_at path old.arrays ≡ Some g → writes_exactly g ≡ true) → Step reads old request answer mid → Run reads mid requests answers new → (h : Held) → held_at path mid.arrays ≡ Some h → writes_exactly h ≡ true
+  exactly_next old mid new request answer requests answers asks was s rest h found = ⊎_elim
+      (λ order. exactly_after reads path old mid request answer order.0 was s h found)
+      (λ plain. or_left (is_plain h.document.chain) (is_row_major h.order) (plain_before reads mid new requests answers path rest plain h found))
+      asks
+
   -- tight layout
   tight_end : (old new : World) (requests : List Request) (answers : List Answer) → HasTables reads old → IsAloneOrFree reads path old → NamesLossless reads path requests answers → All (ReopensApart path) requests
       → AllAskRowMajor path requests answers ⊎ IsPlainThere path new → IsTightExactly path old → Run reads old requests answers new → IsTightExactly path new
@@ -167,10 +186,7 @@ module _ (reads : ReadsCodecs) (path : List ℕ) (good : ReadsGood reads) where
   tight_end old new (request ∷ requests) (answer ∷ answers) tables there names beside asks was r =
       let apart = All-head (ReopensApart path) request requests beside in
       let next : IsTightExactly path r.0 = λ h found. (
-        ⊎_elim
-            (λ (order : AllAskRowMajor path (request ∷ requests) (answer ∷ answers)). exactly_after reads path old r.0 request answer order.0 (λ g at. (was g at).0) r.1 h found)
-            (λ plain. or_left (is_plain h.document.chain) (is_row_major h.order) (plain_before reads r.0 new requests answers path r.2 plain h found))
-            asks,
+        exactly_next old r.0 new request answer requests answers asks (λ g at. (was g at).0) r.1 r.2 h found,
         tight_after reads path good old r.0 request answer tables names.0 apart r.1 there was h found,
       ) in
       tight_end r.0 new requests answers (steps_show reads old r.0 request answer tables r.1) (there_after reads path good old r.0 request answer tables names.0 apart r.1 there) names.1
@@ -206,3 +222,37 @@ module _ (reads : ReadsCodecs) (path : List ℕ) (good : ReadsGood reads) where
     still = λ canon leaves. runs_keep_canon reads before after es.0 es.1 path good tables leaves asks.apart canon r;
     tight = λ order was. tight_end before after es.0 es.1 tables asks.there asks.lossless asks.apart order was r;
   }
+
+-- ---- runs from sound worlds
+
+module _ (reads : ReadsCodecs) (path : List ℕ) (good : ReadsGood reads) where
+  tight_sound : (old new : World) (request : Request) (answer : Answer) → AsksOwned old request → AsksLossless reads request answer → IsSound reads old → IsTightExactly path old → Step reads old request answer new
+      → (h : Held) → held_at path new.arrays ≡ Some h → IsTightHeld new.store h
+  tight_sound old new request answer own lossless sound was s h found = go (held_at path old.arrays) refl where
+    go : (o : Option Held) → held_at path old.arrays ≡ o → IsTightHeld new.store h
+    go None e = tight_begun reads path good old new request answer (sound_tables reads old good sound) s h found e (λ same. own) (λ same. lossless)
+    go (Some g) e =
+        let alone = sound_alone reads old path g sound e in
+        let away = begins_apart reads old new path alone request answer (owned_begins reads old new request answer good own lossless sound s) s in
+        tight_kept reads path good old new request answer (sound_tables reads old good sound) s h found alone away was
+
+  pub sound_tight_end : (old new : World) (requests : List Request) (answers : List Answer) → All (AsksOwned old) requests → AllAskLossless reads requests answers → IsSound reads old
+      → AllAskRowMajor path requests answers ⊎ IsPlainThere path new → IsTightExactly path old → Run reads old requests answers new → IsTightExactly path new
+  sound_tight_end old new [] [] owned lossless sound asks was r = let P : World → Type 0 = λ w. IsTightExactly path w in subst P (sym r) was
+  sound_tight_end old new [] (answer ∷ answers) owned lossless sound asks was r = absurd r
+  sound_tight_end old new (request ∷ requests) [] owned lossless sound asks was r = absurd r
+  sound_tight_end old new (request ∷ requests) (answer ∷ answers) owned lossless sound asks was r =
+      let own = All-head (AsksOwned old) request requests owned in
+      let begins = owned_begins reads old r.0 request answer good own lossless.0 sound r.1 in
+      let next : IsTightExactly path r.0 = λ h found. (
+        exactly_next reads path good old r.0 new request answer requests answers asks (λ g at. (was g at).0) r.1 r.2 h found,
+        tight_sound old r.0 request answer own lossless.0 sound was r.1 h found,
+      ) in
+      sound_tight_end r.0 new requests answers (all_still old r.0 (asks_still reads old r.0 request answer r.1) requests (All-tail (AsksOwned old) request requests owned)) lossless.1
+      (steps_sound reads old r.0 request answer good begins sound r.1) (⊎_elim (λ (order : AllAskRowMajor path (request ∷ requests) (answer ∷ answers)). inl order.1) (λ plain. inr plain) asks) next r.2
+
+pub ends_tables : (reads : ReadsCodecs) (good : ReadsGood reads) (before after : World) (es : Exchanges) → IsSound reads before → AsksFresh reads before es → Run reads before es.0 es.1 after → EndsTables before es after
+ends_tables reads good before after es sound fresh r = record {
+  canon = ends_canon reads good before after es sound fresh r;
+  tight = λ path asks was. sound_tight_end reads path good before after es.0 es.1 fresh.owned fresh.lossless sound asks was r;
+}

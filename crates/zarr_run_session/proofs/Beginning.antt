@@ -2,7 +2,7 @@
 use Rattle.std.proofs.Common.{◌≡◌, ◌∙◌, ⊎_elim, ℕ, true, false, List, refl, sym, ap, subst, Option, Some, None}
 use Rattle.std.proofs.lemmas.Option.{none-some}
 use Rattle.serde_json.specs.Data.{Data}
-use Rattle.zarr_grids_keys.specs.Documents.{document_name}
+use Rattle.zarr_grids_keys.specs.Documents.{document_key, document_name}
 use Rattle.zarr_grids_keys.specs.Keys.{encoded_key, key_under}
 use Rattle.zarr_grids_keys.specs.Paths.{is_node_path}
 use Rattle.zarr_grids_keys.specs.declared.document_name.DocumentName.TheVariants.{ZarrJson}
@@ -18,7 +18,7 @@ use Rattle.zarr_run_meaning.specs.Causes.{IsChunkKey, ReopenRefuses}
 use Rattle.zarr_run_meaning.specs.Changes.{Reopens, Opens}
 use Rattle.zarr_run_meaning.specs.Laws.{HasTables}
 use Rattle.zarr_run_meaning.specs.Requests.{Request, create, reopen, write, read, erase, compact, rewrite, path_of, Answer, done, refused}
-use Rattle.zarr_run_meaning.specs.Sound.{IsSoundAlone, BeginsSound, HasNoChunks, OwnsKeysUnder, AsksLossless, ReadsGood}
+use Rattle.zarr_run_meaning.specs.Sound.{IsSoundAlone, BeginsSound, HasNoChunks, OwnsKeysUnder, IsOwned, AsksOwned, AsksLossless, ReadsGood}
 use Rattle.zarr_run_meaning.specs.Steps.{RefusesHeld, RefusesWrite, RefusesRead, RefusesErase, RefusesCompact, RefusesRewrite, Step}
 use Rattle.zarr_run_meaning.specs.Worlds.{Held, World, held_at, is_taken}
 use Rattle.zarr_run_meaning.proofs.Alone.{begins_alone}
@@ -51,17 +51,16 @@ pub record BeganFree (reads : ReadsCodecs) (old new : World) (path : List ℕ) (
   pub lossless : IsLossless h.document
   pub none : HasNoChunks path h.document old.store
 
-module _ (reads : ReadsCodecs) (old new : World) (path : List ℕ) (h : Held) (good : ReadsGood reads) (tables : HasTables reads old) (none : held_at path old.arrays ≡ None) (owned : OwnsKeysUnder path old)
+module _ (reads : ReadsCodecs) (old new : World) (path : List ℕ) (h : Held) (good : ReadsGood reads) (tables : HasTables reads old) (none : held_at path old.arrays ≡ None)
     (found : held_at path new.arrays ≡ Some h) where
-  created_free : (p : List ℕ) (document : Data) (order : SubchunkWriteOrder) → (p ≡ path → AsksLossless reads (create p document order) done) → Step reads old (create p document order) done new → BeganFree reads old new path h
-  created_free p document order lossless s =
+  created_free : (p : List ℕ) (document : Data) (order : SubchunkWriteOrder) → (p ≡ path → OwnsKeysUnder p old) → (p ≡ path → AsksLossless reads (create p document order) done) → Step reads old (create p document order) done new → BeganFree reads old new path h
+  created_free p document order own lossless s =
       let c = s.0 in
       let b = created_array reads old new p document order c in
       ⊎_elim
       (λ same.
       let at : p ≡ path = sym (held_at-path path new.arrays h found ∙ ap (λ (x : Held). x.path) same) in
-      let Q : List ℕ → Type 0 = λ q. OwnsKeysUnder q old in
-      let empty = λ (meaning : Document). free_no_chunks reads old p meaning tables (subst Q (sym at) owned) c.node c.free in
+      let empty = λ (meaning : Document). free_no_chunks reads old p meaning tables (own at) c.node c.free in
       let begins : BeginsSound reads old (create p document order) done = λ meaning opens. (λ place. meaning.elements.fill, no_chunks_are_fill p meaning old.store (good document meaning opens) (lossless at meaning opens) (empty meaning)) in
       let P : Held → Type 0 = λ x. IsLossless x.document in
       let R : List ℕ → Type 0 = λ q. HasNoChunks q h.document old.store in
@@ -73,12 +72,11 @@ module _ (reads : ReadsCodecs) (old new : World) (path : List ℕ) (h : Held) (g
       (λ before. absurd (none-some h (sym none ∙ before)))
       (held_at-more path old.arrays b h (free_none p old.arrays c.free) (sym (ap (held_at path) c.begins.holds) ∙ found))
 
-  not_opened : (p : List ℕ) (order : SubchunkWriteOrder) → Opens reads p order old new → ⊥
-  not_opened p order o = ⊎_elim
+  not_opened : (p : List ℕ) (order : SubchunkWriteOrder) → (p ≡ path → IsOwned old (document_key p ZarrJson)) → Opens reads p order old new → ⊥
+  not_opened p order asks o = ⊎_elim
       (λ same.
       let at : p ≡ path = sym (held_at-path path new.arrays h found ∙ ap (λ (x : Held). x.path) same) in
-      let Q : List ℕ → Type 0 = λ q. OwnsKeysUnder q old in
-      let own = subst Q (sym at) owned (document_name ZarrJson) o.stored.text o.stored.found in
+      let own = asks at o.stored.text o.stored.found in
       ⊎_elim
       (λ same. let once = document_key-injective p own.0.path ZarrJson ZarrJson o.node (tables own.0.path own.0 own.1).0 same in
       none-some own.0 (sym o.begins.free ∙ ap (λ q. held_at q old.arrays) once.0 ∙ own.1))
@@ -87,20 +85,27 @@ module _ (reads : ReadsCodecs) (old new : World) (path : List ℕ) (h : Held) (g
       (λ before. none-some h (sym none ∙ before))
       (held_at-more path old.arrays (opened_array reads old new p order o) h o.begins.free (sym (ap (held_at path) o.begins.holds) ∙ found))
 
-  pub begins_free : (request : Request) (answer : Answer) → (path_of request ≡ path → AsksLossless reads request answer) → Step reads old request answer new → BeganFree reads old new path h
-  begins_free request answer lossless s = go (step_begun reads old new request answer s) where
+  pub begins_free : (request : Request) (answer : Answer) → (path_of request ≡ path → AsksOwned old request) → (path_of request ≡ path → AsksLossless reads request answer) → Step reads old request answer new → BeganFree reads old new path h
+  begins_free request answer owned lossless s = go (step_begun reads old new request answer s) where
     go : Begun reads request answer old new → BeganFree reads old new path h
     go (none_began same) = let g = same path h found in absurd (none-some g.0 (sym none ∙ g.1))
     go (creates p document order is ends c) =
         let P : Request → Type 0 = λ q. path_of q ≡ path → AsksLossless reads q answer in
+        let T : Request → Type 0 = λ q. path_of q ≡ path → AsksOwned old q in
         let Q : Answer → Type 0 = λ a. p ≡ path → AsksLossless reads (create p document order) a in
         let R : Request → Type 0 = λ q. Step reads old q answer new in
         let S : Answer → Type 0 = λ a. Step reads old (create p document order) a new in
-        created_free p document order (subst Q ends (subst P is lossless)) (subst S ends (subst R is s))
+        created_free p document order (subst T is owned) (subst Q ends (subst P is lossless)) (subst S ends (subst R is s))
     go (reopens p order is ends r) = ⊎_elim
         (λ (again : Reopens p order old new). let g = held_at-ordered p path order old.arrays h (sym (ap (held_at path) again.updates) ∙ found) in absurd (none-some g.0 (sym none ∙ g.1)))
-        (λ (o : Opens reads p order old new). absurd (not_opened p order o))
+        (λ (o : Opens reads p order old new). let T : Request → Type 0 = λ q. path_of q ≡ path → AsksOwned old q in absurd (not_opened p order (subst T is owned) o))
         r
+
+-- a command on a path asks for what is owned, where no key under the path is foreign
+pub asks_free : (old : World) (path : List ℕ) (request : Request) → OwnsKeysUnder path old → path_of request ≡ path → AsksOwned old request
+asks_free old path (create p document order) owned same = let P : List ℕ → Type 0 = λ q. OwnsKeysUnder q old in subst P (sym same) owned
+asks_free old path (reopen p order) owned same = let P : List ℕ → Type 0 = λ q. OwnsKeysUnder q old in subst P (sym same) owned (document_name ZarrJson)
+asks_free old path request owned same = tt
 
 -- ---- commands on a path where no array is held
 

@@ -28,7 +28,7 @@ use Rattle.zarr_run_meaning.proofs.Begun.{no_chunks_are_fill, created_array, cre
 use Rattle.zarr_run_meaning.proofs.Canon.{rewrites_canon}
 use Rattle.zarr_run_meaning.proofs.Changed.{changes_no_cell}
 use Rattle.zarr_run_meaning.proofs.KeptCanon.{sound_tables, sound_runs_keep_canon}
-use Rattle.zarr_run_meaning.proofs.KeptTight.{begins_tight, owned_runs_tight, compacts_exactly}
+use Rattle.zarr_run_meaning.proofs.KeptTight.{begins_tight, compacts_exactly}
 use Rattle.zarr_run_meaning.proofs.Orders.{IsRowMajorThere, orders}
 use Rattle.zarr_run_meaning.proofs.Owning.{runs_own, owned_has_no_chunks}
 use Rattle.zarr_run_meaning.proofs.Reading.{alone_undamaged}
@@ -36,7 +36,7 @@ use Rattle.zarr_run_meaning.proofs.Sound.{steps_sound, owned_begins, asks_still,
 use Rattle.zarr_run_meaning.proofs.TightChunks.{no_chunks_are_tight}
 use Rattle.zarr_run_meaning.proofs.Undamaged.{runs_undamaged}
 use Rattle.zarr_run_session.proofs.Plain.{plain_before}
-use Rattle.zarr_run_session.specs.Headline.{Exchanges, IsIntact, LeavesCanon, CompactsAfresh, BeginsFill, TableRun, is_row_major_at, is_row_major_by, is_row_major_after, IsPlainThere, EndsCanon, EndsTight, EndsTables, HasBegun, AsksFresh}
+use Rattle.zarr_run_session.specs.Headline.{Exchanges, IsIntact, LeavesCanon, CompactsAfresh, BeginsFill, TableRun, is_row_major_at, is_row_major_by, is_row_major_after, IsPlainThere, EndsCanon, HasBegun, AsksFresh}
 
 -- ---- lists of commands in two parts
 
@@ -225,9 +225,3 @@ module _ (reads : ReadsCodecs) (good : ReadsGood reads) where
       end_canon path before after k.first k.last k.options k.unstored k.many k.exact k.leaves sound
       (subst P k.requests fresh.owned) (subst R k.answers (subst Q k.requests fresh.lossless))
       parts.0 parts.2.0 parts.1 parts.2.1 parts.2.2
-
-  pub ends_tight : (before after : World) (es : Exchanges) → IsSound reads before → AsksFresh reads before es → Run reads before es.0 es.1 after → EndsTight before es after
-  ends_tight before after es sound fresh r path asks there = owned_runs_tight reads before after es.0 es.1 path good fresh.owned fresh.lossless asks sound there r
-
-  pub ends_tables : (before after : World) (es : Exchanges) → IsSound reads before → AsksFresh reads before es → Run reads before es.0 es.1 after → EndsTables before es after
-  ends_tables before after es sound fresh r = record { canon = ends_canon before after es sound fresh r; tight = ends_tight before after es sound fresh r }

@@ -19,8 +19,8 @@ use Rattle.zarr_run_meaning.proofs.Sound.{steps_sound}
 use Rattle.zarr_run_opening.specs.Sessions.{State, StepsFrom}
 use Rattle.zarr_run_session.specs.Headline.{Exchange, Exchanges, Codecs, KeepsTables, StaysAlone, BeginsAlone, KeepsAlone, RewritesAfresh, KeepsTight, TablesFrom, AloneFrom, AsksFresh, BeginsFresh, TablesOver, AloneOver}
 use Rattle.zarr_run_session.specs.Sessions.{Contents, RunsFrom, RunsOver}
-use Rattle.zarr_run_session.proofs.Headline.{undamaged, intact, rewritten, compacted_afresh, begun, table_run, ends_tables}
-use Rattle.zarr_run_session.proofs.AloneRuns.{alone_run, ends_alone}
+use Rattle.zarr_run_session.proofs.Headline.{undamaged, intact, rewritten, compacted_afresh, begun, table_run}
+use Rattle.zarr_run_session.proofs.AloneRuns.{alone_run, ends_alone, ends_tables}
 use Rattle.zarr_run_session.proofs.RunSteps.{tables_in}
 
 module _ (B : Type 0) (codecs : Codecs B) (good : ReadsGood codecs.1) (old new : State B) where

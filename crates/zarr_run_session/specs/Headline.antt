@@ -15,7 +15,7 @@ use Rattle.zarr_run_meaning.specs.Rewrites.{IsHeldStill, IsCanonHeld, IsCanonAlo
 use Rattle.zarr_run_meaning.specs.Runs.{world_over}
 use Rattle.zarr_run_meaning.specs.Sound.{IsSound, IsSoundAlone, BeginsSound, OpensApart, HasNoChunks, AsksOwned, OwnsKeysUnder, AsksLossless, AllAskLossless}
 use Rattle.zarr_run_meaning.specs.Steps.{Step}
-use Rattle.zarr_run_meaning.specs.Tight.{IsTightAlone, IsTightHeld, IsTightThere, IsEncodedAt, AllAskRowMajor}
+use Rattle.zarr_run_meaning.specs.Tight.{IsTightAlone, IsTightHeld, IsEncodedAt, AllAskRowMajor}
 use Rattle.zarr_run_meaning.specs.Worlds.{Held, World, array_of, held_at, is_row_major, writes_exactly}
 use Rattle.zarr_run_opening.specs.Sessions.{State, IsIn}
 use Rattle.zarr_run_session.specs.Sessions.{Contents}
@@ -108,14 +108,18 @@ EndsCanonAt path before es after = IsRewrittenLast path before es after → (h :
 abbrev pub EndsCanon : World → Exchanges → World → Type 0
 EndsCanon before es after = (path : List ℕ) → EndsCanonAt path before es after
 
--- at each path whose creates and reopenings that are done all ask for row-major order, what is stored is tight at the end, if it was
-abbrev pub EndsTight : World → Exchanges → World → Type 0
-EndsTight before es after = (path : List ℕ) → AllAskRowMajor path es.0 es.1 → IsTightThere before path → IsTightThere after path
+-- what is stored for the array at a path, if one is held there, is tight, and its chunks' values depend on their cells alone
+abbrev pub IsTightExactly : List ℕ → World → Type 0
+IsTightExactly path world = (h : Held) → held_at path world.arrays ≡ Some h → (writes_exactly h ≡ true) × IsTightHeld world.store h
+
+-- what is stored for the array at a path is tight at the end, if it was or begins so, where each create and reopening of it that is done asks for row-major order, or its chain makes no shard
+abbrev pub EndsTightAt : List ℕ → World → Exchanges → World → Type 0
+EndsTightAt path before es after = AllAskRowMajor path es.0 es.1 ⊎ IsPlainThere path after → IsTightExactly path before → IsTightExactly path after
 
 -- at the end what the last rewrite of each array left stands, and what was tight is so still
 pub record EndsTables (before : World) (es : Exchanges) (after : World) : Type 0 where
   pub canon : EndsCanon before es after
-  pub tight : EndsTight before es after
+  pub tight : (path : List ℕ) → EndsTightAt path before es after
 
 -- these commands are answered so by such a run, to a world of which this holds
 abbrev pub AnswersAsTables : ReadsCodecs → World → Exchanges → (World → Type 0) → Type 0
@@ -153,16 +157,12 @@ RunOf Steps old (request ∷ requests) (answer ∷ answers) new = (mid : World) 
 RunOf Steps old [] (answer ∷ answers) new = ⊥
 RunOf Steps old (request ∷ requests) [] new = ⊥
 
--- what is stored for the array at a path, if one is held there, is tight, and its chunks' values depend on their cells alone
-abbrev pub IsTightExactly : List ℕ → World → Type 0
-IsTightExactly path world = (h : Held) → held_at path world.arrays ≡ Some h → (writes_exactly h ≡ true) × IsTightHeld world.store h
-
 -- at the end the array at a path is sound alone, or the path is free; what its last rewrite left stands, and what was canonical before, if no cell of it changed; and its layout is tight, if it was or begins so, in row-major order or without shards
 pub record EndsAlone (reads : ReadsCodecs) (path : List ℕ) (before : World) (es : Exchanges) (after : World) : Type 0 where
   pub there : IsAloneOrFree reads path after
   pub canon : EndsCanonAt path before es after
   pub still : IsCanonAlone reads before path → All (LeavesCells path) es.0 → IsCanonAlone reads after path
-  pub tight : AllAskRowMajor path es.0 es.1 ⊎ IsPlainThere path after → IsTightExactly path before → IsTightExactly path after
+  pub tight : EndsTightAt path before es after
 
 -- these commands are answered so by such a run, to a world of which this holds
 abbrev pub AnswersAlone : ReadsCodecs → List ℕ → World → Exchanges → (World → Type 0) → Type 0
