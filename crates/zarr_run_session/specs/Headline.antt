@@ -137,7 +137,7 @@ NamesLossless reads path [] answers = Unit {0}
 NamesLossless reads path (request ∷ requests) [] = Unit {0}
 NamesLossless reads path (request ∷ requests) (answer ∷ answers) = (path_of request ≡ path → AsksLossless reads request answer) × NamesLossless reads path requests answers
 
--- what is asked of a run for the array at a path: it is sound alone, or begins over no key with a lossless document, and each reopening names its path or an unrelated one
+-- what is asked of a run for the array at a path: it is sound alone, or none is held there and no key under the path is foreign; each create of it that is done names a lossless document, and each reopening names the path or an unrelated one
 pub record AsksAlone (reads : ReadsCodecs) (path : List ℕ) (before : World) (es : Exchanges) : Type 0 where
   pub there : IsAloneOrFree reads path before
   pub lossless : NamesLossless reads path es.0 es.1
