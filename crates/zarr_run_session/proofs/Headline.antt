@@ -17,32 +17,34 @@ use Rattle.zarr_run_meaning.specs.Laws.{IsUndamaged}
 use Rattle.zarr_run_meaning.specs.Requests.{Request, create, reopen, compact, rewrite, path_of, Answer, done, cells, compacted, refused}
 use Rattle.zarr_run_meaning.specs.Rewrites.{IsHeldStill, IsCanonHeld, IsCanonAlone, LeavesCells}
 use Rattle.zarr_run_meaning.specs.Runs.{Run}
-use Rattle.zarr_run_meaning.specs.Sound.{IsSound, IsSoundAlone, BeginsSound, AsksOwned, AsksLossless, AllAskLossless, ReadsGood}
+use Rattle.zarr_run_meaning.specs.Sound.{IsSoundAt, IsSound, IsSoundAlone, BeginsSound, AsksOwned, AsksLossless, AllAskLossless, ReadsGood}
 use Rattle.zarr_run_meaning.specs.Steps.{Step}
 use Rattle.zarr_run_meaning.specs.Tight.{IsTightHeld}
 use Rattle.zarr_run_meaning.specs.Worlds.{Held, World, held_at, with_order, is_row_major, writes_exactly}
 use Rattle.zarr_run_meaning.proofs.Again.{runs_go_on}
-use Rattle.zarr_run_meaning.proofs.Alone.{sound_alone, steps_keep_sound}
-use Rattle.zarr_run_meaning.proofs.Arrays.{held_at-new, free_none}
-use Rattle.zarr_run_meaning.proofs.Begun.{created_array, creates_fill}
+use Rattle.zarr_run_meaning.proofs.Alone.{begins_alone, sound_alone, steps_keep_sound}
+use Rattle.zarr_run_meaning.proofs.Arrays.{held_at-path, held_at-new, free_none}
+use Rattle.zarr_run_meaning.proofs.Begun.{no_chunks_are_fill, created_array, creates_fill}
 use Rattle.zarr_run_meaning.proofs.Canon.{rewrites_canon}
 use Rattle.zarr_run_meaning.proofs.Changed.{changes_no_cell}
 use Rattle.zarr_run_meaning.proofs.KeptCanon.{sound_tables, sound_runs_keep_canon}
-use Rattle.zarr_run_meaning.proofs.KeptTight.{owned_runs_tight, compacts_exactly}
+use Rattle.zarr_run_meaning.proofs.KeptTight.{begins_tight, compacts_exactly}
 use Rattle.zarr_run_meaning.proofs.Orders.{IsRowMajorThere, orders}
 use Rattle.zarr_run_meaning.proofs.Owning.{runs_own, owned_has_no_chunks}
 use Rattle.zarr_run_meaning.proofs.Reading.{alone_undamaged}
 use Rattle.zarr_run_meaning.proofs.Sound.{steps_sound, owned_begins, asks_still, all_still, owned_run, owned_runs_sound}
+use Rattle.zarr_run_meaning.proofs.TightChunks.{no_chunks_are_tight}
 use Rattle.zarr_run_meaning.proofs.Undamaged.{runs_undamaged}
-use Rattle.zarr_run_session.specs.Headline.{Exchanges, IsIntact, LeavesCanon, CompactsAfresh, BeginsFill, TableRun, is_row_major_at, is_row_major_by, is_row_major_after, EndsCanon, EndsTight, AsksFresh}
+use Rattle.zarr_run_session.proofs.Plain.{plain_before}
+use Rattle.zarr_run_session.specs.Headline.{Exchanges, IsIntact, LeavesCanon, CompactsAfresh, BeginsFill, TableRun, is_row_major_at, is_row_major_by, is_row_major_after, IsPlainThere, EndsCanon, HasBegun, AsksFresh}
 
 -- ---- lists of commands in two parts
 
-All-left : {X : Type 0} (P : X → Type 0) (xs ys : List X) → All P (xs ++ ys) → All P xs
+pub All-left : {X : Type 0} (P : X → Type 0) (xs ys : List X) → All P (xs ++ ys) → All P xs
 All-left P [] ys all = All-nil P
 All-left P (x ∷ xs) ys all = All-cons P x xs (All-head P x (xs ++ ys) all) (All-left P xs ys (All-tail P x (xs ++ ys) all))
 
-All-right : {X : Type 0} (P : X → Type 0) (xs ys : List X) → All P (xs ++ ys) → All P ys
+pub All-right : {X : Type 0} (P : X → Type 0) (xs ys : List X) → All P (xs ++ ys) → All P ys
 All-right P [] ys all = all
 All-right P (x ∷ xs) ys all = All-right P xs ys (All-tail P x (xs ++ ys) all)
 
@@ -101,9 +103,21 @@ module _ (reads : ReadsCodecs) (path : List ℕ) where
 row_major_there : (path : List ℕ) (world : World) → is_row_major_at path world ≡ true → IsRowMajorThere world path
 row_major_there path world now h e = sym (ap (λ (o : Option Held). option_map_or (λ (g : Held). is_row_major g.order) o false) e) ∙ now
 
-or_right : (b c : Bool) → c ≡ true → (b || c) ≡ true
+pub or_left : (b c : Bool) → b ≡ true → (b || c) ≡ true
+or_left true c e = refl
+or_left false c e = absurd (false≢true e)
+
+pub or_right : (b c : Bool) → c ≡ true → (b || c) ≡ true
 or_right true c e = refl
 or_right false c e = e
+
+-- how an array is written in the midst of a run
+pub written_exactly : (reads : ReadsCodecs) (path : List ℕ) (before mid after : World) (first last : Exchanges) → Run reads before first.0 first.1 mid → Run reads mid last.0 last.1 after
+    → (is_row_major_after path first.0 first.1 (is_row_major_at path before) ≡ true) ⊎ IsPlainThere path after → (h : Held) → held_at path mid.arrays ≡ Some h → writes_exactly h ≡ true
+written_exactly reads path before mid after first last start rest written h found = ⊎_elim
+    (λ order. or_right (is_plain h.document.chain) (is_row_major h.order) (order_after reads path before mid first.0 first.1 (is_row_major_at path before) (row_major_there path before) order start h found))
+    (λ plain. or_left (is_plain h.document.chain) (is_row_major h.order) (plain_before reads mid after last.0 last.1 path rest plain h found))
+    written
 
 module _ (reads : ReadsCodecs) (good : ReadsGood reads) where
   -- ---- one command
@@ -130,6 +144,19 @@ module _ (reads : ReadsCodecs) (good : ReadsGood reads) where
       let P : List ℕ → Type 0 = λ p. Step reads old (compact p chunk options) (compacted true) new in
       compacts_exactly reads old new path chunk options h found tight (subst P same s)
   compacted_afresh old new path h request answer found tight s = tt
+
+  pub begun : (old new : World) (request : Request) (answer : Answer) (h : Held) → held_at (path_of request) old.arrays ≡ None → BeginsSound reads old request answer → Step reads old request answer new
+      → held_at (path_of request) new.arrays ≡ Some h → HasBegun reads h old.store new
+  begun old new request answer h none begins s found =
+      let P : List ℕ → Type 0 = λ p. IsSoundAlone reads new p in
+      let at = held_at-path (path_of request) new.arrays h found in
+      let alone = subst P at (begins_alone reads old new request answer (path_of request) h good begins none s found) in
+      let Q : Held → Type 0 = λ x. IsSoundAt reads new.store x in
+      let there = subst Q (same_Some alone.array h (sym alone.found ∙ ap (λ p. held_at p new.arrays) (sym at) ∙ found)) alone.there in (
+        alone,
+        λ empty. begins_tight reads old new request answer h.path h (λ place. h.document.elements.fill) good (ap (λ p. held_at p old.arrays) (sym at) ∙ none) s (ap (λ p. held_at p new.arrays) (sym at) ∙ found)
+            (no_chunks_are_fill h.path h.document old.store (good h.tree h.document there.says) there.lossless empty) (no_chunks_are_tight h.path h.document old.store empty),
+      )
 
   -- ---- runs
 
@@ -168,7 +195,7 @@ module _ (reads : ReadsCodecs) (good : ReadsGood reads) where
 
   -- what the last rewrite leaves
   module _ (path : List ℕ) (before after : World) (first last : Exchanges) (options : CodecOptions) (unstored : options.store_empty_chunks ≡ false) (many : length first.0 ≡ length first.1)
-      (order : is_row_major_after path first.0 first.1 (is_row_major_at path before) ≡ true) (leaves : All (LeavesCells path) last.0) (sound : IsSound reads before)
+      (written : (is_row_major_after path first.0 first.1 (is_row_major_at path before) ≡ true) ⊎ IsPlainThere path after) (leaves : All (LeavesCells path) last.0) (sound : IsSound reads before)
       (owned : All (AsksOwned before) (first.0 ++ rewrite path options ∷ last.0)) (lossless : AllAskLossless reads (first.0 ++ rewrite path options ∷ last.0) (first.1 ++ done ∷ last.1)) where
     end_canon : (mid next : World) → Run reads before first.0 first.1 mid → Step reads mid (rewrite path options) done next → Run reads next last.0 last.1 after → (h : Held) × (held_at path after.arrays ≡ Some h) × IsCanonHeld after.store h
     end_canon mid next start s rest =
@@ -176,7 +203,7 @@ module _ (reads : ReadsCodecs) (good : ReadsGood reads) where
         let sound_mid = owned_runs_sound reads before mid first.0 first.1 good (All-left (AsksOwned before) first.0 (rewrite path options ∷ last.0) owned) asks.0 sound start in
         let h = s.0.held in
         let alone = sound_alone reads mid path h sound_mid s.0.found in
-        let exact = or_right (is_plain h.document.chain) (is_row_major h.order) (order_after reads path before mid first.0 first.1 (is_row_major_at path before) (row_major_there path before) order start h s.0.found) in
+        let exact = written_exactly reads path before mid after first (rewrite path options ∷ last.0, done ∷ last.1) start (next, s, rest) written h s.0.found in
         let left = (rewrites_canon reads mid next path options h good alone s.0.found exact unstored).0 s in
         let alone_then = steps_keep_sound reads mid next (rewrite path options) done path good (sound_tables reads mid good sound_mid) tt alone s in
         let P : Held → Type 0 = λ x. IsCanonHeld next.store x in
@@ -195,9 +222,6 @@ module _ (reads : ReadsCodecs) (good : ReadsGood reads) where
       let S : List Request → Type 0 = λ q. Run reads before q es.1 after in
       let T : List Answer → Type 0 = λ a. Run reads before (k.first.0 ++ rewrite path k.options ∷ k.last.0) a after in
       let parts = runs_go_on reads before after k.first.0 (rewrite path k.options ∷ k.last.0) k.first.1 (done ∷ k.last.1) k.many (subst T k.answers (subst S k.requests r)) in
-      end_canon path before after k.first k.last k.options k.unstored k.many k.order k.leaves sound
+      end_canon path before after k.first k.last k.options k.unstored k.many k.exact k.leaves sound
       (subst P k.requests fresh.owned) (subst R k.answers (subst Q k.requests fresh.lossless))
       parts.0 parts.2.0 parts.1 parts.2.1 parts.2.2
-
-  pub ends_tight : (before after : World) (es : Exchanges) → IsSound reads before → AsksFresh reads before es → Run reads before es.0 es.1 after → EndsTight before es after
-  ends_tight before after es sound fresh r path asks there = owned_runs_tight reads before after es.0 es.1 path good fresh.owned fresh.lossless asks sound there r

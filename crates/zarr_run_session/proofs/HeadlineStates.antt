@@ -1,10 +1,12 @@
 -- The headline and tight layout, of sessions and of stores.
 use Rattle.std.proofs.Common.{⊎_elim, sym, subst}
+use Rattle.std.proofs.lemmas.Option.{none-some}
 use Rattle.std.specs.FinMap.{empty}
 use Rattle.std.specs.Prelude.{All}
 use Rattle.zarr_codecs_metadata.specs.Chains.{ReadsCodecs}
 use Rattle.zarr_array_meaning.specs.StoreMaps.{StoreMap}
-use Rattle.zarr_run_meaning.specs.Requests.{Request}
+use Rattle.zarr_run_meaning.specs.Laws.{HasTables}
+use Rattle.zarr_run_meaning.specs.Requests.{Request, rewrite}
 use Rattle.zarr_run_meaning.specs.Runs.{world_over}
 use Rattle.zarr_run_meaning.specs.Sound.{AsksOwned, ReadsGood}
 use Rattle.zarr_run_meaning.specs.Steps.{Step}
@@ -15,9 +17,10 @@ use Rattle.zarr_run_meaning.proofs.KeptTight.{steps_keep_tight}
 use Rattle.zarr_run_meaning.proofs.Owning.{empty_owned}
 use Rattle.zarr_run_meaning.proofs.Sound.{steps_sound}
 use Rattle.zarr_run_opening.specs.Sessions.{State, StepsFrom}
-use Rattle.zarr_run_session.specs.Headline.{Exchange, Exchanges, Codecs, KeepsTables, KeepsTable, RewritesAfresh, KeepsTight, TablesFrom, CanonFrom, TightFrom, AsksFresh, BeginsFresh, TablesOver, CanonOver, TightOver}
+use Rattle.zarr_run_session.specs.Headline.{Exchange, Exchanges, Codecs, KeepsTables, StaysAlone, BeginsAlone, KeepsAlone, RewritesAfresh, KeepsTight, TablesFrom, AloneFrom, AsksFresh, BeginsFresh, TablesOver, AloneOver}
 use Rattle.zarr_run_session.specs.Sessions.{Contents, RunsFrom, RunsOver}
-use Rattle.zarr_run_session.proofs.Headline.{undamaged, intact, rewritten, compacted_afresh, table_run, ends_canon, ends_tight}
+use Rattle.zarr_run_session.proofs.Headline.{undamaged, intact, rewritten, compacted_afresh, begun, table_run}
+use Rattle.zarr_run_session.proofs.AloneRuns.{alone_run, ends_alone, ends_tables}
 use Rattle.zarr_run_session.proofs.RunSteps.{tables_in}
 
 module _ (B : Type 0) (codecs : Codecs B) (good : ReadsGood codecs.1) (old new : State B) where
@@ -30,18 +33,27 @@ module _ (B : Type 0) (codecs : Codecs B) (good : ReadsGood codecs.1) (old new :
           undamaged codecs.1 good before s.0 e.0 e.1 sound begins s.1,
         )
 
-    pub keeps_table : KeepsTable codecs old e new
-    keeps_table before path k alone away =
+    stays_alone : StaysAlone codecs old e new
+    stays_alone before path k alone away =
         let s = steps before k in (
           (s.0, s.1, s.2, steps_keep_sound codecs.1 before s.0 e.0 e.1 path good (tables_in B codecs.0 codecs.1 old before k) away alone s.1),
           λ same. intact codecs.1 good before s.0 path e.0 e.1 alone same s.1,
         )
 
+    begins : BeginsAlone codecs old e new
+    begins before k none sound = let s = steps before k in (s.0, s.1, s.2, λ h found. begun codecs.1 good before s.0 e.0 e.1 h none sound s.1 found)
+
+    pub keeps_alone : KeepsAlone codecs old e new
+    keeps_alone = (stays_alone, begins)
+
     pub rewrites_afresh : RewritesAfresh codecs old e new
     rewrites_afresh before path options k alone exact unstored is =
         let s = steps before k in
         let P : Request → Type 0 = λ q. Step codecs.1 before q e.1 s.0 in
-        (s.0, s.1, s.2, rewritten codecs.1 good before s.0 path options e.1 alone exact unstored (subst P is s.1))
+        let step = subst P is s.1 in
+        let left = rewritten codecs.1 good before s.0 path options e.1 alone exact unstored step in
+        let sound = steps_keep_sound codecs.1 before s.0 (rewrite path options) e.1 path good (tables_in B codecs.0 codecs.1 old before k) tt alone step in
+        (s.0, s.1, s.2, (sound, left.0, left.1))
 
     pub keeps_tight : KeepsTight codecs old e new
     keeps_tight before path k tight exact away =
@@ -58,17 +70,15 @@ module _ (B : Type 0) (codecs : Codecs B) (good : ReadsGood codecs.1) (old new :
   -- ---- runs
   module _ (es : Exchanges) (runs : RunsFrom codecs.0 codecs.1 old es.0 es.1 new) where
     pub tables_from : TablesFrom codecs old es new
-    tables_from before k sound fresh = let r = runs before k in (r.0, table_run codecs.1 good before r.0 es.0 es.1 fresh.owned fresh.lossless sound r.1, r.2)
-
-    pub canon_from : CanonFrom codecs old es new
-    canon_from before k sound fresh =
+    tables_from before k sound fresh =
         let r = runs before k in
-        (r.0, table_run codecs.1 good before r.0 es.0 es.1 fresh.owned fresh.lossless sound r.1, (r.2, ends_canon codecs.1 good before r.0 es sound fresh r.1))
+        (r.0, table_run codecs.1 good before r.0 es.0 es.1 fresh.owned fresh.lossless sound r.1, ends_tables codecs.1 good before r.0 es sound fresh r.1, r.2)
 
-    pub tight_from : TightFrom codecs old es new
-    tight_from before k sound fresh =
+    pub alone_from : AloneFrom codecs old es new
+    alone_from before path k asks =
         let r = runs before k in
-        (r.0, table_run codecs.1 good before r.0 es.0 es.1 fresh.owned fresh.lossless sound r.1, (r.2, ends_tight codecs.1 good before r.0 es sound fresh r.1))
+        let tables = tables_in B codecs.0 codecs.1 old before k in
+        (r.0, alone_run codecs.1 path good before r.0 es.0 es.1 tables asks.there asks.lossless asks.apart r.1, ends_alone codecs.1 path good before r.0 es tables asks r.1, r.2)
 
 -- ---- runs over a store
 
@@ -81,18 +91,12 @@ module _ (reads : ReadsCodecs) (good : ReadsGood reads) (old new : Contents) (es
   pub tables_over : TablesOver reads old es new
   tables_over begins =
       let asks = fresh begins in
-      (runs.0, table_run reads good (world_over old.0 old.1) runs.0 es.0 es.1 asks.owned asks.lossless (no_arrays_sound reads old.0 old.1) runs.1, (runs.2, runs.3))
-
-  pub canon_over : CanonOver reads old es new
-  canon_over begins =
-      let asks = fresh begins in
       let sound = no_arrays_sound reads old.0 old.1 in
       let before = world_over old.0 old.1 in
-      (runs.0, table_run reads good before runs.0 es.0 es.1 asks.owned asks.lossless sound runs.1, ((runs.2, runs.3), ends_canon reads good before runs.0 es sound asks runs.1))
+      (runs.0, table_run reads good before runs.0 es.0 es.1 asks.owned asks.lossless sound runs.1, ends_tables reads good before runs.0 es sound asks runs.1, (runs.2, runs.3))
 
-  pub tight_over : TightOver reads old es new
-  tight_over begins =
-      let asks = fresh begins in
-      let sound = no_arrays_sound reads old.0 old.1 in
+  pub alone_over : AloneOver reads old es new
+  alone_over path asks =
       let before = world_over old.0 old.1 in
-      (runs.0, table_run reads good before runs.0 es.0 es.1 asks.owned asks.lossless sound runs.1, ((runs.2, runs.3), ends_tight reads good before runs.0 es sound asks runs.1))
+      let tables : HasTables reads before = λ p h found. absurd (none-some h found) in
+      (runs.0, alone_run reads path good before runs.0 es.0 es.1 tables asks.there asks.lossless asks.apart runs.1, ends_alone reads path good before runs.0 es tables asks runs.1, (runs.2, runs.3))

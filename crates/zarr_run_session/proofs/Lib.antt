@@ -2,7 +2,10 @@ mod Alike
 pub mod CompactSteps
 mod Counts
 pub mod EraseSteps
+pub mod Plain
+pub mod Beginning
 pub mod Headline
+pub mod AloneRuns
 pub mod HeadlineStates
 pub mod HeldSteps
 pub mod Lifting

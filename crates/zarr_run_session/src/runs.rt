@@ -1,7 +1,7 @@
 //! Lists of commands.
 ghost use Rattle.std.specs.Prelude.{◌≡◌, ◌<◌, ◌≤◌, ◌+◌, ◌++◌, ◌∷◌, [], IsTrue, map, vec_len, vec_capacity, IfOk, IfErr, OnErr};
 ghost use Rattle.zarr_run_commands.specs.Commands.{asked, answered};
-ghost use Rattle.zarr_run_session.specs.Headline.{TablesFrom, CanonFrom, TightFrom, TablesOver, CanonOver, TightOver};
+ghost use Rattle.zarr_run_session.specs.Headline.{TablesFrom, AloneFrom, TablesOver, AloneOver};
 ghost use Rattle.zarr_run_session.specs.Sessions.{RunsFrom, RunsOver, state_of, store_of};
 
 use crate::session::Session;
@@ -18,9 +18,9 @@ pub struct GiveBack<S, E> {
 }
 
 /// Runs commands in order, and answers each. Over an honest store whose keys are the arrays' own,
-/// each array answers as a table of its own, and what its last rewrite left stands at the end, if
-/// that stored no empty chunk. Room for all replies is made first; where it is refused, nothing has
-/// been run.
+/// each array whose codecs keep every bit answers as a table; and what a rewrite without empty
+/// chunks left, in order C or without shards, stands until its cells are changed. Where room for
+/// all replies is refused, nothing has been run.
 pub fn run_on<S: WritableStorageTraits, B: BytesToBytesCodecTraits>(
     alloc: Global,
     session: &mut Session<S, B>,
@@ -30,17 +30,13 @@ pub fn run_on<S: WritableStorageTraits, B: BytesToBytesCodecTraits>(
         RunsFrom B.meaning B.reads (state_of S.held S.refused_calls session.old)
         (map asked commands.now) (map answered replies.items)
         (state_of S.held S.refused_calls session.new)) }
-    // the arrays' tables, what rewrites leave, and tight layout
+    // the tables, what rewrites leave and tight layout: of all arrays, and of one alone
     ensures tables { IsTrue (S.is_honest (store_of session.old)) → IfOk result (λ replies.
         TablesFrom (B.meaning, B.reads) (state_of S.held S.refused_calls session.old)
         (map asked commands.now, map answered replies.items)
         (state_of S.held S.refused_calls session.new)) }
-    ensures canon { IsTrue (S.is_honest (store_of session.old)) → IfOk result (λ replies.
-        CanonFrom (B.meaning, B.reads) (state_of S.held S.refused_calls session.old)
-        (map asked commands.now, map answered replies.items)
-        (state_of S.held S.refused_calls session.new)) }
-    ensures tight { IsTrue (S.is_honest (store_of session.old)) → IfOk result (λ replies.
-        TightFrom (B.meaning, B.reads) (state_of S.held S.refused_calls session.old)
+    ensures alone { IsTrue (S.is_honest (store_of session.old)) → IfOk result (λ replies.
+        AloneFrom (B.meaning, B.reads) (state_of S.held S.refused_calls session.old)
         (map asked commands.now, map answered replies.items)
         (state_of S.held S.refused_calls session.new)) }
     ensures honest { S.is_honest (store_of session.new) ≡ S.is_honest (store_of session.old) }
@@ -64,9 +60,10 @@ fn enter(replies: &mut Vec<Reply>, reply: Reply)
     replies.push(reply).unwrap();
 }
 
-/// Runs commands in order over a store, in a session that begins with no array. Over an empty
-/// honest store each array answers as a table of its own that begins as fill. Room for all replies
-/// is made first; where it is refused, the store comes back untouched.
+/// Runs commands in order over a store, in a session that begins with no array. Over an honest
+/// store, empty or without keys at the arrays' paths, each array whose codecs keep every bit answers
+/// as a table that begins as fill, whatever becomes of the others. Where room for all replies is
+/// refused, the store comes back untouched.
 pub fn run<S: WritableStorageTraits + Drop, B: BytesToBytesCodecTraits>(
     alloc: Global,
     store: S,
@@ -76,17 +73,13 @@ pub fn run<S: WritableStorageTraits + Drop, B: BytesToBytesCodecTraits>(
         RunsOver B.reads (S.held store, S.refused_calls store)
         (map asked commands.now) (map answered end.0.items)
         (S.held end.1, S.refused_calls end.1)) }
-    // the arrays' tables, what rewrites leave, and tight layout
+    // the tables, what rewrites leave and tight layout: of all arrays, and of one alone
     ensures tables { IsTrue (S.is_honest store) → IfOk result (λ end.
         TablesOver B.reads (S.held store, S.refused_calls store)
         (map asked commands.now, map answered end.0.items)
         (S.held end.1, S.refused_calls end.1)) }
-    ensures canon { IsTrue (S.is_honest store) → IfOk result (λ end.
-        CanonOver B.reads (S.held store, S.refused_calls store)
-        (map asked commands.now, map answered end.0.items)
-        (S.held end.1, S.refused_calls end.1)) }
-    ensures tight { IsTrue (S.is_honest store) → IfOk result (λ end.
-        TightOver B.reads (S.held store, S.refused_calls store)
+    ensures alone { IsTrue (S.is_honest store) → IfOk result (λ end.
+        AloneOver B.reads (S.held store, S.refused_calls store)
         (map asked commands.now, map answered end.0.items)
         (S.held end.1, S.refused_calls end.1)) }
     ensures honest { IfOk result (λ end. S.is_honest end.1 ≡ S.is_honest store) }

@@ -25,7 +25,7 @@ impl<S: WritableStorageTraits, B: BytesToBytesCodecTraits> Session<S, B> {
     ghost use Rattle.zarr_run_commands.specs.Commands.{asked, answered};
     ghost use Rattle.zarr_run_meaning.specs.Runs.{world_over};
     ghost use Rattle.zarr_run_opening.specs.Sessions.{IsIn, StepsFrom};
-    ghost use Rattle.zarr_run_session.specs.Headline.{KeepsTables, KeepsTable, RewritesAfresh, KeepsTight};
+    ghost use Rattle.zarr_run_session.specs.Headline.{KeepsTables, KeepsAlone, RewritesAfresh, KeepsTight};
     ghost use Rattle.zarr_run_session.specs.Sessions.{refused_with, state_of, store_of, type_at};
 
     /// A session over a store, whatever it holds. It holds no array yet.
@@ -61,18 +61,18 @@ impl<S: WritableStorageTraits, B: BytesToBytesCodecTraits> Session<S, B> {
     }
 
     /// Runs one command. A refused command changes at most what it says it applied. Over an honest
-    /// store each array answers as a table, and a rewrite that stores no empty chunk leaves what
-    /// storing its cells afresh leaves. Over any store, one more call is counted as refused with
-    /// the cause `Store`, and with no other answer.
+    /// store each array whose codecs keep every bit answers as a table, and a rewrite without empty
+    /// chunks, in order C or without shards, leaves what storing its cells afresh leaves. Exactly
+    /// the cause `Store` counts one more refused call.
     pub fn step(&mut self, command: &Command) -> Reply
         ensures steps { IsTrue (S.is_honest (store_of self.old)) → StepsFrom B.meaning B.reads
             (state_of S.held S.refused_calls self.old) (asked command.now) (answered result)
             (state_of S.held S.refused_calls self.new) }
-        // the arrays' tables, what rewrites leave, and tight layout
+        // all tables and one alone, what rewrites leave, and tight layout
         ensures tables { IsTrue (S.is_honest (store_of self.old)) → KeepsTables
             (B.meaning, B.reads) (state_of S.held S.refused_calls self.old)
             (asked command.now, answered result) (state_of S.held S.refused_calls self.new) }
-        ensures table { IsTrue (S.is_honest (store_of self.old)) → KeepsTable
+        ensures alone { IsTrue (S.is_honest (store_of self.old)) → KeepsAlone
             (B.meaning, B.reads) (state_of S.held S.refused_calls self.old)
             (asked command.now, answered result) (state_of S.held S.refused_calls self.new) }
         ensures canon { IsTrue (S.is_honest (store_of self.old)) → RewritesAfresh

@@ -5,7 +5,7 @@ use Rattle.zarr_run_commands.specs.declared.command.Command.{Command}
 use Rattle.zarr_run_opening.specs.Sessions.{StepsFrom}
 use Rattle.zarr_run_meaning.proofs.GoodDocuments.{lawful_good}
 use Rattle.zarr_run_session.specs.Sessions.{state_of}
-use Rattle.zarr_run_session.proofs.HeadlineStates.{tables_from, canon_from, tight_from}
+use Rattle.zarr_run_session.proofs.HeadlineStates.{tables_from, alone_from}
 use Rattle.zarr_run_session.proofs.RunSteps.{runs_none, runs_more}
 use Rattle.zarr_run_session.proofs.runs.run_on.Goals as goal
 
@@ -45,18 +45,10 @@ returns-clause-tables g c = λ honest.
     (state_of readable.held readable.refused_calls c.args.session.now) (state_of readable.held readable.refused_calls c.loop-command.session)
     (map asked c.args.commands.now, map answered c.loop-command.replies.items) (returns-clause-runs g c honest)
 
-pub returns-clause-canon : goal.returns-clause-canon
-returns-clause-canon g c = λ honest.
+pub returns-clause-alone : goal.returns-clause-alone
+returns-clause-alone g c = λ honest.
     let codec = g.B.BytesToBytesCodecTraits in
     let readable = g.S.ReadableStorageTraits in
-    canon_from g.row.B.Denot (codec.meaning, codec.reads) (lawful_good codec.reads g.met.B.BytesToBytesCodecTraits.reads_lawful)
-    (state_of readable.held readable.refused_calls c.args.session.now) (state_of readable.held readable.refused_calls c.loop-command.session)
-    (map asked c.args.commands.now, map answered c.loop-command.replies.items) (returns-clause-runs g c honest)
-
-pub returns-clause-tight : goal.returns-clause-tight
-returns-clause-tight g c = λ honest.
-    let codec = g.B.BytesToBytesCodecTraits in
-    let readable = g.S.ReadableStorageTraits in
-    tight_from g.row.B.Denot (codec.meaning, codec.reads) (lawful_good codec.reads g.met.B.BytesToBytesCodecTraits.reads_lawful)
+    alone_from g.row.B.Denot (codec.meaning, codec.reads) (lawful_good codec.reads g.met.B.BytesToBytesCodecTraits.reads_lawful)
     (state_of readable.held readable.refused_calls c.args.session.now) (state_of readable.held readable.refused_calls c.loop-command.session)
     (map asked c.args.commands.now, map answered c.loop-command.replies.items) (returns-clause-runs g c honest)

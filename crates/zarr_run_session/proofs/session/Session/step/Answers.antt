@@ -1,7 +1,7 @@
 use Rattle.zarr_run_commands.specs.Commands.{asked, answered}
 use Rattle.zarr_run_meaning.proofs.GoodDocuments.{lawful_good}
 use Rattle.zarr_run_session.specs.Sessions.{state_of}
-use Rattle.zarr_run_session.proofs.HeadlineStates.{keeps_tables, keeps_table, rewrites_afresh, keeps_tight}
+use Rattle.zarr_run_session.proofs.HeadlineStates.{keeps_tables, keeps_alone, rewrites_afresh, keeps_tight}
 use Rattle.zarr_run_session.proofs.session.Session.step.Goals as goal
 
 pub returns-clause-tables : goal.returns-clause-tables
@@ -12,11 +12,11 @@ returns-clause-tables g c = λ honest.
     (state_of readable.held readable.refused_calls c.args.self.now) (state_of readable.held readable.refused_calls c.answer.new.self)
     (asked c.args.command.now, answered c.answer.result) (c.answer.ensures.steps honest)
 
-pub returns-clause-table : goal.returns-clause-table
-returns-clause-table g c = λ honest.
+pub returns-clause-alone : goal.returns-clause-alone
+returns-clause-alone g c = λ honest.
     let codec = g.B.BytesToBytesCodecTraits in
     let readable = g.S.ReadableStorageTraits in
-    keeps_table g.row.B.Denot (codec.meaning, codec.reads) (lawful_good codec.reads g.met.B.BytesToBytesCodecTraits.reads_lawful)
+    keeps_alone g.row.B.Denot (codec.meaning, codec.reads) (lawful_good codec.reads g.met.B.BytesToBytesCodecTraits.reads_lawful)
     (state_of readable.held readable.refused_calls c.args.self.now) (state_of readable.held readable.refused_calls c.answer.new.self)
     (asked c.args.command.now, answered c.answer.result) (c.answer.ensures.steps honest)
 
