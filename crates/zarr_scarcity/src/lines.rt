@@ -24,6 +24,9 @@ const ANSWERS: &str = r#"{"done":true}
 {"done":true}
 {"done":true}
 {"done":true}
+{"compacted":false}
+{"done":true}
+{"done":true}
 {"cells":[11,12,13,14]}
 {"cells":[23,24]}
 {"cells":[0,0,6,7,0,0,9,10,0,0,11,12,0,0,13,14]}
