@@ -52,11 +52,14 @@ pub(crate) struct Tables {
 /// What is stored, once the session is closed that held it.
 fn unheld(stored: Option<Stored>) -> Option<Stored> {
     match stored {
-        Some(array) => Some(Stored {
-            table: array.table,
-            keys: array.keys,
-            is_held: false,
-        }),
+        Some(array) => {
+            let (table, keys) = (array.table, array.keys);
+            Some(Stored {
+                table,
+                keys,
+                is_held: false,
+            })
+        }
         None => None,
     }
 }
@@ -193,15 +196,33 @@ fn has_key(found: &[StoreKey], name: &str) -> bool {
 
 /// How many keys there are of an array among others, if they are those that it has.
 fn count_keys(found: &[StoreKey], stored: &Option<Stored>, names: Names) -> Option<usize> {
-    let (is_stored, keys) = match stored {
-        Some(array) => (true, array.keys),
-        None => (false, [false; 4]),
-    };
+    match stored {
+        Some(array) => count_stored(found, true, &array.keys, names),
+        None => {
+            let keys = [false; 4];
+            count_stored(found, false, &keys, names)
+        }
+    }
+}
+
+/// How many keys there are of an array's document and chunks, if they are just these.
+fn count_stored(
+    found: &[StoreKey],
+    is_stored: bool,
+    keys: &[bool; 4],
+    names: Names,
+) -> Option<usize> {
     let mut are_same = has_key(found, names.document) == is_stored;
     let mut count: usize = if is_stored { 1 } else { 0 };
-    for (name, is_there) in names.chunks.iter().zip(keys.iter()) {
-        are_same = are_same && has_key(found, *name) == *is_there;
-        count = count.saturating_add(if *is_there { 1 } else { 0 });
+    let mut at: usize = 0;
+    for name in names.chunks {
+        let is_there = match keys.get(at) {
+            Some(is_there) => *is_there,
+            None => false,
+        };
+        are_same = are_same && has_key(found, *name) == is_there;
+        count = count.saturating_add(if is_there { 1 } else { 0 });
+        at = at.saturating_add(1);
     }
     if are_same { Some(count) } else { None }
 }
