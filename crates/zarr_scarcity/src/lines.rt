@@ -1,6 +1,6 @@
 //! The script as lines, and its first lines as a list of commands.
 
-use crate::script::{LINES, command};
+use crate::script::{PLAIN, command};
 use crate::stop::{Stop, expect};
 use crate::tables::Tables;
 use std::alloc::{AllocError, Global};
@@ -39,7 +39,7 @@ const REFUSED: &str = ",\"refused\":\"Memory\"}";
 /// The lines, each with its line feed.
 fn text(alloc: Global) -> Result<Vec<u8>, AllocError> {
     let mut text = Vec::new(alloc);
-    for line in LINES {
+    for line in PLAIN.lines {
         text.extend_from_slice(line.text.as_bytes())?;
         text.push(b'\n')?;
     }
@@ -80,7 +80,7 @@ const LISTED: usize = 4;
 /// The commands of the first lines.
 fn commands(alloc: Global) -> Result<Vec<Command>, Stop> {
     let mut commands = Vec::new(alloc);
-    for line in LINES.iter().take(LISTED) {
+    for line in PLAIN.lines.iter().take(LISTED) {
         if commands.push(command(alloc, line.text)?).is_err() {
             return Err(Stop::Short);
         }
@@ -91,7 +91,7 @@ fn commands(alloc: Global) -> Result<Vec<Command>, Stop> {
 /// Whether the first lines are answered as the tables say, which are then as the lines have changed
 /// them.
 fn answer(tables: &mut Tables, replies: &[Reply]) -> bool {
-    for (line, reply) in LINES.iter().zip(replies) {
+    for (line, reply) in PLAIN.lines.iter().zip(replies) {
         if !tables.answer(*line, reply) {
             return false;
         }
@@ -111,12 +111,11 @@ fn reply_all(
     }
 }
 
-/// Whether the first lines are answered as the tables say, and have left the documents that these
-/// tell.
-fn expect_replies(alloc: Global, replies: &[Reply], store: &mut MemoryStore) -> Result<(), Stop> {
+/// Whether the first lines are answered as the tables say, and have left the keys that these tell.
+fn expect_replies(replies: &[Reply], store: &mut MemoryStore) -> Result<(), Stop> {
     let mut tables = Tables::new();
     expect(answer(&mut tables, replies))?;
-    expect(tables.agree_with(alloc, store)?)
+    expect(tables.agree_with(PLAIN, store)?)
 }
 
 /// The list. Where memory for the replies runs out, the store comes back empty, and the list is run
@@ -124,11 +123,11 @@ fn expect_replies(alloc: Global, replies: &[Reply], store: &mut MemoryStore) -> 
 fn run_list(alloc: Global) -> Result<(), Stop> {
     let commands = commands(alloc)?;
     match reply_all(alloc, MemoryStore::new(alloc), commands.as_slice()) {
-        Ok((replies, mut store)) => expect_replies(alloc, replies.as_slice(), &mut store),
+        Ok((replies, mut store)) => expect_replies(replies.as_slice(), &mut store),
         Err(mut store) => {
             expect(store.list()?.is_empty())?;
             match reply_all(alloc, store, commands.as_slice()) {
-                Ok((replies, mut store)) => expect_replies(alloc, replies.as_slice(), &mut store),
+                Ok((replies, mut store)) => expect_replies(replies.as_slice(), &mut store),
                 Err(_) => Err(Stop::Other),
             }
         }

@@ -2,9 +2,10 @@
 //!
 //! The first byte of standard input names the script: `m` for types, codecs and shards that are
 //! made by their constructors, `s` for a session's commands, `r` for these over stores that refuse
-//! each of their calls in turn, `l` for a session's lines. It prints `as stated` if each answer is
-//! the one with ample memory and an honest store, which is typed in here, or says that memory ran
-//! out or the store refused, and has made just the change that it says.
+//! each of their calls in turn, `p` and `q` the same at arrays in shards, `l` for a session's lines.
+//! It prints `as stated` if each answer is the one with ample memory and an honest store, which is
+//! typed in here, or says that memory ran out or the store refused, and has made just the change
+//! that it says.
 //!
 //! The program itself refuses nothing: `tools/refused_allocations` runs it over a C library's
 //! allocator that does, and so the calls of the repository.
@@ -13,10 +14,13 @@
 mod lines;
 mod made;
 mod script;
+mod shards;
 mod steps;
 mod stop;
 mod tables;
 
+use crate::script::PLAIN;
+use crate::shards::SHARDS;
 use crate::stop::Stop;
 use std::alloc::Global;
 use std::io::{Read, Write};
@@ -35,8 +39,10 @@ fn read_letter<R: Read>(reader: &mut R) -> u8 {
 fn run(alloc: Global, script: u8) -> Result<(), Stop> {
     match script {
         b'm' => made::run(alloc),
-        b's' => steps::run(alloc),
-        b'r' => steps::run_over_refusals(alloc),
+        b's' => steps::run(alloc, PLAIN),
+        b'r' => steps::run_over_refusals(alloc, PLAIN),
+        b'p' => steps::run(alloc, SHARDS),
+        b'q' => steps::run_over_refusals(alloc, SHARDS),
         b'l' => lines::run(alloc),
         _ => Err(Stop::Other),
     }

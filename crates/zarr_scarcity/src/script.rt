@@ -1,7 +1,7 @@
-//! The commands of the script, and what each one changes.
+//! The commands of a script at two arrays, and what each one changes.
 
 use crate::stop::Stop;
-use crate::tables::{Array, Cells};
+use crate::tables::{Array, Cells, Keys};
 use std::alloc::Global;
 use zarr_run::{ArrayBytes, Cause, Command, Reply, read_command};
 
@@ -10,15 +10,15 @@ use zarr_run::{ArrayBytes, Cause, Command, Reply, read_command};
 pub(crate) enum Asks {
     Create,
     Reopen,
-    /// To write or to erase these cells.
-    Put(Cells),
+    /// To write or to erase these cells, by which these keys come or go.
+    Put(Cells, Keys),
     /// To read the cells at these places.
     Read(&'static [usize]),
-    /// To compact a chunk, which has no gaps.
-    Compact,
+    /// To compact a chunk, which may have gaps.
+    Compact { has_gaps: bool },
 }
 
-/// A line of the script, and the array that it names.
+/// A line of a script, and the array that it names.
 #[derive(Clone, Copy)]
 pub(crate) struct Line {
     pub text: &'static str,
@@ -26,29 +26,65 @@ pub(crate) struct Line {
     pub asks: Asks,
 }
 
+/// The lines of a script, those that open both arrays again and read them, and what reads each
+/// whole.
+#[derive(Clone, Copy)]
+pub(crate) struct Script {
+    pub lines: &'static [Line],
+    pub lines_after: &'static [Line],
+    pub read_square: Line,
+    pub read_row: Line,
+    /// The document keys and chunk keys of both arrays.
+    pub square: Names,
+    pub row: Names,
+}
+
+/// The keys that an array may have.
+#[derive(Clone, Copy)]
+pub(crate) struct Names {
+    pub document: &'static str,
+    pub chunks: &'static [&'static str],
+}
+
+/// Arrays without shards.
+pub(crate) const PLAIN: Script = Script {
+    lines: &LINES,
+    lines_after: &LINES_AFTER,
+    read_square: READ_SQUARE,
+    read_row: READ_ROW,
+    square: Names {
+        document: "a/zarr.json",
+        chunks: &["a/c/0/0", "a/c/0/1", "a/c/1/0", "a/c/1/1"],
+    },
+    row: Names {
+        document: "b/c/zarr.json",
+        chunks: &["b/c/c.0", "b/c/c.1"],
+    },
+};
+
 /// Reads the whole of `/a`.
-pub(crate) const READ_SQUARE: Line = Line {
+const READ_SQUARE: Line = Line {
     text: r#"{"op":"read_box","path":"/a","box":[[0,4],[0,4]]}"#,
     array: Array::Square,
     asks: Asks::Read(&[0, 1, 2, 3, 4, 5, 6, 7, 8, 9, 10, 11, 12, 13, 14, 15]),
 };
 
 /// Reads the chunks of `/b/c`, of which the last one passes the array.
-pub(crate) const READ_ROW: Line = Line {
+const READ_ROW: Line = Line {
     text: r#"{"op":"read_box","path":"/b/c","box":[[0,4]]}"#,
     array: Array::Row,
     asks: Asks::Read(&[0, 1, 2, 3]),
 };
 
 /// Reopens `/a`.
-pub(crate) const REOPEN_SQUARE: Line = Line {
+const REOPEN_SQUARE: Line = Line {
     text: r#"{"op":"reopen","path":"/a","order":"C"}"#,
     array: Array::Square,
     asks: Asks::Reopen,
 };
 
 /// Reopens `/b/c`.
-pub(crate) const REOPEN_ROW: Line = Line {
+const REOPEN_ROW: Line = Line {
     text: r#"{"op":"reopen","path":"/b/c","order":"Random"}"#,
     array: Array::Row,
     asks: Asks::Reopen,
@@ -68,7 +104,10 @@ pub(crate) const LINES: [Line; 21] = [
     Line {
         text: r#"{"op":"write_box","path":"/a","box":[[1,3],[1,3]],"cells":[1,2,3,4]}"#,
         array: Array::Square,
-        asks: Asks::Put(&[(0, 5, 1), (1, 6, 2), (2, 9, 3), (3, 10, 4)]),
+        asks: Asks::Put(
+            &[(0, 5, 1), (1, 6, 2), (2, 9, 3), (3, 10, 4)],
+            &[(0, 0, true), (1, 1, true), (2, 2, true), (3, 3, true)],
+        ),
     },
     Line {
         text: r#"{"op":"create","path":"/b/c","document":{"zarr_format":3,"node_type":"array","shape":[3],"data_type":"int16","chunk_grid":{"name":"regular","configuration":{"chunk_shape":[2]}},"chunk_key_encoding":{"name":"default","configuration":{"separator":"."}},"fill_value":0,"codecs":[{"name":"bytes","configuration":{"endian":"big"}},"x-reverse"],"attributes":{"x":[1]},"dimension_names":["y"]}}"#,
@@ -78,89 +117,104 @@ pub(crate) const LINES: [Line; 21] = [
     Line {
         text: r#"{"op":"write_box","path":"/b/c","box":[[1,3]],"cells":[21,22]}"#,
         array: Array::Row,
-        asks: Asks::Put(&[(0, 1, 21), (1, 2, 22)]),
+        asks: Asks::Put(&[(0, 1, 21), (1, 2, 22)], &[(0, 0, true), (1, 1, true)]),
     },
     Line {
         text: r#"{"op":"write_box","path":"/a","box":[[0,2],[1,4]],"cells":[5,6,7,8,9,10]}"#,
         array: Array::Square,
-        asks: Asks::Put(&[
-            (0, 1, 5),
-            (1, 2, 6),
-            (1, 3, 7),
-            (0, 5, 8),
-            (1, 6, 9),
-            (1, 7, 10),
-        ]),
+        asks: Asks::Put(
+            &[
+                (0, 1, 5),
+                (1, 2, 6),
+                (1, 3, 7),
+                (0, 5, 8),
+                (1, 6, 9),
+                (1, 7, 10),
+            ],
+            &[(0, 0, true), (1, 1, true)],
+        ),
     },
     REOPEN_SQUARE,
     Line {
         text: r#"{"op":"write_box","path":"/a","box":[[2,4],[0,4]],"cells":[0,0,0,0,0,0,0,0]}"#,
         array: Array::Square,
-        asks: Asks::Put(&[
-            (0, 8, 0),
-            (0, 9, 0),
-            (1, 10, 0),
-            (1, 11, 0),
-            (0, 12, 0),
-            (0, 13, 0),
-            (1, 14, 0),
-            (1, 15, 0),
-        ]),
+        asks: Asks::Put(
+            &[
+                (0, 8, 0),
+                (0, 9, 0),
+                (1, 10, 0),
+                (1, 11, 0),
+                (0, 12, 0),
+                (0, 13, 0),
+                (1, 14, 0),
+                (1, 15, 0),
+            ],
+            &[(0, 2, false), (1, 3, false)],
+        ),
     },
     Line {
         text: r#"{"op":"write_chunk","path":"/b/c","chunk":[1],"cells":[23,24]}"#,
         array: Array::Row,
-        asks: Asks::Put(&[(0, 2, 23), (0, 3, 24)]),
+        asks: Asks::Put(&[(0, 2, 23), (0, 3, 24)], &[(0, 1, true)]),
     },
     Line {
         text: r#"{"op":"write_chunk","path":"/a","chunk":[1,1],"cells":[11,12,13,14]}"#,
         array: Array::Square,
-        asks: Asks::Put(&[(0, 10, 11), (0, 11, 12), (0, 14, 13), (0, 15, 14)]),
+        asks: Asks::Put(
+            &[(0, 10, 11), (0, 11, 12), (0, 14, 13), (0, 15, 14)],
+            &[(0, 3, true)],
+        ),
     },
     REOPEN_ROW,
     Line {
         text: r#"{"op":"erase_chunks","path":"/a","box":[[0,2],[0,1]]}"#,
         array: Array::Square,
-        asks: Asks::Put(&[
-            (0, 0, 0),
-            (0, 1, 0),
-            (0, 4, 0),
-            (0, 5, 0),
-            (1, 8, 0),
-            (1, 9, 0),
-            (1, 12, 0),
-            (1, 13, 0),
-        ]),
+        asks: Asks::Put(
+            &[
+                (0, 0, 0),
+                (0, 1, 0),
+                (0, 4, 0),
+                (0, 5, 0),
+                (1, 8, 0),
+                (1, 9, 0),
+                (1, 12, 0),
+                (1, 13, 0),
+            ],
+            &[(0, 0, false), (1, 2, false)],
+        ),
     },
     Line {
         text: r#"{"op":"erase_chunks","path":"/b/c","box":[[0,1]]}"#,
         array: Array::Row,
-        asks: Asks::Put(&[(0, 0, 0), (0, 1, 0)]),
+        asks: Asks::Put(&[(0, 0, 0), (0, 1, 0)], &[(0, 0, false)]),
     },
     Line {
         text: r#"{"op":"write_box","path":"/a","box":[[0,2],[0,2]],"cells":[0,0,0,0],"options":{"empty":true}}"#,
         array: Array::Square,
-        asks: Asks::Put(&[(0, 0, 0), (0, 1, 0), (0, 4, 0), (0, 5, 0)]),
+        asks: Asks::Put(
+            &[(0, 0, 0), (0, 1, 0), (0, 4, 0), (0, 5, 0)],
+            &[(0, 0, true)],
+        ),
     },
     Line {
         text: r#"{"op":"write_box","path":"/a","box":[[2,3],[0,1]],"cells":[0],"options":{"partial":true}}"#,
         array: Array::Square,
-        asks: Asks::Put(&[(0, 8, 0)]),
+        asks: Asks::Put(&[(0, 8, 0)], &[(0, 2, true)]),
     },
     Line {
         text: r#"{"op":"compact","path":"/a","chunk":[1,1]}"#,
         array: Array::Square,
-        asks: Asks::Compact,
+        asks: Asks::Compact { has_gaps: false },
     },
     Line {
         text: r#"{"op":"rewrite","path":"/a","options":{"empty":true}}"#,
         array: Array::Square,
-        asks: Asks::Put(&[]),
+        asks: Asks::Put(&[], &[]),
     },
     Line {
         text: r#"{"op":"rewrite","path":"/b/c"}"#,
         array: Array::Row,
-        asks: Asks::Put(&[]),
+        asks: Asks::Put(&[], &[]),
     },
     Line {
         text: r#"{"op":"read_chunk","path":"/a","chunk":[1,1]}"#,
@@ -176,19 +230,8 @@ pub(crate) const LINES: [Line; 21] = [
     READ_ROW,
 ];
 
-/// The keys that the store has after these lines.
-pub(crate) const KEYS: [&str; 7] = [
-    "a/c/0/0",
-    "a/c/0/1",
-    "a/c/1/0",
-    "a/c/1/1",
-    "a/zarr.json",
-    "b/c/c.1",
-    "b/c/zarr.json",
-];
-
 /// Opens both arrays again in another session, and reads them.
-pub(crate) const LINES_AFTER: [Line; 4] = [REOPEN_ROW, REOPEN_SQUARE, READ_SQUARE, READ_ROW];
+const LINES_AFTER: [Line; 4] = [REOPEN_ROW, REOPEN_SQUARE, READ_SQUARE, READ_ROW];
 
 /// The command of a line.
 pub(crate) fn command(alloc: Global, text: &str) -> Result<Command, Stop> {
@@ -217,9 +260,12 @@ pub(crate) fn is_done(reply: &Reply) -> bool {
     matches!(reply, Reply::Done)
 }
 
-/// Whether a reply says that a compaction changed nothing.
-pub(crate) fn is_compact(reply: &Reply) -> bool {
-    matches!(reply, Reply::Compacted(false))
+/// Whether a reply says that a compaction took gaps out, or that there were none.
+pub(crate) fn is_compacted(reply: &Reply, has_gaps: bool) -> bool {
+    match reply {
+        Reply::Compacted(changed) => *changed == has_gaps,
+        _ => false,
+    }
 }
 
 /// Whether a reply gives the cells that stand at these places of a table, each in so many bytes, of

@@ -1,11 +1,8 @@
-//! The commands of the script, step by step, over a store that may refuse a call.
+//! The commands of a script, step by step, over a store that may refuse a call.
 
-use crate::script::{
-    KEYS, LINES, LINES_AFTER, Line, READ_ROW, READ_SQUARE, command, is_by_store,
-    is_refused_by_chance,
-};
+use crate::script::{Line, Script, command, is_by_store, is_refused_by_chance};
 use crate::stop::{Stop, expect};
-use crate::tables::{Tables, has_keys};
+use crate::tables::Tables;
 use std::alloc::Global;
 use zarr_run::{
     BytesToBytesCodecTraits, CallKind, Command, MemoryStore, RefusingStore, Reply, ReverseCodec,
@@ -14,11 +11,14 @@ use zarr_run::{
 
 type Session = zarr_run::Session<RefusingStore<MemoryStore>, ReverseCodec>;
 
-/// The commands that read all cells of both arrays.
+/// A script, the commands that read all cells of both arrays, and whether the session is closed
+/// where one is refused by chance.
 #[derive(Drop)]
-struct Reads {
+struct Plan {
+    script: Script,
     square: Command,
     row: Command,
+    stops: bool,
 }
 
 /// What commands were refused for that may come at any time.
@@ -66,26 +66,31 @@ impl CheckedSession {
     }
 
     /// Whether both arrays are read as the tables say, where a read may be asked twice.
-    fn are_as_stated(&mut self, reads: &Reads) -> bool {
-        let square = self.reply_at_last(&reads.square);
-        let row = self.reply_at_last(&reads.row);
+    fn are_as_stated(&mut self, plan: &Plan) -> bool {
+        let square = self.reply_at_last(&plan.square);
+        let row = self.reply_at_last(&plan.row);
         !is_refused_by_chance(&square)
-            && self.tables.answer(READ_SQUARE, &square)
+            && self.tables.answer(plan.script.read_square, &square)
             && !is_refused_by_chance(&row)
-            && self.tables.answer(READ_ROW, &row)
+            && self.tables.answer(plan.script.read_row, &row)
     }
 
     /// Runs a command, which is answered as the tables say. Where it is refused by chance, it has
-    /// changed just what it says, and it is run once more.
-    fn step(&mut self, reads: &Reads, line: Line, command: &Command) -> Result<(), Stop> {
+    /// changed just what it says, and it is run once more, unless the session is to be closed then.
+    /// Says whether it is.
+    fn step(&mut self, plan: &Plan, line: Line, command: &Command) -> Result<bool, Stop> {
         let reply = self.reply_to(command);
         expect(self.tables.answer(line, &reply))?;
-        if is_refused_by_chance(&reply) {
-            expect(self.are_as_stated(reads))?;
-            let again = self.reply_to(command);
-            expect(!is_refused_by_chance(&again) && self.tables.answer(line, &again))?;
+        if !is_refused_by_chance(&reply) {
+            return Ok(false);
         }
-        Ok(())
+        expect(self.are_as_stated(plan))?;
+        if plan.stops {
+            return Ok(true);
+        }
+        let again = self.reply_to(command);
+        expect(!is_refused_by_chance(&again) && self.tables.answer(line, &again))?;
+        Ok(false)
     }
 
     /// The session that begins where this one is closed, over what it stored.
@@ -102,10 +107,16 @@ impl CheckedSession {
         }
     }
 
-    /// The store, once the session is closed.
-    fn into_store(self) -> MemoryStore {
-        let CheckedSession { session, .. } = self;
-        session.close().into_inner()
+    /// Closes the session, whose store has the keys that the tables say. Says what was refused.
+    fn end(self, script: Script) -> Result<Chances, Stop> {
+        let CheckedSession {
+            session,
+            tables,
+            refused,
+        } = self;
+        let mut store = session.close().into_inner();
+        expect(tables.agree_with(script, &mut store)?)?;
+        Ok(refused)
     }
 }
 
@@ -122,54 +133,61 @@ fn begin(alloc: Global, kind: CallKind, number: u64) -> CheckedSession {
     }
 }
 
-/// The commands that read all cells of both arrays.
-fn read_all(alloc: Global) -> Result<Reads, Stop> {
-    let square = command(alloc, READ_SQUARE.text)?;
-    let row = command(alloc, READ_ROW.text)?;
-    Ok(Reads { square, row })
+/// How a script is run.
+fn made_plan(alloc: Global, script: Script, stops: bool) -> Result<Plan, Stop> {
+    let square = command(alloc, script.read_square.text)?;
+    let row = command(alloc, script.read_row.text)?;
+    Ok(Plan {
+        script,
+        square,
+        row,
+        stops,
+    })
 }
 
-/// Runs a line.
+/// Runs a line. Says whether the session is to be closed then.
 fn run_line(
     alloc: Global,
     checked: &mut CheckedSession,
-    reads: &Reads,
+    plan: &Plan,
     line: Line,
-) -> Result<(), Stop> {
+) -> Result<bool, Stop> {
     let command = command(alloc, line.text)?;
-    checked.step(reads, line, &command)
+    checked.step(plan, line, &command)
 }
 
-/// Runs these lines.
+/// Runs these lines, or those before the session is to be closed.
 fn run_lines(
     alloc: Global,
     checked: &mut CheckedSession,
-    reads: &Reads,
+    plan: &Plan,
     lines: &[Line],
 ) -> Result<(), Stop> {
     for line in lines {
-        run_line(alloc, checked, reads, *line)?;
+        if run_line(alloc, checked, plan, *line)? {
+            return Ok(());
+        }
     }
-    expect(checked.are_as_stated(reads))
+    expect(checked.are_as_stated(plan))
 }
 
 /// Runs each command, over a store that refuses the call of this kind with this number, and then
 /// some in another session over that store. Says what was refused.
-fn run_refused(alloc: Global, kind: CallKind, number: u64) -> Result<Chances, Stop> {
-    let reads = read_all(alloc)?;
+fn run_refused(alloc: Global, plan: &Plan, kind: CallKind, number: u64) -> Result<Chances, Stop> {
     let mut checked = begin(alloc, kind, number);
-    run_lines(alloc, &mut checked, &reads, &LINES)?;
+    run_lines(alloc, &mut checked, plan, plan.script.lines)?;
     let mut checked = checked.next(alloc);
-    run_lines(alloc, &mut checked, &reads, &LINES_AFTER)?;
-    let refused = checked.refused;
-    expect(has_keys(&mut checked.into_store(), &KEYS)?)?;
-    Ok(refused)
+    run_lines(alloc, &mut checked, plan, plan.script.lines_after)?;
+    checked.end(plan.script)
 }
 
-/// Each command, over a store that refuses none.
-pub(crate) fn run(alloc: Global) -> Result<(), Stop> {
-    let refused = run_refused(alloc, CallKind::Read, 0)?;
-    expect(!refused.by_store)
+/// Each command, over a store that refuses none: once up to a refusal, and once through to the end.
+pub(crate) fn run(alloc: Global, script: Script) -> Result<(), Stop> {
+    for stops in [true, false] {
+        let refused = run_refused(alloc, &made_plan(alloc, script, stops)?, CallKind::Read, 0)?;
+        expect(!refused.by_store)?;
+    }
+    Ok(())
 }
 
 /// More calls than the script makes.
@@ -178,9 +196,9 @@ const MANY_CALLS: u64 = 10_000;
 /// Each command, with each call of the store of this kind refused in turn. As memory is ample then,
 /// no command is refused for want of it: so a refusal of the store that is answered otherwise does
 /// not pass for the end.
-fn run_each_refused(alloc: Global, kind: CallKind) -> Result<(), Stop> {
+fn run_each_refused(alloc: Global, plan: &Plan, kind: CallKind) -> Result<(), Stop> {
     for number in 1..MANY_CALLS {
-        let refused = run_refused(alloc, kind, number)?;
+        let refused = run_refused(alloc, plan, kind, number)?;
         expect(!refused.by_memory)?;
         if !refused.by_store {
             return expect(number > 1);
@@ -189,8 +207,13 @@ fn run_each_refused(alloc: Global, kind: CallKind) -> Result<(), Stop> {
     Err(Stop::Other)
 }
 
-/// Each command, with each reading and each writing call of the store refused in turn.
-pub(crate) fn run_over_refusals(alloc: Global) -> Result<(), Stop> {
-    run_each_refused(alloc, CallKind::Read)?;
-    run_each_refused(alloc, CallKind::Write)
+/// Each command, with each reading and each writing call of the store refused in turn: once up to
+/// the refusal, and once through to the end.
+pub(crate) fn run_over_refusals(alloc: Global, script: Script) -> Result<(), Stop> {
+    for stops in [true, false] {
+        let plan = made_plan(alloc, script, stops)?;
+        run_each_refused(alloc, &plan, CallKind::Read)?;
+        run_each_refused(alloc, &plan, CallKind::Write)?;
+    }
+    Ok(())
 }

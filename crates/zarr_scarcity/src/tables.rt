@@ -1,12 +1,13 @@
 //! The arrays of the script and their cells, as they are expected.
 
-use crate::script::{Asks, Line, applied_in, gives_cells, is_compact, is_done, is_refused};
+use crate::script::{
+    Asks, Line, Names, Script, applied_in, gives_cells, is_compacted, is_done, is_refused,
+};
 use crate::stop::Stop;
-use std::alloc::Global;
 use zarr_run::{Cause, MemoryStore, ReadableStorageTraits, Reply, StoreKey};
 
-/// An array of the script: `/a`, of 4 by 4 in chunks of 2 by 2, with cells of one byte; or `/b/c`,
-/// of 3 in chunks of 2, with cells of two.
+/// An array of a script: one of 4 by 4 in chunks of 2 by 2, with cells of one byte; or one of one
+/// dimension, with cells of two.
 #[derive(Clone, Copy)]
 pub(crate) enum Array {
     Square,
@@ -26,13 +27,18 @@ impl Array {
 /// row-major, and the cell.
 pub(crate) type Cells = &'static [(u64, usize, u8)];
 
-/// The cells of all chunks of an array, row-major. Those of `/b/c` are the first four.
+/// Chunk keys that come or go: the number of the chunk among those that are met, that of the key, and
+/// whether it is there then.
+pub(crate) type Keys = &'static [(u64, usize, bool)];
+
+/// The cells of all chunks of an array, row-major: the first of them, where there are fewer.
 pub(crate) type Table = [u8; 16];
 
-/// The table of an array that is stored, and whether the array is held.
+/// The table of an array that is stored, which of its chunks have a key, and whether it is held.
 #[derive(Clone, Copy)]
 pub(crate) struct Stored {
     table: Table,
+    keys: [bool; 4],
     is_held: bool,
 }
 
@@ -47,9 +53,10 @@ pub(crate) struct Tables {
 fn unheld(stored: Option<Stored>) -> Option<Stored> {
     match stored {
         Some(array) => {
-            let table = array.table;
+            let (table, keys) = (array.table, array.keys);
             Some(Stored {
                 table,
+                keys,
                 is_held: false,
             })
         }
@@ -68,6 +75,17 @@ fn put(table: &mut Table, cells: Cells, applied: u64) {
     }
 }
 
+/// Has the keys of the first chunks come or go.
+fn put_keys(keys: &mut [bool; 4], changes: Keys, applied: u64) {
+    for (chunk, key, is_there) in changes {
+        if *chunk < applied {
+            if let Some(old) = keys.get_mut(*key) {
+                *old = *is_there;
+            }
+        }
+    }
+}
+
 /// Whether this is how a line is answered where its array isn't stored. A create that is done holds
 /// it.
 fn answers_none(stored: &mut Option<Stored>, asks: Asks, reply: &Reply) -> bool {
@@ -76,6 +94,7 @@ fn answers_none(stored: &mut Option<Stored>, asks: Asks, reply: &Reply) -> bool 
             if is_done(reply) {
                 *stored = Some(Stored {
                     table: [0; 16],
+                    keys: [false; 4],
                     is_held: true,
                 });
                 return true;
@@ -99,21 +118,22 @@ fn answers_unheld(stored: &mut Stored, asks: Asks, reply: &Reply) -> bool {
     }
 }
 
-/// Whether this is how a line is answered where its array has this table. The cells that were put
-/// then stand in it.
-fn answers_held(table: &mut Table, line: Line, reply: &Reply) -> bool {
+/// Whether this is how a line is answered where its array is held. The cells that were put then
+/// stand in its table.
+fn answers_held(stored: &mut Stored, line: Line, reply: &Reply) -> bool {
     match line.asks {
         Asks::Create => is_refused(reply, Cause::PathTaken),
         Asks::Reopen => is_done(reply),
-        Asks::Put(cells) => match applied_in(reply) {
+        Asks::Put(cells, keys) => match applied_in(reply) {
             Some(applied) => {
-                put(table, cells, applied);
+                put(&mut stored.table, cells, applied);
+                put_keys(&mut stored.keys, keys, applied);
                 true
             }
             None => false,
         },
-        Asks::Read(places) => gives_cells(reply, table, places, line.array.width()),
-        Asks::Compact => is_compact(reply),
+        Asks::Read(places) => gives_cells(reply, &stored.table, places, line.array.width()),
+        Asks::Compact { has_gaps } => is_compacted(reply, has_gaps),
     }
 }
 
@@ -137,17 +157,22 @@ impl Tables {
             Array::Row => &mut self.row,
         };
         match stored {
-            Some(array) if array.is_held => answers_held(&mut array.table, line, reply),
+            Some(array) if array.is_held => answers_held(array, line, reply),
             Some(array) => answers_unheld(array, line.asks, reply),
             None => answers_none(stored, line.asks, reply),
         }
     }
 
-    /// Whether a store has the documents of the arrays that are stored, and no others.
-    pub(crate) fn agree_with(&self, alloc: Global, store: &mut MemoryStore) -> Result<bool, Stop> {
-        let square = has_key(alloc, store, "a/zarr.json")?;
-        let row = has_key(alloc, store, "b/c/zarr.json")?;
-        Ok(square == self.square.is_some() && row == self.row.is_some())
+    /// Whether a store has the documents and the chunk keys of the arrays that are stored, and no
+    /// others.
+    pub(crate) fn agree_with(&self, script: Script, store: &mut MemoryStore) -> Result<bool, Stop> {
+        let found = store.list()?;
+        let square = count_keys(found.as_slice(), &self.square, script.square);
+        let row = count_keys(found.as_slice(), &self.row, script.row);
+        match (square, row) {
+            (Some(square), Some(row)) => Ok(square.saturating_add(row) == found.len()),
+            _ => Ok(false),
+        }
     }
 
     /// The tables once the session is closed, so that no array is held.
@@ -159,26 +184,45 @@ impl Tables {
     }
 }
 
-/// The store key that a text is.
-fn store_key(alloc: Global, text: &str) -> Result<StoreKey, Stop> {
-    match StoreKey::new(String::from_str(alloc, text)?) {
-        Ok(key) => Ok(key),
-        Err(_) => Err(Stop::Other),
+/// Whether a key is among others.
+fn has_key(found: &[StoreKey], name: &str) -> bool {
+    for key in found {
+        if key.as_str() == name {
+            return true;
+        }
+    }
+    false
+}
+
+/// How many keys there are of an array among others, if they are those that it has.
+fn count_keys(found: &[StoreKey], stored: &Option<Stored>, names: Names) -> Option<usize> {
+    match stored {
+        Some(array) => count_stored(found, true, &array.keys, names),
+        None => {
+            let keys = [false; 4];
+            count_stored(found, false, &keys, names)
+        }
     }
 }
 
-/// Whether a store has a value at a key.
-fn has_key(alloc: Global, store: &mut MemoryStore, key: &str) -> Result<bool, Stop> {
-    let key = store_key(alloc, key)?;
-    Ok(store.get(&key)?.is_some())
-}
-
-/// Whether a store has values at just these keys, which are sorted.
-pub(crate) fn has_keys(store: &mut MemoryStore, keys: &[&str]) -> Result<bool, Stop> {
-    let found = store.list()?;
-    let mut are_same = found.len() == keys.len();
-    for (key, wanted) in found.iter().zip(keys) {
-        are_same = are_same && key.as_str() == *wanted;
+/// How many keys there are of an array's document and chunks, if they are just these.
+fn count_stored(
+    found: &[StoreKey],
+    is_stored: bool,
+    keys: &[bool; 4],
+    names: Names,
+) -> Option<usize> {
+    let mut are_same = has_key(found, names.document) == is_stored;
+    let mut count: usize = if is_stored { 1 } else { 0 };
+    let mut at: usize = 0;
+    for name in names.chunks {
+        let is_there = match keys.get(at) {
+            Some(is_there) => *is_there,
+            None => false,
+        };
+        are_same = are_same && has_key(found, *name) == is_there;
+        count = count.saturating_add(if is_there { 1 } else { 0 });
+        at = at.saturating_add(1);
     }
-    Ok(are_same)
+    if are_same { Some(count) } else { None }
 }
