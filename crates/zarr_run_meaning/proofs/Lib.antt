@@ -28,3 +28,6 @@ pub mod KeptCanon
 pub mod TightChunks
 pub mod Orders
 pub mod KeptTight
+pub mod BoxSteps
+pub mod BoxOrders
+pub mod BoxRuns

@@ -10,3 +10,4 @@ pub mod Printing
 pub mod Laws
 pub mod Rewrites
 pub mod Tight
+pub mod BoxLaws
