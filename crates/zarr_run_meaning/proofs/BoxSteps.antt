@@ -31,7 +31,7 @@ use Rattle.zarr_run_meaning.specs.declared.cause.Cause.TheVariants as cause
 use Rattle.zarr_run_meaning.specs.BoxLaws.{BoxCells, MayRead, ReadsAgree, ReadsOfParts, LiesInSome, PartsReadWhole, lies_in_some, cell_among, IsHeldWithCells, StoresBack}
 use Rattle.zarr_run_meaning.specs.Causes.{IsTarget, IsGiven}
 use Rattle.zarr_run_meaning.specs.Changes.{Reads, Writes, WritesChunks}
-use Rattle.zarr_run_meaning.specs.Requests.{Target, in_box, in_chunk, write, read, Answer, done, cells as gives, compacted, refused}
+use Rattle.zarr_run_meaning.specs.Requests.{Target, in_box, in_chunk, write, Answer, done, cells as gives, compacted, refused}
 use Rattle.zarr_run_meaning.specs.Steps.{Stays, RefusesHeld, RefusesWrite, RefusesRead, RefusesAt, WritesFirst, Step}
 use Rattle.zarr_run_meaning.specs.Tables.{Table, cell, updated, changes, changes_in}
 use Rattle.zarr_run_meaning.specs.Worlds.{Held, World, held_at, WithTable}
