@@ -147,11 +147,11 @@ left_alone path away target given options old new h found unrelated w =
       go x (near ne r is shows) = absurd (false≢true (sym far ∙ r))
       go x (apart r is) = is
 
--- the arrays of two paths after two writes
-abbrev BoxTable : Held → Region → List Cell → Held
-BoxTable h region values = record h { table = updated h.document.elements.fill h.table (box_changes h.document.grid region values) }
+-- an array after a box of it was given cells
+abbrev with_box : Held → Region → List Cell → Held
+with_box h region values = record h { table = updated h.document.elements.fill h.table (box_changes h.document.grid region values) }
 
--- the two writes in one order: the array of the first, and that of the second
+-- two writes, one after the other: each array has what was written to it
 in_turn : (reads : ReadsCodecs) (old new : World) (path away : List ℕ) (one two : Target) (given other : GivenCells) (options more : CodecOptions) (h g : Held) → held_at path old.arrays ≡ Some h → held_at away old.arrays ≡ Some g → is_related path away ≡ false
     → Run reads old (write path one given options ∷ write away two other more ∷ []) (done ∷ done ∷ []) new
     → IsBoxWritten h one given (held_at path new.arrays) × IsBoxWritten g two other (held_at away new.arrays)
@@ -162,7 +162,7 @@ in_turn reads old new path away one two given other options more h g f i unrelat
         box = a.box;
         values = a.values;
         is = a.is;
-        held = ap (λ (w : World). held_at path w.arrays) r.2.2 ∙ left_alone away path two other more r.0 r.2.0 (BoxTable h a.box a.values) a.held (is_related-comm away path ∙ unrelated) r.2.1.0;
+        held = ap (λ (w : World). held_at path w.arrays) r.2.2 ∙ left_alone away path two other more r.0 r.2.0 (with_box h a.box a.values) a.held (is_related-comm away path ∙ unrelated) r.2.1.0;
       },
       record { box = b.box; values = b.values; is = b.is; held = ap (λ (w : World). held_at away w.arrays) r.2.2 ∙ b.held },
     )
@@ -171,11 +171,10 @@ in_turn reads old new path away one two given other options more h g f i unrelat
 written_once : (h : Held) (target : Target) (given : GivenCells) (new last : Option Held) → IsBoxWritten h target given new → IsBoxWritten h target given last → new ≡ last
 written_once h target given new last a b =
     a.held
-    ∙ ap (λ (region : Region). Some (BoxTable h region a.values)) (target_once h.document.grid target a.box b.box a.is.is b.is.is)
-    ∙ ap (λ (values : List Cell). Some (BoxTable h b.box values)) (some_same (sym a.is.gives.0 ∙ b.is.gives.0))
+    ∙ ap (λ (region : Region). Some (with_box h region a.values)) (target_once h.document.grid target a.box b.box a.is.is b.is.is)
+    ∙ ap (λ (values : List Cell). Some (with_box h b.box values)) (some_same (sym a.is.gives.0 ∙ b.is.gives.0))
     ∙ sym b.held
 
--- an array that is written first, and one that is written second
 pub writes_commute_apart : WritesCommuteApart
 writes_commute_apart reads old new last path away one two given other options more again others unrelated r s =
     let first = r.1.0 in
