@@ -38,7 +38,7 @@ use Rattle.zarr_array_meaning.specs.Chunks.{number_in, stored_at, fits_box, part
 use Rattle.zarr_array_meaning.specs.Documents.{Document}
 use Rattle.zarr_array_meaning.specs.Standing.{ChunkStandsAt, ChunkTightAt, IsLossless, IsGood, AreValues}
 use Rattle.zarr_array_meaning.specs.StoreMaps.{StoreMap}
-use Rattle.zarr_array_meaning.specs.Writing.{ChunkBecomes, HasSliceOutside, IsKeyed, HasKeys, Takes, WroteChunks, cell_read, is_into_shard, may_be_in_part, opens_in, stores_fill, takes_cells}
+use Rattle.zarr_array_meaning.specs.Writing.{ChunkBecomes, IsKeyed, HasKeys, StopsInto, Takes, WroteChunks, cell_read, is_into_shard, may_be_in_part, opens_in, stores_fill, takes_cells}
 use Rattle.zarr_array_core.specs.ChunkValues.{CellsBecome, ChangesValue, IsNewValue, MakesValue, PutsPart, with_value}
 use Rattle.zarr_array_meaning.proofs.HeldBoxes.{held_place, not_held}
 use Rattle.zarr_array_meaning.proofs.TakenParts.{part_of_decoded, read_of_decoded, takes_decoded}
@@ -336,7 +336,7 @@ called_for (Some value) false fill none some = sym (ap not (some value refl refl
 -- what takes the cells of a write that isn't into a shard
 taken_whole : (document : Document) (options : CodecOptions) (region box : Region) (stored : Option (List ℕ)) → is_into_shard document options region box ≡ false → takes_cells document options region box stored ≡ true → Takes document options region box stored
 taken_whole document options region box stored whole h =
-    subst (λ (b : Bool). MatchBool b ((opens_in document box stored ≡ true) × (¬ HasSliceOutside document box stored)) (takes_cells document options region box stored ≡ true)) (sym whole) h
+    subst (λ (b : Bool). MatchBool b (¬ StopsInto document region box stored) (takes_cells document options region box stored ≡ true)) (sym whole) h
 
 pub becomes_at : (path : List ℕ) (document : Document) (region : Region) (given : List Cell) (options : CodecOptions) (chunk : List ℕ) (box : Region) (store : StoreMap) (cells : List Cell) → fits_box document box ≡ true
     → CellsBecome document region given (stored_at path document store chunk) box cells → ChunkBecomes path document store region given options chunk box cells

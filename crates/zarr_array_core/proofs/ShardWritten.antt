@@ -7,7 +7,7 @@ use Rattle.zarr_grids_boxes.specs.Boxes.{Region, places, is_in_box}
 use Rattle.zarr_grids_chunks.specs.Grids.{IsInGrid}
 use Rattle.zarr_grids_chunks.proofs.Filters.{told}
 use Rattle.zarr_grids_keys.specs.Keys.{chunk_key}
-use Rattle.zarr_codecs_meaning.specs.Chunks.{chunk_decoded, chunk_part, IsStored}
+use Rattle.zarr_codecs_meaning.specs.Chunks.{chunk_part, IsStored}
 use Rattle.zarr_codecs_meaning.specs.Fits.{is_plain}
 use Rattle.zarr_codecs_meaning.specs.Laws.{AreCells}
 use Rattle.zarr_codecs_meaning.specs.Standing.{ChunkStands}
@@ -21,7 +21,7 @@ use Rattle.zarr_array_meaning.specs.Chunks.{fits_box, holds_box, number_in, part
 use Rattle.zarr_array_meaning.specs.Documents.{Document}
 use Rattle.zarr_array_meaning.specs.Standing.{AreValues, ChunkStandsAt, ChunkTightAt, IsLossless}
 use Rattle.zarr_array_meaning.specs.StoreMaps.{StoreMap}
-use Rattle.zarr_array_meaning.specs.Writing.{ChunkBecomes, HasSliceOutside, IsKeyed, Takes, WroteChunks, cell_read, is_in_part, is_into_shard, may_be_in_part, opens_in, stores_fill, takes_cells}
+use Rattle.zarr_array_meaning.specs.Writing.{ChunkBecomes, IsKeyed, StopsInto, Takes, WroteChunks, cell_read, is_in_part, is_into_shard, may_be_in_part, stores_fill, takes_cells}
 use Rattle.zarr_array_meaning.proofs.TakenParts.{read_of_decoded}
 use Rattle.zarr_array_core.specs.ChunkValues.{ChangesValue, ChangeStops, with_value}
 use Rattle.zarr_array_core.specs.IntoShards.{FittingStops, IntoShardStops, PutsIntoShard, Write, WritesChunk, WritingStops, cells_over, cells_then}
@@ -96,7 +96,7 @@ module _ (path : List ℕ) (document : Document) (exact : Bool) (region : Region
   is = shard_write document options region box w.into
 
   takes : Takes document options region box stored
-  takes = subst (λ (b : Bool). MatchBool b ((opens_in document box stored ≡ true) × (¬ HasSliceOutside document box stored)) (takes_cells document options region box stored ≡ true)) (sym w.into) (w.puts.puts.opened, w.puts.placed)
+  takes = subst (λ (b : Bool). MatchBool b (¬ StopsInto document region box stored) (takes_cells document options region box stored ≡ true)) (sym w.into) w.puts.taken
 
   stores_none : stores_fill document options region box ≡ false
   stores_none = ap (λ (b : Bool). (options.store_empty_chunks && not b) || is_in_part document options region box) w.into ∙ none options.store_empty_chunks (may_be_in_part document options region box) (is_plain document.chain) is.shard where
@@ -227,11 +227,11 @@ module _ (path : List ℕ) (document : Document) (exact : Bool) (region : Region
   whole_stops : (e : ChunkError) → is_into_shard document options region box ≡ false → ChangeStops document region given options box held e → ChunkStops path document store region given options chunk box e
   whole_stops error.Fit whole h = h
   whole_stops (error.Storage s) whole h = h
-  whole_stops error.Damage whole h = record {
+  whole_stops error.Damage whole h = inl (record {
     fit = h.0;
     part = h.1;
-    lost = subst (λ (b : Bool). MatchBool b ((chunk_decoded document.chain document.elements box.shape held ≡ None) ⊎ HasSliceOutside document box held) (takes_cells document options region box held ≡ false)) (sym whole) h.2;
-  }
+    lost = subst (λ (b : Bool). MatchBool b (StopsInto document region box held) (takes_cells document options region box held ≡ false)) (sym whole) h.2;
+  })
   whole_stops error.Codec whole h = record { fit = h.fit; cells = h.cells; becomes = becomes_at path document region given options chunk box store h.cells h.fit h.becomes; called = λ _. h.refuses.0; refuses = h.refuses.1 }
   whole_stops error.Size whole h = record { fit = h.fit; cells = h.cells; becomes = becomes_at path document region given options chunk box store h.cells h.fit h.becomes; called = λ _. h.refuses.0; passes = inl h.refuses.1 }
   whole_stops error.Memory whole h = tt
@@ -239,12 +239,18 @@ module _ (path : List ℕ) (document : Document) (exact : Bool) (region : Region
   shard_stops : (e : ChunkError) → length box.start ≡ length box.shape → is_into_shard document options region box ≡ true → fits_box document box ≡ true
       → IntoShardStops (write_at path document exact region given options) box held e → ChunkStops path document store region given options chunk box e
   shard_stops error.Fit rank into fit h = absurd h
-  shard_stops (error.Storage s) rank into fit h = fit
-  shard_stops error.Damage rank into fit h = record {
+  shard_stops (error.Storage s) rank into fit h = (fit, h)
+  shard_stops error.Damage rank into fit (inl h) = inl (record {
     fit = fit;
     part = (shard_write document options region box into).part;
-    lost = subst (λ (b : Bool). MatchBool b ((chunk_decoded document.chain document.elements box.shape held ≡ None) ⊎ HasSliceOutside document box held) (takes_cells document options region box held ≡ false)) (sym into) h;
-  }
+    lost = subst (λ (b : Bool). MatchBool b (StopsInto document region box held) (takes_cells document options region box held ≡ false)) (sym into) h;
+  })
+  shard_stops error.Damage rank into fit (inr h) = inr (record {
+    fit = fit;
+    into = into;
+    undecoded = h.0;
+    passes = λ lossless. (cells_now path document exact region given options chunk box store rank into, becomes_then path document exact region given options chunk box store rank into, h.1 lossless);
+  })
   shard_stops error.Codec rank into fit h = record {
     fit = fit;
     cells = cells_now path document exact region given options chunk box store rank into;

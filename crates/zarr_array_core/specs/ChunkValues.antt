@@ -12,6 +12,7 @@ use Rattle.zarr_codecs_meaning.specs.Types.{Cell, is_value, is_fill}
 use Rattle.zarr_codecs_options.specs.declared.codec_options.CodecOptions.{CodecOptions}
 use Rattle.zarr_codecs_arrays.specs.declared.error.CodecError.{CodecError}
 use Rattle.zarr_codecs_arrays.specs.declared.error.CodecError.TheVariants as codec_error
+use Rattle.zarr_array_core.specs.Outcomes.{IsStoreRefusal}
 use Rattle.zarr_array_core.specs.declared.error.ChunkError.{ChunkError}
 use Rattle.zarr_array_core.specs.declared.error.ChunkError.TheVariants as error
 use Rattle.zarr_array_meaning.specs.Boxes.{cell_of_box}
@@ -74,7 +75,7 @@ EncodeStops document store_empty shape cells e = HasValue document store_empty c
 -- why the new cells of a chunk are not made
 abbrev pub MergeStops : Document → Region → Region → Option (List ℕ) → ChunkError → Type 0
 MergeStops document region box stored error.Damage = (holds_box region box ≡ false) × (chunk_decoded document.chain document.elements box.shape stored ≡ None)
-MergeStops document region box stored (error.Storage e) = Unit {0}
+MergeStops document region box stored (error.Storage e) = IsStoreRefusal e
 MergeStops document region box stored error.Memory = Unit {0}
 MergeStops document region box stored e = ⊥
 
@@ -100,7 +101,7 @@ pub record NotEncoded (document : Document) (region : Region) (given : List Cell
 -- why a chunk gets no new value
 abbrev pub NewValueStops : Document → Region → List Cell → Bool → Region → Option (List ℕ) → ChunkError → Type 0
 NewValueStops document region given store_empty box stored error.Fit = fits_box document box ≡ false
-NewValueStops document region given store_empty box stored (error.Storage e) = fits_box document box ≡ true
+NewValueStops document region given store_empty box stored (error.Storage e) = (fits_box document box ≡ true) × IsStoreRefusal e
 NewValueStops document region given store_empty box stored error.Damage = (fits_box document box ≡ true) × MergeStops document region box stored error.Damage
 NewValueStops document region given store_empty box stored error.Memory = Unit {0}
 NewValueStops document region given store_empty box stored e = NotEncoded document region given store_empty box stored e
@@ -150,7 +151,7 @@ ChangesValue document exact region given options box stored made = MakesValue do
 -- why a write changes nothing in a chunk
 abbrev pub ChangeStops : Document → Region → List Cell → CodecOptions → Region → Option (List ℕ) → ChunkError → Type 0
 ChangeStops document region given options box stored error.Fit = fits_box document box ≡ false
-ChangeStops document region given options box stored (error.Storage e) = fits_box document box ≡ true
+ChangeStops document region given options box stored (error.Storage e) = (fits_box document box ≡ true) × IsStoreRefusal e
 ChangeStops document region given options box stored error.Damage = (fits_box document box ≡ true) × (holds_box region box ≡ false) × (takes_cells document options region box stored ≡ false)
 ChangeStops document region given options box stored error.Memory = Unit {0}
 ChangeStops document region given options box stored e = NotEncoded document region given (stores_fill document options region box) box stored e

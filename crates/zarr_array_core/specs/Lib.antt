@@ -2,6 +2,7 @@ pub mod Views
 pub mod Outcomes
 pub mod Parts
 pub mod ChunkValues
+pub mod Calls
 pub mod PartWrites
 pub mod Arrays
 pub mod Compacting

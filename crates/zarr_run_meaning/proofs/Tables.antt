@@ -40,12 +40,12 @@ shares-same grid region chunk h = go (chunk_box grid chunk) h where
   go (Some box) e = let shared = share_place-has box.start box.shape region.start region.shape e in sym (in_box_same region.start region.shape shared.0 shared.2).0
 
 -- none of the chunks that a box of other lengths would intersect is listed
-no_chunks : (grid : Grid) (region : Region) (chunks : List (List ℕ)) → ((chunk : List ℕ) → is_listed chunks chunk ≡ true → is_listed (intersecting grid region) chunk ≡ true) → length region.start ≢ length region.shape → chunks ≡ []
+pub no_chunks : (grid : Grid) (region : Region) (chunks : List (List ℕ)) → ((chunk : List ℕ) → is_listed chunks chunk ≡ true → is_listed (intersecting grid region) chunk ≡ true) → length region.start ≢ length region.shape → chunks ≡ []
 no_chunks grid region [] few ne = refl
 no_chunks grid region (c ∷ cs) few ne =
     absurd (ne (shares-same grid region c (filter-any (intersects grid region) c (chunk_indices grid) (few c (listed_first c cs)))))
 
-none_kept : (es : List (List ℕ × Cell)) → filter (λ e. false) es ≡ []
+pub none_kept : (es : List (List ℕ × Cell)) → filter (λ e. false) es ≡ []
 none_kept [] = refl
 none_kept (e ∷ es) = none_kept es
 

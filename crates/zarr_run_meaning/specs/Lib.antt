@@ -3,6 +3,7 @@ pub mod Requests
 pub mod Worlds
 pub mod Causes
 pub mod Changes
+pub mod Counts
 pub mod Steps
 pub mod Runs
 pub mod Sound
@@ -10,3 +11,4 @@ pub mod Printing
 pub mod Laws
 pub mod Rewrites
 pub mod Tight
+pub mod BoxLaws

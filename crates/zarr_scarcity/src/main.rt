@@ -2,7 +2,8 @@
 //!
 //! The first byte of standard input names the script: `m` for types, codecs and shards that are
 //! made by their constructors, `s` for a session's commands, `r` for these over stores that refuse
-//! each of their calls in turn, `p` and `q` the same at arrays in shards, `l` for a session's lines.
+//! each of their calls in turn, `p` and `q` the same at arrays in shards, `v` and `w` at arrays of
+//! version 2, `l` for a session's lines.
 //! It prints `as stated` if each answer is the one with ample memory and an honest store, which is
 //! typed in here, or says that memory ran out or the store refused, and has made just the change
 //! that it says.
@@ -13,12 +14,14 @@
 
 mod lines;
 mod made;
+mod older;
 mod script;
 mod shards;
 mod steps;
 mod stop;
 mod tables;
 
+use crate::older::OLDER;
 use crate::script::PLAIN;
 use crate::shards::SHARDS;
 use crate::stop::Stop;
@@ -43,6 +46,8 @@ fn run(alloc: Global, script: u8) -> Result<(), Stop> {
         b'r' => steps::run_over_refusals(alloc, PLAIN),
         b'p' => steps::run(alloc, SHARDS),
         b'q' => steps::run_over_refusals(alloc, SHARDS),
+        b'v' => steps::run(alloc, OLDER),
+        b'w' => steps::run_over_refusals(alloc, OLDER),
         b'l' => lines::run(alloc),
         _ => Err(Stop::Other),
     }

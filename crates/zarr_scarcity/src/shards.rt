@@ -12,10 +12,12 @@ pub(crate) const SHARDS: Script = Script {
     read_row: READ_ROW,
     square: Names {
         document: "s/zarr.json",
+        attributes: None,
         chunks: &["s/c/0/0", "s/c/0/1", "s/c/1/0", "s/c/1/1"],
     },
     row: Names {
         document: "t/n/zarr.json",
+        attributes: None,
         chunks: &["t/n/c/0", "t/n/c/1"],
     },
 };

@@ -83,4 +83,4 @@ returns-clause-err g c = λ honest.
     let into = shard_write write.array.document write.options region box c.requires.into in
     let stored : Option (List ℕ) = map.get (g.S.ReadableStorageTraits.held c.args.store.now) c.args.key.now in
     subst (λ (e : ChunkError). IntoShardStops write box stored e) (sym c.of_sharding.ensures)
-    (was_not_into write box shared part c.shape.result.now c.start.result.now payload sub (sym c.args.own.now.same) into call stored c.in-Err.error c.unwrap_or.result (c.in-Err.ensures.cause honest))
+    (was_not_into write box shared part c.shape.result.now c.start.result.now payload sub (sym c.args.own.now.same) into call stored c.in-Err.error c.refusal_of.result c.refusal_of.ensures (c.in-Err.ensures.cause honest))
