@@ -29,7 +29,7 @@ use Rattle.zarr_run_meaning.specs.Causes.{HasSomeDocument}
 use Rattle.zarr_run_meaning.specs.Requests.{create, Answer, done, refused}
 use Rattle.zarr_run_opening.specs.Arrays.{IsFreeIn, KeepsArrays}
 use Rattle.zarr_run_opening.specs.Calls.{refused_by, DocumentRefused}
-use Rattle.zarr_run_opening.specs.Creations.{IsPrepared, PreparationRefused, IsStored, StoringRefused, LeavesFirst, with_texts, with_first}
+use Rattle.zarr_run_opening.specs.Creations.{IsPrepared, PreparationRefused, IsStored, StoringRefused, LeavesFirst, with_first}
 use Rattle.zarr_run_opening.specs.Sessions.{Arrays, array_at, document_of, IsIn, answer_of}
 use Rattle.zarr_run_opening.specs.declared.creating.Prepared.{Prepared}
 use Rattle.zarr_run_opening.proofs.HoldsLemmas.{table_kept, agreed_none, agrees_kept, held_kept, taken_in_world, unrelated_held, free_in_world, node_in_world, in_refused, stays, none_from}
@@ -182,8 +182,8 @@ module _ (B : Type 0) (meaning : B → ByteCodec) (reads : ReadsCodecs) (path : 
       pub refused_after_first : LeavesFirst path prepared.texts store store' → StepsTo meaning reads w path d order (refused c 0) new store' n'
       refused_after_first leaves = ⊎_elim (λ same. refused_same same)
           (λ (left : HasNoDocument path store × (store' ≡ with_first prepared.texts store)).
-              let P : StoreMap → Type 0 = λ (s : StoreMap). StepsTo meaning reads w path d order (refused c 0) new s n' in
-              ⊎_elim (λ same. refused_same (left.1 ∙ same)) (λ attributes. subst P (sym left.1) (refused_left left.0 attributes)) (first_stored path (written_document d) prepared.texts store is.texts))
+          let P : StoreMap → Type 0 = λ (s : StoreMap). StepsTo meaning reads w path d order (refused c 0) new s n' in
+          ⊎_elim (λ same. refused_same (left.1 ∙ same)) (λ attributes. subst P (sym left.1) (refused_left left.0 attributes)) (first_stored path (written_document d) prepared.texts store is.texts))
           leaves
 
     -- ---- the create is done

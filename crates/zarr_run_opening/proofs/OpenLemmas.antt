@@ -1,25 +1,25 @@
 -- The document that a path has, and why what is stored isn't opened.
-use Rattle.std.proofs.Common.{◌≡◌, ◌≢◌, ◌∙◌, ℕ, List, refl, sym, ap, subst, Bool, true, false, IsSome, IsErr, Option, Some, None, ⊎_elim, inl, inr}
+use Rattle.std.proofs.Common.{◌≡◌, ◌∙◌, ℕ, List, refl, sym, subst, Bool, true, false, IsSome, IsErr, Option, Some, None, ⊎_elim, inl, inr}
 use Rattle.std.specs.FinMap.{get}
 use Rattle.std.proofs.lemmas.Bool.{both_ways, false≢true}
 use Rattle.serde_json.specs.Data.{Data}
 use Rattle.serde_json.specs.View.{view}
 use Rattle.serde_json.specs.declared.value.Value.{Value}
 use Rattle.zarr_grids_keys.specs.Documents.{document_key}
-use Rattle.zarr_grids_keys.specs.declared.document_name.DocumentName.TheVariants.{ZarrJson, ZArray}
+use Rattle.zarr_grids_keys.specs.declared.document_name.DocumentName.TheVariants.{ZarrJson}
 use Rattle.zarr_grids_metadata.specs.Trees.{SameTree}
 use Rattle.zarr_codecs_metadata.specs.Chains.{ReadsCodecs}
 use Rattle.zarr_array_v2.specs.Versions.{is_version_2}
 use Rattle.zarr_array_v2.proofs.SameVersions.{same_version}
 use Rattle.zarr_array_meaning.specs.Documents.{read_document}
 use Rattle.zarr_array_meaning.specs.StoreMaps.{StoreMap}
-use Rattle.zarr_array_meaning.specs.Texts.{HasDocument, version_key}
+use Rattle.zarr_array_meaning.specs.Texts.{version_key}
 use Rattle.zarr_array_meaning.proofs.Stored.{one_document}
 use Rattle.zarr_run_meaning.specs.declared.cause.Cause.{Cause}
 use Rattle.zarr_run_meaning.specs.declared.cause.Cause.TheVariants as cause
 use Rattle.zarr_run_opening.specs.Calls.{IsStoreCause, DocumentRefused}
 use Rattle.zarr_run_opening.specs.ChunkKeys.{HasNoneBeside, HasSomeBeside}
-use Rattle.zarr_run_opening.specs.Reopenings.{HasVersion, IsVersionAt, IsVersionBeside, IsFoundBeside, HasSomeFound, HasBadBeside, IsDocumentBeside, ComparisonRefused, OpeningRefused, version_name}
+use Rattle.zarr_run_opening.specs.Reopenings.{HasVersion, IsVersionAt, IsVersionBeside, IsFoundBeside, HasSomeFound, IsDocumentBeside, ComparisonRefused, OpeningRefused, version_name}
 use Rattle.zarr_run_opening.specs.declared.held.HeldArray.{HeldArray}
 use Rattle.zarr_run_opening.specs.declared.stored.StoredDocument.{StoredDocument}
 use Rattle.zarr_run_opening.specs.declared.stored.StoredDocument.TheVariants.{Nothing, NoDocument, Tree}
@@ -40,13 +40,20 @@ nothing_changed path array store none = λ tree has same.
 
 -- what is stored there is no document
 pub no_document_changed : {B : Type 0} (path : List ℕ) (array : HeldArray B) (store : StoreMap) → IsVersionAt (is_version_2 (view array.tree)) path store NoDocument → ComparisonRefused path array store cause.DocumentChanged
-no_document_changed path array store no = λ tree has same. no.1 tree (record { version = same_version tree (view array.tree) same; stored = has })
+no_document_changed path array store bad = λ tree has same. bad.1 tree (record { version = same_version tree (view array.tree) same; stored = has })
 
 -- another tree is stored
 pub tree_changed : {B : Type 0} (path : List ℕ) (array : HeldArray B) (store : StoreMap) (that : Data) → HasVersion (is_version_2 (view array.tree)) path that store → (SameTree that (view array.tree) → ⊥) → ComparisonRefused path array store cause.DocumentChanged
 tree_changed path array store that h differ = λ tree has same.
     let P : Data → Type 0 = λ t. SameTree t (view array.tree) in
     differ (subst P (one_document path tree that store (same_version tree (view array.tree) same ∙ sym h.version) has h.stored) same)
+
+-- what stands under the keys of the array's version, as it was found
+pub version_as : (v two : Bool) (path : List ℕ) (store : StoreMap) (found s : StoredDocument) → v ≡ two → found ≡ s → IsVersionAt v path store found → IsVersionAt two path store s
+version_as v two path store found s version same is =
+    let P : Bool → Type 0 = λ b. IsVersionAt b path store found in
+    let Q : StoredDocument → Type 0 = λ (t : StoredDocument). IsVersionAt two path store t in
+    subst Q same (subst P version is)
 
 -- ---- the document that a path has
 
@@ -82,13 +89,13 @@ module _ (IsChunk : List ℕ → Type 0) (path : List ℕ) (store : StoreMap) wh
 
   -- a document of version 3 is the one that the path has
   pub first_found : (tree : Data) → IsVersionBeside IsChunk false path store NoDocument → IsFoundBeside IsChunk path tree store → ⊥
-  first_found tree no f = go (is_version_2 tree) refl where
+  first_found tree bad f = go (is_version_2 tree) refl where
     go : (v : Bool) → is_version_2 tree ≡ v → ⊥
-    go true e = some_or_none (document_key path ZarrJson) no.0 (f.first e)
-    go false e = no.1 tree (version_found false tree e f)
+    go true e = some_or_none (document_key path ZarrJson) bad.0 (f.first e)
+    go false e = bad.1 tree (version_found false tree e f)
 
   pub no_first : IsVersionBeside IsChunk false path store NoDocument → IsDocumentBeside IsChunk path store NoDocument
-  no_first no = (inl no.0, λ tree f. first_found tree no f)
+  no_first bad = (inl bad.0, λ tree f. first_found tree bad f)
 
   pub tree_first : (tree : Value) → IsVersionBeside IsChunk false path store (Tree tree) → IsDocumentBeside IsChunk path store (Tree tree)
   tree_first tree is =
@@ -97,9 +104,9 @@ module _ (IsChunk : List ℕ → Type 0) (path : List ℕ) (store : StoreMap) wh
 
   -- where none of version 3 is stored, one of version 2 is
   no_second : IsVersionBeside IsChunk false path store Nothing → IsVersionBeside IsChunk true path store NoDocument → (tree : Data) → IsFoundBeside IsChunk path tree store → ⊥
-  no_second none no tree f = go (is_version_2 tree) refl where
+  no_second none bad tree f = go (is_version_2 tree) refl where
     go : (v : Bool) → is_version_2 tree ≡ v → ⊥
-    go true e = no.1 tree (version_found true tree e f)
+    go true e = bad.1 tree (version_found true tree e f)
     go false e = some_or_none (document_key path ZarrJson) (found_some false tree e f) none
 
   pub second : (s : StoredDocument) → IsVersionBeside IsChunk false path store Nothing → IsVersionBeside IsChunk true path store s → IsDocumentBeside IsChunk path store s
@@ -109,11 +116,14 @@ module _ (IsChunk : List ℕ → Type 0) (path : List ℕ) (store : StoreMap) wh
       let P : Bool → Type 0 = λ b. IsChunk (document_key path (version_name b)) → ⊥ in
       record { stored = is.0.stored; other = subst P (sym is.0.version) is.1; first = λ v. none }
 
+  pub document_as : (found s : StoredDocument) → found ≡ s → IsDocumentBeside IsChunk path store found → IsDocumentBeside IsChunk path store s
+  document_as found s same is = let P : StoredDocument → Type 0 = λ (t : StoredDocument). IsDocumentBeside IsChunk path store t in subst P same is
+
   -- ---- why it isn't opened
 
   module _ (reads : ReadsCodecs) where
     pub no_document_refused : IsDocumentBeside IsChunk path store NoDocument → OpeningRefused IsChunk reads path store cause.Document
-    no_document_refused no = record { some = no.0; none = λ tree f. absurd (no.1 tree f) }
+    no_document_refused bad = record { some = bad.0; none = λ tree f. absurd (bad.1 tree f) }
 
     pub store_refused : (c : Cause) → IsStoreCause c → OpeningRefused IsChunk reads path store c
     store_refused cause.Store why = tt

@@ -1,7 +1,6 @@
 -- What is stored of documents.
-use Rattle.std.proofs.Common.{◌≡◌, ◌≢◌, ◌∙◌, ℕ, List, refl, sym, ap, subst, Bool, true, false, MatchBool, Option, Some, None, option_map, IsSome, IsUtf8, ◌⊎◌, ⊎_elim}
+use Rattle.std.proofs.Common.{◌≡◌, ◌≢◌, ◌∙◌, ℕ, List, refl, sym, ap, subst, Bool, true, false, Option, Some, None, option_map, IsSome, IsUtf8, ◌⊎◌, ⊎_elim}
 use Rattle.std.specs.FinMap.{get}
-use Rattle.std.proofs.lemmas.Bool.{both_ways}
 use Rattle.std.proofs.lemmas.Option.{none-some, same_Some}
 use Rattle.serde_json.specs.Data.{Data, object, Members}
 use Rattle.serde_json.specs.Find.{as_object}
@@ -13,7 +12,7 @@ use Rattle.zarr_grids_keys.specs.declared.document_name.DocumentName.TheVariants
 use Rattle.zarr_array_v2.specs.Attributes.{with_attributes}
 use Rattle.zarr_array_v2.specs.Versions.{is_version_2}
 use Rattle.zarr_array_meaning.specs.StoreMaps.{StoreMap}
-use Rattle.zarr_array_meaning.specs.Texts.{HasTree, HasAttributes, HasParts, HasDocument}
+use Rattle.zarr_array_meaning.specs.Texts.{HasTree, HasAttributes, HasParts}
 use Rattle.zarr_array_meaning.proofs.Stored.{one_tree}
 use Rattle.zarr_run_opening.specs.Reopenings.{HasNoTree, IsTreeAt, HasTreeUnder, IsTreeUnder, HasVersion, IsVersionAt, version_name}
 use Rattle.zarr_run_opening.specs.declared.stored.StoredDocument.{StoredDocument}

@@ -113,7 +113,8 @@ fn compare<B: BytesToBytesCodecTraits, S: ReadableStorageTraits>(
                 Err(Cause::DocumentChanged)
             }
         }
-        Ok(_) => Err(Cause::DocumentChanged),
+        Ok(StoredDocument::NoDocument) => Err(Cause::DocumentChanged),
+        Ok(StoredDocument::Nothing) => Err(Cause::DocumentChanged),
         Err(cause) => Err(cause),
     }
 }

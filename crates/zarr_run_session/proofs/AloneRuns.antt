@@ -97,8 +97,12 @@ fill_there reads path good old new (create p document order) done tables faithfu
     let Q : List ℕ → Type 0 = λ q. OwnsKeysUnder q old in
     ⊎_elim
     (λ alone. absurd (none-some alone.array (sym (ap (λ q. held_at q old.arrays) (sym same) ∙ free_none p old.arrays c.free) ∙ alone.found)))
-    (λ free. (h, found, creates_fill reads old new p document order h good s found (faithful same c.meaning c.opens).lossless
-    (free_no_chunks old p c.meaning (λ q g at. (tables q g at).0) (subst Q (sym same) free.1) c.node c.free (inl (faithful same c.meaning c.opens).ends))))
+    (λ free. (
+      h,
+      found,
+      creates_fill reads old new p document order h good s found (faithful same c.meaning c.opens).lossless
+          (free_no_chunks old p c.meaning (λ q g at. (tables q g at).0) (subst Q (sym same) free.1) c.node c.free (inl (faithful same c.meaning c.opens).ends)),
+    ))
     there
 fill_there reads path good old new request answer tables faithful there s same = tt
 

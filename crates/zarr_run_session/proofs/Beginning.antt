@@ -41,8 +41,8 @@ module _ (reads : ReadsCodecs) (old new : World) (path : List ℕ) (h : Held) (g
       let empty = λ (meaning : Document). λ (opens : read_document reads document ≡ Ok meaning).
       free_no_chunks old p meaning (λ q g e. (tables q g e).0) (own at) c.node c.free (inl (faithful at meaning opens).ends) in
       let begins : BeginsSound reads old (create p document order) done = λ meaning opens. (
-      λ place. meaning.elements.fill,
-      no_chunks_are_fill p meaning old.store (good document meaning opens) (faithful at meaning opens).lossless (empty meaning opens),
+        λ place. meaning.elements.fill,
+        no_chunks_are_fill p meaning old.store (good document meaning opens) (faithful at meaning opens).lossless (empty meaning opens),
       ) in
       let P : Held → Type 0 = λ x. IsLossless x.document in
       let R : Held → Type 0 = λ x. HasNoChunks p x.document old.store in

@@ -13,7 +13,7 @@ use Rattle.zarr_codecs_options.specs.declared.codec_options.CodecOptions.{CodecO
 use Rattle.zarr_codecs_options.specs.declared.subchunk_write_order.SubchunkWriteOrder.{SubchunkWriteOrder}
 use Rattle.zarr_run_meaning.specs.declared.cause.Cause.TheVariants as cause
 use Rattle.zarr_run_meaning.specs.Changes.{Reopens, Opens}
-use Rattle.zarr_run_meaning.specs.Laws.{IsUndamaged}
+use Rattle.zarr_run_meaning.specs.Laws.{IsUndamaged, HasTables}
 use Rattle.zarr_run_meaning.specs.Requests.{Request, create, reopen, compact, rewrite, path_of, Answer, done, cells, compacted, refused}
 use Rattle.zarr_run_meaning.specs.Rewrites.{IsHeldStill, IsCanonHeld, IsCanonAlone, LeavesCells}
 use Rattle.zarr_run_meaning.specs.Runs.{Run}

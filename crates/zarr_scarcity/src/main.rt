@@ -25,9 +25,9 @@ use crate::older::OLDER;
 use crate::script::PLAIN;
 use crate::shards::SHARDS;
 use crate::stop::Stop;
-use std::alloc::Global;
 use std::io::{Read, Write};
 use std::process::ExitCode;
+use std::thread::Threads;
 
 /// Reads the script's letter, or 0 where there is none. It takes no memory.
 fn read_letter<R: Read>(reader: &mut R) -> u8 {
@@ -39,32 +39,32 @@ fn read_letter<R: Read>(reader: &mut R) -> u8 {
 }
 
 /// Runs the script with this letter.
-fn run(alloc: Global, script: u8) -> Result<(), Stop> {
+fn run<R: AllocGlobal + Threads + Sync>(rt: &R, script: u8) -> Result<(), Stop> {
     match script {
-        b'm' => made::run(alloc),
-        b's' => steps::run(alloc, PLAIN),
-        b'r' => steps::run_over_refusals(alloc, PLAIN),
-        b'p' => steps::run(alloc, SHARDS),
-        b'q' => steps::run_over_refusals(alloc, SHARDS),
-        b'v' => steps::run(alloc, OLDER),
-        b'w' => steps::run_over_refusals(alloc, OLDER),
-        b'l' => lines::run(alloc),
+        b'm' => made::run(rt.alloc()),
+        b's' => steps::run(rt, PLAIN),
+        b'r' => steps::run_over_refusals(rt, PLAIN),
+        b'p' => steps::run(rt, SHARDS),
+        b'q' => steps::run_over_refusals(rt, SHARDS),
+        b'v' => steps::run(rt, OLDER),
+        b'w' => steps::run_over_refusals(rt, OLDER),
+        b'l' => lines::run(rt),
         _ => Err(Stop::Other),
     }
 }
 
 /// Runs a script, and once more where memory ran out in it: one allocation is refused, so the
 /// second run has ample memory.
-fn run_twice(alloc: Global, script: u8) -> Result<(), Stop> {
-    match run(alloc, script) {
-        Err(Stop::Short) => run(alloc, script),
+fn run_twice<R: AllocGlobal + Threads + Sync>(rt: &R, script: u8) -> Result<(), Stop> {
+    match run(rt, script) {
+        Err(Stop::Short) => run(rt, script),
         said => said,
     }
 }
 
 fn main(rt: HostRuntime) -> ExitCode {
     let script = read_letter(&mut rt.stdin());
-    let said = match run_twice(rt.alloc(), script) {
+    let said = match run_twice(&rt, script) {
         Ok(()) => "as stated",
         Err(Stop::Short) => "memory ran out twice",
         Err(Stop::Other) => "another answer",

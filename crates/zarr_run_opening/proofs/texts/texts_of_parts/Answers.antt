@@ -1,8 +1,8 @@
-use Rattle.std.proofs.Common.{◌≡◌, ◌∙◌, ◌≤◌, arith, ap, subst, sym}
+use Rattle.std.proofs.Common.{◌≤◌, arith, ap, subst, sym}
 use Rattle.serde_json.specs.Data.{Data, Members, depth, object}
-use Rattle.serde_json.specs.View.{view, members_view}
+use Rattle.serde_json.specs.View.{members_view}
 use Rattle.serde_json.proofs.Views.{view-Object}
-use Rattle.zarr_array_v2.specs.Attributes.{attributes_of, without_attributes}
+use Rattle.zarr_array_v2.specs.Attributes.{without_attributes}
 use Rattle.zarr_run_opening.proofs.TextLemmas.{depth_attributes, depth_rest}
 use Rattle.zarr_run_opening.proofs.texts.texts_of_parts.Goals as goal
 
