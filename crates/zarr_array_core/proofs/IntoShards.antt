@@ -28,8 +28,9 @@ use Rattle.zarr_array_meaning.specs.Boxes.{cell_of_box}
 use Rattle.zarr_array_meaning.specs.Chunks.{holds_box, number_in}
 use Rattle.zarr_array_meaning.specs.Documents.{Document}
 use Rattle.zarr_array_meaning.specs.Writing.{StopsInto, is_into_shard, may_be_in_part, shared_numbers}
-use Rattle.zarr_array_core.specs.IntoShards.{HasNoRoomFor, IntoShardStops, IsPutInto, NotPutInto, Putting, PutsIntoShard, Write, cells_over, cells_then, shard_refusal_of}
+use Rattle.zarr_array_core.specs.IntoShards.{HasNoRoomFor, IntoShardStops, IsPutInto, NotPutInto, Putting, PutsIntoShard, cells_over, cells_then, shard_refusal_of}
 use Rattle.zarr_array_core.specs.Outcomes.{IsStoreRefusal}
+use Rattle.zarr_array_core.specs.Writes.{Write}
 use Rattle.zarr_array_core.proofs.ChunkPayloads.{listed_none, not_counted}
 use Rattle.zarr_array_core.proofs.ChunkWritten.{cells_at_places}
 use Rattle.zarr_array_core.proofs.PutParts.{ArePut, IsPutCall, are_put, cell_in, cell_out, counted_asked, part_is, part_of, puts_cells}

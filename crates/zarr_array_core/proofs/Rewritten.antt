@@ -44,7 +44,7 @@ key_of false fill (Some value) absent present = sym (ap (λ b. not b) (present v
 
 -- the new value of cells that the old one is decoded to
 pub remade : (array : Array) (store_empty : Bool) (shape old : List ℕ) (cells : List Cell) (made : Option (List ℕ)) → fits array.document.chain array.document.elements.type shape ≡ true → decoded array.document.chain array.document.elements shape old ≡ Some cells
-    → IsNewValue array.document array.exact store_empty shape cells made → IsRewritten array store_empty shape old made
+    → IsNewValue array store_empty shape cells made → IsRewritten array store_empty shape old made
 remade array store_empty shape old cells made fit is new = record {
   fit = fit;
   cells = cells;

@@ -1,66 +1,40 @@
 -- A part of a chunk, put into the chunk's shard.
 use Rattle.std.specs.Prelude.{◌≡◌, ◌⊎◌, ℕ, List, [], ◌∷◌, map, length, Option, Bool, IsTrue, true, false, if◌then◌else◌, None, MatchBool, OnErr, Result}
 use Rattle.std.specs.FinMap.{get}
-use Rattle.std.specs.List.{list_all}
-use Rattle.zarr_grids_boxes.specs.Boxes.{Region, product, places, is_in_box, share_place}
+use Rattle.zarr_grids_boxes.specs.Boxes.{Region, places, is_in_box}
 use Rattle.zarr_grids_boxes.specs.Subsets.{region_of}
 use Rattle.zarr_grids_boxes.specs.declared.subset.ArraySubset.{ArraySubset}
 use Rattle.zarr_grids_chunks.specs.Grids.{IsInGrid, intersecting}
 use Rattle.zarr_grids_keys.specs.Keys.{chunk_key}
-use Rattle.zarr_grids_overlay.specs.Overlays.{extent_of}
 use Rattle.zarr_codecs_meaning.specs.Chains.{Chain}
 use Rattle.zarr_codecs_meaning.specs.Chunks.{chunk_decoded, chunk_part}
 use Rattle.zarr_codecs_meaning.specs.Payloads.{Payload}
 use Rattle.zarr_codecs_meaning.specs.Refusals.{CodecRefuses, PassesIndex}
 use Rattle.zarr_codecs_meaning.specs.Standing.{ChunkStands}
-use Rattle.zarr_codecs_meaning.specs.Types.{Cell, Elements, is_value, is_fill, IsTooLarge}
-use Rattle.zarr_codecs_options.specs.declared.codec_options.CodecOptions.{CodecOptions}
+use Rattle.zarr_codecs_meaning.specs.Types.{Cell, Elements, is_fill}
 use Rattle.zarr_codecs_arrays.specs.Views.{elements_of, payload_of}
 use Rattle.zarr_codecs_arrays.specs.declared.array_bytes.ArrayBytes.{ArrayBytes}
 use Rattle.zarr_codecs_arrays.specs.declared.error.CodecError.{CodecError}
 use Rattle.zarr_codecs_arrays.specs.declared.error.CodecError.TheVariants as codec_error
 use Rattle.zarr_codecs_traits.specs.Indexers.{Asked, in_box}
 use Rattle.zarr_codecs_traits.specs.PartWriting.{ChunkTight, IsEncodedInto, IsPlaced, NotEncodedInto, OnCells, PassesLength, WritesOnce, only_cell}
-use Rattle.zarr_codecs_traits.specs.Patches.{Patch}
 use Rattle.zarr_codecs_traits.specs.Sources.{refused_after}
 use Rattle.zarr_codecs_traits.specs.declared.array_to_bytes.ArrayToBytesCodecTraits as codecs
-use Rattle.zarr_array_meaning.specs.Arrays.{Array, value_at}
+use Rattle.zarr_array_meaning.specs.Arrays.{value_at}
 use Rattle.zarr_array_meaning.specs.Boxes.{cell_of_box}
 use Rattle.zarr_array_meaning.specs.Chunks.{fits_box, number_in}
 use Rattle.zarr_array_meaning.specs.Documents.{Document}
 use Rattle.zarr_array_meaning.specs.Standing.{IsLossless}
 use Rattle.zarr_array_meaning.specs.StoreMaps.{StoreMap}
-use Rattle.zarr_array_meaning.specs.Writing.{StopsInto, WroteChunks, is_into_shard, stores_fill}
+use Rattle.zarr_array_meaning.specs.Writing.{StopsInto, WroteChunks, is_into_shard}
 use Rattle.zarr_array_storage.specs.declared.traits.ReadableStorageTraits as stores
 use Rattle.zarr_array_storage.specs.declared.error.StorageError.{StorageError}
-use Rattle.zarr_array_core.specs.Arrays.{array_of}
-use Rattle.zarr_array_core.specs.ChunkValues.{CellsBecome, ChangesValue, ChangeStops, MakesValue, MergeStops, NewValueStops, PutsCells, with_value}
+use Rattle.zarr_array_core.specs.ChunkValues.{CellsBecome, ChangesValue, ChangeStops, MergeStops, PutsCells, with_value}
 use Rattle.zarr_array_core.specs.Outcomes.{IsStoreRefusal}
-use Rattle.zarr_array_core.specs.PartWrites.{PatchesChunk}
-use Rattle.zarr_array_core.specs.Views.{array_cells, AreSoMany}
+use Rattle.zarr_array_core.specs.Writes.{Write}
 use Rattle.zarr_array_core.specs.declared.array_core.ArrayCore.{ArrayCore}
-use Rattle.zarr_array_core.specs.declared.chunk_value.BoxWrite.{BoxWrite}
 use Rattle.zarr_array_core.specs.declared.error.ChunkError.{ChunkError}
 use Rattle.zarr_array_core.specs.declared.error.ChunkError.TheVariants as error
-
--- the cells of a box that are written to an array, and how they are stored
-pub record Write : Type 0 where
-  pub array : Array
-  pub region : Region
-  pub cells : List Cell
-  pub options : CodecOptions
-
--- the cells that elements written to an array are
-abbrev pub write_of : {C : Type 0} → codecs.Ghosts C → ArrayCore C → BoxWrite → Write
-write_of c array write = record { array = array_of c array; region = extent_of write.region; cells = array_cells array write.bytes.now; options = write.options.now }
-
--- elements are written to a box that shares a place with a chunk: both have as many numbers, the chunk isn't too large, and there are as many values of the array as the box has places
-pub record WritesTo {C : Type 0} (array : ArrayCore C) (write : BoxWrite) (own : ArraySubset) : Type 0 where
-  pub small : ¬ IsTooLarge (elements_of array.elements).type (product own.shape.items)
-  pub shares : share_place own.start.items own.shape.items write.region.start.now write.region.shape.now ≡ true
-  pub rank : length write.region.start.now ≡ length own.start.items
-  pub many : AreSoMany array write.bytes.now (product write.region.shape.now)
-  pub values : list_all (is_value (elements_of array.elements).type) (array_cells array write.bytes.now) ≡ true
 
 -- why it isn't known whether a write puts a part of a chunk into its shard
 abbrev pub IntoUnknown : Document → Region → ChunkError → Type 0
@@ -121,29 +95,9 @@ GetsCells write box stored cells = CellsBecome write.array.document write.region
 abbrev pub GetsNoCells : Write → Region → Option (List ℕ) → ChunkError → Type 0
 GetsNoCells write box stored e = MergeStops write.array.document write.region box stored e
 
--- what a write makes of a chunk's value: the value of its new cells
-abbrev pub GetsValue : Write → Region → Option (List ℕ) → Option (List ℕ) → Type 0
-GetsValue write box stored made = MakesValue write.array.document write.array.exact write.region write.cells (stores_fill write.array.document write.options write.region box) box stored made
-
--- why it makes none
-abbrev pub GetsNoValue : Write → Region → Option (List ℕ) → ChunkError → Type 0
-GetsNoValue write box stored e = NewValueStops write.array.document write.region write.cells (stores_fill write.array.document write.options write.region box) box stored e
-
--- ranges to be written into a chunk's value, which make of it the value of the new cells
-abbrev pub PatchesTo : Write → Region → List Patch → Type 0
-PatchesTo write box patches = PatchesChunk write.array.document write.array.exact write.region write.cells (stores_fill write.array.document write.options write.region box) box patches
-
 -- the cells of a write were put into what is stored for a chunk
 abbrev pub GetsPart : Write → Region → Option (List ℕ) → Option (List ℕ) → Type 0
 GetsPart write box stored made = PutsCells write.array.document write.region write.cells box stored made
-
--- what a write makes of a chunk, if it puts no part of it into its shard
-abbrev pub ChangesChunk : Write → Region → Option (List ℕ) → Option (List ℕ) → Type 0
-ChangesChunk write box stored made = ChangesValue write.array.document write.array.exact write.region write.cells write.options box stored made
-
--- why it changes nothing then
-abbrev pub ChunkStays : Write → Region → Option (List ℕ) → ChunkError → Type 0
-ChunkStays write box stored e = ChangeStops write.array.document write.region write.cells write.options box stored e
 
 -- a key got the value that is made of what it had, or lost it, and no other key changed
 abbrev pub ChangesAt : List ℕ → (Option (List ℕ) → Option (List ℕ) → Type 0) → StoreMap → StoreMap → Type 0
@@ -152,12 +106,12 @@ ChangesAt key makes old new = (made : Option (List ℕ)) × makes (get old key) 
 -- what a write makes of a chunk: it puts a part of it into its shard, or changes its value otherwise
 abbrev pub WritesChunk : Write → Region → Option (List ℕ) → Option (List ℕ) → Type 0
 WritesChunk write box stored made = MatchBool (is_into_shard write.array.document write.options write.region box) (PutsIntoShard write box stored made)
-    (ChangesValue write.array.document write.array.exact write.region write.cells write.options box stored made)
+    (ChangesValue write box stored made)
 
 -- why a write doesn't change a chunk that fits
 abbrev pub FittingStops : Write → Region → Option (List ℕ) → ChunkError → Type 0
 FittingStops write box stored e = MatchBool (is_into_shard write.array.document write.options write.region box) ((fits_box write.array.document box ≡ true) × IntoShardStops write box stored e)
-    (ChangeStops write.array.document write.region write.cells write.options box stored e)
+    (ChangeStops write box stored e)
 
 -- why a write changes nothing in a chunk
 abbrev pub WritingStops : Write → Region → Option (List ℕ) → ChunkError → Type 0

@@ -1,6 +1,8 @@
 pub mod Views
 pub mod Outcomes
 pub mod Parts
+pub mod Writes
+pub mod BoxWrites
 pub mod ChunkValues
 pub mod Calls
 pub mod PartWrites

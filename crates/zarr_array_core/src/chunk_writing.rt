@@ -40,8 +40,9 @@ impl<C: ArrayToBytesCodecTraits> ArrayCore<C> {
     ghost use Rattle.std.specs.Prelude.{◌≡◌, ℕ, List, Option, true, IsTrue, IfOk};
     ghost use Rattle.std.specs.FinMap as map;
     ghost use Rattle.zarr_array_core.specs.Arrays.{array_of, Called, IfHonestErr, OnHonestOk};
-    ghost use Rattle.zarr_array_core.specs.ChunkValues.{OnDamage};
-    ghost use Rattle.zarr_array_core.specs.IntoShards.{ChangesAt, ChangesChunk, ChunkStays, GetsCells, GetsNoCells, GetsNoValue, GetsValue, write_of, WritesTo};
+    ghost use Rattle.zarr_array_core.specs.ChunkValues.{ChangeStops, ChangesValue, MakesValue, NewValueStops, OnDamage};
+    ghost use Rattle.zarr_array_core.specs.IntoShards.{ChangesAt, GetsCells, GetsNoCells};
+    ghost use Rattle.zarr_array_core.specs.BoxWrites.{write_of, WritesTo};
     ghost use Rattle.zarr_array_core.specs.Outcomes.{refused_after};
     ghost use Rattle.zarr_array_core.specs.Views.{array_cells, AreSoMany};
     ghost use Rattle.zarr_array_meaning.specs.Chunks.{fits_box};
@@ -95,10 +96,10 @@ impl<C: ArrayToBytesCodecTraits> ArrayCore<C> {
         requires fit { fits_box (array_of C.ArrayToBytesCodecTraits self.now).document
             (region_of own.now) ≡ true }
         ensures ok { OnHonestOk S.ReadableStorageTraits store.old store.new result
-            (ChangesAt key.now (GetsValue
+            (ChangesAt key.now (MakesValue
             (write_of C.ArrayToBytesCodecTraits self.now write.now) (region_of own.now))) }
         ensures err { IfHonestErr S.ReadableStorageTraits store.old store.new result
-            (λ e before _. GetsNoValue (write_of C.ArrayToBytesCodecTraits self.now write.now)
+            (λ e before _. NewValueStops (write_of C.ArrayToBytesCodecTraits self.now write.now)
             (region_of own.now) (map.get before key.now) e) }
         ensures store { Called S.ReadableStorageTraits 1 store.old store.new result }
         ensures unwritten { OnDamage result
@@ -122,10 +123,10 @@ impl<C: ArrayToBytesCodecTraits> ArrayCore<C> {
     ) -> Result<(), ChunkError>
         requires { WritesTo self.now write.now own.now }
         ensures ok { OnHonestOk S.ReadableStorageTraits store.old store.new result
-            (ChangesAt key.now (ChangesChunk
+            (ChangesAt key.now (ChangesValue
             (write_of C.ArrayToBytesCodecTraits self.now write.now) (region_of own.now))) }
         ensures err { IfHonestErr S.ReadableStorageTraits store.old store.new result
-            (λ e before _. ChunkStays (write_of C.ArrayToBytesCodecTraits self.now write.now)
+            (λ e before _. ChangeStops (write_of C.ArrayToBytesCodecTraits self.now write.now)
             (region_of own.now) (map.get before key.now) e) }
         ensures store { Called S.ReadableStorageTraits 1 store.old store.new result }
     {

@@ -35,7 +35,8 @@ impl<C: ArrayToBytesCodecTraits> ArrayCore<C> {
     ghost use Rattle.std.specs.FinMap as map;
     ghost use Rattle.zarr_array_core.specs.Arrays.{array_of, Called, IfHonestErr, OnHonestOk};
     ghost use Rattle.zarr_array_core.specs.ChunkValues.{with_value};
-    ghost use Rattle.zarr_array_core.specs.IntoShards.{CalledByCodec, ChangesAt, IntoShardStops, IsPutInto, NotPutInto, PutsIntoShard, putting_of, write_of, WritesTo};
+    ghost use Rattle.zarr_array_core.specs.IntoShards.{CalledByCodec, ChangesAt, IntoShardStops, IsPutInto, NotPutInto, PutsIntoShard, putting_of};
+    ghost use Rattle.zarr_array_core.specs.BoxWrites.{write_of, WritesTo};
     ghost use Rattle.zarr_array_meaning.specs.Chunks.{fits_box};
     ghost use Rattle.zarr_array_meaning.specs.Writing.{is_into_shard};
     ghost use Rattle.zarr_grids_boxes.specs.Subsets.{region_of};

@@ -31,8 +31,9 @@ impl<C: ArrayToBytesCodecTraits> ArrayCore<C> {
     ghost use Rattle.std.specs.Prelude.{◌≡◌, List, Some, None, true, false, IsTrue, IfOk, OnOk, IfErr};
     ghost use Rattle.std.specs.FinMap as map;
     ghost use Rattle.zarr_array_core.specs.Arrays.{array_of, Called, IfHonestErr, OnHonestOk};
-    ghost use Rattle.zarr_array_core.specs.ChunkValues.{PutStops};
-    ghost use Rattle.zarr_array_core.specs.IntoShards.{ChangesAt, ChangesChunk, ChunkStays, GetsPart, write_of, WritesTo};
+    ghost use Rattle.zarr_array_core.specs.ChunkValues.{ChangeStops, ChangesValue, PutStops};
+    ghost use Rattle.zarr_array_core.specs.IntoShards.{ChangesAt, GetsPart};
+    ghost use Rattle.zarr_array_core.specs.BoxWrites.{write_of, WritesTo};
     ghost use Rattle.zarr_array_core.specs.Views.{document_of};
     ghost use Rattle.zarr_array_meaning.specs.Chunks.{fits_box, holds_box};
     ghost use Rattle.zarr_array_meaning.specs.Writing.{is_in_part};
@@ -159,10 +160,10 @@ impl<C: ArrayToBytesCodecTraits> ArrayCore<C> {
             (document_of C.meaning self.now).elements own.now.shape.items
             (map.get (S.held store.old) key.now) ≡ None }
         ensures ok { OnHonestOk S.ReadableStorageTraits store.old store.new result
-            (ChangesAt key.now (ChangesChunk
+            (ChangesAt key.now (ChangesValue
             (write_of C.ArrayToBytesCodecTraits self.now write.now) (region_of own.now))) }
         ensures err { IfHonestErr S.ReadableStorageTraits store.old store.new result
-            (λ e before _. ChunkStays (write_of C.ArrayToBytesCodecTraits self.now write.now)
+            (λ e before _. ChangeStops (write_of C.ArrayToBytesCodecTraits self.now write.now)
             (region_of own.now) (map.get before key.now) e) }
         ensures store { Called S.ReadableStorageTraits 1 store.old store.new result }
     {

@@ -56,7 +56,10 @@ impl<C: ArrayToBytesCodecTraits> ArrayCore<C> {
     ghost use Rattle.std.specs.FinMap as map;
     ghost use Rattle.zarr_array_core.specs.Arrays.{array_of, Called, IfHonestErr, OnHonestOk};
     ghost use Rattle.zarr_array_core.specs.Calls.{calls_of};
-    ghost use Rattle.zarr_array_core.specs.IntoShards.{ChangesAt, ChunkStays, GetsNoValue, GetsValue, PatchesTo, write_of, WritesTo};
+    ghost use Rattle.zarr_array_core.specs.ChunkValues.{ChangeStops, NewValueStops, MakesValue};
+    ghost use Rattle.zarr_array_core.specs.IntoShards.{ChangesAt};
+    ghost use Rattle.zarr_array_core.specs.PartWrites.{PatchesChunk};
+    ghost use Rattle.zarr_array_core.specs.BoxWrites.{write_of, WritesTo};
     ghost use Rattle.zarr_array_core.specs.Views.{document_of};
     ghost use Rattle.zarr_array_core.specs.declared.error.ChunkError.TheVariants.{Memory};
     ghost use Rattle.zarr_array_meaning.specs.Chunks.{fits_box, holds_box};
@@ -100,7 +103,7 @@ impl<C: ArrayToBytesCodecTraits> ArrayCore<C> {
         requires writes { WritesTo self.now write.now own.now }
         requires fit { fits_box (array_of C.ArrayToBytesCodecTraits self.now).document
             (region_of own.now) ≡ true }
-        ensures ok { IfOk result (λ found. IfSome found (λ patches. PatchesTo
+        ensures ok { IfOk result (λ found. IfSome found (λ patches. PatchesChunk
             (write_of C.ArrayToBytesCodecTraits self.now write.now) (region_of own.now)
             (patches_in patches))) }
         ensures err { IfErr result (λ e. e ≡ Memory) }
@@ -189,13 +192,13 @@ impl<C: ArrayToBytesCodecTraits> ArrayCore<C> {
             map.get (S.held store.old) key.now ≡ None }
         requires takes { takes_patches (document_of C.meaning self.now).chain
             (document_of C.meaning self.now).elements.type ≡ true }
-        requires patches { PatchesTo (write_of C.ArrayToBytesCodecTraits self.now write.now)
+        requires patches { PatchesChunk (write_of C.ArrayToBytesCodecTraits self.now write.now)
             (region_of own.now) (patches_of patches.now) }
         ensures ok { OnHonestOk S.ReadableStorageTraits store.old store.new result
-            (ChangesAt key.now (GetsValue
+            (ChangesAt key.now (MakesValue
             (write_of C.ArrayToBytesCodecTraits self.now write.now) (region_of own.now))) }
         ensures err { IfHonestErr S.ReadableStorageTraits store.old store.new result
-            (λ e before _. GetsNoValue (write_of C.ArrayToBytesCodecTraits self.now write.now)
+            (λ e before _. NewValueStops (write_of C.ArrayToBytesCodecTraits self.now write.now)
             (region_of own.now) (map.get before key.now) e) }
         ensures store { Called S.ReadableStorageTraits 1 store.old store.new result }
     {
@@ -222,12 +225,12 @@ impl<C: ArrayToBytesCodecTraits> ArrayCore<C> {
     ) -> Result<bool, ChunkError>
         requires { WritesTo self.now write.now own.now }
         ensures ok { IsTrue (S.is_honest store.old) → IfOk result (λ done. done ≡ true →
-            ChangesAt key.now (GetsValue (write_of C.ArrayToBytesCodecTraits self.now write.now)
+            ChangesAt key.now (MakesValue (write_of C.ArrayToBytesCodecTraits self.now write.now)
             (region_of own.now)) (S.held store.old) (S.held store.new)) }
         ensures undone { IsTrue (S.is_honest store.old) → IfOk result (λ done. done ≡ false →
             S.held store.new ≡ S.held store.old) }
         ensures err { IfHonestErr S.ReadableStorageTraits store.old store.new result
-            (λ e before _. ChunkStays (write_of C.ArrayToBytesCodecTraits self.now write.now)
+            (λ e before _. ChangeStops (write_of C.ArrayToBytesCodecTraits self.now write.now)
             (region_of own.now) (map.get before key.now) e) }
         ensures store { Called S.ReadableStorageTraits (calls_of result)
             store.old store.new result }

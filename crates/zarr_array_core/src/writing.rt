@@ -89,7 +89,8 @@ impl<C: ArrayToBytesCodecTraits> ArrayCore<C> {
     ghost use Rattle.zarr_codecs_meaning.specs.Types.{is_value};
     ghost use Rattle.zarr_codecs_arrays.specs.Views.{payload_of};
     ghost use Rattle.zarr_array_core.specs.Arrays.{Called, CalledMany, IfHonestErr, OnHonestOk};
-    ghost use Rattle.zarr_array_core.specs.IntoShards.{StopsAt, WritesAt, WritesMet, write_of};
+    ghost use Rattle.zarr_array_core.specs.IntoShards.{StopsAt, WritesAt, WritesMet};
+    ghost use Rattle.zarr_array_core.specs.BoxWrites.{write_of};
     ghost use Rattle.zarr_array_core.specs.Outcomes.{WriteStops, IsSmall};
     ghost use Rattle.zarr_array_core.specs.Views.{array_cells, AreSoMany, document_of, is_exact, path_of};
 

@@ -11,6 +11,7 @@ use Rattle.zarr_codecs_traits.specs.PartEncoding.{EncodesPart}
 use Rattle.zarr_array_meaning.specs.Chunks.{holds_box}
 use Rattle.zarr_array_core.specs.ChunkValues.{CellsBecome}
 use Rattle.zarr_array_meaning.specs.Writing.{stores_fill}
+use Rattle.zarr_array_core.specs.BoxWrites.{write_of}
 use Rattle.zarr_array_core.specs.Views.{array_cells, document_of}
 use Rattle.zarr_array_elements.proofs.Meeting.{meeting, starts_alike}
 use Rattle.zarr_array_core.proofs.ChunkPayloads.{AreArrayElements}
@@ -63,6 +64,7 @@ pub returns-in-Ok-clause-ok : goal.returns-in-Ok-clause-ok
 returns-in-Ok-clause-ok g c =
     let document = document_of g.C.ArrayToBytesCodecTraits.meaning c.args.self.now in
     let exact = g.C.ArrayToBytesCodecTraits.is_function c.args.self.now.codecs in
+    let write = write_of g.C.ArrayToBytesCodecTraits c.args.self.now c.args.write.now in
     let region : Region = extent_of c.args.write.now.region in
     let box : Region = region_of c.args.own.now in
     let given = array_cells c.args.self.now c.args.write.now.bytes.now in
@@ -85,4 +87,4 @@ returns-in-Ok-clause-ok g c =
     let are : AreShared document region box given payload sub empty = record { share = c.requires.writes.shares; rank = c.requires.writes.rank; fit = c.requires.fit; fine = c.args.self.now.elements.fills; are = elements; becomes = becomes; some = some } in
     let encodes = subst (λ (s : List ℕ). EncodesPart document.chain exact document.elements s (relative (overlapped region box) box.start) payload (Ok c.in-Ok.patches)) c.shape-2.ensures
     (subst (λ (p : Region). EncodesPart document.chain exact document.elements c.shape-2.result.now p payload (Ok c.in-Ok.patches)) part c.in-Ok.ensures) in
-    found_patches document exact region box given payload sub empty c.in-Ok.patches are encodes
+    found_patches write box payload sub c.in-Ok.patches are encodes

@@ -7,7 +7,8 @@ use Rattle.zarr_grids_overlay.specs.Overlays.{extent_of}
 use Rattle.zarr_codecs_meaning.specs.Types.{IsTooLarge}
 use Rattle.zarr_array_meaning.specs.Chunks.{holds_box}
 use Rattle.zarr_codecs_arrays.specs.Views.{payload_of}
-use Rattle.zarr_array_core.specs.IntoShards.{IntoShardStops, write_of}
+use Rattle.zarr_array_core.specs.IntoShards.{IntoShardStops}
+use Rattle.zarr_array_core.specs.BoxWrites.{write_of}
 use Rattle.zarr_array_core.specs.declared.error.ChunkError.{ChunkError}
 use Rattle.zarr_array_core.specs.Views.{array_cells, document_of}
 use Rattle.zarr_array_elements.proofs.Meeting.{meeting, starts_alike}

@@ -7,7 +7,8 @@ use Rattle.zarr_grids_keys.specs.Keys.{chunk_key}
 use Rattle.zarr_grids_overlay.specs.Overlays.{extent_of}
 use Rattle.zarr_array_elements.proofs.Meeting.{shares_own}
 use Rattle.zarr_array_core.specs.ChunkValues.{with_value}
-use Rattle.zarr_array_core.specs.IntoShards.{PutsIntoShard, write_of}
+use Rattle.zarr_array_core.specs.IntoShards.{PutsIntoShard}
+use Rattle.zarr_array_core.specs.BoxWrites.{write_of}
 use Rattle.zarr_array_core.specs.Views.{document_of, path_of}
 use Rattle.zarr_array_core.proofs.ShardWritten.{changed_alike, writes_into, writes_whole}
 use Rattle.zarr_array_core.proofs.array_core.ArrayCore.write_at.Goals as goal
