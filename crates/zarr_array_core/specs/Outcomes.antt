@@ -8,7 +8,7 @@ use Rattle.zarr_codecs_options.specs.declared.codec_options.CodecOptions.{CodecO
 use Rattle.zarr_array_meaning.specs.Boxes.{IsRead, IsDamagedIn, IsUnfitIn}
 use Rattle.zarr_array_meaning.specs.Chunks.{IsNthIntersecting, fits_box}
 use Rattle.zarr_array_meaning.specs.Documents.{Document}
-use Rattle.zarr_array_meaning.specs.StoreMaps.{StoreMap, counted}
+use Rattle.zarr_array_meaning.specs.StoreMaps.{StoreMap, counted, CountsUpTo}
 use Rattle.zarr_array_meaning.specs.Writing.{IsPartDamaged, IsCodecRefused, IsOversized, WroteChunks, ErasedChunks}
 use Rattle.zarr_array_core.specs.declared.error.ChunkError.{ChunkError}
 use Rattle.zarr_array_core.specs.declared.error.ChunkError.TheVariants as error
@@ -72,10 +72,6 @@ pub record WriteStops (path : List ℕ) (document : Document) (exact : Bool) (re
   pub nth : IsNthIntersecting document.grid region stopped.applied chunk box
   pub stops : ChunkStops path document old region cells options chunk box stopped.error
   pub wrote : WroteChunks path document exact region cells options (take stopped.applied (intersecting document.grid region)) old new
-
--- a count after at most n more; it stands still at 2^128 - 1
-abbrev pub CountsUpTo : ℕ → ℕ → ℕ → Type 0
-CountsUpTo n old new = (counted old 0 ≤ new) × (new ≤ old + n)
 
 -- in all, no more writing calls are accepted than a box intersects chunks
 abbrev pub CountsWrites : Document → Region → ℕ → ℕ → Type 0

@@ -1,6 +1,7 @@
 -- What writing a box of cells makes of the chunks that it intersects.
 use Rattle.std.specs.Prelude.{◌≡◌, ◌⊎◌, ℕ, ◌^◌, ◌≤◌, List, [], length, get_or, replicate, Option, Some, None, Bool, IsTrue, true, false, not, ◌&&◌, ◌||◌, if◌then◌else◌, is_some, unwrap_or, MatchBool, MatchOption}
 use Rattle.zarr_grids_boxes.specs.Boxes.{Region, product, is_in_box}
+use Rattle.zarr_grids_boxes.specs.Cuts.{overlapped, relative}
 use Rattle.zarr_grids_chunks.specs.Grids.{IsInGrid}
 use Rattle.zarr_codecs_meaning.specs.Types.{Cell, is_fill}
 use Rattle.zarr_codecs_meaning.specs.Chunks.{chunk_decoded}
@@ -12,7 +13,8 @@ use Rattle.zarr_codecs_meaning.specs.Partial.{encodes_in_part}
 use Rattle.zarr_codecs_meaning.specs.Refusals.{CodecRefuses, PassesIndex}
 use Rattle.zarr_codecs_meaning.specs.Laws.{AreCells}
 use Rattle.zarr_codecs_meaning.specs.Standing.{Stands, ChunkStands}
-use Rattle.zarr_codecs_traits.specs.PartWriting.{PassesLength}
+use Rattle.zarr_codecs_traits.specs.Indexers.{numbers_of}
+use Rattle.zarr_codecs_traits.specs.PartWriting.{PassesLength, StopsPart}
 use Rattle.zarr_sharding_changes.specs.Compactions.{compaction, damaged}
 use Rattle.zarr_array_meaning.specs.Boxes.{cell_of_box, with_chunks}
 use Rattle.zarr_array_meaning.specs.Chunks.{stored_at, fits_box, decoded_at, part_at, ReadsCell, holds_box, is_listed, KeepsOtherKeys}
@@ -48,15 +50,28 @@ takes_cells document options region box stored = if is_in_part document options 
 abbrev pub HasSliceOutside : Document → Region → Option (List ℕ) → Type 0
 HasSliceOutside document box stored = MatchOption stored ⊥ (λ value. compaction document.chain box.shape value ≡ damaged)
 
--- what is stored for a chunk takes the cells of a write: a shard, if it opens and has no slice outside its data part; then the subchunks that the write doesn't meet don't matter
+-- the numbers in a chunk of the places that a box shares with it
+abbrev pub shared_numbers : Region → Region → List ℕ
+shared_numbers region box = numbers_of box.shape (relative (overlapped region box) box.start)
+
+-- what is stored for a chunk stops a write that puts a part of it into its shard: the value can't be read at all, a subchunk that the box meets isn't decoded, or a present slice lies outside the shard's data part. The subchunks that the box doesn't meet don't matter
+abbrev pub StopsInto : Document → Region → Region → Option (List ℕ) → Type 0
+StopsInto document region box stored = MatchOption stored ⊥ (λ value. StopsPart document.chain document.elements box.shape value (shared_numbers region box))
+
+-- behind what is stored for a chunk, and isn't decoded, there is no room for new slices of some cells: they would make 2^63 bytes or more, if the chain keeps every bit
+abbrev pub LacksRoom : Document → Region → Option (List ℕ) → Type 0
+LacksRoom document box stored =
+    (chunk_decoded document.chain document.elements box.shape stored ≡ None) × (IsLossless document → (cells : List Cell) × PassesLength document.chain document.elements box.shape stored cells)
+
+-- what is stored for a chunk takes the cells of a write
 abbrev pub Takes : Document → CodecOptions → Region → Region → Option (List ℕ) → Type 0
 Takes document options region box stored =
-    MatchBool (is_into_shard document options region box) ((opens_in document box stored ≡ true) × (¬ HasSliceOutside document box stored)) (takes_cells document options region box stored ≡ true)
+    MatchBool (is_into_shard document options region box) (¬ StopsInto document region box stored) (takes_cells document options region box stored ≡ true)
 
--- what is stored for a chunk doesn't take them: of a shard a subchunk isn't decoded, or it has a slice outside its data part
+-- what is stored for a chunk doesn't take them, or a shard has no room for them
 abbrev pub Loses : Document → CodecOptions → Region → Region → Option (List ℕ) → Type 0
 Loses document options region box stored =
-    MatchBool (is_into_shard document options region box) ((chunk_decoded document.chain document.elements box.shape stored ≡ None) ⊎ HasSliceOutside document box stored) (takes_cells document options region box stored ≡ false)
+    MatchBool (is_into_shard document options region box) (StopsInto document region box stored ⊎ LacksRoom document box stored) (takes_cells document options region box stored ≡ false)
 
 -- the cell that is read at a place of a chunk, and the fill value where none can be
 abbrev pub cell_read : List ℕ → Document → StoreMap → List ℕ → Region → List ℕ → Cell

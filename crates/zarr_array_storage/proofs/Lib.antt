@@ -1,3 +1,4 @@
+mod GrowthLemmas
 mod KeyLemmas
 pub mod PartialDecoderLemmas
 pub mod PartialEncoderLemmas

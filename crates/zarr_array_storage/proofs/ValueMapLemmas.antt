@@ -99,3 +99,7 @@ insert-same m s v found = same_map nat_list_cmp_total exact_bytes _ _ (λ q.
 -- what the map has at a key where the hash map has a value
 pub found-map_of : {S : Type 0} (m : hash.HashMap (String Global) (Vec ℕ Global) S) (q : List ℕ) (v : Vec ℕ Global) → Some v ≡ hash.get_by_text m q → fin.get (map_of m) q ≡ Some v.items
 found-map_of m q v found = get-map_of m q ∙ sym (ap value_bytes found)
+
+-- and at a key where it has none
+pub missing-map_of : {S : Type 0} (m : hash.HashMap (String Global) (Vec ℕ Global) S) (q : List ℕ) → None ≡ hash.get_by_text m q → fin.get (map_of m) q ≡ None
+missing-map_of m q missing = get-map_of m q ∙ sym (ap value_bytes missing)

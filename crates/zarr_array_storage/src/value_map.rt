@@ -5,14 +5,14 @@ ghost use Rattle.zarr_array_storage.specs.Ranges.{patched_at};
 ghost use Rattle.zarr_array_storage.specs.Stores.{HasBytesAt};
 ghost use Rattle.zarr_array_storage.specs.ValueMaps.{key_bytes};
 ghost use Rattle.zarr_codecs_meaning.specs.Types.{are_bytes};
-ghost use Rattle.zarr_codecs_traits.specs.Patches.{any_too_far, patches_of};
+ghost use Rattle.zarr_codecs_traits.specs.Patches.{any_too_far, extended, patched, patches_of};
 ghost use Rattle.zarr_codecs_traits.specs.Sources.{value_lent};
 
 use std::alloc::{AllocError, Global};
 use std::collections::HashMap;
 use std::marker::Model;
 use zarr_codecs_traits::ValuePatch;
-use zarr_codecs_traits::value_patch::{any_ends_past, overwrite_each, patched};
+use zarr_codecs_traits::value_patch::{overwrite_each, patched};
 
 /// Values in memory, each at a key of its own.
 #[derive(Drop)]
@@ -41,6 +41,46 @@ fn byte_len(value: &[u8]) -> usize
     ensures bytes { are_bytes value.now ≡ true }
 {
     value.len()
+}
+
+/// How many bytes a value has after ranges were written into it.
+fn patched_len(value: &[u8], patches: &[ValuePatch<'_>]) -> usize
+    requires { any_too_far (patches_of patches.now) ≡ false }
+    ensures { result ≡ length (patched value.now (patches_of patches.now)) }
+{
+    let mut len = value.len();
+    for patch in patches {
+        let end = patch.offset as usize + patch.bytes.len();
+        if end > len {
+            len = end;
+        }
+    }
+    len
+}
+
+/// Puts zeros to the end of a value until it has `len` bytes. An `Err` leaves it as it was.
+fn extend(value: &mut Vec<u8>, len: usize) -> Result<(), AllocError>
+    ensures ok { OnOk result (value.new.items ≡ extended value.old.items len) }
+    ensures err { OnErr result (value.new.items ≡ value.old.items) }
+{
+    if len > value.len() {
+        value.resize(len, 0)?;
+    }
+    Ok(())
+}
+
+/// Writes ranges into a value where it stands, one after another, and zeros where a range begins
+/// past its end. An `Err` leaves it as it was.
+fn write_each(value: &mut Vec<u8>, patches: &[ValuePatch<'_>]) -> Result<(), AllocError>
+    requires { any_too_far (patches_of patches.now) ≡ false }
+    ensures ok { OnOk result
+        (value.new.items ≡ patched value.old.items (patches_of patches.now)) }
+    ensures err { OnErr result (value.new.items ≡ value.old.items) }
+{
+    let len = patched_len(value.as_slice(), patches);
+    extend(value, len)?;
+    overwrite_each(value.as_mut_slice(), patches);
+    Ok(())
 }
 
 impl ValueMap {
@@ -101,26 +141,9 @@ impl ValueMap {
         Ok(())
     }
 
-    /// Writes ranges into the value at a key where each of them ends within it, and copies nothing
-    /// else. `false` where there is no value or one of them ends past its end; then none is
-    /// written.
-    fn set_within(&mut self, key: &str, patches: &[ValuePatch<'_>]) -> bool
-        ensures written { result ≡ true → self.new
-            ≡ map.insert self.old key.now (patched_at self.old key.now (patches_of patches.now)) }
-        ensures kept { result ≡ false → self.new ≡ self.old }
-    {
-        let Some(held) = self.values.get_mut(key) else {
-            return false;
-        };
-        if any_ends_past(patches, held.len()) {
-            return false;
-        }
-        overwrite_each(held.as_mut_slice(), patches);
-        true
-    }
-
     /// Writes ranges into the value at a key, one after another; no value counts as empty, and
-    /// zeros come where a range begins past the end. An `Err` leaves all as it was.
+    /// zeros come where a range begins past the end. A value that is there isn't copied. An `Err`
+    /// leaves all as it was.
     pub(crate) fn set_partial(
         &mut self,
         key: &str,
@@ -131,10 +154,10 @@ impl ValueMap {
             ≡ map.insert self.old key.now (patched_at self.old key.now (patches_of patches.now))) }
         ensures err { OnErr result (self.new ≡ self.old) }
     {
-        if self.set_within(key, patches) {
-            return Ok(());
+        if let Some(held) = self.values.get_mut(key) {
+            return write_each(held, patches);
         }
-        let value = patched(self.alloc, self.get(key), patches)?;
+        let value = patched(self.alloc, None, patches)?;
         self.set(key, value)
     }
 

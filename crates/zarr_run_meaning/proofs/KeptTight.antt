@@ -26,7 +26,7 @@ use Rattle.zarr_run_meaning.specs.Laws.{HasTables}
 use Rattle.zarr_run_meaning.specs.Requests.{Request, create, reopen, Answer, done}
 use Rattle.zarr_run_meaning.specs.Rewrites.{ReopensApart}
 use Rattle.zarr_run_meaning.specs.Runs.{world_over}
-use Rattle.zarr_run_meaning.specs.Sound.{IsSoundAt, IsSound, HasNoChunks, IsStoredAs, AsksLossless, AsksOwned, ReadsGood}
+use Rattle.zarr_run_meaning.specs.Sound.{IsSoundAt, IsSound, HasNoChunks, IsStoredAs, AsksFaithful, AsksOwned, ReadsGood}
 use Rattle.zarr_run_meaning.specs.Steps.{Step}
 use Rattle.zarr_run_meaning.specs.Tables.{Table, cell}
 use Rattle.zarr_run_meaning.specs.Tight.{StoreTight, IsTightHeld, IsTightAlone, IsTightThere, BeginsTight, StepsKeepTight, IsEncodedAt, CompactsExactly, AsksRowMajor, RunsKeepTight, OwnedRunsTight, RunsTight}
@@ -223,13 +223,13 @@ abbrev IsEmptyIn : StoreMap → Held → Type 0
 IsEmptyIn store h = IsLossless h.document × HasNoChunks h.path h.document store
 
 -- an array that begins in a sound world over keys that aren't foreign has no chunks
-begun_empty : (reads : ReadsCodecs) (old new : World) (request : Request) (answer : Answer) (path : List ℕ) (h : Held) → IsSound reads old → AsksOwned old request → AsksLossless reads request answer → held_at path old.arrays ≡ None
+begun_empty : (reads : ReadsCodecs) (old new : World) (request : Request) (answer : Answer) (path : List ℕ) (h : Held) → IsSound reads old → AsksOwned old request → AsksFaithful reads request answer → held_at path old.arrays ≡ None
     → Step reads old request answer new → held_at path new.arrays ≡ Some h → IsLossless h.document × HasNoChunks path h.document old.store
 begun_empty reads old new request answer path h sound owned lossless none s found = go (step_begun reads old new request answer s) where
   there : IsEmptyIn old.store h → IsLossless h.document × HasNoChunks path h.document old.store
   there e = let P : List ℕ → Type 0 = λ p. HasNoChunks p h.document old.store in (e.0, subst P (sym (held_at-path path new.arrays h found)) e.1)
 
-  created_empty : (p : List ℕ) (document : Data) (order : SubchunkWriteOrder) → AsksOwned old (create p document order) → AsksLossless reads (create p document order) done → Creates reads p document order old new → IsEmptyIn old.store h
+  created_empty : (p : List ℕ) (document : Data) (order : SubchunkWriteOrder) → AsksOwned old (create p document order) → AsksFaithful reads (create p document order) done → Creates reads p document order old new → IsEmptyIn old.store h
   created_empty p document order own keeps c =
       let P : Held → Type 0 = λ x. IsEmptyIn old.store x in
       ⊎_elim
@@ -241,8 +241,8 @@ begun_empty reads old new request answer path h sound owned lossless none s foun
   go (none_began same) = let g = same path h found in absurd (none-some g.0 (sym none ∙ g.1))
   go (creates p document order is ends c) =
       let P : Request → Type 0 = λ q. AsksOwned old q in
-      let Q : Request → Type 0 = λ q. AsksLossless reads q answer in
-      let R : Answer → Type 0 = λ a. AsksLossless reads (create p document order) a in
+      let Q : Request → Type 0 = λ q. AsksFaithful reads q answer in
+      let R : Answer → Type 0 = λ a. AsksFaithful reads (create p document order) a in
       there (created_empty p document order (subst P is owned) (subst R ends (subst Q is lossless)) c)
   go (reopens p order is ends r) = ⊎_elim
       (λ (again : Reopens p order old new). let g = held_at-ordered p path order old.arrays h (sym (ap (held_at path) again.updates) ∙ found) in absurd (none-some g.0 (sym none ∙ g.1)))
@@ -253,7 +253,7 @@ begun_empty reads old new request answer path h sound owned lossless none s foun
       absurd (opens_none reads old new p order sound (subst P is owned) o.begins.free (subst R ends (subst Q is s))))
       r
 
-module _ (reads : ReadsCodecs) (old new : World) (request : Request) (answer : Answer) (path : List ℕ) (good : ReadsGood reads) (sound : IsSound reads old) (owned : AsksOwned old request) (lossless : AsksLossless reads request answer)
+module _ (reads : ReadsCodecs) (old new : World) (request : Request) (answer : Answer) (path : List ℕ) (good : ReadsGood reads) (sound : IsSound reads old) (owned : AsksOwned old request) (lossless : AsksFaithful reads request answer)
     (there : IsTightThere old path) (s : Step reads old request answer new) where
   -- what was tight, and what begins
   next_tight : (h : Held) → held_at path new.arrays ≡ Some h → IsTightHeld new.store h

@@ -16,7 +16,7 @@ use Rattle.zarr_run_meaning.specs.Changes.{Creates, Reopens, Opens}
 use Rattle.zarr_run_meaning.specs.Laws.{StepsSound, RunsSound, OwnedBegins, OwnedRunsSound}
 use Rattle.zarr_run_meaning.specs.Requests.{Request, create, reopen, Answer, done}
 use Rattle.zarr_run_meaning.specs.Runs.{Run}
-use Rattle.zarr_run_meaning.specs.Sound.{IsSoundAt, IsSound, IsStoredAs, BeginsSound, SoundRun, AllAskLossless, AsksOwned, ReadsGood}
+use Rattle.zarr_run_meaning.specs.Sound.{IsSoundAt, IsSound, IsStoredAs, BeginsSound, SoundRun, AllAskFaithful, AsksOwned, ReadsGood}
 use Rattle.zarr_run_meaning.specs.Steps.{Step}
 use Rattle.zarr_run_meaning.specs.Tables.{Table}
 use Rattle.zarr_run_meaning.specs.Worlds.{Held, World, held_at, is_taken, with_order, WithTable}
@@ -165,7 +165,7 @@ all_still old mid still (request ∷ requests) owned =
     All-cons (AsksOwned mid) request requests (still request (All-head (AsksOwned old) request requests owned)) (all_still old mid still requests (All-tail (AsksOwned old) request requests owned))
 
 -- in such a run each array begins over chunks that stand for cells
-pub owned_run : (reads : ReadsCodecs) (old new : World) (requests : List Request) (answers : List Answer) → ReadsGood reads → All (AsksOwned old) requests → AllAskLossless reads requests answers
+pub owned_run : (reads : ReadsCodecs) (old new : World) (requests : List Request) (answers : List Answer) → ReadsGood reads → All (AsksOwned old) requests → AllAskFaithful reads requests answers
     → IsSound reads old → Run reads old requests answers new → SoundRun reads old requests answers new
 owned_run reads old new [] [] good owned lossless sound r = r
 owned_run reads old new [] (answer ∷ answers) good owned lossless sound r = absurd r

@@ -10,7 +10,7 @@ use Rattle.zarr_run_meaning.specs.Laws.{HasTables}
 use Rattle.zarr_run_meaning.specs.Requests.{Request, create, rewrite, path_of, Answer, done}
 use Rattle.zarr_run_meaning.specs.Rewrites.{IsCanonHeld, IsCanonAlone, ReopensApart}
 use Rattle.zarr_run_meaning.specs.Runs.{Run}
-use Rattle.zarr_run_meaning.specs.Sound.{IsSound, IsSoundAlone, OpensApart, OwnsKeysUnder, AsksOwned, AsksLossless, AllAskLossless, ReadsGood}
+use Rattle.zarr_run_meaning.specs.Sound.{IsSound, IsSoundAlone, OpensApart, OwnsKeysUnder, AsksOwned, AsksFaithful, AllAskFaithful, ReadsGood}
 use Rattle.zarr_run_meaning.specs.Steps.{Step}
 use Rattle.zarr_run_meaning.specs.Tight.{IsTightHeld, AsksRowMajor, AllAskRowMajor}
 use Rattle.zarr_run_meaning.specs.Worlds.{Held, World, held_at, is_row_major, writes_exactly}
@@ -26,13 +26,13 @@ use Rattle.zarr_run_meaning.proofs.Orders.{IsRowMajorThere, orders}
 use Rattle.zarr_run_meaning.proofs.Owning.{steps_own}
 use Rattle.zarr_run_meaning.proofs.Sound.{steps_sound, owned_begins, asks_still, all_still}
 use Rattle.zarr_run_meaning.proofs.TightChunks.{no_chunks_are_tight}
-use Rattle.zarr_run_session.specs.Headline.{Exchanges, IsIntact, BeginsFill, IsPlainThere, EndsCanonAt, IsAloneOrFree, NamesLossless, AsksAlone, AloneStep, RunOf, IsTightExactly, EndsAlone, EndsTables, AsksFresh}
+use Rattle.zarr_run_session.specs.Headline.{Exchanges, IsIntact, BeginsFill, IsPlainThere, EndsCanonAt, IsAloneOrFree, NamesFaithful, AsksAlone, AloneStep, RunOf, IsTightExactly, EndsAlone, EndsTables, AsksFresh}
 use Rattle.zarr_run_session.proofs.Beginning.{free_no_chunks, asks_free, begins_free, free_intact}
 use Rattle.zarr_run_session.proofs.Headline.{All-left, All-right, intact, ends_canon, or_left, or_right, written_exactly}
 use Rattle.zarr_run_session.proofs.Plain.{document_stays, plain_before}
 
-names_parts : (reads : ReadsCodecs) (path : List ℕ) (first last : List Request) (firsts lasts : List Answer) → length first ≡ length firsts → NamesLossless reads path (first ++ last) (firsts ++ lasts)
-    → NamesLossless reads path first firsts × NamesLossless reads path last lasts
+names_parts : (reads : ReadsCodecs) (path : List ℕ) (first last : List Request) (firsts lasts : List Answer) → length first ≡ length firsts → NamesFaithful reads path (first ++ last) (firsts ++ lasts)
+    → NamesFaithful reads path first firsts × NamesFaithful reads path last lasts
 names_parts reads path [] last [] lasts many names = (tt, names)
 names_parts reads path [] last (a ∷ firsts) lasts many names = absurd (cc)
 names_parts reads path (r ∷ first) last [] lasts many names = absurd (cc)
@@ -53,7 +53,7 @@ module _ (reads : ReadsCodecs) (path : List ℕ) (good : ReadsGood reads) (old n
       subst P (same_Some next.sound.array h (sym next.sound.found ∙ found)) next.tight
 
   -- and that of one that begins is
-  tight_begun : held_at path old.arrays ≡ None → (path_of request ≡ path → AsksOwned old request) → (path_of request ≡ path → AsksLossless reads request answer) → IsTightHeld new.store h
+  tight_begun : held_at path old.arrays ≡ None → (path_of request ≡ path → AsksOwned old request) → (path_of request ≡ path → AsksFaithful reads request answer) → IsTightHeld new.store h
   tight_begun none owned lossless =
       let b = begins_free reads old new path h good tables none found request answer owned lossless s in
       begins_tight reads old new request answer path h (λ place. h.document.elements.fill) good none s found
@@ -61,7 +61,7 @@ module _ (reads : ReadsCodecs) (path : List ℕ) (good : ReadsGood reads) (old n
       (no_chunks_are_tight path h.document old.store b.none)
 
 module _ (reads : ReadsCodecs) (path : List ℕ) (good : ReadsGood reads) (old new : World) (request : Request) (answer : Answer) (tables : HasTables reads old)
-    (lossless : path_of request ≡ path → AsksLossless reads request answer) (beside : ReopensApart path request) (s : Step reads old request answer new) where
+    (lossless : path_of request ≡ path → AsksFaithful reads request answer) (beside : ReopensApart path request) (s : Step reads old request answer new) where
   alone_after : IsSoundAlone reads old path → IsSoundAlone reads new path
   alone_after alone = steps_keep_sound reads old new request answer path good tables (reopens_apart reads old new path alone request answer beside) alone s
 
@@ -88,7 +88,7 @@ module _ (reads : ReadsCodecs) (path : List ℕ) (good : ReadsGood reads) (old n
       there
 
 -- an array that is created at the path begins as fill
-fill_there : (reads : ReadsCodecs) (path : List ℕ) (good : ReadsGood reads) (old new : World) (request : Request) (answer : Answer) → HasTables reads old → (path_of request ≡ path → AsksLossless reads request answer) → IsAloneOrFree reads path old
+fill_there : (reads : ReadsCodecs) (path : List ℕ) (good : ReadsGood reads) (old new : World) (request : Request) (answer : Answer) → HasTables reads old → (path_of request ≡ path → AsksFaithful reads request answer) → IsAloneOrFree reads path old
     → Step reads old request answer new → path_of request ≡ path → BeginsFill request answer new
 fill_there reads path good old new (create p document order) done tables lossless there s same =
     let c = s.0 in
@@ -141,7 +141,7 @@ rewritten_canon reads path good old new options tables alone exact unstored s =
     record { sound = sound; canon = subst P (same_Some alone.array sound.array (sym left.0 ∙ sound.found)) left.1 }
 
 module _ (reads : ReadsCodecs) (path : List ℕ) (good : ReadsGood reads) where
-  pub alone_run : (old new : World) (requests : List Request) (answers : List Answer) → HasTables reads old → IsAloneOrFree reads path old → NamesLossless reads path requests answers → All (ReopensApart path) requests
+  pub alone_run : (old new : World) (requests : List Request) (answers : List Answer) → HasTables reads old → IsAloneOrFree reads path old → NamesFaithful reads path requests answers → All (ReopensApart path) requests
       → Run reads old requests answers new → RunOf (AloneStep reads path) old requests answers new
   alone_run old new [] [] tables there names beside r = r
   alone_run old new [] (answer ∷ answers) tables there names beside r = absurd r
@@ -160,7 +160,7 @@ module _ (reads : ReadsCodecs) (path : List ℕ) (good : ReadsGood reads) where
       )
 
   -- the world at the end
-  alone_end : (old new : World) (requests : List Request) (answers : List Answer) → HasTables reads old → IsAloneOrFree reads path old → NamesLossless reads path requests answers → All (ReopensApart path) requests
+  alone_end : (old new : World) (requests : List Request) (answers : List Answer) → HasTables reads old → IsAloneOrFree reads path old → NamesFaithful reads path requests answers → All (ReopensApart path) requests
       → Run reads old requests answers new → HasTables reads new × IsAloneOrFree reads path new
   alone_end old new [] [] tables there names beside r = let P : World → Type 0 = λ w. HasTables reads w × IsAloneOrFree reads path w in subst P (sym r) (tables, there)
   alone_end old new [] (answer ∷ answers) tables there names beside r = absurd r
@@ -178,7 +178,7 @@ module _ (reads : ReadsCodecs) (path : List ℕ) (good : ReadsGood reads) where
       asks
 
   -- tight layout
-  tight_end : (old new : World) (requests : List Request) (answers : List Answer) → HasTables reads old → IsAloneOrFree reads path old → NamesLossless reads path requests answers → All (ReopensApart path) requests
+  tight_end : (old new : World) (requests : List Request) (answers : List Answer) → HasTables reads old → IsAloneOrFree reads path old → NamesFaithful reads path requests answers → All (ReopensApart path) requests
       → AllAskRowMajor path requests answers ⊎ IsPlainThere path new → IsTightExactly path old → Run reads old requests answers new → IsTightExactly path new
   tight_end old new [] [] tables there names beside asks was r = let P : World → Type 0 = λ w. IsTightExactly path w in subst P (sym r) was
   tight_end old new [] (answer ∷ answers) tables there names beside asks was r = absurd r
@@ -197,8 +197,8 @@ module _ (reads : ReadsCodecs) (path : List ℕ) (good : ReadsGood reads) where
   canon_end before after es tables asks r k =
       let rest : Exchanges = (rewrite path k.options ∷ k.last.0, done ∷ k.last.1) in
       let P : List Request → Type 0 = λ q. All (ReopensApart path) q in
-      let Q : List Request → Type 0 = λ q. NamesLossless reads path q es.1 in
-      let R : List Answer → Type 0 = λ a. NamesLossless reads path (k.first.0 ++ rest.0) a in
+      let Q : List Request → Type 0 = λ q. NamesFaithful reads path q es.1 in
+      let R : List Answer → Type 0 = λ a. NamesFaithful reads path (k.first.0 ++ rest.0) a in
       let S : List Request → Type 0 = λ q. Run reads before q es.1 after in
       let T : List Answer → Type 0 = λ a. Run reads before (k.first.0 ++ rest.0) a after in
       let beside = subst P k.requests asks.apart in
@@ -226,7 +226,7 @@ module _ (reads : ReadsCodecs) (path : List ℕ) (good : ReadsGood reads) where
 -- ---- runs from sound worlds
 
 module _ (reads : ReadsCodecs) (path : List ℕ) (good : ReadsGood reads) where
-  tight_sound : (old new : World) (request : Request) (answer : Answer) → AsksOwned old request → AsksLossless reads request answer → IsSound reads old → IsTightExactly path old → Step reads old request answer new
+  tight_sound : (old new : World) (request : Request) (answer : Answer) → AsksOwned old request → AsksFaithful reads request answer → IsSound reads old → IsTightExactly path old → Step reads old request answer new
       → (h : Held) → held_at path new.arrays ≡ Some h → IsTightHeld new.store h
   tight_sound old new request answer own lossless sound was s h found = go (held_at path old.arrays) refl where
     go : (o : Option Held) → held_at path old.arrays ≡ o → IsTightHeld new.store h
@@ -236,7 +236,7 @@ module _ (reads : ReadsCodecs) (path : List ℕ) (good : ReadsGood reads) where
         let away = begins_apart reads old new path alone request answer (owned_begins reads old new request answer good own lossless sound s) s in
         tight_kept reads path good old new request answer (sound_tables reads old good sound) s h found alone away was
 
-  pub sound_tight_end : (old new : World) (requests : List Request) (answers : List Answer) → All (AsksOwned old) requests → AllAskLossless reads requests answers → IsSound reads old
+  pub sound_tight_end : (old new : World) (requests : List Request) (answers : List Answer) → All (AsksOwned old) requests → AllAskFaithful reads requests answers → IsSound reads old
       → AllAskRowMajor path requests answers ⊎ IsPlainThere path new → IsTightExactly path old → Run reads old requests answers new → IsTightExactly path new
   sound_tight_end old new [] [] owned lossless sound asks was r = let P : World → Type 0 = λ w. IsTightExactly path w in subst P (sym r) was
   sound_tight_end old new [] (answer ∷ answers) owned lossless sound asks was r = absurd r

@@ -18,7 +18,7 @@ use Rattle.zarr_run_meaning.specs.Causes.{IsChunkKey, ReopenRefuses}
 use Rattle.zarr_run_meaning.specs.Changes.{Reopens, Opens}
 use Rattle.zarr_run_meaning.specs.Laws.{HasTables}
 use Rattle.zarr_run_meaning.specs.Requests.{Request, create, reopen, write, read, erase, compact, rewrite, path_of, Answer, done, refused}
-use Rattle.zarr_run_meaning.specs.Sound.{IsSoundAlone, BeginsSound, HasNoChunks, OwnsKeysUnder, IsOwned, AsksOwned, AsksLossless, ReadsGood}
+use Rattle.zarr_run_meaning.specs.Sound.{IsSoundAlone, BeginsSound, HasNoChunks, OwnsKeysUnder, IsOwned, AsksOwned, AsksFaithful, ReadsGood}
 use Rattle.zarr_run_meaning.specs.Steps.{RefusesHeld, RefusesWrite, RefusesRead, RefusesErase, RefusesCompact, RefusesRewrite, Step}
 use Rattle.zarr_run_meaning.specs.Worlds.{Held, World, held_at, is_taken}
 use Rattle.zarr_run_meaning.proofs.Alone.{begins_alone}
@@ -53,7 +53,7 @@ pub record BeganFree (reads : ReadsCodecs) (old new : World) (path : List ℕ) (
 
 module _ (reads : ReadsCodecs) (old new : World) (path : List ℕ) (h : Held) (good : ReadsGood reads) (tables : HasTables reads old) (none : held_at path old.arrays ≡ None)
     (found : held_at path new.arrays ≡ Some h) where
-  created_free : (p : List ℕ) (document : Data) (order : SubchunkWriteOrder) → (p ≡ path → OwnsKeysUnder p old) → (p ≡ path → AsksLossless reads (create p document order) done) → Step reads old (create p document order) done new → BeganFree reads old new path h
+  created_free : (p : List ℕ) (document : Data) (order : SubchunkWriteOrder) → (p ≡ path → OwnsKeysUnder p old) → (p ≡ path → AsksFaithful reads (create p document order) done) → Step reads old (create p document order) done new → BeganFree reads old new path h
   created_free p document order own lossless s =
       let c = s.0 in
       let b = created_array reads old new p document order c in
@@ -85,14 +85,14 @@ module _ (reads : ReadsCodecs) (old new : World) (path : List ℕ) (h : Held) (g
       (λ before. none-some h (sym none ∙ before))
       (held_at-more path old.arrays (opened_array reads old new p order o) h o.begins.free (sym (ap (held_at path) o.begins.holds) ∙ found))
 
-  pub begins_free : (request : Request) (answer : Answer) → (path_of request ≡ path → AsksOwned old request) → (path_of request ≡ path → AsksLossless reads request answer) → Step reads old request answer new → BeganFree reads old new path h
+  pub begins_free : (request : Request) (answer : Answer) → (path_of request ≡ path → AsksOwned old request) → (path_of request ≡ path → AsksFaithful reads request answer) → Step reads old request answer new → BeganFree reads old new path h
   begins_free request answer owned lossless s = go (step_begun reads old new request answer s) where
     go : Begun reads request answer old new → BeganFree reads old new path h
     go (none_began same) = let g = same path h found in absurd (none-some g.0 (sym none ∙ g.1))
     go (creates p document order is ends c) =
-        let P : Request → Type 0 = λ q. path_of q ≡ path → AsksLossless reads q answer in
+        let P : Request → Type 0 = λ q. path_of q ≡ path → AsksFaithful reads q answer in
         let T : Request → Type 0 = λ q. path_of q ≡ path → AsksOwned old q in
-        let Q : Answer → Type 0 = λ a. p ≡ path → AsksLossless reads (create p document order) a in
+        let Q : Answer → Type 0 = λ a. p ≡ path → AsksFaithful reads (create p document order) a in
         let R : Request → Type 0 = λ q. Step reads old q answer new in
         let S : Answer → Type 0 = λ a. Step reads old (create p document order) a new in
         created_free p document order (subst T is owned) (subst Q ends (subst P is lossless)) (subst S ends (subst R is s))

@@ -17,7 +17,7 @@ use Rattle.zarr_run_meaning.specs.Laws.{IsUndamaged}
 use Rattle.zarr_run_meaning.specs.Requests.{Request, create, reopen, compact, rewrite, path_of, Answer, done, cells, compacted, refused}
 use Rattle.zarr_run_meaning.specs.Rewrites.{IsHeldStill, IsCanonHeld, IsCanonAlone, LeavesCells}
 use Rattle.zarr_run_meaning.specs.Runs.{Run}
-use Rattle.zarr_run_meaning.specs.Sound.{IsSoundAt, IsSound, IsSoundAlone, BeginsSound, AsksOwned, AsksLossless, AllAskLossless, ReadsGood}
+use Rattle.zarr_run_meaning.specs.Sound.{IsSoundAt, IsSound, IsSoundAlone, BeginsSound, AsksOwned, AsksFaithful, AllAskFaithful, ReadsGood}
 use Rattle.zarr_run_meaning.specs.Steps.{Step}
 use Rattle.zarr_run_meaning.specs.Tight.{IsTightHeld}
 use Rattle.zarr_run_meaning.specs.Worlds.{Held, World, held_at, with_order, is_row_major, writes_exactly}
@@ -48,7 +48,7 @@ pub All-right : {X : Type 0} (P : X → Type 0) (xs ys : List X) → All P (xs +
 All-right P [] ys all = all
 All-right P (x ∷ xs) ys all = All-right P xs ys (All-tail P x (xs ++ ys) all)
 
-lossless_parts : (reads : ReadsCodecs) (first last : List Request) (firsts lasts : List Answer) → length first ≡ length firsts → AllAskLossless reads (first ++ last) (firsts ++ lasts) → AllAskLossless reads first firsts × AllAskLossless reads last lasts
+lossless_parts : (reads : ReadsCodecs) (first last : List Request) (firsts lasts : List Answer) → length first ≡ length firsts → AllAskFaithful reads (first ++ last) (firsts ++ lasts) → AllAskFaithful reads first firsts × AllAskFaithful reads last lasts
 lossless_parts reads [] last [] lasts many asks = (tt, asks)
 lossless_parts reads [] last (a ∷ firsts) lasts many asks = absurd (cc)
 lossless_parts reads (r ∷ first) last [] lasts many asks = absurd (cc)
@@ -160,7 +160,7 @@ module _ (reads : ReadsCodecs) (good : ReadsGood reads) where
 
   -- ---- runs
 
-  begins_fill : (old new : World) (request : Request) (answer : Answer) → AsksOwned old request → AsksLossless reads request answer → IsSound reads old → Step reads old request answer new → BeginsFill request answer new
+  begins_fill : (old new : World) (request : Request) (answer : Answer) → AsksOwned old request → AsksFaithful reads request answer → IsSound reads old → Step reads old request answer new → BeginsFill request answer new
   begins_fill old new (create path document order) done owned lossless sound s =
       let c = s.0 in
       let h = created_array reads old new path document order c in
@@ -168,7 +168,7 @@ module _ (reads : ReadsCodecs) (good : ReadsGood reads) where
       (h, found, creates_fill reads old new path document order h good s found (lossless c.meaning c.opens) (owned_has_no_chunks reads old path c.meaning sound owned c.node c.free))
   begins_fill old new request answer owned lossless sound s = tt
 
-  pub table_run : (old new : World) (requests : List Request) (answers : List Answer) → All (AsksOwned old) requests → AllAskLossless reads requests answers → IsSound reads old → Run reads old requests answers new → TableRun reads old requests answers new
+  pub table_run : (old new : World) (requests : List Request) (answers : List Answer) → All (AsksOwned old) requests → AllAskFaithful reads requests answers → IsSound reads old → Run reads old requests answers new → TableRun reads old requests answers new
   table_run old new [] [] owned lossless sound r = r
   table_run old new [] (answer ∷ answers) owned lossless sound r = absurd r
   table_run old new (request ∷ requests) [] owned lossless sound r = absurd r
@@ -196,7 +196,7 @@ module _ (reads : ReadsCodecs) (good : ReadsGood reads) where
   -- what the last rewrite leaves
   module _ (path : List ℕ) (before after : World) (first last : Exchanges) (options : CodecOptions) (unstored : options.store_empty_chunks ≡ false) (many : length first.0 ≡ length first.1)
       (written : (is_row_major_after path first.0 first.1 (is_row_major_at path before) ≡ true) ⊎ IsPlainThere path after) (leaves : All (LeavesCells path) last.0) (sound : IsSound reads before)
-      (owned : All (AsksOwned before) (first.0 ++ rewrite path options ∷ last.0)) (lossless : AllAskLossless reads (first.0 ++ rewrite path options ∷ last.0) (first.1 ++ done ∷ last.1)) where
+      (owned : All (AsksOwned before) (first.0 ++ rewrite path options ∷ last.0)) (lossless : AllAskFaithful reads (first.0 ++ rewrite path options ∷ last.0) (first.1 ++ done ∷ last.1)) where
     end_canon : (mid next : World) → Run reads before first.0 first.1 mid → Step reads mid (rewrite path options) done next → Run reads next last.0 last.1 after → (h : Held) × (held_at path after.arrays ≡ Some h) × IsCanonHeld after.store h
     end_canon mid next start s rest =
         let asks = lossless_parts reads first.0 (rewrite path options ∷ last.0) first.1 (done ∷ last.1) many lossless in
@@ -217,8 +217,8 @@ module _ (reads : ReadsCodecs) (good : ReadsGood reads) where
   pub ends_canon : (before after : World) (es : Exchanges) → IsSound reads before → AsksFresh reads before es → Run reads before es.0 es.1 after → EndsCanon before es after
   ends_canon before after es sound fresh r path k =
       let P : List Request → Type 0 = λ q. All (AsksOwned before) q in
-      let Q : List Request → Type 0 = λ q. AllAskLossless reads q es.1 in
-      let R : List Answer → Type 0 = λ a. AllAskLossless reads (k.first.0 ++ rewrite path k.options ∷ k.last.0) a in
+      let Q : List Request → Type 0 = λ q. AllAskFaithful reads q es.1 in
+      let R : List Answer → Type 0 = λ a. AllAskFaithful reads (k.first.0 ++ rewrite path k.options ∷ k.last.0) a in
       let S : List Request → Type 0 = λ q. Run reads before q es.1 after in
       let T : List Answer → Type 0 = λ a. Run reads before (k.first.0 ++ rewrite path k.options ∷ k.last.0) a after in
       let parts = runs_go_on reads before after k.first.0 (rewrite path k.options ∷ k.last.0) k.first.1 (done ∷ k.last.1) k.many (subst T k.answers (subst S k.requests r)) in
