@@ -40,3 +40,4 @@ pub mod NumberedSubchunks
 pub mod BoxCuts
 pub mod BoxRead
 pub mod AsIs
+pub mod FixedPut

@@ -12,6 +12,7 @@ pub mod configuration;
 mod decoding;
 mod encoding;
 mod fitting;
+mod fixed_group;
 pub mod index_codec;
 mod inner;
 pub mod options;

@@ -3,13 +3,14 @@ ghost use Rattle.std.specs.Prelude.{◌≡◌, ◌<◌, ◌∷◌, List, [], len
 ghost use Rattle.std.specs.List.{list_all};
 ghost use Rattle.zarr_codecs_arrays.specs.Outcomes.{IsCounted};
 ghost use Rattle.zarr_codecs_arrays.specs.Views.{elements_of, payload_of};
-ghost use Rattle.zarr_codecs_meaning.specs.Payloads.{cells_in};
+ghost use Rattle.zarr_codecs_meaning.specs.Payloads.{cells_in, fixed};
 ghost use Rattle.zarr_codecs_meaning.specs.Types.{Cell};
 ghost use Rattle.zarr_grids_boxes.specs.Boxes.{product};
 ghost use Rattle.zarr_sharding_codec.specs.PartWriting.{group_put, insides, positions};
 
 use crate::codec::ShardingCodec;
 use crate::decoding::fill_piece;
+use crate::fixed_group::put_fixed;
 use crate::partial::NumberedPlaces;
 use crate::slices::store_piece;
 use std::alloc::{AllocError, Global};
@@ -364,6 +365,54 @@ fn one_change(alloc: Global, change: SliceChange) -> Result<Vec<SliceChange>, Al
 /// among all new ones. `Err` where an allocation failed, and where these are no elements of the
 /// subchunk, or no places of it or of the new ones.
 fn put_given(
+    alloc: Global,
+    piece: ArrayBytes,
+    edges: &[u64],
+    group: &[AskedPlace],
+    given: &ArrayBytes,
+    elements: &Elements,
+) -> Result<ArrayBytes, AllocError>
+    ensures { (before cells : List Cell) → IsCounted (elements_of elements.now).type
+        (payload_of piece) (product edges.now) before
+        → cells_in (elements_of elements.now).type (payload_of given.now) ≡ Some cells
+        → list_all (λ n. nat_lt n (length cells)) (positions group.now) ≡ true
+        → list_all (λ n. nat_lt n (product edges.now)) (insides group.now) ≡ true
+        → IfOk result (λ made. cells_in (elements_of elements.now).type (payload_of made)
+        ≡ Some (group_put (elements_of elements.now).fill group.now cells before)) }
+{
+    match piece {
+        ArrayBytes::Fixed(bytes) => put_sized(bytes, group, given, elements),
+        piece => put_listed(alloc, piece, edges, group, given, elements),
+    }
+}
+
+/// `put_given` for a subchunk's elements of one size.
+fn put_sized(
+    bytes: Vec<u8>,
+    group: &[AskedPlace],
+    given: &ArrayBytes,
+    elements: &Elements,
+) -> Result<ArrayBytes, AllocError>
+    ensures { (before cells : List Cell)
+        → cells_in (elements_of elements.now).type (fixed bytes.items) ≡ Some before
+        → cells_in (elements_of elements.now).type (payload_of given.now) ≡ Some cells
+        → IfOk result (λ made. cells_in (elements_of elements.now).type (payload_of made)
+        ≡ Some (group_put (elements_of elements.now).fill group.now cells before)) }
+{
+    let ArrayBytes::Fixed(given) = given else {
+        return Err(AllocError);
+    };
+    match elements.data_type().byte_width() {
+        Some(width) if width > 0 => {
+            let made = put_fixed(bytes, width, group, given.as_slice())?;
+            Ok(ArrayBytes::Fixed(made))
+        }
+        _ => Err(AllocError),
+    }
+}
+
+/// `put_given` by the numbers of all elements.
+fn put_listed(
     alloc: Global,
     piece: ArrayBytes,
     edges: &[u64],
