@@ -33,13 +33,15 @@ use Rattle.zarr_codecs_meaning.proofs.Lists.{some_same}
 use Rattle.zarr_codecs_meaning.proofs.Tight.{encoded_tight, tight_stands}
 use Rattle.zarr_codecs_traits.specs.PartWriting.{ChunkTight}
 use Rattle.zarr_codecs_options.specs.declared.codec_options.CodecOptions.{CodecOptions}
+use Rattle.zarr_array_meaning.specs.Arrays.{Array}
 use Rattle.zarr_array_meaning.specs.Boxes.{cell_of_box, with_chunks}
 use Rattle.zarr_array_meaning.specs.Chunks.{number_in, stored_at, fits_box, part_at, ReadsCell, holds_box, is_listed}
 use Rattle.zarr_array_meaning.specs.Documents.{Document}
 use Rattle.zarr_array_meaning.specs.Standing.{ChunkStandsAt, ChunkTightAt, IsLossless, IsGood, AreValues}
 use Rattle.zarr_array_meaning.specs.StoreMaps.{StoreMap}
-use Rattle.zarr_array_meaning.specs.Writing.{ChunkBecomes, HasSliceOutside, IsKeyed, HasKeys, Takes, WroteChunks, cell_read, is_into_shard, may_be_in_part, opens_in, stores_fill, takes_cells}
+use Rattle.zarr_array_meaning.specs.Writing.{ChunkBecomes, IsKeyed, HasKeys, StopsInto, Takes, WroteChunks, cell_read, is_into_shard, may_be_in_part, opens_in, stores_fill, takes_cells}
 use Rattle.zarr_array_core.specs.ChunkValues.{CellsBecome, ChangesValue, IsNewValue, MakesValue, PutsPart, with_value}
+use Rattle.zarr_array_core.specs.Writes.{Write}
 use Rattle.zarr_array_meaning.proofs.HeldBoxes.{held_place, not_held}
 use Rattle.zarr_array_meaning.proofs.TakenParts.{part_of_decoded, read_of_decoded, takes_decoded}
 use Rattle.zarr_array_core.proofs.InParts.{parts_of_write}
@@ -104,6 +106,10 @@ value_other store key other made ne = ⊎_elim
 
 -- ---- what is so of one chunk
 
+-- a write of cells to an array
+abbrev pub write_at : List ℕ → Document → Bool → Region → List Cell → CodecOptions → Write
+write_at path document exact region given options = record { array = record { path = path; document = document; exact = exact }; region = region; cells = given; options = options }
+
 -- keys of two chunks are two
 pub record AreApart (path : List ℕ) (document : Document) : Type 0 where
   pub keys : (c d : List ℕ) (box other : Region) → IsInGrid document.grid c box → IsInGrid document.grid d other → d ≢ c → chunk_key path document.keys d ≢ chunk_key path document.keys c
@@ -116,7 +122,7 @@ pub record IsWrite (path : List ℕ) (document : Document) (exact : Bool) (regio
   pub rank : length region.start ≡ length box.start
   pub below : IsInGrid document.grid chunk box
   pub whole : is_into_shard document options region box ≡ false
-  pub makes : MakesValue document exact region given (stores_fill document options region box) box (stored_at path document old chunk) made
+  pub makes : MakesValue (write_at path document exact region given options) box (stored_at path document old chunk) made
 
 -- a fact of the one chunk that is listed
 pub at_one : (grid : Grid) (P : List ℕ → Region → Type 0) (chunk d : List ℕ) (box other : Region) → IsInGrid grid chunk box → IsInGrid grid d other → is_listed (chunk ∷ []) d ≡ true → P chunk box → P d other
@@ -175,10 +181,10 @@ chunk_stands chain elements shape None cells lawful fit lossless are h = h
 chunk_stands chain elements shape (Some value) cells lawful fit lossless are h = tight_stands chain elements shape value cells lawful fit lossless are h
 
 -- what is encoded has such slices
-new_tight : (document : Document) (exact store_empty : Bool) (shape : List ℕ) (cells : List Cell) (made : Option (List ℕ)) → IsLawfulChain document.chain → fits document.chain document.elements.type shape ≡ true → is_lossless document.chain document.elements.type ≡ true → AreCells document.elements shape cells
-    → IsTrue exact → IsNewValue document exact store_empty shape cells made → ChunkTight document.chain document.elements shape made cells
-new_tight document exact store_empty shape cells None lawful fit lossless are one is = (is.absent refl).1
-new_tight document exact store_empty shape cells (Some value) lawful fit lossless are one is = encoded_tight document.chain document.elements shape value cells lawful fit lossless are (is.encodes one value refl)
+new_tight : (array : Array) (store_empty : Bool) (shape : List ℕ) (cells : List Cell) (made : Option (List ℕ)) → IsLawfulChain array.document.chain → fits array.document.chain array.document.elements.type shape ≡ true → is_lossless array.document.chain array.document.elements.type ≡ true → AreCells array.document.elements shape cells
+    → IsTrue array.exact → IsNewValue array store_empty shape cells made → ChunkTight array.document.chain array.document.elements shape made cells
+new_tight array store_empty shape cells None lawful fit lossless are one is = (is.absent refl).1
+new_tight array store_empty shape cells (Some value) lawful fit lossless are one is = encoded_tight array.document.chain array.document.elements shape value cells lawful fit lossless are (is.encodes one value refl)
 
 -- the new cells, where the chunk stood for others
 cell_after : (path : List ℕ) (document : Document) (exact : Bool) (region : Region) (given : List Cell) (options : CodecOptions) (chunk : List ℕ) (box : Region) (old : StoreMap) (made : Option (List ℕ)) (cells : List ℕ → Cell) (place : List ℕ) (t : Bool) (w : IsWrite path document exact region given options chunk box old made) → IsLossless document
@@ -219,7 +225,7 @@ tight_here path document exact region given options chunk box old made cells w o
     let are = listed_cells document chunk box cells w.good w.below values in
     let stands = stored_where document box (stored_at path document old chunk) (map cells (places box.start box.shape)) w.makes.fit
     (chunk_stands document.chain document.elements box.shape (stored_at path document old chunk) (map cells (places box.start box.shape)) w.good.lawful w.makes.fit lossless are st) in
-    let now = new_tight document exact (stores_fill document options region box) box.shape w.makes.cells made w.good.lawful w.makes.fit lossless
+    let now = new_tight (record { path = path; document = document; exact = exact }) (stores_fill document options region box) box.shape w.makes.cells made w.good.lawful w.makes.fit lossless
     (cells_are document region given (stored_at path document old chunk) box w.makes.cells w.good w.makes.becomes) one w.makes.is in
     subst (λ (cs : List Cell). ChunkTight document.chain document.elements box.shape (stored_at path document (new_store path document old chunk made) chunk) cs)
     (new_cells path document exact region given options chunk box old made cells w lossless values stands)
@@ -336,7 +342,7 @@ called_for (Some value) false fill none some = sym (ap not (some value refl refl
 -- what takes the cells of a write that isn't into a shard
 taken_whole : (document : Document) (options : CodecOptions) (region box : Region) (stored : Option (List ℕ)) → is_into_shard document options region box ≡ false → takes_cells document options region box stored ≡ true → Takes document options region box stored
 taken_whole document options region box stored whole h =
-    subst (λ (b : Bool). MatchBool b ((opens_in document box stored ≡ true) × (¬ HasSliceOutside document box stored)) (takes_cells document options region box stored ≡ true)) (sym whole) h
+    subst (λ (b : Bool). MatchBool b (¬ StopsInto document region box stored) (takes_cells document options region box stored ≡ true)) (sym whole) h
 
 pub becomes_at : (path : List ℕ) (document : Document) (region : Region) (given : List Cell) (options : CodecOptions) (chunk : List ℕ) (box : Region) (store : StoreMap) (cells : List Cell) → fits_box document box ≡ true
     → CellsBecome document region given (stored_at path document store chunk) box cells → ChunkBecomes path document store region given options chunk box cells
@@ -385,13 +391,13 @@ wrote_one path document exact region given options chunk box old made w = record
 -- ---- one chunk written in part
 
 -- a chunk in the grid into whose value a write puts cells, and what is known of the write
-pub record IsPutting (path : List ℕ) (document : Document) (region : Region) (given : List Cell) (options : CodecOptions) (chunk : List ℕ) (box : Region) (old : StoreMap) (made : Option (List ℕ)) : Type 0 where
+pub record IsPutting (path : List ℕ) (document : Document) (exact : Bool) (region : Region) (given : List Cell) (options : CodecOptions) (chunk : List ℕ) (box : Region) (old : StoreMap) (made : Option (List ℕ)) : Type 0 where
   pub good : IsGood document
   pub apart : AreApart path document
   pub below : IsInGrid document.grid chunk box
-  pub puts : PutsPart document region given options box (stored_at path document old chunk) made
+  pub puts : PutsPart (write_at path document exact region given options) box (stored_at path document old chunk) made
 
-module _ (path : List ℕ) (document : Document) (exact : Bool) (region : Region) (given : List Cell) (options : CodecOptions) (chunk : List ℕ) (box : Region) (old : StoreMap) (made : Option (List ℕ)) (w : IsPutting path document region given options chunk box old made) where
+module _ (path : List ℕ) (document : Document) (exact : Bool) (region : Region) (given : List Cell) (options : CodecOptions) (chunk : List ℕ) (box : Region) (old : StoreMap) (made : Option (List ℕ)) (w : IsPutting path document exact region given options chunk box old made) where
   abbrev after : StoreMap
   after = new_store path document old chunk made
 
@@ -514,7 +520,7 @@ pub record IsChange (path : List ℕ) (document : Document) (region : Region) (c
   pub below : IsInGrid document.grid chunk box
 
 pub wrote_changed : (path : List ℕ) (document : Document) (exact : Bool) (region : Region) (given : List Cell) (options : CodecOptions) (chunk : List ℕ) (box : Region) (old : StoreMap) (made : Option (List ℕ)) → IsChange path document region chunk box → is_into_shard document options region box ≡ false
-    → ChangesValue document exact region given options box (stored_at path document old chunk) made → WroteChunks path document exact region given options (chunk ∷ []) old (new_store path document old chunk made)
+    → ChangesValue (write_at path document exact region given options) box (stored_at path document old chunk) made → WroteChunks path document exact region given options (chunk ∷ []) old (new_store path document old chunk made)
 wrote_changed path document exact region given options chunk box old made is t (inl makes) =
     wrote_one path document exact region given options chunk box old made (record { good = is.good; apart = is.apart; region_rank = is.region_rank; rank = is.rank; below = is.below; whole = t; makes = makes })
 wrote_changed path document exact region given options chunk box old made is t (inr puts) =

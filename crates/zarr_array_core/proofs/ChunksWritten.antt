@@ -28,8 +28,8 @@ use Rattle.zarr_array_core.specs.IntoShards.{WritesChunk, WritingStops}
 use Rattle.zarr_array_core.specs.Outcomes.{WriteStops}
 use Rattle.zarr_array_core.specs.declared.error.ChunkError.{ChunkError}
 use Rattle.zarr_array_core.proofs.ChunkCells.{cell_value}
-use Rattle.zarr_array_core.proofs.ChunkWritten.{AreApart, box_rank}
-use Rattle.zarr_array_core.proofs.ShardWritten.{chunk_stops, write_at, wrote_chunk}
+use Rattle.zarr_array_core.proofs.ChunkWritten.{AreApart, box_rank, write_at}
+use Rattle.zarr_array_core.proofs.ShardWritten.{chunk_stops, wrote_chunk}
 use Rattle.zarr_array_core.proofs.Listed.{list_any-append, listed_one, one_listed, listed_more, before_listed, last_listed, listed_number}
 use Rattle.zarr_array_core.proofs.NthChunks.{first_chunks, first_chunks-more, first_chunks-all, first_chunks-take, first_chunks-below, nth_number, length-intersecting}
 

@@ -57,7 +57,7 @@ nothing_gained array chunk box value store below stored fit what = stays_so arra
 -- ---- a value that is not compacted
 pub compact_stops : (array : Array) (chunk : List ℕ) (box : Region) (value : List ℕ) (store : StoreMap) (e : ChunkError) → IsInGrid array.document.grid chunk box → value_at array store chunk ≡ Some value → CompactsValue array.document box.shape value (Err e) → CompactStops array chunk e store
 compact_stops array chunk box value store error.Fit below stored is = record { box = box; below = below; value = value; stored = stored; stops = is }
-compact_stops array chunk box value store (error.Storage s) below stored is = tt
+compact_stops array chunk box value store (error.Storage s) below stored is = absurd is
 compact_stops array chunk box value store error.Damage below stored is = record { box = box; below = below; value = value; stored = stored; stops = is }
 compact_stops array chunk box value store error.Codec below stored is = record { box = box; below = below; value = value; stored = stored; stops = is }
 compact_stops array chunk box value store error.Size below stored is = record { box = box; below = below; value = value; stored = stored; stops = is }
@@ -65,7 +65,7 @@ compact_stops array chunk box value store error.Memory below stored is = tt
 
 pub store_stops : (array : Array) (chunk : List ℕ) (e : ChunkError) (store : StoreMap) → IsErasureStop e → CompactStops array chunk e store
 store_stops array chunk error.Fit store is = absurd is
-store_stops array chunk (error.Storage s) store is = tt
+store_stops array chunk (error.Storage s) store is = is
 store_stops array chunk error.Damage store is = absurd is
 store_stops array chunk error.Codec store is = absurd is
 store_stops array chunk error.Size store is = absurd is

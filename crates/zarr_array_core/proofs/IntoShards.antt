@@ -1,6 +1,6 @@
 -- A part of a chunk that a codec put into the chunk's shard, or why it did not.
 use Rattle.std.proofs.Common.{◌≡◌, ◌∙◌, ℕ, ◌<◌, Bool, true, false, ◌&&◌, if◌then◌else◌, List, [], ◌∷◌, length, map, get_or, set, refl, sym, ap, subst, arith, Option, Some, None, Err, inl, inr, ◌⊎◌}
-use Rattle.std.specs.Prelude.{not}
+use Rattle.std.specs.Prelude.{not, MatchOption}
 use Rattle.std.specs.List.{list_all}
 use Rattle.std.proofs.lemmas.Bool.{and_parts, false≢true}
 use Rattle.std.proofs.lemmas.List.{get_or-map, length-map, length-set}
@@ -8,28 +8,29 @@ use Rattle.std.proofs.lemmas.List.FromFn.{get_or-map-range_with_len, length-map-
 use Rattle.zarr_grids_boxes.specs.Boxes.{Region, product, places, is_in_box}
 use Rattle.zarr_grids_boxes.specs.Cuts.{overlapped}
 use Rattle.zarr_codecs_meaning.specs.Chains.{Chain}
-use Rattle.zarr_codecs_meaning.specs.Chunks.{chunk_decoded, chunk_part}
-use Rattle.zarr_codecs_meaning.specs.Decoding.{all_there, cell_at, decoded, opens}
+use Rattle.zarr_codecs_meaning.specs.Chunks.{chunk_part}
+use Rattle.zarr_codecs_meaning.specs.Decoding.{opens}
 use Rattle.zarr_codecs_meaning.specs.Fits.{fits, is_plain}
 use Rattle.zarr_codecs_meaning.specs.Partial.{encodes_in_part}
 use Rattle.zarr_codecs_meaning.specs.Payloads.{Payload}
 use Rattle.zarr_codecs_meaning.specs.Refusals.{CodecRefuses, PassesIndex}
 use Rattle.zarr_codecs_meaning.specs.Standing.{ChunkStands}
 use Rattle.zarr_codecs_meaning.specs.Types.{Cell, Elements, is_value, is_fill, IsTooLarge}
-use Rattle.zarr_codecs_meaning.proofs.Lists.{if_some, some_same}
-use Rattle.zarr_codecs_meaning.proofs.PartReading.{part_read}
+use Rattle.zarr_codecs_meaning.proofs.Lists.{some_same}
 use Rattle.zarr_codecs_options.specs.declared.codec_options.CodecOptions.{CodecOptions}
 use Rattle.zarr_codecs_arrays.specs.declared.error.CodecError.{CodecError}
 use Rattle.zarr_codecs_arrays.specs.declared.error.CodecError.TheVariants as codec_error
 use Rattle.zarr_codecs_traits.specs.Indexers.{Asked, in_box, numbers_asked, numbers_of, put}
 use Rattle.zarr_codecs_traits.specs.PartWriting.{ChunkTight, IsEncodedInto, IsPlaced, MeetsLost, NotEncodedInto, PassesLength, StopsWrite, cells_after, cells_shown, only_cell}
-use Rattle.zarr_codecs_traits.proofs.Damage.{decoded_intact, stops_part}
+use Rattle.zarr_codecs_traits.proofs.Damage.{stops_part}
 use Rattle.zarr_array_storage.specs.declared.error.StorageError.{StorageError}
 use Rattle.zarr_array_meaning.specs.Boxes.{cell_of_box}
 use Rattle.zarr_array_meaning.specs.Chunks.{holds_box, number_in}
 use Rattle.zarr_array_meaning.specs.Documents.{Document}
-use Rattle.zarr_array_meaning.specs.Writing.{HasSliceOutside, is_into_shard, may_be_in_part}
-use Rattle.zarr_array_core.specs.IntoShards.{IntoShardStops, IsPutInto, NotPutInto, Putting, PutsIntoShard, Write, cells_over, cells_then, shard_refusal_of}
+use Rattle.zarr_array_meaning.specs.Writing.{StopsInto, is_into_shard, may_be_in_part, shared_numbers}
+use Rattle.zarr_array_core.specs.IntoShards.{HasNoRoomFor, IntoShardStops, IsPutInto, NotPutInto, Putting, PutsIntoShard, cells_over, cells_then, shard_refusal_of}
+use Rattle.zarr_array_core.specs.Outcomes.{IsStoreRefusal}
+use Rattle.zarr_array_core.specs.Writes.{Write}
 use Rattle.zarr_array_core.proofs.ChunkPayloads.{listed_none, not_counted}
 use Rattle.zarr_array_core.proofs.ChunkWritten.{cells_at_places}
 use Rattle.zarr_array_core.proofs.PutParts.{ArePut, IsPutCall, are_put, cell_in, cell_out, counted_asked, part_is, part_of, puts_cells}
@@ -57,37 +58,13 @@ shard_write document options region box h =
 
 -- ---- what is damaged
 
--- what is decoded opens
-opened : (chain : Chain) (elements : Elements) (shape value : List ℕ) (cells : List Cell) → fits chain elements.type shape ≡ true → decoded chain elements shape value ≡ Some cells → opens chain elements shape value ≡ true
-opened chain elements shape value cells fit h = (if_some (opens chain elements shape value) (all_there (map (cell_at chain elements shape value) [])) [] (part_read chain elements shape value cells [] fit h refl)).0
-
--- what can't be decoded, as there would be a contradiction
-undecoded : (o : Option (List Cell)) → ((cells : List Cell) → o ≡ Some cells → ⊥) → o ≡ None
-undecoded None h = refl
-undecoded (Some cells) h = absurd (h cells refl)
-
--- a value of which a write meets a lost part isn't decoded
-pub lost_undecoded : (chain : Chain) (elements : Elements) (shape value numbers : List ℕ) → MeetsLost chain elements shape value numbers → decoded chain elements shape value ≡ None
-lost_undecoded chain elements shape value numbers lost = undecoded (decoded chain elements shape value) (λ cells is. decoded_intact chain elements shape value numbers cells is lost)
-
--- nor one that doesn't open
-closed_undecoded : (chain : Chain) (elements : Elements) (shape value : List ℕ) → fits chain elements.type shape ≡ true → opens chain elements shape value ≡ false → decoded chain elements shape value ≡ None
-closed_undecoded chain elements shape value fit closed = undecoded (decoded chain elements shape value) (λ cells is. false≢true (sym closed ∙ opened chain elements shape value cells fit is))
-
-stopped : (document : Document) (box : Region) (stored : Option (List ℕ)) (asked : Asked) (payload : Payload) → fits document.chain document.elements.type box.shape ≡ true → encodes_in_part document.chain ≡ true
-    → StopsWrite document.chain document.elements box.shape asked payload stored → (chunk_decoded document.chain document.elements box.shape stored ≡ None) ⊎ HasSliceOutside document box stored
-stopped document box stored asked payload fit partly (inr h) = inl h.0
-stopped document box None asked payload fit partly (inl h) = absurd h
-stopped document box (Some value) asked payload fit partly (inl h) = elim (stops_part document.chain document.elements box.shape value (numbers_asked box.shape asked) partly h) [
-  | inl closed ↦ inl (closed_undecoded document.chain document.elements box.shape value fit closed)
-  | inr (inl lost) ↦ inl (lost_undecoded document.chain document.elements box.shape value (numbers_asked box.shape asked) lost)
-  | inr (inr outside) ↦ inr outside
-]
-
--- no slice lies outside the data part
-placed_of : (document : Document) (box : Region) (stored : Option (List ℕ)) → encodes_in_part document.chain ≡ true → IsPlaced document.chain box.shape stored → HasSliceOutside document box stored → ⊥
-placed_of document box None partly is h = h
-placed_of document box (Some value) partly is h = is partly h
+-- what took a write doesn't stop it
+taken_of : (document : Document) (region box : Region) (stored : Option (List ℕ)) → encodes_in_part document.chain ≡ true → MatchOption stored (Unit {0}) (λ value. opens document.chain document.elements box.shape value ≡ true)
+    → MatchOption stored (Unit {0}) (λ value. ¬ MeetsLost document.chain document.elements box.shape value (shared_numbers region box)) → IsPlaced document.chain box.shape stored → StopsInto document region box stored → ⊥
+taken_of document region box None partly opened met placed stops = stops
+taken_of document region box (Some value) partly opened met placed (inl closed) = false≢true (sym closed ∙ opened)
+taken_of document region box (Some value) partly opened met placed (inr (inl lost)) = met lost
+taken_of document region box (Some value) partly opened met placed (inr (inr outside)) = placed partly outside
 
 length-put : {X : Type 0} (ns : List ℕ) (xs ys : List X) → length (put ns xs ys) ≡ length ys
 length-put [] xs ys = refl
@@ -144,7 +121,7 @@ module _ (write : Write) (box : Region) (payload : Payload) (sub : List Cell) (r
       let over : (before : List Cell) → length before ≡ product box.shape → put ns cells before ≡ cells_over write box before = λ before whole. ap (λ (cs : List Cell). put ns cs before) same ∙ put_before before whole in
       record {
         fit = are.fit;
-        placed = placed_of document box old into.partly placed;
+        taken = taken_of document write.region box old into.partly h.opened h.none_lost placed;
         puts = puts_cells document write.array.exact write.region box write.cells payload sub cells old new are h;
         stands = λ lossless before is st. subst (λ (cs : List Cell). ChunkStands document.chain document.elements box.shape new cs) (over before is.whole) (h.stands lossless before is st);
         tight = λ exact lossless before is st. subst (λ (cs : List Cell). ChunkTight document.chain document.elements box.shape new cs) (over before is.whole) (h.tight exact lossless before is st);
@@ -156,29 +133,39 @@ module _ (write : Write) (box : Region) (payload : Payload) (sub : List Cell) (r
   then_cells : (cells : List Cell) (stored : Option (List ℕ)) → cells ≡ sub → cells_after document.chain document.elements box.shape stored ns cells ≡ cells_then write box stored
   then_cells cells stored same = ap (λ (cs : List Cell). cells_after document.chain document.elements box.shape stored ns cs) same ∙ put_read stored
 
-  not_into : (stored : Option (List ℕ)) (e : CodecError) (refusal : StorageError) → IsIntoShard document write.region box → ¬ IsTooLarge document.elements.type (product box.shape)
+  not_taken : (stored : Option (List ℕ)) → IsIntoShard document write.region box → StopsWrite document.chain document.elements box.shape (in_box (part_of write.region box)) payload stored → StopsInto document write.region box stored ⊎ HasNoRoomFor write box stored
+  not_taken None into (inl h) = absurd h
+  not_taken (Some value) into (inl h) = inl (stops_part document.chain document.elements box.shape value ns into.partly h)
+  not_taken stored into (inr h) = inr (
+    h.0,
+    λ lossless.
+        let why = h.1 lossless in
+        subst (PassesLength document.chain document.elements box.shape stored) (then_cells why.cells stored (some_same (sym why.valid.is.lists ∙ are.are.valid.is.lists))) why.is,
+  )
+
+  not_into : (stored : Option (List ℕ)) (e : CodecError) (refusal : StorageError) → IsStoreRefusal refusal → IsIntoShard document write.region box → ¬ IsTooLarge document.elements.type (product box.shape)
       → NotEncodedInto {A = Unit {0}} document.chain document.elements box.shape (in_box (part_of write.region box)) payload stored (Err e) → IntoShardStops write box stored (shard_refusal_of e refusal)
-  not_into stored codec_error.Fit refusal into small h = absurd (false≢true (sym h ∙ are.fit))
-  not_into stored codec_error.Damage refusal into small h = stopped document box stored (in_box (part_of write.region box)) payload h.0 into.partly h.1
-  not_into stored codec_error.Codec refusal into small h =
+  not_into stored codec_error.Fit refusal told into small h = absurd (false≢true (sym h ∙ are.fit))
+  not_into stored codec_error.Damage refusal told into small h = not_taken stored into h.1
+  not_into stored codec_error.Codec refusal told into small h =
       subst (CodecRefuses document.chain document.elements box.shape) (then_cells h.cells stored (some_same (sym h.valid.is.lists ∙ are.are.valid.is.lists))) h.is
-  not_into stored codec_error.Source refusal into small h = tt
-  not_into stored codec_error.Size refusal into small (inl large) = absurd (small large)
-  not_into stored codec_error.Size refusal into small (inr h) =
+  not_into stored codec_error.Source refusal told into small h = told
+  not_into stored codec_error.Size refusal told into small (inl large) = absurd (small large)
+  not_into stored codec_error.Size refusal told into small (inr h) =
       subst (λ (cs : List Cell). PassesIndex document.chain document.elements box.shape cs ⊎ PassesLength document.chain document.elements box.shape stored cs)
       (then_cells h.cells stored (some_same (sym h.valid.is.lists ∙ are.are.valid.is.lists))) h.is
-  not_into stored codec_error.CellOutOfRange refusal into small h =
+  not_into stored codec_error.CellOutOfRange refusal told into small h =
       let same = some_same (sym h.1.1.lists ∙ are.are.valid.is.lists) in
       absurd (false≢true (sym h.1.2 ∙ (ap (list_all (is_value document.elements.type)) same ∙ are.are.valid.values)))
-  not_into stored codec_error.IncompatibleIndexer refusal into small h = absurd (false≢true (sym h ∙ (meeting write.region box are.share).inside))
-  not_into stored codec_error.InvalidNumberOfElements refusal into small h =
+  not_into stored codec_error.IncompatibleIndexer refusal told into small h = absurd (false≢true (sym h ∙ (meeting write.region box are.share).inside))
+  not_into stored codec_error.InvalidNumberOfElements refusal told into small h =
       absurd (not_counted document.elements.type payload (length ns) sub (counted_asked document write.region box write.cells payload sub are) h.1)
-  not_into stored codec_error.ExpectedFixedLengthBytes refusal into small h = absurd (listed_none document.elements (overlapped write.region box).shape payload sub are.are h.1.0)
-  not_into stored codec_error.ExpectedVariableLengthBytes refusal into small h = absurd (listed_none document.elements (overlapped write.region box).shape payload sub are.are h.1.0)
-  not_into stored codec_error.ExpectedOptionalBytes refusal into small h = absurd (listed_none document.elements (overlapped write.region box).shape payload sub are.are h.1.0)
-  not_into stored codec_error.Unsupported refusal into small h = absurd h.1
-  not_into stored codec_error.Memory refusal into small h = tt
-  not_into stored (codec_error.Other text) refusal into small h = absurd h.1
+  not_into stored codec_error.ExpectedFixedLengthBytes refusal told into small h = absurd (listed_none document.elements (overlapped write.region box).shape payload sub are.are h.1.0)
+  not_into stored codec_error.ExpectedVariableLengthBytes refusal told into small h = absurd (listed_none document.elements (overlapped write.region box).shape payload sub are.are h.1.0)
+  not_into stored codec_error.ExpectedOptionalBytes refusal told into small h = absurd (listed_none document.elements (overlapped write.region box).shape payload sub are.are h.1.0)
+  not_into stored codec_error.Unsupported refusal told into small h = absurd h.1
+  not_into stored codec_error.Memory refusal told into small h = tt
+  not_into stored (codec_error.Other text) refusal told into small h = absurd h.1
 
 -- ---- a call of a codec
 
@@ -199,8 +186,8 @@ module _ (write : Write) (box shared part : Region) (shape start : List ℕ) (pa
       (subst (λ (r : Region). IsEncodedInto write.array.document.chain write.array.exact write.array.document.elements shape (in_box r) payload h.cells old new) same_part h.encoded))
       (subst (λ (s : List ℕ). IsPlaced write.array.document.chain s old) call.whole h.placed)
 
-  pub was_not_into : (old : Option (List ℕ)) (e : CodecError) (refusal : StorageError) → NotPutInto {A = Unit {0}} chunk_part_is old (Err e) → IntoShardStops write box old (shard_refusal_of e refusal)
-  was_not_into old e refusal h =
-      not_into write box payload sub rank are old e refusal into call.small
+  pub was_not_into : (old : Option (List ℕ)) (e : CodecError) (refusal : StorageError) → IsStoreRefusal refusal → NotPutInto {A = Unit {0}} chunk_part_is old (Err e) → IntoShardStops write box old (shard_refusal_of e refusal)
+  was_not_into old e refusal told h =
+      not_into write box payload sub rank are old e refusal told into call.small
       (subst (λ (s : List ℕ). NotEncodedInto {A = Unit {0}} write.array.document.chain write.array.document.elements s (in_box (part_of write.region box)) payload old (Err e)) call.whole
       (subst (λ (r : Region). NotEncodedInto {A = Unit {0}} write.array.document.chain write.array.document.elements shape (in_box r) payload old (Err e)) same_part h))

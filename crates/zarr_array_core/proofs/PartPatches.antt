@@ -27,7 +27,9 @@ use Rattle.zarr_array_meaning.specs.Boxes.{cell_of_box}
 use Rattle.zarr_array_meaning.specs.Chunks.{number_in, holds_box, fits_box}
 use Rattle.zarr_array_meaning.specs.Documents.{Document}
 use Rattle.zarr_array_meaning.specs.StoreMaps.{StoreMap}
+use Rattle.zarr_array_meaning.specs.Writing.{stores_fill}
 use Rattle.zarr_array_core.specs.ChunkValues.{CellsBecome, MakesValue, NewValueStops, with_value}
+use Rattle.zarr_array_core.specs.Writes.{Write}
 use Rattle.zarr_array_core.specs.PartWrites.{PatchesChunk}
 use Rattle.zarr_array_core.specs.declared.error.ChunkError.TheVariants as error
 use Rattle.zarr_array_core.proofs.ChunkPayloads.{AreArrayElements, decoded_chunk_values}
@@ -203,9 +205,14 @@ part_become document region box given payload sub store_empty value before are i
     }
 
 -- the ranges of a codec, written into a chunk's value
-pub part_patches : (document : Document) (exact : Bool) (region box : Region) (given : List Cell) (payload : Payload) (sub : List Cell) (store_empty : Bool) (patches : ValuePatches) → AreShared document region box given payload sub store_empty
-    → EncodesPart document.chain exact document.elements box.shape (part_of region box) payload (Ok (Some patches)) → PatchesChunk document exact region given store_empty box (patches_in patches)
-part_patches document exact region box given payload sub store_empty patches are h =
+pub part_patches : (write : Write) (box : Region) (payload : Payload) (sub : List Cell) (patches : ValuePatches) → AreShared write.array.document write.region box write.cells payload sub (stores_fill write.array.document write.options write.region box)
+    → EncodesPart write.array.document.chain write.array.exact write.array.document.elements box.shape (part_of write.region box) payload (Ok (Some patches)) → PatchesChunk write box (patches_in patches)
+part_patches write box payload sub patches are h =
+    let document = write.array.document in
+    let exact = write.array.exact in
+    let region = write.region in
+    let given = write.cells in
+    let store_empty = stores_fill document write.options region box in
     let fill = document.elements.fill in
     let meet = meeting region box are.share in
     record {
@@ -226,10 +233,10 @@ part_patches document exact region box given payload sub store_empty patches are
     }
 
 -- whatever ranges it gave
-pub found_patches : (document : Document) (exact : Bool) (region box : Region) (given : List Cell) (payload : Payload) (sub : List Cell) (store_empty : Bool) (found : Option ValuePatches) → AreShared document region box given payload sub store_empty
-    → EncodesPart document.chain exact document.elements box.shape (part_of region box) payload (Ok found) → IfSome found (λ patches. PatchesChunk document exact region given store_empty box (patches_in patches))
-found_patches document exact region box given payload sub store_empty None are h = tt
-found_patches document exact region box given payload sub store_empty (Some patches) are h = part_patches document exact region box given payload sub store_empty patches are h
+pub found_patches : (write : Write) (box : Region) (payload : Payload) (sub : List Cell) (found : Option ValuePatches) → AreShared write.array.document write.region box write.cells payload sub (stores_fill write.array.document write.options write.region box)
+    → EncodesPart write.array.document.chain write.array.exact write.array.document.elements box.shape (part_of write.region box) payload (Ok found) → IfSome found (λ patches. PatchesChunk write box (patches_in patches))
+found_patches write box payload sub None are h = tt
+found_patches write box payload sub (Some patches) are h = part_patches write box payload sub patches are h
 
 -- ---- values of the right size
 
@@ -257,17 +264,18 @@ absent_value held key h = no_value (get held key) h
 by_size : (document : Document) (width : ℕ) (held : StoreMap) (key shape value : List ℕ) (size : ℕ) → IsSized document width held key size → get held key ≡ Some value → DecodesBySize document.chain document.elements shape value
 by_size document width held key shape value size is found = patched_decode document.chain document.elements shape value is.takes (is.bytes value found)
 
-pub sized_part : (document : Document) (exact : Bool) (width : ℕ) (region box : Region) (given : List Cell) (store_empty : Bool) (patches : List Patch) (held new : StoreMap) (key : List ℕ) (size : ℕ) → IsSized document width held key size → size ≡ product box.shape * width
-    → PatchesChunk document exact region given store_empty box patches → new ≡ insert held key (patched_at held key patches)
-    → (made : Option (List ℕ)) × MakesValue document exact region given store_empty box (get held key) made × (new ≡ with_value held key made)
-sized_part document exact width region box given store_empty patches held new key size is right h e =
+pub sized_part : (write : Write) (width : ℕ) (box : Region) (patches : List Patch) (held new : StoreMap) (key : List ℕ) (size : ℕ) → IsSized write.array.document width held key size → size ≡ product box.shape * width
+    → PatchesChunk write box patches → new ≡ insert held key (patched_at held key patches)
+    → (made : Option (List ℕ)) × MakesValue write box (get held key) made × (new ≡ with_value held key made)
+sized_part write width box patches held new key size is right h e =
+    let document = write.array.document in
     let found = found_value held key size is.told in
     let value = found.0 in
     let long : length value ≡ product box.shape * bytes_in (components document.elements.type) = found.2 ∙ (right ∙ ap (λ w. product box.shape * w) (sym (element_bytes document width held key size is))) in
     let cells = (by_size document width held key box.shape value size is found.1).sized long in
     let made = Some (patched value patches) in (
       made,
-      subst (λ (stored : Option (List ℕ)). MakesValue document exact region given store_empty box stored made) (sym found.1) (h.makes value cells.0 cells.1),
+      subst (λ (stored : Option (List ℕ)). MakesValue write box stored made) (sym found.1) (h.makes value cells.0 cells.1),
       e ∙ ap (λ (stored : Option (List ℕ)). insert held key (patched (unwrap_or stored []) patches)) found.1,
     )
 
@@ -275,11 +283,12 @@ undecoded : (o : Option (List Cell)) → ((cells : List Cell) → o ≡ Some cel
 undecoded None h = refl
 undecoded (Some cells) h = absurd (h cells refl)
 
-pub unsized_part : (document : Document) (width : ℕ) (region box : Region) (given : List Cell) (store_empty : Bool) (held : StoreMap) (key : List ℕ) (size : ℕ) → IsSized document width held key size → (size ≡ product box.shape * width → ⊥)
-    → fits_box document box ≡ true → holds_box region box ≡ false → NewValueStops document region given store_empty box (get held key) error.Damage
-unsized_part document width region box given store_empty held key size is wrong fit part =
+pub unsized_part : (write : Write) (width : ℕ) (box : Region) (held : StoreMap) (key : List ℕ) (size : ℕ) → IsSized write.array.document width held key size → (size ≡ product box.shape * width → ⊥)
+    → fits_box write.array.document box ≡ true → holds_box write.region box ≡ false → NewValueStops write box (get held key) error.Damage
+unsized_part write width box held key size is wrong fit part =
+    let document = write.array.document in
     let found = found_value held key size is.told in
     let value = found.0 in
     let none : decoded document.chain document.elements box.shape value ≡ None = undecoded (decoded document.chain document.elements box.shape value) (λ cells e.
     wrong (sym found.2 ∙ ((by_size document width held key box.shape value size is found.1).only cells e ∙ ap (λ w. product box.shape * w) (element_bytes document width held key size is)))) in
-    subst (λ (stored : Option (List ℕ)). NewValueStops document region given store_empty box stored error.Damage) (sym found.1) (fit, (part, none))
+    subst (λ (stored : Option (List ℕ)). NewValueStops write box stored error.Damage) (sym found.1) (fit, (part, none))

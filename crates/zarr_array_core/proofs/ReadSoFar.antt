@@ -176,7 +176,7 @@ read_before path document store region chunks n chunk box cells l are below at h
 stops_at : (path : List ℕ) (document : Document) (store : StoreMap) (region : Region) (chunk : List ℕ) (box : Region) (e : ChunkError) → IsInGrid document.grid chunk box → intersects document.grid region chunk ≡ true → AreReadBefore path document store region chunk box
     → PartStops path document store region chunk box e → ReadStops path document store region e
 stops_at path document store region chunk box error.Fit below shares first h = record { chunk = chunk; box = box; below = below; shares = shares; stored = h.0; fit = h.1; first = first }
-stops_at path document store region chunk box (error.Storage s) below shares first h = tt
+stops_at path document store region chunk box (error.Storage s) below shares first h = h
 stops_at path document store region chunk box error.Damage below shares first h = record {
   chunk = chunk;
   box = box;

@@ -44,7 +44,7 @@ key_of false fill (Some value) absent present = sym (ap (λ b. not b) (present v
 
 -- the new value of cells that the old one is decoded to
 pub remade : (array : Array) (store_empty : Bool) (shape old : List ℕ) (cells : List Cell) (made : Option (List ℕ)) → fits array.document.chain array.document.elements.type shape ≡ true → decoded array.document.chain array.document.elements shape old ≡ Some cells
-    → IsNewValue array.document array.exact store_empty shape cells made → IsRewritten array store_empty shape old made
+    → IsNewValue array store_empty shape cells made → IsRewritten array store_empty shape old made
 remade array store_empty shape old cells made fit is new = record {
   fit = fit;
   cells = cells;
@@ -76,7 +76,7 @@ encode_stops document store_empty shape value cells error.Memory fit is stops = 
 pub chunk_stops : (array : Array) (store_empty : Bool) (chunk : List ℕ) (box : Region) (value : List ℕ) (e : ChunkError) (store : StoreMap) → IsInGrid array.document.grid chunk box → value_at array store chunk ≡ Some value → RemakingStops array.document store_empty box.shape value e
     → ChunkRewriteStops array store_empty chunk e store
 chunk_stops array store_empty chunk box value error.Fit store below stored is = record { box = box; below = below; value = value; stored = stored; stops = is }
-chunk_stops array store_empty chunk box value (error.Storage s) store below stored is = tt
+chunk_stops array store_empty chunk box value (error.Storage s) store below stored is = absurd is
 chunk_stops array store_empty chunk box value error.Damage store below stored is = record { box = box; below = below; value = value; stored = stored; stops = is }
 chunk_stops array store_empty chunk box value error.Codec store below stored is = record { box = box; below = below; value = value; stored = stored; stops = is }
 chunk_stops array store_empty chunk box value error.Size store below stored is = record { box = box; below = below; value = value; stored = stored; stops = is }
@@ -84,7 +84,7 @@ chunk_stops array store_empty chunk box value error.Memory store below stored is
 
 pub store_stops : (array : Array) (store_empty : Bool) (chunk : List ℕ) (e : ChunkError) (store : StoreMap) → IsErasureStop e → ChunkRewriteStops array store_empty chunk e store
 store_stops array store_empty chunk error.Fit store is = absurd is
-store_stops array store_empty chunk (error.Storage s) store is = tt
+store_stops array store_empty chunk (error.Storage s) store is = is
 store_stops array store_empty chunk error.Damage store is = absurd is
 store_stops array store_empty chunk error.Codec store is = absurd is
 store_stops array store_empty chunk error.Size store is = absurd is
@@ -309,7 +309,7 @@ walk_stops array store_empty chunks n applied chunk e old mid walk below at same
 
   by_error : (e : ChunkError) → ChunkRewriteStops array store_empty chunk e mid → WalkStops array store_empty (record { applied = applied; error = e }) old e
   by_error error.Fit is = not_rewritten error.Fit is
-  by_error (error.Storage s) is = few
+  by_error (error.Storage s) is = (few, is)
   by_error error.Damage is = not_rewritten error.Damage is
   by_error error.Codec is = not_rewritten error.Codec is
   by_error error.Size is = not_rewritten error.Size is

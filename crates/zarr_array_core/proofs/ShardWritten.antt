@@ -7,7 +7,7 @@ use Rattle.zarr_grids_boxes.specs.Boxes.{Region, places, is_in_box}
 use Rattle.zarr_grids_chunks.specs.Grids.{IsInGrid}
 use Rattle.zarr_grids_chunks.proofs.Filters.{told}
 use Rattle.zarr_grids_keys.specs.Keys.{chunk_key}
-use Rattle.zarr_codecs_meaning.specs.Chunks.{chunk_decoded, chunk_part, IsStored}
+use Rattle.zarr_codecs_meaning.specs.Chunks.{chunk_part, IsStored}
 use Rattle.zarr_codecs_meaning.specs.Fits.{is_plain}
 use Rattle.zarr_codecs_meaning.specs.Laws.{AreCells}
 use Rattle.zarr_codecs_meaning.specs.Standing.{ChunkStands}
@@ -21,22 +21,19 @@ use Rattle.zarr_array_meaning.specs.Chunks.{fits_box, holds_box, number_in, part
 use Rattle.zarr_array_meaning.specs.Documents.{Document}
 use Rattle.zarr_array_meaning.specs.Standing.{AreValues, ChunkStandsAt, ChunkTightAt, IsLossless}
 use Rattle.zarr_array_meaning.specs.StoreMaps.{StoreMap}
-use Rattle.zarr_array_meaning.specs.Writing.{ChunkBecomes, HasSliceOutside, IsKeyed, Takes, WroteChunks, cell_read, is_in_part, is_into_shard, may_be_in_part, opens_in, stores_fill, takes_cells}
+use Rattle.zarr_array_meaning.specs.Writing.{ChunkBecomes, IsKeyed, StopsInto, Takes, WroteChunks, cell_read, is_in_part, is_into_shard, may_be_in_part, stores_fill, takes_cells}
 use Rattle.zarr_array_meaning.proofs.TakenParts.{read_of_decoded}
 use Rattle.zarr_array_core.specs.ChunkValues.{ChangesValue, ChangeStops, with_value}
-use Rattle.zarr_array_core.specs.IntoShards.{FittingStops, IntoShardStops, PutsIntoShard, Write, WritesChunk, WritingStops, cells_over, cells_then}
+use Rattle.zarr_array_core.specs.IntoShards.{FittingStops, IntoShardStops, PutsIntoShard, WritesChunk, WritingStops, cells_over, cells_then}
 use Rattle.zarr_array_core.specs.Outcomes.{ChunkStops}
+use Rattle.zarr_array_core.specs.Writes.{Write}
 use Rattle.zarr_array_core.specs.declared.error.ChunkError.{ChunkError}
 use Rattle.zarr_array_core.specs.declared.error.ChunkError.TheVariants as error
-use Rattle.zarr_array_core.proofs.ChunkWritten.{IsChange, at_each, at_one, becomes_at, box_rank, cell_with, kept_apart, length-at_places, listed_cells, new_store, same_at_places, stored_where, tight_apart, value_other, value_same, wrote_changed}
+use Rattle.zarr_array_core.proofs.ChunkWritten.{IsChange, at_each, at_one, becomes_at, box_rank, cell_with, kept_apart, length-at_places, listed_cells, new_store, same_at_places, stored_where, tight_apart, value_other, value_same, write_at, wrote_changed}
 use Rattle.zarr_array_core.proofs.IntoShards.{IsIntoShard, shard_write}
 use Rattle.zarr_array_core.proofs.Listed.{one_listed}
 
 -- ---- the cells that a chunk is to get
-
--- a write of cells to an array
-abbrev pub write_at : List ℕ → Document → Bool → Region → List Cell → CodecOptions → Write
-write_at path document exact region given options = record { array = record { path = path; document = document; exact = exact }; region = region; cells = given; options = options }
 
 module _ (path : List ℕ) (document : Document) (exact : Bool) (region : Region) (given : List Cell) (options : CodecOptions) (chunk : List ℕ) (box : Region) (old : StoreMap) (rank : length box.start ≡ length box.shape) (into : is_into_shard document options region box ≡ true) where
   abbrev cells_now : List Cell
@@ -96,7 +93,7 @@ module _ (path : List ℕ) (document : Document) (exact : Bool) (region : Region
   is = shard_write document options region box w.into
 
   takes : Takes document options region box stored
-  takes = subst (λ (b : Bool). MatchBool b ((opens_in document box stored ≡ true) × (¬ HasSliceOutside document box stored)) (takes_cells document options region box stored ≡ true)) (sym w.into) (w.puts.puts.opened, w.puts.placed)
+  takes = subst (λ (b : Bool). MatchBool b (¬ StopsInto document region box stored) (takes_cells document options region box stored ≡ true)) (sym w.into) w.puts.taken
 
   stores_none : stores_fill document options region box ≡ false
   stores_none = ap (λ (b : Bool). (options.store_empty_chunks && not b) || is_in_part document options region box) w.into ∙ none options.store_empty_chunks (may_be_in_part document options region box) (is_plain document.chain) is.shard where
@@ -193,17 +190,17 @@ module _ (path : List ℕ) (document : Document) (exact : Bool) (region : Region
 -- ---- a chunk that is written
 
 pub writes_into : (write : Write) (box : Region) (stored made : Option (List ℕ)) → is_into_shard write.array.document write.options write.region box ≡ true → PutsIntoShard write box stored made → WritesChunk write box stored made
-writes_into write box stored made t h = subst (λ (b : Bool). MatchBool b (PutsIntoShard write box stored made) (ChangesValue write.array.document write.array.exact write.region write.cells write.options box stored made)) (sym t) h
+writes_into write box stored made t h = subst (λ (b : Bool). MatchBool b (PutsIntoShard write box stored made) (ChangesValue write box stored made)) (sym t) h
 
-pub writes_whole : (write : Write) (box : Region) (stored made : Option (List ℕ)) → is_into_shard write.array.document write.options write.region box ≡ false → ChangesValue write.array.document write.array.exact write.region write.cells write.options box stored made → WritesChunk write box stored made
-writes_whole write box stored made t h = subst (λ (b : Bool). MatchBool b (PutsIntoShard write box stored made) (ChangesValue write.array.document write.array.exact write.region write.cells write.options box stored made)) (sym t) h
+pub writes_whole : (write : Write) (box : Region) (stored made : Option (List ℕ)) → is_into_shard write.array.document write.options write.region box ≡ false → ChangesValue write box stored made → WritesChunk write box stored made
+writes_whole write box stored made t h = subst (λ (b : Bool). MatchBool b (PutsIntoShard write box stored made) (ChangesValue write box stored made)) (sym t) h
 
 -- the same store and the same key
-pub changed_alike : (write : Write) (box : Region) (mid old new : StoreMap) (k key : List ℕ) (made : Option (List ℕ)) → mid ≡ old → k ≡ key → ChangesValue write.array.document write.array.exact write.region write.cells write.options box (get mid k) made → new ≡ with_value mid k made
-    → ChangesValue write.array.document write.array.exact write.region write.cells write.options box (get old key) made × (new ≡ with_value old key made)
+pub changed_alike : (write : Write) (box : Region) (mid old new : StoreMap) (k key : List ℕ) (made : Option (List ℕ)) → mid ≡ old → k ≡ key → ChangesValue write box (get mid k) made → new ≡ with_value mid k made
+    → ChangesValue write box (get old key) made × (new ≡ with_value old key made)
 changed_alike write box mid old new k key made same at changes is = (
-  subst (λ (j : List ℕ). ChangesValue write.array.document write.array.exact write.region write.cells write.options box (get old j) made) at
-      (subst (λ (m : StoreMap). ChangesValue write.array.document write.array.exact write.region write.cells write.options box (get m k) made) same changes),
+  subst (λ (j : List ℕ). ChangesValue write box (get old j) made) at
+      (subst (λ (m : StoreMap). ChangesValue write box (get m k) made) same changes),
   is ∙ (ap (λ (m : StoreMap). with_value m k made) same ∙ ap (λ (j : List ℕ). with_value old j made) at),
 )
 
@@ -212,7 +209,7 @@ pub wrote_chunk : (path : List ℕ) (document : Document) (exact : Bool) (region
 wrote_chunk path document exact region given options chunk box old made is h =
     let stored = stored_at path document old chunk in
     let into = PutsIntoShard (write_at path document exact region given options) box stored made in
-    let changes = ChangesValue document exact region given options box stored made in
+    let changes = ChangesValue (write_at path document exact region given options) box stored made in
     ⊎_elim
     (λ t. wrote_into path document exact region given options chunk box old made (record { change = is; into = t; puts = subst (λ (b : Bool). MatchBool b into changes) t h }))
     (λ t. wrote_changed path document exact region given options chunk box old made is t (subst (λ (b : Bool). MatchBool b into changes) t h))
@@ -224,14 +221,14 @@ module _ (path : List ℕ) (document : Document) (exact : Bool) (region : Region
   abbrev held : Option (List ℕ)
   held = stored_at path document store chunk
 
-  whole_stops : (e : ChunkError) → is_into_shard document options region box ≡ false → ChangeStops document region given options box held e → ChunkStops path document store region given options chunk box e
+  whole_stops : (e : ChunkError) → is_into_shard document options region box ≡ false → ChangeStops (write_at path document exact region given options) box held e → ChunkStops path document store region given options chunk box e
   whole_stops error.Fit whole h = h
   whole_stops (error.Storage s) whole h = h
-  whole_stops error.Damage whole h = record {
+  whole_stops error.Damage whole h = inl (record {
     fit = h.0;
     part = h.1;
-    lost = subst (λ (b : Bool). MatchBool b ((chunk_decoded document.chain document.elements box.shape held ≡ None) ⊎ HasSliceOutside document box held) (takes_cells document options region box held ≡ false)) (sym whole) h.2;
-  }
+    lost = subst (λ (b : Bool). MatchBool b (StopsInto document region box held) (takes_cells document options region box held ≡ false)) (sym whole) h.2;
+  })
   whole_stops error.Codec whole h = record { fit = h.fit; cells = h.cells; becomes = becomes_at path document region given options chunk box store h.cells h.fit h.becomes; called = λ _. h.refuses.0; refuses = h.refuses.1 }
   whole_stops error.Size whole h = record { fit = h.fit; cells = h.cells; becomes = becomes_at path document region given options chunk box store h.cells h.fit h.becomes; called = λ _. h.refuses.0; passes = inl h.refuses.1 }
   whole_stops error.Memory whole h = tt
@@ -239,12 +236,18 @@ module _ (path : List ℕ) (document : Document) (exact : Bool) (region : Region
   shard_stops : (e : ChunkError) → length box.start ≡ length box.shape → is_into_shard document options region box ≡ true → fits_box document box ≡ true
       → IntoShardStops (write_at path document exact region given options) box held e → ChunkStops path document store region given options chunk box e
   shard_stops error.Fit rank into fit h = absurd h
-  shard_stops (error.Storage s) rank into fit h = fit
-  shard_stops error.Damage rank into fit h = record {
+  shard_stops (error.Storage s) rank into fit h = (fit, h)
+  shard_stops error.Damage rank into fit (inl h) = inl (record {
     fit = fit;
     part = (shard_write document options region box into).part;
-    lost = subst (λ (b : Bool). MatchBool b ((chunk_decoded document.chain document.elements box.shape held ≡ None) ⊎ HasSliceOutside document box held) (takes_cells document options region box held ≡ false)) (sym into) h;
-  }
+    lost = subst (λ (b : Bool). MatchBool b (StopsInto document region box held) (takes_cells document options region box held ≡ false)) (sym into) h;
+  })
+  shard_stops error.Damage rank into fit (inr h) = inr (record {
+    fit = fit;
+    into = into;
+    undecoded = h.0;
+    passes = λ lossless. (cells_now path document exact region given options chunk box store rank into, becomes_then path document exact region given options chunk box store rank into, h.1 lossless);
+  })
   shard_stops error.Codec rank into fit h = record {
     fit = fit;
     cells = cells_now path document exact region given options chunk box store rank into;
@@ -264,7 +267,7 @@ module _ (path : List ℕ) (document : Document) (exact : Bool) (region : Region
   fitting_stops : (e : ChunkError) → length box.start ≡ length box.shape → FittingStops (write_at path document exact region given options) box held e → ChunkStops path document store region given options chunk box e
   fitting_stops e rank h =
       let write = write_at path document exact region given options in
-      let both = λ (b : Bool). MatchBool b ((fits_box document box ≡ true) × IntoShardStops write box held e) (ChangeStops document region given options box held e) in
+      let both = λ (b : Bool). MatchBool b ((fits_box document box ≡ true) × IntoShardStops write box held e) (ChangeStops write box held e) in
       ⊎_elim (λ t. let k = subst both t h in shard_stops e rank t k.0 k.1) (λ t. whole_stops e t (subst both t h)) (told (is_into_shard document options region box))
 
   pub chunk_stops : (e : ChunkError) → length box.start ≡ length box.shape → WritingStops (write_at path document exact region given options) box held e → ChunkStops path document store region given options chunk box e

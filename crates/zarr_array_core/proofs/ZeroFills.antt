@@ -22,10 +22,10 @@ use Rattle.zarr_codecs_meaning.proofs.Values.{length-ordered}
 use Rattle.zarr_codecs_arrays.specs.Values.{takes_all_bytes}
 use Rattle.zarr_codecs_traits.specs.Patches.{Patch, patched}
 use Rattle.zarr_codecs_traits.specs.PartEncoding.{takes_patches}
-use Rattle.zarr_array_meaning.specs.Documents.{Document}
 use Rattle.zarr_array_meaning.specs.StoreMaps.{StoreMap}
 use Rattle.zarr_array_core.specs.ChunkValues.{MakesValue, with_value}
 use Rattle.zarr_array_core.specs.PartWrites.{PatchesChunk}
+use Rattle.zarr_array_core.specs.Writes.{Write}
 
 -- ---- zeros
 
@@ -125,15 +125,16 @@ on_ok (Ok value) P Q f h = f h
 on_ok (Err e) P Q f h = tt
 
 -- zeros into which the ranges were written are the value of a chunk that has none
-pub zeros_part : (document : Document) (exact : Bool) (region box : Region) (given : List Cell) (store_empty : Bool) (patches : List Patch) (held new : StoreMap) (key value : List ℕ) (size : ℕ)
-    → decoded document.chain document.elements box.shape (replicate size 0) ≡ Some (replicate (product box.shape) document.elements.fill) → PatchesChunk document exact region given store_empty box patches → get held key ≡ None
+pub zeros_part : (write : Write) (box : Region) (patches : List Patch) (held new : StoreMap) (key value : List ℕ) (size : ℕ)
+    → decoded write.array.document.chain write.array.document.elements box.shape (replicate size 0) ≡ Some (replicate (product box.shape) write.array.document.elements.fill) → PatchesChunk write box patches → get held key ≡ None
     → value ≡ patched (replicate size 0) patches → new ≡ insert held key value
-    → (made : Option (List ℕ)) × MakesValue document exact region given store_empty box (get held key) made × (new ≡ with_value held key made)
-zeros_part document exact region box given store_empty patches held new key value size is h none same e =
+    → (made : Option (List ℕ)) × MakesValue write box (get held key) made × (new ≡ with_value held key made)
+zeros_part write box patches held new key value size is h none same e =
+    let document = write.array.document in
     let zeros = replicate size 0 in
     let made : Option (List ℕ) = Some (patched zeros patches) in
     let makes = h.makes zeros (replicate (product box.shape) document.elements.fill) is in
-    let now : MakesValue document exact region given store_empty box None made = record {
+    let now : MakesValue write box None made = record {
       fit = makes.fit;
       cells = makes.cells;
       becomes = record {
@@ -145,6 +146,6 @@ zeros_part document exact region box given store_empty patches held new key valu
       is = makes.is;
     } in (
       made,
-      subst (λ (stored : Option (List ℕ)). MakesValue document exact region given store_empty box stored made) (sym none) now,
+      subst (λ (stored : Option (List ℕ)). MakesValue write box stored made) (sym none) now,
       e ∙ ap (λ (v : List ℕ). insert held key v) same,
     )

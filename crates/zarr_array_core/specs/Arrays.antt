@@ -1,10 +1,11 @@
 -- Arrays as the calls over them see them, and what a call leaves of a store.
-use Rattle.std.specs.Prelude.{◌≡◌, ℕ, IsTrue, OnOk, OnErr, IfErr, Result, Ok, Err}
+use Rattle.std.specs.Prelude.{ℕ, IsTrue, OnOk, IfErr, Result, Ok, Err}
 use Rattle.zarr_codecs_traits.specs.declared.array_to_bytes.ArrayToBytesCodecTraits as codecs
 use Rattle.zarr_array_meaning.specs.Arrays.{Array}
 use Rattle.zarr_array_meaning.specs.StoreMaps.{StoreMap}
 use Rattle.zarr_array_storage.specs.declared.traits.ReadableStorageTraits as stores
-use Rattle.zarr_array_core.specs.Outcomes.{CountsUpTo, refused_after, refused_by_many}
+use Rattle.zarr_array_core.specs.Calls.{Calls, KeptAtErr, calls_done}
+use Rattle.zarr_array_core.specs.Outcomes.{refused_after, refused_by_many}
 use Rattle.zarr_array_core.specs.Views.{document_of, is_exact, path_of}
 use Rattle.zarr_array_core.specs.declared.array_core.ArrayCore.{ArrayCore}
 use Rattle.zarr_array_core.specs.declared.error.ChunkError.{ChunkError}
@@ -22,20 +23,15 @@ OnHonestOk s old new result relates = IsTrue (s.is_honest old) → OnOk result (
 abbrev pub IfHonestErr : {S A E : Type 0} → stores.Ghosts S → S → S → Result A E → (E → StoreMap → StoreMap → Type 0) → Type 0
 IfHonestErr s old new result relates = IsTrue (s.is_honest old) → IfErr result (λ e. relates e (s.held old) (s.held new))
 
--- calls of a store were made, of which the last may have been refused: it stays as honest as it was, its refusal is counted, at most n writing calls are accepted, and an error changes nothing
-pub record Called {S A : Type 0} (s : stores.Ghosts S) (n : ℕ) (old new : S) (result : Result A ChunkError) : Type 0 where
-  pub honest : s.is_honest new ≡ s.is_honest old
-  pub refused : s.refused_calls new ≡ refused_after (s.refused_calls old) result
-  pub counts : CountsUpTo n (s.accepted_writes old) (s.accepted_writes new)
-  pub kept : IsTrue (s.is_honest old) → OnErr result (s.held new ≡ s.held old)
-
--- calls of a store were made over several chunks: as above, but those before a refused one have changed what is held
-pub record CalledMany {S A : Type 0} (s : stores.Ghosts S) (n : ℕ) (old new : S) (result : Result A ManyError) : Type 0 where
-  pub honest : s.is_honest new ≡ s.is_honest old
-  pub refused : s.refused_calls new ≡ refused_by_many (s.refused_calls old) result
-  pub counts : CountsUpTo n (s.accepted_writes old) (s.accepted_writes new)
+-- calls of a store were made for one chunk, of which the last may have been refused: its refusal is counted, at most n writing calls are accepted, and an error accepts none and changes nothing
+abbrev pub Called : {S A : Type 0} → stores.Ghosts S → ℕ → S → S → Result A ChunkError → Type 0
+Called s n old new result = Calls s old new (refused_after (s.refused_calls old) result) (calls_done n result) × KeptAtErr s old new result
 
 -- of so many chunks the call went through all, or through those before its error
 abbrev pub chunks_done : {A : Type 0} → ℕ → Result A ManyError → ℕ
 chunks_done many (Ok x) = many
 chunks_done many (Err stopped) = stopped.applied
+
+-- calls of a store were made over n chunks: in all, at most as many writing calls are accepted as the call went through chunks
+abbrev pub CalledMany : {S A : Type 0} → stores.Ghosts S → ℕ → S → S → Result A ManyError → Type 0
+CalledMany s n old new result = Calls s old new (refused_by_many (s.refused_calls old) result) (chunks_done n result)

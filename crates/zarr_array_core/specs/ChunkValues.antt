@@ -9,11 +9,13 @@ use Rattle.zarr_codecs_meaning.specs.Fits.{is_lossless}
 use Rattle.zarr_codecs_meaning.specs.Refusals.{CodecRefuses, PassesIndex}
 use Rattle.zarr_codecs_meaning.specs.Standing.{ChunkStands}
 use Rattle.zarr_codecs_meaning.specs.Types.{Cell, is_value, is_fill}
-use Rattle.zarr_codecs_options.specs.declared.codec_options.CodecOptions.{CodecOptions}
 use Rattle.zarr_codecs_arrays.specs.declared.error.CodecError.{CodecError}
 use Rattle.zarr_codecs_arrays.specs.declared.error.CodecError.TheVariants as codec_error
+use Rattle.zarr_array_core.specs.Outcomes.{IsStoreRefusal}
+use Rattle.zarr_array_core.specs.Writes.{Write}
 use Rattle.zarr_array_core.specs.declared.error.ChunkError.{ChunkError}
 use Rattle.zarr_array_core.specs.declared.error.ChunkError.TheVariants as error
+use Rattle.zarr_array_meaning.specs.Arrays.{Array}
 use Rattle.zarr_array_meaning.specs.Boxes.{cell_of_box}
 use Rattle.zarr_array_meaning.specs.Chunks.{fits_box, holds_box, number_in}
 use Rattle.zarr_array_meaning.specs.Documents.{Document}
@@ -41,11 +43,11 @@ abbrev pub HasValue : Document → Bool → List Cell → Type 0
 HasValue document store_empty cells = store_empty ≡ false → is_fill document.elements.fill cells ≡ false
 
 -- the value of a chunk with these cells, which stands for them, and is their encoding where that depends on them alone (`exact`); or none where they are all fill and empty chunks aren't stored
-pub record IsNewValue (document : Document) (exact store_empty : Bool) (shape : List ℕ) (cells : List Cell) (stored : Option (List ℕ)) : Type 0 where
-  pub absent : stored ≡ None → (store_empty ≡ false) × (is_fill document.elements.fill cells ≡ true)
-  pub present : (value : List ℕ) → stored ≡ Some value → HasValue document store_empty cells
-  pub stands : is_lossless document.chain document.elements.type ≡ true → ChunkStands document.chain document.elements shape stored cells
-  pub encodes : IsTrue exact → (value : List ℕ) → stored ≡ Some value → encoded document.chain document.elements shape cells ≡ Some value
+pub record IsNewValue (array : Array) (store_empty : Bool) (shape : List ℕ) (cells : List Cell) (stored : Option (List ℕ)) : Type 0 where
+  pub absent : stored ≡ None → (store_empty ≡ false) × (is_fill array.document.elements.fill cells ≡ true)
+  pub present : (value : List ℕ) → stored ≡ Some value → HasValue array.document store_empty cells
+  pub stands : is_lossless array.document.chain array.document.elements.type ≡ true → ChunkStands array.document.chain array.document.elements shape stored cells
+  pub encodes : IsTrue array.exact → (value : List ℕ) → stored ≡ Some value → encoded array.document.chain array.document.elements shape cells ≡ Some value
 
 -- an error with which a codec refuses to encode cells that are an array's
 abbrev pub IsRefusal : CodecError → Type 0
@@ -74,7 +76,7 @@ EncodeStops document store_empty shape cells e = HasValue document store_empty c
 -- why the new cells of a chunk are not made
 abbrev pub MergeStops : Document → Region → Region → Option (List ℕ) → ChunkError → Type 0
 MergeStops document region box stored error.Damage = (holds_box region box ≡ false) × (chunk_decoded document.chain document.elements box.shape stored ≡ None)
-MergeStops document region box stored (error.Storage e) = Unit {0}
+MergeStops document region box stored (error.Storage e) = IsStoreRefusal e
 MergeStops document region box stored error.Memory = Unit {0}
 MergeStops document region box stored e = ⊥
 
@@ -84,26 +86,26 @@ with_value store key None = remove store key
 with_value store key (Some value) = insert store key value
 
 -- a chunk that fits gets the cells of a box where it lies in it, and the value of its new cells
-pub record MakesValue (document : Document) (exact : Bool) (region : Region) (given : List Cell) (store_empty : Bool) (box : Region) (stored made : Option (List ℕ)) : Type 0 where
-  pub fit : fits_box document box ≡ true
+pub record MakesValue (write : Write) (box : Region) (stored made : Option (List ℕ)) : Type 0 where
+  pub fit : fits_box write.array.document box ≡ true
   pub cells : List Cell
-  pub becomes : CellsBecome document region given stored box cells
-  pub is : IsNewValue document exact store_empty box.shape cells made
+  pub becomes : CellsBecome write.array.document write.region write.cells stored box cells
+  pub is : IsNewValue write.array (stores_fill write.array.document write.options write.region box) box.shape cells made
 
 -- the cells that a chunk is to get, and that they are not encoded
-pub record NotEncoded (document : Document) (region : Region) (given : List Cell) (store_empty : Bool) (box : Region) (stored : Option (List ℕ)) (error : ChunkError) : Type 0 where
-  pub fit : fits_box document box ≡ true
+pub record NotEncoded (write : Write) (box : Region) (stored : Option (List ℕ)) (error : ChunkError) : Type 0 where
+  pub fit : fits_box write.array.document box ≡ true
   pub cells : List Cell
-  pub becomes : CellsBecome document region given stored box cells
-  pub refuses : EncodeStops document store_empty box.shape cells error
+  pub becomes : CellsBecome write.array.document write.region write.cells stored box cells
+  pub refuses : EncodeStops write.array.document (stores_fill write.array.document write.options write.region box) box.shape cells error
 
 -- why a chunk gets no new value
-abbrev pub NewValueStops : Document → Region → List Cell → Bool → Region → Option (List ℕ) → ChunkError → Type 0
-NewValueStops document region given store_empty box stored error.Fit = fits_box document box ≡ false
-NewValueStops document region given store_empty box stored (error.Storage e) = fits_box document box ≡ true
-NewValueStops document region given store_empty box stored error.Damage = (fits_box document box ≡ true) × MergeStops document region box stored error.Damage
-NewValueStops document region given store_empty box stored error.Memory = Unit {0}
-NewValueStops document region given store_empty box stored e = NotEncoded document region given store_empty box stored e
+abbrev pub NewValueStops : Write → Region → Option (List ℕ) → ChunkError → Type 0
+NewValueStops write box stored error.Fit = fits_box write.array.document box ≡ false
+NewValueStops write box stored (error.Storage e) = (fits_box write.array.document box ≡ true) × IsStoreRefusal e
+NewValueStops write box stored error.Damage = (fits_box write.array.document box ≡ true) × MergeStops write.array.document write.region box stored error.Damage
+NewValueStops write box stored error.Memory = Unit {0}
+NewValueStops write box stored e = NotEncoded write box stored e
 
 -- ---- a part written over what isn't decoded
 
@@ -136,24 +138,25 @@ put_refusal_of codec_error.Damage = error.Damage
 put_refusal_of e = error.Memory
 
 -- a chunk that fits, whose value isn't decoded but opens, is written in part
-pub record PutsPart (document : Document) (region : Region) (given : List Cell) (options : CodecOptions) (box : Region) (stored made : Option (List ℕ)) : Type 0 where
-  pub fit : fits_box document box ≡ true
-  pub in_part : is_in_part document options region box ≡ true
-  pub lost : chunk_decoded document.chain document.elements box.shape stored ≡ None
+pub record PutsPart (write : Write) (box : Region) (stored made : Option (List ℕ)) : Type 0 where
+  pub fit : fits_box write.array.document box ≡ true
+  pub in_part : is_in_part write.array.document write.options write.region box ≡ true
+  pub lost : chunk_decoded write.array.document.chain write.array.document.elements box.shape stored ≡ None
   pub some : is_some made ≡ true
-  pub puts : PutsCells document region given box stored made
+  pub puts : PutsCells write.array.document write.region write.cells box stored made
 
--- what a write makes of a chunk: the value of its new cells, or one into which these were put
-abbrev pub ChangesValue : Document → Bool → Region → List Cell → CodecOptions → Region → Option (List ℕ) → Option (List ℕ) → Type 0
-ChangesValue document exact region given options box stored made = MakesValue document exact region given (stores_fill document options region box) box stored made ⊎ PutsPart document region given options box stored made
+-- what a write makes of a chunk, if it puts no part of it into its shard: the value of its new cells, or one into which these were put
+abbrev pub ChangesValue : Write → Region → Option (List ℕ) → Option (List ℕ) → Type 0
+ChangesValue write box stored made = MakesValue write box stored made ⊎ PutsPart write box stored made
 
--- why a write changes nothing in a chunk
-abbrev pub ChangeStops : Document → Region → List Cell → CodecOptions → Region → Option (List ℕ) → ChunkError → Type 0
-ChangeStops document region given options box stored error.Fit = fits_box document box ≡ false
-ChangeStops document region given options box stored (error.Storage e) = fits_box document box ≡ true
-ChangeStops document region given options box stored error.Damage = (fits_box document box ≡ true) × (holds_box region box ≡ false) × (takes_cells document options region box stored ≡ false)
-ChangeStops document region given options box stored error.Memory = Unit {0}
-ChangeStops document region given options box stored e = NotEncoded document region given (stores_fill document options region box) box stored e
+-- why a chunk isn't changed then
+abbrev pub ChangeStops : Write → Region → Option (List ℕ) → ChunkError → Type 0
+ChangeStops write box stored error.Fit = fits_box write.array.document box ≡ false
+ChangeStops write box stored (error.Storage e) = (fits_box write.array.document box ≡ true) × IsStoreRefusal e
+ChangeStops write box stored error.Damage =
+    (fits_box write.array.document box ≡ true) × (holds_box write.region box ≡ false) × (takes_cells write.array.document write.options write.region box stored ≡ false)
+ChangeStops write box stored error.Memory = Unit {0}
+ChangeStops write box stored e = NotEncoded write box stored e
 
 -- a fact where a call stopped at damage
 abbrev pub OnDamage : {A : Type 0} → Result A ChunkError → Type 0 → Type 0

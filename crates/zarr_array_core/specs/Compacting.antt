@@ -9,6 +9,7 @@ use Rattle.zarr_sharding_changes.specs.Refusals.{CompactionRefused, CompactionTo
 use Rattle.zarr_array_meaning.specs.Arrays.{Array, value_at}
 use Rattle.zarr_array_meaning.specs.Documents.{Document}
 use Rattle.zarr_array_meaning.specs.StoreMaps.{StoreMap}
+use Rattle.zarr_array_core.specs.Outcomes.{IsStoreRefusal}
 use Rattle.zarr_array_core.specs.declared.error.ChunkError.{ChunkError}
 use Rattle.zarr_array_core.specs.declared.error.ChunkError.TheVariants as error
 
@@ -37,6 +38,6 @@ pub record NotCompacted (array : Array) (chunk : List ℕ) (e : ChunkError) (sto
 
 -- why a chunk is not compacted: the store refuses, memory ran out, or what is stored stops it
 abbrev pub CompactStops : Array → List ℕ → ChunkError → StoreMap → Type 0
-CompactStops array chunk (error.Storage e) store = Unit {0}
+CompactStops array chunk (error.Storage e) store = IsStoreRefusal e
 CompactStops array chunk error.Memory store = Unit {0}
 CompactStops array chunk e store = NotCompacted array chunk e store

@@ -1,17 +1,17 @@
 -- A part of a chunk, put into the chunk's shard.
 use Rattle.std.specs.Prelude.{◌≡◌, ◌⊎◌, ℕ, List, [], ◌∷◌, map, length, Option, Bool, IsTrue, true, false, if◌then◌else◌, None, MatchBool, OnErr, Result}
-use Rattle.std.specs.List.{list_all}
-use Rattle.zarr_grids_boxes.specs.Boxes.{Region, product, places, is_in_box, share_place}
+use Rattle.std.specs.FinMap.{get}
+use Rattle.zarr_grids_boxes.specs.Boxes.{Region, places, is_in_box}
 use Rattle.zarr_grids_boxes.specs.Subsets.{region_of}
 use Rattle.zarr_grids_boxes.specs.declared.subset.ArraySubset.{ArraySubset}
-use Rattle.zarr_grids_overlay.specs.Overlays.{extent_of}
+use Rattle.zarr_grids_chunks.specs.Grids.{IsInGrid, intersecting}
+use Rattle.zarr_grids_keys.specs.Keys.{chunk_key}
 use Rattle.zarr_codecs_meaning.specs.Chains.{Chain}
 use Rattle.zarr_codecs_meaning.specs.Chunks.{chunk_decoded, chunk_part}
 use Rattle.zarr_codecs_meaning.specs.Payloads.{Payload}
 use Rattle.zarr_codecs_meaning.specs.Refusals.{CodecRefuses, PassesIndex}
 use Rattle.zarr_codecs_meaning.specs.Standing.{ChunkStands}
-use Rattle.zarr_codecs_meaning.specs.Types.{Cell, Elements, is_value, is_fill, IsTooLarge}
-use Rattle.zarr_codecs_options.specs.declared.codec_options.CodecOptions.{CodecOptions}
+use Rattle.zarr_codecs_meaning.specs.Types.{Cell, Elements, is_fill}
 use Rattle.zarr_codecs_arrays.specs.Views.{elements_of, payload_of}
 use Rattle.zarr_codecs_arrays.specs.declared.array_bytes.ArrayBytes.{ArrayBytes}
 use Rattle.zarr_codecs_arrays.specs.declared.error.CodecError.{CodecError}
@@ -20,40 +20,21 @@ use Rattle.zarr_codecs_traits.specs.Indexers.{Asked, in_box}
 use Rattle.zarr_codecs_traits.specs.PartWriting.{ChunkTight, IsEncodedInto, IsPlaced, NotEncodedInto, OnCells, PassesLength, WritesOnce, only_cell}
 use Rattle.zarr_codecs_traits.specs.Sources.{refused_after}
 use Rattle.zarr_codecs_traits.specs.declared.array_to_bytes.ArrayToBytesCodecTraits as codecs
-use Rattle.zarr_array_meaning.specs.Arrays.{Array}
+use Rattle.zarr_array_meaning.specs.Arrays.{value_at}
 use Rattle.zarr_array_meaning.specs.Boxes.{cell_of_box}
 use Rattle.zarr_array_meaning.specs.Chunks.{fits_box, number_in}
 use Rattle.zarr_array_meaning.specs.Documents.{Document}
 use Rattle.zarr_array_meaning.specs.Standing.{IsLossless}
-use Rattle.zarr_array_meaning.specs.Writing.{HasSliceOutside, is_into_shard}
+use Rattle.zarr_array_meaning.specs.StoreMaps.{StoreMap}
+use Rattle.zarr_array_meaning.specs.Writing.{StopsInto, WroteChunks, is_into_shard}
 use Rattle.zarr_array_storage.specs.declared.traits.ReadableStorageTraits as stores
 use Rattle.zarr_array_storage.specs.declared.error.StorageError.{StorageError}
-use Rattle.zarr_array_core.specs.Arrays.{array_of}
-use Rattle.zarr_array_core.specs.ChunkValues.{ChangesValue, ChangeStops, PutsCells}
-use Rattle.zarr_array_core.specs.Views.{array_cells, AreSoMany}
+use Rattle.zarr_array_core.specs.ChunkValues.{CellsBecome, ChangesValue, ChangeStops, MergeStops, PutsCells, with_value}
+use Rattle.zarr_array_core.specs.Outcomes.{IsStoreRefusal}
+use Rattle.zarr_array_core.specs.Writes.{Write}
 use Rattle.zarr_array_core.specs.declared.array_core.ArrayCore.{ArrayCore}
-use Rattle.zarr_array_core.specs.declared.chunk_value.BoxWrite.{BoxWrite}
 use Rattle.zarr_array_core.specs.declared.error.ChunkError.{ChunkError}
 use Rattle.zarr_array_core.specs.declared.error.ChunkError.TheVariants as error
-
--- the cells of a box that are written to an array, and how they are stored
-pub record Write : Type 0 where
-  pub array : Array
-  pub region : Region
-  pub cells : List Cell
-  pub options : CodecOptions
-
--- the cells that elements written to an array are
-abbrev pub write_of : {C : Type 0} → codecs.Ghosts C → ArrayCore C → BoxWrite → Write
-write_of c array write = record { array = array_of c array; region = extent_of write.region; cells = array_cells array write.bytes.now; options = write.options.now }
-
--- elements are written to a box that shares a place with a chunk: both have as many numbers, the chunk isn't too large, and there are as many values of the array as the box has places
-pub record WritesTo {C : Type 0} (array : ArrayCore C) (write : BoxWrite) (own : ArraySubset) : Type 0 where
-  pub small : ¬ IsTooLarge (elements_of array.elements).type (product own.shape.items)
-  pub shares : share_place own.start.items own.shape.items write.region.start.now write.region.shape.now ≡ true
-  pub rank : length write.region.start.now ≡ length own.start.items
-  pub many : AreSoMany array write.bytes.now (product write.region.shape.now)
-  pub values : list_all (is_value (elements_of array.elements).type) (array_cells array write.bytes.now) ≡ true
 
 -- why it isn't known whether a write puts a part of a chunk into its shard
 abbrev pub IntoUnknown : Document → Region → ChunkError → Type 0
@@ -76,10 +57,10 @@ cells_then write box stored =
     let read = λ (place : List ℕ). only_cell fill (chunk_part write.array.document.chain write.array.document.elements box.shape stored (number_in box place ∷ [])) in
     map (λ place. if is_in_box write.region.start write.region.shape place then cell_of_box write.region write.cells fill place else read place) (places box.start box.shape)
 
--- the cells of a write were put into a chunk's shard, which opens and has no slice outside its data part: each place is read so, what stood for cells stands for them with the new ones, and a shard that is all fill then is taken away
+-- the cells of a write were put into a chunk's shard, which doesn't stop them: each place is read so, what stood for cells stands for them with the new ones, and a shard that is all fill then is taken away
 pub record PutsIntoShard (write : Write) (box : Region) (stored made : Option (List ℕ)) : Type 0 where
   pub fit : fits_box write.array.document box ≡ true
-  pub placed : ¬ HasSliceOutside write.array.document box stored
+  pub taken : ¬ StopsInto write.array.document write.region box stored
   pub puts : PutsCells write.array.document write.region write.cells box stored made
   pub stands : IsLossless write.array.document → OnCells write.array.document.elements box.shape (λ before. ChunkStands write.array.document.chain write.array.document.elements box.shape stored before
       → ChunkStands write.array.document.chain write.array.document.elements box.shape made (cells_over write box before))
@@ -88,11 +69,17 @@ pub record PutsIntoShard (write : Write) (box : Region) (stored made : Option (L
   pub absent : IsLossless write.array.document → OnCells write.array.document.elements box.shape (λ before. ChunkStands write.array.document.chain write.array.document.elements box.shape stored before
       → is_fill write.array.document.elements.fill (cells_over write box before) ≡ true → made ≡ None)
 
+-- what is stored for a chunk isn't decoded, and behind it there is no room for the new slices: put there, they would make 2^63 bytes or more. Of a chain that drops bits the last isn't said
+abbrev pub HasNoRoomFor : Write → Region → Option (List ℕ) → Type 0
+HasNoRoomFor write box stored =
+    (chunk_decoded write.array.document.chain write.array.document.elements box.shape stored ≡ None)
+    × (IsLossless write.array.document → PassesLength write.array.document.chain write.array.document.elements box.shape stored (cells_then write box stored))
+
 -- why the cells of a write are not put into a chunk's shard
 abbrev pub IntoShardStops : Write → Region → Option (List ℕ) → ChunkError → Type 0
 IntoShardStops write box stored error.Fit = ⊥
-IntoShardStops write box stored (error.Storage e) = Unit {0}
-IntoShardStops write box stored error.Damage = (chunk_decoded write.array.document.chain write.array.document.elements box.shape stored ≡ None) ⊎ HasSliceOutside write.array.document box stored
+IntoShardStops write box stored (error.Storage e) = IsStoreRefusal e
+IntoShardStops write box stored error.Damage = StopsInto write.array.document write.region box stored ⊎ HasNoRoomFor write box stored
 IntoShardStops write box stored error.Codec = CodecRefuses write.array.document.chain write.array.document.elements box.shape (cells_then write box stored)
 IntoShardStops write box stored error.Size =
     PassesIndex write.array.document.chain write.array.document.elements box.shape (cells_then write box stored) ⊎ PassesLength write.array.document.chain write.array.document.elements box.shape stored (cells_then write box stored)
@@ -100,21 +87,50 @@ IntoShardStops write box stored error.Memory = Unit {0}
 
 -- ---- what a write does
 
+-- the cells that a chunk gets of a write, where this is stored for it
+abbrev pub GetsCells : Write → Region → Option (List ℕ) → List Cell → Type 0
+GetsCells write box stored cells = CellsBecome write.array.document write.region write.cells stored box cells
+
+-- why a chunk gets no cells of a write
+abbrev pub GetsNoCells : Write → Region → Option (List ℕ) → ChunkError → Type 0
+GetsNoCells write box stored e = MergeStops write.array.document write.region box stored e
+
+-- the cells of a write were put into what is stored for a chunk
+abbrev pub GetsPart : Write → Region → Option (List ℕ) → Option (List ℕ) → Type 0
+GetsPart write box stored made = PutsCells write.array.document write.region write.cells box stored made
+
+-- a key got the value that is made of what it had, or lost it, and no other key changed
+abbrev pub ChangesAt : List ℕ → (Option (List ℕ) → Option (List ℕ) → Type 0) → StoreMap → StoreMap → Type 0
+ChangesAt key makes old new = (made : Option (List ℕ)) × makes (get old key) made × (new ≡ with_value old key made)
+
 -- what a write makes of a chunk: it puts a part of it into its shard, or changes its value otherwise
 abbrev pub WritesChunk : Write → Region → Option (List ℕ) → Option (List ℕ) → Type 0
 WritesChunk write box stored made = MatchBool (is_into_shard write.array.document write.options write.region box) (PutsIntoShard write box stored made)
-    (ChangesValue write.array.document write.array.exact write.region write.cells write.options box stored made)
+    (ChangesValue write box stored made)
 
 -- why a write doesn't change a chunk that fits
 abbrev pub FittingStops : Write → Region → Option (List ℕ) → ChunkError → Type 0
 FittingStops write box stored e = MatchBool (is_into_shard write.array.document write.options write.region box) ((fits_box write.array.document box ≡ true) × IntoShardStops write box stored e)
-    (ChangeStops write.array.document write.region write.cells write.options box stored e)
+    (ChangeStops write box stored e)
 
 -- why a write changes nothing in a chunk
 abbrev pub WritingStops : Write → Region → Option (List ℕ) → ChunkError → Type 0
 WritingStops write box stored error.Fit = fits_box write.array.document box ≡ false
 WritingStops write box stored error.Memory = Unit {0}
 WritingStops write box stored e = FittingStops write box stored e
+
+-- a chunk in the grid got what a write makes of it, and no other key changed
+abbrev pub WritesAt : Write → List ℕ → StoreMap → StoreMap → Type 0
+WritesAt write chunk old new = (box : Region) × (made : Option (List ℕ)) × IsInGrid write.array.document.grid chunk box
+    × WritesChunk write box (value_at write.array old chunk) made × (new ≡ with_value old (chunk_key write.array.path write.array.document.keys chunk) made)
+
+-- why a chunk in the grid didn't get what a write makes of it
+abbrev pub StopsAt : Write → List ℕ → ChunkError → StoreMap → Type 0
+StopsAt write chunk e store = (box : Region) × IsInGrid write.array.document.grid chunk box × WritingStops write box (value_at write.array store chunk) e
+
+-- the cells of a write were written to each chunk that its box intersects
+abbrev pub WritesMet : Write → StoreMap → StoreMap → Type 0
+WritesMet write old new = WroteChunks write.array.path write.array.document write.array.exact write.region write.cells write.options (intersecting write.array.document.grid write.region) old new
 
 -- ---- a codec's call
 

@@ -1,7 +1,10 @@
 pub mod Views
 pub mod Outcomes
 pub mod Parts
+pub mod Writes
+pub mod BoxWrites
 pub mod ChunkValues
+pub mod Calls
 pub mod PartWrites
 pub mod Arrays
 pub mod Compacting

@@ -1,5 +1,5 @@
 -- What calls over the chunks of an array answer and leave.
-use Rattle.std.specs.Prelude.{◌≡◌, ℕ, ◌+◌, ◌<◌, ◌≤◌, List, take, length, Some, Result, Ok, Err, Bool, true, false}
+use Rattle.std.specs.Prelude.{◌≡◌, ◌⊎◌, ℕ, ◌<◌, List, take, length, Some, Result, Ok, Err, Bool, true, false}
 use Rattle.zarr_grids_boxes.specs.Boxes.{Region, product, places}
 use Rattle.zarr_grids_chunks.specs.Grids.{IsInGrid, intersecting, intersects}
 use Rattle.zarr_codecs_meaning.specs.Payloads.{Payload, cells_in}
@@ -9,7 +9,9 @@ use Rattle.zarr_array_meaning.specs.Boxes.{IsRead, IsDamagedIn, IsUnfitIn}
 use Rattle.zarr_array_meaning.specs.Chunks.{IsNthIntersecting, fits_box}
 use Rattle.zarr_array_meaning.specs.Documents.{Document}
 use Rattle.zarr_array_meaning.specs.StoreMaps.{StoreMap, counted}
-use Rattle.zarr_array_meaning.specs.Writing.{IsPartDamaged, IsCodecRefused, IsOversized, WroteChunks, ErasedChunks}
+use Rattle.zarr_array_meaning.specs.Writing.{IsPartDamaged, LacksRoom, IsCodecRefused, IsOversized, WroteChunks, ErasedChunks}
+use Rattle.zarr_array_storage.specs.Refusals.{is_counted}
+use Rattle.zarr_array_storage.specs.declared.error.StorageError.{StorageError}
 use Rattle.zarr_array_core.specs.declared.error.ChunkError.{ChunkError}
 use Rattle.zarr_array_core.specs.declared.error.ChunkError.TheVariants as error
 use Rattle.zarr_array_core.specs.declared.error.ManyError.{ManyError}
@@ -25,10 +27,14 @@ pub record GivesBox (path : List ℕ) (document : Document) (store : StoreMap) (
   pub lists : cells_in document.elements.type payload ≡ Some cells
   pub read : IsRead path document store region cells
 
+-- an error of a store as the refusal of a call: it is never want of memory, which has its own cause, nor a wrong byte range
+abbrev pub IsStoreRefusal : StorageError → Type 0
+IsStoreRefusal e = is_counted e ≡ true
+
 -- why a box is not read
 abbrev pub ReadStops : List ℕ → Document → StoreMap → Region → ChunkError → Type 0
 ReadStops path document store region error.Fit = IsUnfitIn path document store region
-ReadStops path document store region (error.Storage e) = Unit {0}
+ReadStops path document store region (error.Storage e) = IsStoreRefusal e
 ReadStops path document store region error.Damage = IsDamagedIn path document store region
 ReadStops path document store region error.Memory = Unit {0}
 ReadStops path document store region e = ⊥
@@ -57,8 +63,8 @@ pub record WritesBox (path : List ℕ) (document : Document) (exact : Bool) (reg
 -- why a chunk is not written
 abbrev pub ChunkStops : List ℕ → Document → StoreMap → Region → List Cell → CodecOptions → List ℕ → Region → ChunkError → Type 0
 ChunkStops path document store region cells options chunk box error.Fit = fits_box document box ≡ false
-ChunkStops path document store region cells options chunk box (error.Storage e) = fits_box document box ≡ true
-ChunkStops path document store region cells options chunk box error.Damage = IsPartDamaged path document store region options chunk box
+ChunkStops path document store region cells options chunk box (error.Storage e) = (fits_box document box ≡ true) × IsStoreRefusal e
+ChunkStops path document store region cells options chunk box error.Damage = IsPartDamaged path document store region options chunk box ⊎ LacksRoom path document store region cells options chunk box
 ChunkStops path document store region cells options chunk box error.Codec = IsCodecRefused path document store region cells options chunk box
 ChunkStops path document store region cells options chunk box error.Size = IsOversized path document store region cells options chunk box
 ChunkStops path document store region cells options chunk box error.Memory = Unit {0}
@@ -73,17 +79,13 @@ pub record WriteStops (path : List ℕ) (document : Document) (exact : Bool) (re
   pub stops : ChunkStops path document old region cells options chunk box stopped.error
   pub wrote : WroteChunks path document exact region cells options (take stopped.applied (intersecting document.grid region)) old new
 
--- a count after at most n more; it stands still at 2^128 - 1
-abbrev pub CountsUpTo : ℕ → ℕ → ℕ → Type 0
-CountsUpTo n old new = (counted old 0 ≤ new) × (new ≤ old + n)
-
--- in all, no more writing calls are accepted than a box intersects chunks
-abbrev pub CountsWrites : Document → Region → ℕ → ℕ → Type 0
-CountsWrites document region old new = CountsUpTo (length (intersecting document.grid region)) old new
+-- how many chunks a box intersects
+abbrev pub chunks_met : Document → Region → ℕ
+chunks_met document region = length (intersecting document.grid region)
 
 -- why a call of the store, and so an erasure of a chunk, stops
 abbrev pub IsErasureStop : ChunkError → Type 0
-IsErasureStop (error.Storage e) = Unit {0}
+IsErasureStop (error.Storage e) = IsStoreRefusal e
 IsErasureStop error.Memory = Unit {0}
 IsErasureStop e = ⊥
 
@@ -92,7 +94,3 @@ pub record EraseStops (path : List ℕ) (document : Document) (chunks : Region) 
   pub fewer : stopped.applied < product chunks.shape
   pub stops : IsErasureStop stopped.error
   pub erased : ErasedChunks path document (take stopped.applied (places chunks.start chunks.shape)) old new
-
--- in all, no more writing calls are accepted than there are chunks
-abbrev pub CountsErasures : Region → ℕ → ℕ → Type 0
-CountsErasures chunks old new = CountsUpTo (product chunks.shape) old new

@@ -1,19 +1,25 @@
 -- What reading one chunk of a box does.
 use Rattle.std.specs.Prelude.{◌≡◌, ◌⊎◌, ℕ, List, [], ◌∷◌, Option, Some, None, true, false, is_some, Result, Ok, Err}
 use Rattle.zarr_grids_boxes.specs.Boxes.{Region, is_in_box}
-use Rattle.zarr_grids_boxes.specs.Cuts.{relative}
+use Rattle.zarr_grids_boxes.specs.Cuts.{overlapped, relative}
+use Rattle.zarr_grids_boxes.specs.Subsets.{region_of}
+use Rattle.zarr_grids_chunks.specs.Grids.{IsInGrid}
 use Rattle.zarr_codecs_meaning.specs.Chunks.{chunk_part}
 use Rattle.zarr_codecs_meaning.specs.Fits.{fits}
 use Rattle.zarr_codecs_meaning.specs.Payloads.{Payload}
-use Rattle.zarr_codecs_meaning.specs.Types.{Cell}
+use Rattle.zarr_codecs_meaning.specs.Types.{Cell, DataType}
 use Rattle.zarr_codecs_arrays.specs.Views.{payload_of}
 use Rattle.zarr_codecs_arrays.specs.declared.array_bytes.ArrayBytes.{ArrayBytes}
 use Rattle.zarr_codecs_traits.specs.Indexers.{in_box, numbers_of}
 use Rattle.zarr_codecs_traits.specs.Outcomes.{IsPart}
+use Rattle.zarr_array_elements.specs.Boxes.{AreOfBox}
+use Rattle.zarr_array_meaning.specs.Arrays.{Array, value_at}
 use Rattle.zarr_array_meaning.specs.Boxes.{cell_of_box}
 use Rattle.zarr_array_meaning.specs.Chunks.{number_in, stored_at, fits_box}
 use Rattle.zarr_array_meaning.specs.Documents.{Document}
 use Rattle.zarr_array_meaning.specs.StoreMaps.{StoreMap}
+use Rattle.zarr_array_core.specs.Outcomes.{IsStoreRefusal}
+use Rattle.zarr_array_core.specs.declared.chunk_reading.ChunkPart.{ChunkPart}
 use Rattle.zarr_array_core.specs.declared.error.ChunkError.{ChunkError}
 use Rattle.zarr_array_core.specs.declared.error.ChunkError.TheVariants as error
 
@@ -22,13 +28,28 @@ abbrev pub DecodesElements : Document → List ℕ → Option (List ℕ) → Reg
 DecodesElements document shape stored part (Ok (Some bytes)) = IsPart document.chain document.elements shape stored (in_box part) (payload_of bytes)
 DecodesElements document shape stored part (Ok None) = fits document.chain document.elements.type shape ≡ false
 DecodesElements document shape stored part (Err error.Damage) = (fits document.chain document.elements.type shape ≡ true) × (chunk_part document.chain document.elements shape stored (numbers_of shape part) ≡ None)
-DecodesElements document shape stored part (Err (error.Storage e)) = Unit {0}
+DecodesElements document shape stored part (Err (error.Storage e)) = IsStoreRefusal e
 DecodesElements document shape stored part (Err error.Memory) = Unit {0}
 DecodesElements document shape stored part (Err e) = ⊥
 
 -- the elements of what is stored for a chunk at the places of a box that it shares with another one
 pub record IsChunkPart (document : Document) (box : Region) (stored : Option (List ℕ)) (shared : Region) (payload : Payload) : Type 0 where
   pub is : IsPart document.chain document.elements box.shape stored (in_box (relative shared box.start)) payload
+
+-- elements are as many as the places that a chunk shares with a box, and stand for these
+pub record AreShared (type : DataType) (region box : Region) (part : ChunkPart) : Type 0 where
+  pub places : region_of part.shared ≡ overlapped region box
+  pub counted : AreOfBox type (payload_of part.bytes) (region_of part.shared)
+
+-- the elements that a chunk shares with a box, of what is stored for it; none where it doesn't fit
+abbrev pub FindsPart : Document → Region → Option (List ℕ) → Option ChunkPart → Type 0
+FindsPart document box stored None = fits_box document box ≡ false
+FindsPart document box stored (Some part) = IsChunkPart document box stored (region_of part.shared) (payload_of part.bytes)
+
+-- the elements that a chunk in the grid shares with a box, of what is stored for it; none where nothing is
+abbrev pub FindsAt : Array → StoreMap → List ℕ → Option ChunkPart → Type 0
+FindsAt array store chunk None = value_at array store chunk ≡ None
+FindsAt array store chunk (Some part) = (box : Region) → IsInGrid array.document.grid chunk box → IsChunkPart array.document box (value_at array store chunk) (region_of part.shared) (payload_of part.bytes)
 
 -- the cells of what is stored for a chunk were put over those of a box: each place of both shows the chunk's cell, and the other places of the box show what they did
 pub record IsPlaced (document : Document) (region box : Region) (stored : Option (List ℕ)) (old new : List Cell) : Type 0 where
@@ -52,7 +73,7 @@ pub record IsLost (document : Document) (region box : Region) (stored : Option (
 -- why the cells of what is stored for a chunk are not put over those of a box
 abbrev pub ValueStops : Document → Region → Region → Option (List ℕ) → ChunkError → Type 0
 ValueStops document region box stored error.Damage = IsLost document region box stored
-ValueStops document region box stored (error.Storage e) = Unit {0}
+ValueStops document region box stored (error.Storage e) = IsStoreRefusal e
 ValueStops document region box stored error.Memory = Unit {0}
 ValueStops document region box stored e = ⊥
 
@@ -60,6 +81,10 @@ ValueStops document region box stored e = ⊥
 abbrev pub PartStops : List ℕ → Document → StoreMap → Region → List ℕ → Region → ChunkError → Type 0
 PartStops path document store region chunk box error.Fit = (is_some (stored_at path document store chunk) ≡ true) × (fits_box document box ≡ false)
 PartStops path document store region chunk box error.Damage = IsLost document region box (stored_at path document store chunk)
-PartStops path document store region chunk box (error.Storage e) = Unit {0}
+PartStops path document store region chunk box (error.Storage e) = IsStoreRefusal e
 PartStops path document store region chunk box error.Memory = Unit {0}
 PartStops path document store region chunk box e = ⊥
+
+-- why the part of a chunk in the grid that lies in a box is not read
+abbrev pub PartNotRead : Array → StoreMap → Region → List ℕ → ChunkError → Type 0
+PartNotRead array store region chunk e = (box : Region) × IsInGrid array.document.grid chunk box × PartStops array.path array.document store region chunk box e

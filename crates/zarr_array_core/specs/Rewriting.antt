@@ -1,5 +1,5 @@
 -- Why the chunks of an array are not stored anew.
-use Rattle.std.specs.Prelude.{◌≡◌, ◌⊎◌, ℕ, ◌+◌, ◌≤◌, List, [], ◌∷◌, take, length, slice_get, Some, None, is_some, Bool, true, false, if◌then◌else◌, Result, Ok, Err}
+use Rattle.std.specs.Prelude.{◌≡◌, ◌⊎◌, ℕ, ◌+◌, ◌≤◌, List, [], ◌∷◌, take, length, slice_get, Some, None, is_some, Bool, true, false, if◌then◌else◌}
 use Rattle.zarr_grids_boxes.specs.Boxes.{Region, product}
 use Rattle.zarr_grids_chunks.specs.Grids.{IsInGrid}
 use Rattle.zarr_codecs_meaning.specs.Decoding.{decoded}
@@ -10,6 +10,7 @@ use Rattle.zarr_array_meaning.specs.Documents.{Document}
 use Rattle.zarr_array_meaning.specs.Rewriting.{RewroteChunks, keyed_chunks}
 use Rattle.zarr_array_meaning.specs.StoreMaps.{StoreMap}
 use Rattle.zarr_array_core.specs.ChunkValues.{EncodeStops}
+use Rattle.zarr_array_core.specs.Outcomes.{IsStoreRefusal}
 use Rattle.zarr_array_core.specs.declared.error.ChunkError.{ChunkError}
 use Rattle.zarr_array_core.specs.declared.error.ChunkError.TheVariants as error
 use Rattle.zarr_array_core.specs.declared.error.ManyError.{ManyError}
@@ -39,7 +40,7 @@ pub record ChunkNotRewritten (array : Array) (store_empty : Bool) (chunk : List 
 
 -- why a chunk is not stored anew: the store refuses, memory ran out, or what is stored stops it
 abbrev pub ChunkRewriteStops : Array → Bool → List ℕ → ChunkError → StoreMap → Type 0
-ChunkRewriteStops array store_empty chunk (error.Storage e) store = Unit {0}
+ChunkRewriteStops array store_empty chunk (error.Storage e) store = IsStoreRefusal e
 ChunkRewriteStops array store_empty chunk error.Memory store = Unit {0}
 ChunkRewriteStops array store_empty chunk e store = ChunkNotRewritten array store_empty chunk e store
 
@@ -52,11 +53,6 @@ RemakingStops document store_empty shape value e = RewritingStops document store
 abbrev pub RewritesChunk : Array → Bool → List ℕ → Bool → StoreMap → StoreMap → Type 0
 RewritesChunk array store_empty chunk true old new = RewroteChunks array store_empty (chunk ∷ []) old new
 RewritesChunk array store_empty chunk false old new = (value_at array old chunk ≡ None) × (new ≡ old)
-
--- the writing calls for a chunk: one where it is stored anew
-abbrev pub calls_of : Result Bool ChunkError → ℕ
-calls_of (Ok had) = if had then 1 else 0
-calls_of (Err e) = 0
 
 -- how many chunks were stored anew, after one more was looked at
 abbrev pub counted_chunk : ℕ → Bool → ℕ
@@ -78,7 +74,7 @@ pub record NotRewritten (array : Array) (store_empty : Bool) (stopped : ManyErro
 
 -- why a walk over the chunks stops: the store refuses or memory ran out, also where it is asked for a chunk that has no key, or the next chunk that has one is not stored anew
 abbrev pub WalkStops : Array → Bool → ManyError → StoreMap → ChunkError → Type 0
-WalkStops array store_empty stopped store (error.Storage e) = stopped.applied ≤ length (keyed_chunks array store)
+WalkStops array store_empty stopped store (error.Storage e) = (stopped.applied ≤ length (keyed_chunks array store)) × IsStoreRefusal e
 WalkStops array store_empty stopped store error.Memory = stopped.applied ≤ length (keyed_chunks array store)
 WalkStops array store_empty stopped store e = NotRewritten array store_empty stopped store
 

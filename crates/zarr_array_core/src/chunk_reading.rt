@@ -11,9 +11,9 @@ use crate::moving::{overlap_in, seen_from};
 use crate::reading::ReadBox;
 use crate::rooms::ChunkRooms;
 use crate::store_calls::size_key;
-use crate::store_source::StoreSource;
+use crate::store_source::{StoreSource, refusal_of};
 use zarr_array_elements::BoxElements;
-use zarr_array_storage::{ReadableStorageTraits, StorageError};
+use zarr_array_storage::ReadableStorageTraits;
 use zarr_codecs_arrays::{ArrayBytes, CodecError, Elements};
 use zarr_codecs_traits::{ArrayPart, ArrayToBytesCodecTraits, Indexer};
 use zarr_grids_boxes::ArraySubset;
@@ -41,22 +41,20 @@ fn are_so_many(bytes: &ArrayBytes, elements: &Elements, count: u64) -> bool
 }
 
 impl<C: ArrayToBytesCodecTraits> ArrayCore<C> {
-    ghost use Rattle.std.specs.Prelude.{◌≡◌, ◌*◌, IsTrue, IfOk, OnOk, IfErr, IfSome, None, true, false, length};
+    ghost use Rattle.std.specs.Prelude.{◌≡◌, IsTrue, IfOk, IfErr, IfSome, true};
     ghost use Rattle.std.specs.FinMap as map;
     ghost use Rattle.zarr_grids_boxes.specs.Boxes.{Region, product, share_place};
-    ghost use Rattle.zarr_grids_boxes.specs.Cuts.{overlapped, relative};
+    ghost use Rattle.zarr_grids_boxes.specs.Cuts.{overlapped};
     ghost use Rattle.zarr_grids_boxes.specs.Subsets.{region_of};
     ghost use Rattle.zarr_grids_chunks.specs.Grids.{IsInGrid, intersects};
     ghost use Rattle.zarr_codecs_meaning.specs.Types.{IsTooLarge};
-    ghost use Rattle.zarr_codecs_arrays.specs.Views.{payload_of};
-    ghost use Rattle.zarr_codecs_traits.specs.Indexers.{in_box, shape_has};
-    ghost use Rattle.zarr_codecs_traits.specs.Outcomes.{IsPart};
-    ghost use Rattle.zarr_array_meaning.specs.Chunks.{fits_box, stored_at};
-    ghost use Rattle.zarr_array_elements.specs.Boxes.{AreOfBox};
+    ghost use Rattle.zarr_codecs_traits.specs.Indexers.{shape_has};
     ghost use Rattle.zarr_array_elements.specs.Views.{AreShown, cells_shown};
+    ghost use Rattle.zarr_array_core.specs.Arrays.{array_of};
+    ghost use Rattle.zarr_array_core.specs.Calls.{Reads};
     ghost use Rattle.zarr_array_core.specs.Views.{document_of, path_of};
     ghost use Rattle.zarr_array_core.specs.Outcomes.{IsSmall, refused_after};
-    ghost use Rattle.zarr_array_core.specs.Parts.{DecodesElements, GivesChunk, IsChunkPart, PartStops, ValueStops};
+    ghost use Rattle.zarr_array_core.specs.Parts.{AreShared, DecodesElements, FindsAt, FindsPart, GivesChunk, PartNotRead, ValueStops};
 
     /// The elements of a box after those of a chunk that lie in it were put over them, where
     /// nothing is stored for the chunk fill values. They stay where nothing is stored for it and it
@@ -84,15 +82,11 @@ impl<C: ArrayToBytesCodecTraits> ArrayCore<C> {
             (S.held store.old) (region_of read.entry.region.now) chunk.now box
             (cells_shown (document_of C.meaning self.now).elements shown)
             (cells_shown (document_of C.meaning self.now).elements made)) }
-        ensures err { IsTrue (S.is_honest store.old) → IfErr result (λ e. (box : Region)
-            × IsInGrid (document_of C.meaning self.now).grid chunk.now box
-            × PartStops (path_of self.now) (document_of C.meaning self.now)
-            (S.held store.old) (region_of read.entry.region.now) chunk.now box e) }
-        ensures held { S.held store.new ≡ S.held store.old }
-        ensures honest { S.is_honest store.new ≡ S.is_honest store.old }
-        ensures refused { S.refused_calls store.new ≡
-            refused_after (S.refused_calls store.old) result }
-        ensures accepted { S.accepted_writes store.new ≡ S.accepted_writes store.old }
+        ensures err { IsTrue (S.is_honest store.old) → IfErr result (PartNotRead
+            (array_of C.ArrayToBytesCodecTraits self.now) (S.held store.old)
+            (region_of read.entry.region.now) chunk.now) }
+        ensures store { Reads S.ReadableStorageTraits store.old store.new
+            (refused_after (S.refused_calls store.old) result) }
     {
         match self.chunk_part(rooms, store, chunk, read) {
             Ok(Some(part)) => {
@@ -122,27 +116,15 @@ impl<C: ArrayToBytesCodecTraits> ArrayCore<C> {
         requires small { IsSmall (document_of C.meaning self.now) (region_of read.region.now) }
         ensures shared { IfOk result (λ found. IfSome found (λ part. (box : Region)
             × IsInGrid (document_of C.meaning self.now).grid chunk.now box
-            × (region_of part.shared ≡ overlapped (region_of read.entry.region.now) box))) }
-        ensures counted { IfOk result (λ found. IfSome found (λ part. AreOfBox
-            (document_of C.meaning self.now).elements.type (payload_of part.bytes)
-            (region_of part.shared))) }
-        ensures part { IsTrue (S.is_honest store.old) → IfOk result (λ found. IfSome found
-            (λ part. (box : Region) → IsInGrid (document_of C.meaning self.now).grid chunk.now box
-            → IsChunkPart (document_of C.meaning self.now) box (stored_at (path_of self.now)
-            (document_of C.meaning self.now) (S.held store.old) chunk.now)
-            (region_of part.shared) (payload_of part.bytes))) }
-        ensures absent { IsTrue (S.is_honest store.old) → IfOk result (λ found. found ≡ None
-            → stored_at (path_of self.now) (document_of C.meaning self.now) (S.held store.old)
-            chunk.now ≡ None) }
-        ensures err { IsTrue (S.is_honest store.old) → IfErr result (λ e. (box : Region)
-            × IsInGrid (document_of C.meaning self.now).grid chunk.now box
-            × PartStops (path_of self.now) (document_of C.meaning self.now)
-            (S.held store.old) (region_of read.entry.region.now) chunk.now box e) }
-        ensures held { S.held store.new ≡ S.held store.old }
-        ensures honest { S.is_honest store.new ≡ S.is_honest store.old }
-        ensures refused { S.refused_calls store.new ≡
-            refused_after (S.refused_calls store.old) result }
-        ensures accepted { S.accepted_writes store.new ≡ S.accepted_writes store.old }
+            × AreShared (document_of C.meaning self.now).elements.type
+            (region_of read.entry.region.now) box part)) }
+        ensures found { IsTrue (S.is_honest store.old) → IfOk result (FindsAt
+            (array_of C.ArrayToBytesCodecTraits self.now) (S.held store.old) chunk.now) }
+        ensures err { IsTrue (S.is_honest store.old) → IfErr result (PartNotRead
+            (array_of C.ArrayToBytesCodecTraits self.now) (S.held store.old)
+            (region_of read.entry.region.now) chunk.now) }
+        ensures store { Reads S.ReadableStorageTraits store.old store.new
+            (refused_after (S.refused_calls store.old) result) }
     {
         let key = self.key_of(read.alloc, chunk)?;
         let own = self.box_of(rooms.take_own(), chunk)?;
@@ -177,27 +159,17 @@ impl<C: ArrayToBytesCodecTraits> ArrayCore<C> {
             read.region.now.start.items read.region.now.shape.items ≡ true }
         requires small { ¬ IsTooLarge (document_of C.meaning self.now).elements.type
             (product own.now.shape.items) }
-        ensures shared { IfOk result (λ found. IfSome found (λ part. region_of part.shared
-            ≡ overlapped (region_of read.entry.region.now) (region_of own.now))) }
-        ensures counted { IfOk result (λ found. IfSome found (λ part. AreOfBox
-            (document_of C.meaning self.now).elements.type (payload_of part.bytes)
-            (region_of part.shared))) }
-        ensures part { IsTrue (S.is_honest store.old) → IfOk result (λ found. IfSome found
-            (λ part. IsPart (document_of C.meaning self.now).chain
-            (document_of C.meaning self.now).elements own.now.shape.items
-            (map.get (S.held store.old) key.now)
-            (in_box (relative (region_of part.shared) own.now.start.items))
-            (payload_of part.bytes))) }
-        ensures unfit { IsTrue (S.is_honest store.old) → IfOk result (λ found. found ≡ None
-            → fits_box (document_of C.meaning self.now) (region_of own.now) ≡ false) }
+        ensures shared { IfOk result (λ found. IfSome found (AreShared
+            (document_of C.meaning self.now).elements.type
+            (region_of read.entry.region.now) (region_of own.now))) }
+        ensures found { IsTrue (S.is_honest store.old) → IfOk result (FindsPart
+            (document_of C.meaning self.now) (region_of own.now)
+            (map.get (S.held store.old) key.now)) }
         ensures err { IsTrue (S.is_honest store.old) → IfErr result
             (ValueStops (document_of C.meaning self.now) (region_of read.entry.region.now)
             (region_of own.now) (map.get (S.held store.old) key.now)) }
-        ensures held { S.held store.new ≡ S.held store.old }
-        ensures honest { S.is_honest store.new ≡ S.is_honest store.old }
-        ensures refused { S.refused_calls store.new ≡
-            refused_after (S.refused_calls store.old) result }
-        ensures accepted { S.accepted_writes store.new ≡ S.accepted_writes store.old }
+        ensures store { Reads S.ReadableStorageTraits store.old store.new
+            (refused_after (S.refused_calls store.old) result) }
     {
         let part = seen_from(shared, own.start());
         let bytes = match self.decode_part(store, key, own.shape(), &part, read) {
@@ -230,11 +202,8 @@ impl<C: ArrayToBytesCodecTraits> ArrayCore<C> {
         ensures part { IsTrue (S.is_honest store.old) → DecodesElements
             (document_of C.meaning self.now) shape.now (map.get (S.held store.old) key.now)
             (region_of part.now) result }
-        ensures held { S.held store.new ≡ S.held store.old }
-        ensures honest { S.is_honest store.new ≡ S.is_honest store.old }
-        ensures refused { S.refused_calls store.new ≡
-            refused_after (S.refused_calls store.old) result }
-        ensures accepted { S.accepted_writes store.new ≡ S.accepted_writes store.old }
+        ensures store { Reads S.ReadableStorageTraits store.old store.new
+            (refused_after (S.refused_calls store.old) result) }
     {
         let (elements, indexer) = (self.elements(), Indexer::Subset(part));
         let asked = ArrayPart {
@@ -255,9 +224,7 @@ impl<C: ArrayToBytesCodecTraits> ArrayCore<C> {
             Err(CodecError::Damage) => Err(ChunkError::Damage),
             Err(CodecError::Fit) => Ok(None),
             Err(CodecError::Memory) => Err(ChunkError::Memory),
-            Err(CodecError::Source) => Err(ChunkError::Storage(refused.unwrap_or(
-                StorageError::Io,
-            ))),
+            Err(CodecError::Source) => Err(ChunkError::Storage(refusal_of(refused))),
             Err(_) => Err(ChunkError::Damage),
         }
     }

@@ -56,6 +56,7 @@ fn of_encoding(error: CodecError) -> ChunkError
 impl<C: ArrayToBytesCodecTraits> ArrayCore<C> {
     ghost use Rattle.std.specs.Prelude.{◌≡◌, ◌*◌, ◌<◌, ℕ, List, Option, true, length, replicate, IfOk, IfErr, IsTrue, Some};
     ghost use Rattle.std.specs.List.{list_all};
+    ghost use Rattle.zarr_array_core.specs.Arrays.{array_of};
     ghost use Rattle.zarr_array_core.specs.ChunkValues.{CellsBecome, DecodeStops, EncodeRefuses, EncodeStops, IsNewValue};
     ghost use Rattle.zarr_array_core.specs.IntoShards.{IntoUnknown};
     ghost use Rattle.zarr_array_core.specs.Views.{array_cells, AreSoMany, document_of, is_exact};
@@ -354,9 +355,8 @@ impl<C: ArrayToBytesCodecTraits> ArrayCore<C> {
         requires counted { AreSoMany self.now bytes (product shape.now) }
         requires values { list_all (is_value (document_of C.meaning self.now).elements.type)
             (array_cells self.now bytes) ≡ true }
-        ensures ok { IfOk result (λ value. IsNewValue (document_of C.meaning self.now)
-            (is_exact C.is_function self.now) store_empty shape.now
-            (array_cells self.now bytes) (value_bytes value)) }
+        ensures ok { IfOk result (λ value. IsNewValue (array_of C.ArrayToBytesCodecTraits self.now)
+            store_empty shape.now (array_cells self.now bytes) (value_bytes value)) }
         ensures err { IfErr result (EncodeStops (document_of C.meaning self.now)
             store_empty shape.now (array_cells self.now bytes)) }
     {

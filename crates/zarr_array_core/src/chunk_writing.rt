@@ -1,7 +1,8 @@
 //! One chunk written.
 ghost use Rattle.std.specs.Prelude.{◌≡◌, IsTrue, OnOk, OnErr, IfErr};
+ghost use Rattle.zarr_array_core.specs.Arrays.{Called};
 ghost use Rattle.zarr_array_core.specs.ChunkValues.{with_value};
-ghost use Rattle.zarr_array_core.specs.Outcomes.{IsErasureStop, CountsUpTo, refused_after};
+ghost use Rattle.zarr_array_core.specs.Outcomes.{IsErasureStop};
 ghost use Rattle.zarr_array_storage.specs.Stores.{value_bytes};
 
 use crate::array_core::ArrayCore;
@@ -25,13 +26,8 @@ pub(crate) fn put_value<S: WritableStorageTraits>(
 ) -> Result<(), ChunkError>
     ensures ok { IsTrue (S.is_honest store.old) → OnOk result
         (S.held store.new ≡ with_value (S.held store.old) key.now (value_bytes value)) }
-    ensures err { IsTrue (S.is_honest store.old) →
-        OnErr result (S.held store.new ≡ S.held store.old) }
     ensures stops { IsTrue (S.is_honest store.old) → IfErr result IsErasureStop }
-    ensures honest { S.is_honest store.new ≡ S.is_honest store.old }
-    ensures refused { S.refused_calls store.new ≡
-        refused_after (S.refused_calls store.old) result }
-    ensures counts { CountsUpTo 1 (S.accepted_writes store.old) (S.accepted_writes store.new) }
+    ensures store { Called S.ReadableStorageTraits 1 store.old store.new result }
     ensures unwritten { OnErr result (S.accepted_writes store.new ≡ S.accepted_writes store.old) }
 {
     match value {
@@ -41,18 +37,17 @@ pub(crate) fn put_value<S: WritableStorageTraits>(
 }
 
 impl<C: ArrayToBytesCodecTraits> ArrayCore<C> {
-    ghost use Rattle.std.specs.Prelude.{◌≡◌, ◌*◌, ℕ, List, Option, true, length, IsTrue, IfOk, OnOk, OnErr, IfErr};
+    ghost use Rattle.std.specs.Prelude.{◌≡◌, ℕ, List, Option, true, IsTrue, IfOk};
     ghost use Rattle.std.specs.FinMap as map;
-    ghost use Rattle.std.specs.List.{list_all};
-    ghost use Rattle.zarr_array_core.specs.ChunkValues.{CellsBecome, ChangesValue, ChangeStops, MergeStops, MakesValue, NewValueStops, OnDamage, with_value};
-    ghost use Rattle.zarr_array_core.specs.Outcomes.{CountsUpTo, refused_after};
-    ghost use Rattle.zarr_array_core.specs.Views.{array_cells, AreSoMany, document_of, is_exact};
-    ghost use Rattle.zarr_array_meaning.specs.Writing.{stores_fill};
-    ghost use Rattle.zarr_codecs_meaning.specs.Fits.{fits};
-    ghost use Rattle.zarr_codecs_meaning.specs.Types.{is_value, IsTooLarge};
-    ghost use Rattle.zarr_grids_boxes.specs.Boxes.{product, share_place};
+    ghost use Rattle.zarr_array_core.specs.Arrays.{array_of, Called, IfHonestErr, OnHonestOk};
+    ghost use Rattle.zarr_array_core.specs.ChunkValues.{ChangeStops, ChangesValue, MakesValue, NewValueStops, OnDamage};
+    ghost use Rattle.zarr_array_core.specs.IntoShards.{ChangesAt, GetsCells, GetsNoCells};
+    ghost use Rattle.zarr_array_core.specs.BoxWrites.{write_of, WritesTo};
+    ghost use Rattle.zarr_array_core.specs.Outcomes.{refused_after};
+    ghost use Rattle.zarr_array_core.specs.Views.{array_cells, AreSoMany};
+    ghost use Rattle.zarr_array_meaning.specs.Chunks.{fits_box};
+    ghost use Rattle.zarr_grids_boxes.specs.Boxes.{product};
     ghost use Rattle.zarr_grids_boxes.specs.Subsets.{region_of};
-    ghost use Rattle.zarr_grids_overlay.specs.Overlays.{extent_of};
 
     /// The elements of a chunk after a write. Of a chunk that lies in its box nothing is fetched.
     fn cells_after<S: WritableStorageTraits>(
@@ -62,27 +57,18 @@ impl<C: ArrayToBytesCodecTraits> ArrayCore<C> {
         write: &BoxWrite,
         own: &ArraySubset,
     ) -> Result<ArrayBytes, ChunkError>
-        requires small { ¬ IsTooLarge (document_of C.meaning self.now).elements.type
-            (product own.now.shape.items) }
-        requires fit { fits (document_of C.meaning self.now).chain
-            (document_of C.meaning self.now).elements.type own.now.shape.items ≡ true }
-        requires shares { share_place own.now.start.items own.now.shape.items
-            write.now.region.start.now write.now.region.shape.now ≡ true }
-        requires rank { length write.now.region.start.now ≡ length own.now.start.items }
-        requires many { AreSoMany self.now write.now.bytes.now
-            (product write.now.region.shape.now) }
-        requires values { list_all (is_value (document_of C.meaning self.now).elements.type)
-            (array_cells self.now write.now.bytes.now) ≡ true }
+        requires writes { WritesTo self.now write.now own.now }
+        requires fit { fits_box (array_of C.ArrayToBytesCodecTraits self.now).document
+            (region_of own.now) ≡ true }
         ensures ok { IfOk result (λ bytes. (stored : Option (List ℕ))
             × (IsTrue (S.is_honest store.old) → stored ≡ map.get (S.held store.old) key.now)
-            × CellsBecome (document_of C.meaning self.now) (extent_of write.now.region)
-            (array_cells self.now write.now.bytes.now) stored
-            (region_of own.now) (array_cells self.now bytes)) }
+            × GetsCells (write_of C.ArrayToBytesCodecTraits self.now write.now)
+            (region_of own.now) stored (array_cells self.now bytes)) }
         ensures counted { IfOk result
             (λ bytes. AreSoMany self.now bytes (product own.now.shape.items)) }
-        ensures err { IsTrue (S.is_honest store.old) → IfErr result
-            (MergeStops (document_of C.meaning self.now) (extent_of write.now.region)
-            (region_of own.now) (map.get (S.held store.old) key.now)) }
+        ensures err { IfHonestErr S.ReadableStorageTraits store.old store.new result
+            (λ e before _. GetsNoCells (write_of C.ArrayToBytesCodecTraits self.now write.now)
+            (region_of own.now) (map.get before key.now) e) }
         ensures held { S.held store.new ≡ S.held store.old }
         ensures honest { S.is_honest store.new ≡ S.is_honest store.old }
         ensures refused { S.refused_calls store.new ≡
@@ -106,38 +92,16 @@ impl<C: ArrayToBytesCodecTraits> ArrayCore<C> {
         write: &BoxWrite,
         own: &ArraySubset,
     ) -> Result<(), ChunkError>
-        requires small { ¬ IsTooLarge (document_of C.meaning self.now).elements.type
-            (product own.now.shape.items) }
-        requires fit { fits (document_of C.meaning self.now).chain
-            (document_of C.meaning self.now).elements.type own.now.shape.items ≡ true }
-        requires shares { share_place own.now.start.items own.now.shape.items
-            write.now.region.start.now write.now.region.shape.now ≡ true }
-        requires rank { length write.now.region.start.now ≡ length own.now.start.items }
-        requires many { AreSoMany self.now write.now.bytes.now
-            (product write.now.region.shape.now) }
-        requires values { list_all (is_value (document_of C.meaning self.now).elements.type)
-            (array_cells self.now write.now.bytes.now) ≡ true }
-        ensures ok { IsTrue (S.is_honest store.old) → OnOk result ((made : Option (List ℕ))
-            × MakesValue (document_of C.meaning self.now)
-            (is_exact C.is_function self.now) (extent_of write.now.region)
-            (array_cells self.now write.now.bytes.now)
-            (stores_fill (document_of C.meaning self.now) write.now.options.now
-            (extent_of write.now.region) (region_of own.now)) (region_of own.now)
-            (map.get (S.held store.old) key.now) made
-            × (S.held store.new ≡ with_value (S.held store.old) key.now made)) }
-        ensures err { IsTrue (S.is_honest store.old) → IfErr result
-            (NewValueStops (document_of C.meaning self.now) (extent_of write.now.region)
-            (array_cells self.now write.now.bytes.now)
-            (stores_fill (document_of C.meaning self.now) write.now.options.now
-            (extent_of write.now.region) (region_of own.now)) (region_of own.now)
-            (map.get (S.held store.old) key.now)) }
-        ensures kept { IsTrue (S.is_honest store.old) →
-            OnErr result (S.held store.new ≡ S.held store.old) }
-        ensures honest { S.is_honest store.new ≡ S.is_honest store.old }
-        ensures refused { S.refused_calls store.new ≡
-            refused_after (S.refused_calls store.old) result }
-        ensures counts { CountsUpTo 1 (S.accepted_writes store.old)
-            (S.accepted_writes store.new) }
+        requires writes { WritesTo self.now write.now own.now }
+        requires fit { fits_box (array_of C.ArrayToBytesCodecTraits self.now).document
+            (region_of own.now) ≡ true }
+        ensures ok { OnHonestOk S.ReadableStorageTraits store.old store.new result
+            (ChangesAt key.now (MakesValue
+            (write_of C.ArrayToBytesCodecTraits self.now write.now) (region_of own.now))) }
+        ensures err { IfHonestErr S.ReadableStorageTraits store.old store.new result
+            (λ e before _. NewValueStops (write_of C.ArrayToBytesCodecTraits self.now write.now)
+            (region_of own.now) (map.get before key.now) e) }
+        ensures store { Called S.ReadableStorageTraits 1 store.old store.new result }
         ensures unwritten { OnDamage result
             (S.accepted_writes store.new ≡ S.accepted_writes store.old) }
     {
@@ -157,32 +121,14 @@ impl<C: ArrayToBytesCodecTraits> ArrayCore<C> {
         write: &BoxWrite,
         own: &ArraySubset,
     ) -> Result<(), ChunkError>
-        requires small { ¬ IsTooLarge (document_of C.meaning self.now).elements.type
-            (product own.now.shape.items) }
-        requires shares { share_place own.now.start.items own.now.shape.items
-            write.now.region.start.now write.now.region.shape.now ≡ true }
-        requires rank { length write.now.region.start.now ≡ length own.now.start.items }
-        requires many { AreSoMany self.now write.now.bytes.now
-            (product write.now.region.shape.now) }
-        requires values { list_all (is_value (document_of C.meaning self.now).elements.type)
-            (array_cells self.now write.now.bytes.now) ≡ true }
-        ensures ok { IsTrue (S.is_honest store.old) → OnOk result ((made : Option (List ℕ))
-            × ChangesValue (document_of C.meaning self.now)
-            (is_exact C.is_function self.now) (extent_of write.now.region)
-            (array_cells self.now write.now.bytes.now) write.now.options.now
-            (region_of own.now) (map.get (S.held store.old) key.now) made
-            × (S.held store.new ≡ with_value (S.held store.old) key.now made)) }
-        ensures err { IsTrue (S.is_honest store.old) → IfErr result
-            (ChangeStops (document_of C.meaning self.now) (extent_of write.now.region)
-            (array_cells self.now write.now.bytes.now) write.now.options.now
-            (region_of own.now) (map.get (S.held store.old) key.now)) }
-        ensures kept { IsTrue (S.is_honest store.old) →
-            OnErr result (S.held store.new ≡ S.held store.old) }
-        ensures honest { S.is_honest store.new ≡ S.is_honest store.old }
-        ensures refused { S.refused_calls store.new ≡
-            refused_after (S.refused_calls store.old) result }
-        ensures counts { CountsUpTo 1 (S.accepted_writes store.old)
-            (S.accepted_writes store.new) }
+        requires { WritesTo self.now write.now own.now }
+        ensures ok { OnHonestOk S.ReadableStorageTraits store.old store.new result
+            (ChangesAt key.now (ChangesValue
+            (write_of C.ArrayToBytesCodecTraits self.now write.now) (region_of own.now))) }
+        ensures err { IfHonestErr S.ReadableStorageTraits store.old store.new result
+            (λ e before _. ChangeStops (write_of C.ArrayToBytesCodecTraits self.now write.now)
+            (region_of own.now) (map.get before key.now) e) }
+        ensures store { Called S.ReadableStorageTraits 1 store.old store.new result }
     {
         if !self
             .codecs

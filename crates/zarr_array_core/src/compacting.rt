@@ -4,27 +4,29 @@ use crate::error::ChunkError;
 use crate::rooms::ChunkRooms;
 use crate::store_calls::{get, set};
 use std::alloc::Global;
+use std::thread::Threads;
 use zarr_array_storage::WritableStorageTraits;
 use zarr_codecs_arrays::CodecError;
 use zarr_codecs_options::CodecOptions;
 use zarr_codecs_traits::ArrayToBytesCodecTraits;
 
-impl<C: ArrayToBytesCodecTraits> ArrayCore<C> {
+impl<C: ArrayToBytesCodecTraits + Sync> ArrayCore<C> {
     ghost use Rattle.std.specs.Prelude.{IsTrue, IfOk};
     ghost use Rattle.zarr_grids_boxes.specs.Boxes.{Region};
     ghost use Rattle.zarr_grids_chunks.specs.Grids.{IsInGrid};
     ghost use Rattle.zarr_array_meaning.specs.Compacting.{CompactsChunk};
     ghost use Rattle.zarr_array_core.specs.Arrays.{array_of, Called, IfHonestErr};
-    ghost use Rattle.zarr_array_core.specs.Compacting.{CompactStops, CompactsValue};
-    ghost use Rattle.zarr_array_core.specs.Views.{document_of};
+    ghost use Rattle.zarr_array_core.specs.Calls.{calls_of};
+    ghost use Rattle.zarr_array_core.specs.Compacting.{CompactStops};
 
     /// Writes the value of a chunk anew, its shard without gaps: `true` where that changed it, and
     /// `false` where the chunk has no value, makes no shard or gains nothing. No slice is decoded.
-    /// `Fit` where a chunk with a value does not fit its codecs, `Damage` where a present slice lies
-    /// outside the shard's data, `Codec` and `Size` where the new value is refused, `Storage` where
-    /// the store refuses.
-    pub fn compact_chunk<S: WritableStorageTraits>(
+    /// `Fit` where a chunk with a value does not fit its codecs, `Damage` where a present slice
+    /// lies outside the shard's data, `Codec` and `Size` where the new value is refused, `Storage`
+    /// where the store refuses.
+    pub fn compact_chunk<R: Threads + Sync, S: WritableStorageTraits>(
         &self,
+        rt: &R,
         rooms: &mut ChunkRooms,
         store: &mut S,
         chunk: &[u64],
@@ -39,8 +41,9 @@ impl<C: ArrayToBytesCodecTraits> ArrayCore<C> {
         ensures err { IfHonestErr S.ReadableStorageTraits store.old store.new result
             (λ e before _. CompactStops (array_of C.ArrayToBytesCodecTraits self.now) chunk.now
             e before) }
-        // By at most one writing call; a refusal changes nothing.
-        ensures store { Called S.ReadableStorageTraits 1 store.old store.new result }
+        // By at most one writing call, and none where nothing changes; a refusal changes nothing.
+        ensures store { Called S.ReadableStorageTraits (calls_of result)
+            store.old store.new result }
     {
         let key = self.key_of(rooms.alloc(), chunk)?;
         let Some(value) = get(store, &key)? else {
@@ -55,6 +58,11 @@ impl<C: ArrayToBytesCodecTraits> ArrayCore<C> {
         set(store, &key, made.as_slice())?;
         Ok(true)
     }
+}
+
+impl<C: ArrayToBytesCodecTraits> ArrayCore<C> {
+    ghost use Rattle.zarr_array_core.specs.Compacting.{CompactsValue};
+    ghost use Rattle.zarr_array_core.specs.Views.{document_of};
 
     /// The value of a chunk written anew, or `None` where nothing is gained.
     fn compact_value(

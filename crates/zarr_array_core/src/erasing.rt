@@ -9,15 +9,16 @@ use zarr_grids_boxes::ArraySubset;
 use zarr_grids_boxes::walk::{count_places, place_into};
 
 impl<C: ArrayToBytesCodecTraits> ArrayCore<C> {
-    ghost use Rattle.std.specs.Prelude.{◌≡◌, ◌<◌, ◌^◌, IsTrue, OnOk, OnErr, IfErr};
+    ghost use Rattle.std.specs.Prelude.{◌≡◌, ◌<◌, ◌^◌, IsTrue, OnOk, IfErr};
     ghost use Rattle.std.specs.FinMap.{remove};
     ghost use Rattle.zarr_grids_boxes.specs.Boxes.{product, places};
     ghost use Rattle.zarr_grids_boxes.specs.Subsets.{region_of};
     ghost use Rattle.zarr_grids_chunks.specs.Grids.{AreInGrid};
     ghost use Rattle.zarr_grids_keys.specs.Keys.{chunk_key};
     ghost use Rattle.zarr_array_meaning.specs.Writing.{ErasedChunks};
+    ghost use Rattle.zarr_array_core.specs.Arrays.{Called, CalledMany, IfHonestErr, OnHonestOk};
     ghost use Rattle.zarr_array_core.specs.Views.{document_of, path_of};
-    ghost use Rattle.zarr_array_core.specs.Outcomes.{EraseStops, IsErasureStop, CountsErasures, CountsUpTo, refused_after, refused_by_many};
+    ghost use Rattle.zarr_array_core.specs.Outcomes.{EraseStops, IsErasureStop};
 
     /// Takes the keys of the chunks of a box of chunk indices away, row-major, each by one writing
     /// call of the store. An empty box makes no call and needs no memory.
@@ -29,18 +30,15 @@ impl<C: ArrayToBytesCodecTraits> ArrayCore<C> {
     ) -> Result<(), ManyError>
         requires below { AreInGrid (document_of C.meaning self.now).grid (region_of chunks.now) }
         requires few { product chunks.now.shape.items < 2 ^ 63 }
-        ensures ok { IsTrue (S.is_honest store.old) → OnOk result
+        ensures ok { OnHonestOk S.ReadableStorageTraits store.old store.new result
             (ErasedChunks (path_of self.now) (document_of C.meaning self.now)
-            (places chunks.now.start.items chunks.now.shape.items)
-            (S.held store.old) (S.held store.new)) }
-        ensures err { IsTrue (S.is_honest store.old) → IfErr result
-            (EraseStops (path_of self.now) (document_of C.meaning self.now)
-            (region_of chunks.now) (S.held store.old) (S.held store.new)) }
-        ensures honest { S.is_honest store.new ≡ S.is_honest store.old }
-        ensures refused { S.refused_calls store.new ≡
-            refused_by_many (S.refused_calls store.old) result }
-        ensures counts { CountsErasures (region_of chunks.now)
-            (S.accepted_writes store.old) (S.accepted_writes store.new) }
+            (places chunks.now.start.items chunks.now.shape.items)) }
+        ensures err { IfHonestErr S.ReadableStorageTraits store.old store.new result
+            (λ stopped before after. EraseStops (path_of self.now) (document_of C.meaning self.now)
+            (region_of chunks.now) before after stopped) }
+        // By at most one writing call for each chunk that is erased.
+        ensures store { CalledMany S.ReadableStorageTraits (product chunks.now.shape.items)
+            store.old store.new result }
     {
         let count = count_places(chunks.shape()).unwrap();
         if count == 0 {
@@ -71,13 +69,8 @@ impl<C: ArrayToBytesCodecTraits> ArrayCore<C> {
         ensures ok { IsTrue (S.is_honest store.old) → OnOk result (S.held store.new ≡ remove
             (S.held store.old)
             (chunk_key (path_of self.now) (document_of C.meaning self.now).keys chunk.now)) }
-        ensures err { IsTrue (S.is_honest store.old) →
-            OnErr result (S.held store.new ≡ S.held store.old) }
         ensures stops { IsTrue (S.is_honest store.old) → IfErr result IsErasureStop }
-        ensures honest { S.is_honest store.new ≡ S.is_honest store.old }
-        ensures refused { S.refused_calls store.new ≡
-            refused_after (S.refused_calls store.old) result }
-        ensures counts { CountsUpTo 1 (S.accepted_writes store.old) (S.accepted_writes store.new) }
+        ensures store { Called S.ReadableStorageTraits 1 store.old store.new result }
     {
         let key = self.key_of(alloc, chunk)?;
         erase(store, &key)

@@ -7,6 +7,7 @@ use crate::chunk_value::BoxWrite;
 use crate::error::ChunkError;
 use crate::moving::{overlap_in, seen_from};
 use crate::rooms::ChunkRooms;
+use crate::store_source::refusal_of;
 use crate::store_target::StoreTarget;
 use zarr_array_storage::{StorageError, WritableStorageTraits};
 use zarr_codecs_arrays::{ArrayBytes, CodecError};
@@ -14,9 +15,9 @@ use zarr_codecs_traits::{ArrayPart, ArrayToBytesCodecTraits, Indexer};
 use zarr_grids_boxes::ArraySubset;
 use zarr_grids_keys::StoreKey;
 
-/// Why elements are not put into a chunk's shard where its codecs refuse; `refusal` is why the store
-/// does, if that is what refuses. A store for which codecs give other reasons isn't honest, and what
-/// it holds is taken as damaged.
+/// Why elements are not put into a chunk's shard where its codecs refuse; `refusal` is why the
+/// store does, if that is what refuses. A store for which codecs give other reasons isn't honest,
+/// and what it holds is taken as damaged.
 fn of_sharding(error: CodecError, refusal: StorageError) -> ChunkError
     ensures { result ≡ shard_refusal_of error refusal }
 {
@@ -34,7 +35,8 @@ impl<C: ArrayToBytesCodecTraits> ArrayCore<C> {
     ghost use Rattle.std.specs.FinMap as map;
     ghost use Rattle.zarr_array_core.specs.Arrays.{array_of, Called, IfHonestErr, OnHonestOk};
     ghost use Rattle.zarr_array_core.specs.ChunkValues.{with_value};
-    ghost use Rattle.zarr_array_core.specs.IntoShards.{CalledByCodec, IntoShardStops, IsPutInto, NotPutInto, PutsIntoShard, putting_of, write_of, WritesTo};
+    ghost use Rattle.zarr_array_core.specs.IntoShards.{CalledByCodec, ChangesAt, IntoShardStops, IsPutInto, NotPutInto, PutsIntoShard, putting_of};
+    ghost use Rattle.zarr_array_core.specs.BoxWrites.{write_of, WritesTo};
     ghost use Rattle.zarr_array_meaning.specs.Chunks.{fits_box};
     ghost use Rattle.zarr_array_meaning.specs.Writing.{is_into_shard};
     ghost use Rattle.zarr_grids_boxes.specs.Subsets.{region_of};
@@ -73,8 +75,8 @@ impl<C: ArrayToBytesCodecTraits> ArrayCore<C> {
             .partial_encode(write.alloc, target, given, asked, write.options)
     }
 
-    /// Puts the elements of a box that lie in a chunk into the chunk's shard, by one writing call of
-    /// the store: only the subchunks that the box meets are decoded. Where the shard is all fill
+    /// Puts the elements of a box that lie in a chunk into the chunk's shard, by one writing call
+    /// of the store: only the subchunks that the box meets are decoded. Where the shard is all fill
     /// then, its key is taken away.
     pub(crate) fn put_into_shard<S: WritableStorageTraits>(
         &self,
@@ -91,9 +93,8 @@ impl<C: ArrayToBytesCodecTraits> ArrayCore<C> {
             write.now.options.now (write_of C.ArrayToBytesCodecTraits self.now write.now).region
             (region_of own.now) ≡ true }
         ensures ok { OnHonestOk S.ReadableStorageTraits store.old store.new result
-            (λ before after. (made : Option (List ℕ)) × PutsIntoShard
-            (write_of C.ArrayToBytesCodecTraits self.now write.now) (region_of own.now)
-            (map.get before key.now) made × (after ≡ with_value before key.now made)) }
+            (ChangesAt key.now (PutsIntoShard
+            (write_of C.ArrayToBytesCodecTraits self.now write.now) (region_of own.now))) }
         ensures err { IfHonestErr S.ReadableStorageTraits store.old store.new result
             (λ e before after. IntoShardStops
             (write_of C.ArrayToBytesCodecTraits self.now write.now) (region_of own.now)
@@ -112,7 +113,7 @@ impl<C: ArrayToBytesCodecTraits> ArrayCore<C> {
         };
         match self.put_into_target(&mut target, write, bytes, own.shape(), &part) {
             Ok(()) => Ok(()),
-            Err(error) => Err(of_sharding(error, refused.unwrap_or(StorageError::Io))),
+            Err(error) => Err(of_sharding(error, refusal_of(refused))),
         }
     }
 }

@@ -27,5 +27,5 @@ pub mod writing;
 
 pub use array_core::ArrayCore;
 pub use error::{ChunkError, ManyError};
-pub use region_chunks::RegionChunks;
+pub use region_chunks::{RegionBytes, RegionChunks};
 pub use rooms::ChunkRooms;

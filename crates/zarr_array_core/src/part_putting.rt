@@ -28,23 +28,22 @@ fn of_putting(error: CodecError) -> ChunkError
 }
 
 impl<C: ArrayToBytesCodecTraits> ArrayCore<C> {
-    ghost use Rattle.std.specs.Prelude.{◌≡◌, ℕ, List, Option, Some, None, true, false, length, IsTrue, IfOk, OnOk, OnErr, IfErr};
+    ghost use Rattle.std.specs.Prelude.{◌≡◌, List, Some, None, true, false, IsTrue, IfOk, OnOk, IfErr};
     ghost use Rattle.std.specs.FinMap as map;
-    ghost use Rattle.std.specs.List.{list_all};
-    ghost use Rattle.zarr_array_core.specs.ChunkValues.{ChangesValue, ChangeStops, PutsCells, PutStops, with_value};
-    ghost use Rattle.zarr_array_core.specs.Outcomes.{CountsUpTo, refused_after};
-    ghost use Rattle.zarr_array_core.specs.Views.{array_cells, AreSoMany, document_of, is_exact};
-    ghost use Rattle.zarr_array_meaning.specs.Chunks.{holds_box};
+    ghost use Rattle.zarr_array_core.specs.Arrays.{array_of, Called, IfHonestErr, OnHonestOk};
+    ghost use Rattle.zarr_array_core.specs.ChunkValues.{ChangeStops, ChangesValue, PutStops};
+    ghost use Rattle.zarr_array_core.specs.IntoShards.{ChangesAt, GetsPart};
+    ghost use Rattle.zarr_array_core.specs.BoxWrites.{write_of, WritesTo};
+    ghost use Rattle.zarr_array_core.specs.Views.{document_of};
+    ghost use Rattle.zarr_array_meaning.specs.Chunks.{fits_box, holds_box};
     ghost use Rattle.zarr_array_meaning.specs.Writing.{is_in_part};
     ghost use Rattle.zarr_array_storage.specs.Stores.{value_bytes};
     ghost use Rattle.zarr_codecs_arrays.specs.Views.{payload_of};
     ghost use Rattle.zarr_codecs_meaning.specs.Chunks.{chunk_decoded};
-    ghost use Rattle.zarr_codecs_meaning.specs.Fits.{fits};
-    ghost use Rattle.zarr_codecs_meaning.specs.Types.{Cell, is_value, IsTooLarge};
+    ghost use Rattle.zarr_codecs_meaning.specs.Types.{Cell};
     ghost use Rattle.zarr_codecs_traits.specs.Indexers.{in_box};
     ghost use Rattle.zarr_codecs_traits.specs.PartWriting.{IsEncodedInto, NotEncodedInto};
     ghost use Rattle.zarr_codecs_traits.specs.Sources.{refused_after as refused_calls, source_contents};
-    ghost use Rattle.zarr_grids_boxes.specs.Boxes.{product, share_place};
     ghost use Rattle.zarr_grids_boxes.specs.Subsets.{region_of};
     ghost use Rattle.zarr_grids_overlay.specs.Overlays.{extent_of};
 
@@ -87,22 +86,15 @@ impl<C: ArrayToBytesCodecTraits> ArrayCore<C> {
         write: &BoxWrite,
         own: &ArraySubset,
     ) -> Result<(), ChunkError>
-        requires small { ¬ IsTooLarge (document_of C.meaning self.now).elements.type
-            (product own.now.shape.items) }
-        requires fit { fits (document_of C.meaning self.now).chain
-            (document_of C.meaning self.now).elements.type own.now.shape.items ≡ true }
-        requires shares { share_place own.now.start.items own.now.shape.items
-            write.now.region.start.now write.now.region.shape.now ≡ true }
-        requires rank { length write.now.region.start.now ≡ length own.now.start.items }
-        requires many { AreSoMany self.now write.now.bytes.now
-            (product write.now.region.shape.now) }
-        requires values { list_all (is_value (document_of C.meaning self.now).elements.type)
-            (array_cells self.now write.now.bytes.now) ≡ true }
-        requires in_part { is_in_part (document_of C.meaning self.now) write.now.options.now
-            (extent_of write.now.region) (region_of own.now) ≡ true }
-        ensures ok { OnOk result (PutsCells (document_of C.meaning self.now)
-            (extent_of write.now.region) (array_cells self.now write.now.bytes.now)
-            (region_of own.now) (source_contents source.old) (source_contents source.new)) }
+        requires writes { WritesTo self.now write.now own.now }
+        requires fit { fits_box (array_of C.ArrayToBytesCodecTraits self.now).document
+            (region_of own.now) ≡ true }
+        requires in_part { is_in_part (array_of C.ArrayToBytesCodecTraits self.now).document
+            write.now.options.now (write_of C.ArrayToBytesCodecTraits self.now write.now).region
+            (region_of own.now) ≡ true }
+        ensures ok { OnOk result (GetsPart
+            (write_of C.ArrayToBytesCodecTraits self.now write.now) (region_of own.now)
+            (source_contents source.old) (source_contents source.new)) }
         ensures err { IfErr result (PutStops (document_of C.meaning self.now)
             (region_of own.now) (source_contents source.old)) }
     {
@@ -124,22 +116,15 @@ impl<C: ArrayToBytesCodecTraits> ArrayCore<C> {
         own: &ArraySubset,
         stored: Option<Vec<u8>>,
     ) -> Result<Vec<u8>, ChunkError>
-        requires small { ¬ IsTooLarge (document_of C.meaning self.now).elements.type
-            (product own.now.shape.items) }
-        requires fit { fits (document_of C.meaning self.now).chain
-            (document_of C.meaning self.now).elements.type own.now.shape.items ≡ true }
-        requires shares { share_place own.now.start.items own.now.shape.items
-            write.now.region.start.now write.now.region.shape.now ≡ true }
-        requires rank { length write.now.region.start.now ≡ length own.now.start.items }
-        requires many { AreSoMany self.now write.now.bytes.now
-            (product write.now.region.shape.now) }
-        requires values { list_all (is_value (document_of C.meaning self.now).elements.type)
-            (array_cells self.now write.now.bytes.now) ≡ true }
-        requires in_part { is_in_part (document_of C.meaning self.now) write.now.options.now
-            (extent_of write.now.region) (region_of own.now) ≡ true }
-        ensures ok { IfOk result (λ value. PutsCells (document_of C.meaning self.now)
-            (extent_of write.now.region) (array_cells self.now write.now.bytes.now)
-            (region_of own.now) (value_bytes stored) (Some value.items)) }
+        requires writes { WritesTo self.now write.now own.now }
+        requires fit { fits_box (array_of C.ArrayToBytesCodecTraits self.now).document
+            (region_of own.now) ≡ true }
+        requires in_part { is_in_part (array_of C.ArrayToBytesCodecTraits self.now).document
+            write.now.options.now (write_of C.ArrayToBytesCodecTraits self.now write.now).region
+            (region_of own.now) ≡ true }
+        ensures ok { IfOk result (λ value. GetsPart
+            (write_of C.ArrayToBytesCodecTraits self.now write.now) (region_of own.now)
+            (value_bytes stored) (Some value.items)) }
         ensures err { IfErr result (PutStops (document_of C.meaning self.now)
             (region_of own.now) (value_bytes stored)) }
     {
@@ -165,40 +150,22 @@ impl<C: ArrayToBytesCodecTraits> ArrayCore<C> {
         write: &BoxWrite,
         own: &ArraySubset,
     ) -> Result<(), ChunkError>
-        requires small { ¬ IsTooLarge (document_of C.meaning self.now).elements.type
-            (product own.now.shape.items) }
-        requires fit { fits (document_of C.meaning self.now).chain
-            (document_of C.meaning self.now).elements.type own.now.shape.items ≡ true }
-        requires shares { share_place own.now.start.items own.now.shape.items
-            write.now.region.start.now write.now.region.shape.now ≡ true }
-        requires rank { length write.now.region.start.now ≡ length own.now.start.items }
-        requires many { AreSoMany self.now write.now.bytes.now
-            (product write.now.region.shape.now) }
-        requires values { list_all (is_value (document_of C.meaning self.now).elements.type)
-            (array_cells self.now write.now.bytes.now) ≡ true }
+        requires writes { WritesTo self.now write.now own.now }
+        requires fit { fits_box (array_of C.ArrayToBytesCodecTraits self.now).document
+            (region_of own.now) ≡ true }
         requires part { IsTrue (S.is_honest store.old) →
             holds_box (extent_of write.now.region) (region_of own.now) ≡ false }
         requires lost { IsTrue (S.is_honest store.old) →
             chunk_decoded (document_of C.meaning self.now).chain
             (document_of C.meaning self.now).elements own.now.shape.items
             (map.get (S.held store.old) key.now) ≡ None }
-        ensures ok { IsTrue (S.is_honest store.old) → OnOk result ((made : Option (List ℕ))
-            × ChangesValue (document_of C.meaning self.now)
-            (is_exact C.is_function self.now) (extent_of write.now.region)
-            (array_cells self.now write.now.bytes.now) write.now.options.now
-            (region_of own.now) (map.get (S.held store.old) key.now) made
-            × (S.held store.new ≡ with_value (S.held store.old) key.now made)) }
-        ensures err { IsTrue (S.is_honest store.old) → IfErr result
-            (ChangeStops (document_of C.meaning self.now) (extent_of write.now.region)
-            (array_cells self.now write.now.bytes.now) write.now.options.now
-            (region_of own.now) (map.get (S.held store.old) key.now)) }
-        ensures kept { IsTrue (S.is_honest store.old) →
-            OnErr result (S.held store.new ≡ S.held store.old) }
-        ensures honest { S.is_honest store.new ≡ S.is_honest store.old }
-        ensures refused { S.refused_calls store.new ≡
-            refused_after (S.refused_calls store.old) result }
-        ensures counts { CountsUpTo 1 (S.accepted_writes store.old)
-            (S.accepted_writes store.new) }
+        ensures ok { OnHonestOk S.ReadableStorageTraits store.old store.new result
+            (ChangesAt key.now (ChangesValue
+            (write_of C.ArrayToBytesCodecTraits self.now write.now) (region_of own.now))) }
+        ensures err { IfHonestErr S.ReadableStorageTraits store.old store.new result
+            (λ e before _. ChangeStops (write_of C.ArrayToBytesCodecTraits self.now write.now)
+            (region_of own.now) (map.get before key.now) e) }
+        ensures store { Called S.ReadableStorageTraits 1 store.old store.new result }
     {
         if !self.is_in_part(write, own)? {
             return Err(ChunkError::Damage);

@@ -52,23 +52,23 @@ fn over_zeros(
 }
 
 impl<C: ArrayToBytesCodecTraits> ArrayCore<C> {
-    ghost use Rattle.std.specs.Prelude.{◌≡◌, ◌*◌, ℕ, List, Option, Some, None, true, false, length, replicate, IsTrue, IfOk, OnOk, OnErr, IfErr, IfSome};
+    ghost use Rattle.std.specs.Prelude.{◌≡◌, ◌*◌, ℕ, Some, None, true, false, length, replicate, IsTrue, IfOk, IfErr, IfSome};
     ghost use Rattle.std.specs.FinMap as map;
-    ghost use Rattle.std.specs.List.{list_all};
-    ghost use Rattle.zarr_array_core.specs.ChunkValues.{ChangeStops, MakesValue, NewValueStops, with_value};
-    ghost use Rattle.zarr_array_core.specs.Outcomes.{CountsUpTo, refused_after};
+    ghost use Rattle.zarr_array_core.specs.Arrays.{array_of, Called, IfHonestErr, OnHonestOk};
+    ghost use Rattle.zarr_array_core.specs.Calls.{calls_of};
+    ghost use Rattle.zarr_array_core.specs.ChunkValues.{ChangeStops, NewValueStops, MakesValue};
+    ghost use Rattle.zarr_array_core.specs.IntoShards.{ChangesAt};
     ghost use Rattle.zarr_array_core.specs.PartWrites.{PatchesChunk};
-    ghost use Rattle.zarr_array_core.specs.Views.{array_cells, AreSoMany, document_of, is_exact};
+    ghost use Rattle.zarr_array_core.specs.BoxWrites.{write_of, WritesTo};
+    ghost use Rattle.zarr_array_core.specs.Views.{document_of};
     ghost use Rattle.zarr_array_core.specs.declared.error.ChunkError.TheVariants.{Memory};
-    ghost use Rattle.zarr_array_meaning.specs.Writing.{stores_fill};
-    ghost use Rattle.zarr_array_meaning.specs.Chunks.{holds_box};
+    ghost use Rattle.zarr_array_meaning.specs.Chunks.{fits_box, holds_box};
     ghost use Rattle.zarr_codecs_arrays.specs.Views.{payload_of};
     ghost use Rattle.zarr_codecs_meaning.specs.Decoding.{decoded};
-    ghost use Rattle.zarr_codecs_meaning.specs.Fits.{fits};
-    ghost use Rattle.zarr_codecs_meaning.specs.Types.{byte_width, is_value, IsTooLarge};
+    ghost use Rattle.zarr_codecs_meaning.specs.Types.{byte_width, IsTooLarge};
     ghost use Rattle.zarr_codecs_traits.specs.PartEncoding.{EncodesPart, takes_patches};
     ghost use Rattle.zarr_codecs_traits.specs.Patches.{patches_in, patches_of};
-    ghost use Rattle.zarr_grids_boxes.specs.Boxes.{product, share_place};
+    ghost use Rattle.zarr_grids_boxes.specs.Boxes.{product};
     ghost use Rattle.zarr_grids_boxes.specs.Subsets.{region_of};
     ghost use Rattle.zarr_grids_overlay.specs.Overlays.{extent_of};
 
@@ -100,23 +100,11 @@ impl<C: ArrayToBytesCodecTraits> ArrayCore<C> {
         write: &BoxWrite,
         own: &ArraySubset,
     ) -> Result<Option<ValuePatches>, ChunkError>
-        requires small { ¬ IsTooLarge (document_of C.meaning self.now).elements.type
-            (product own.now.shape.items) }
-        requires fit { fits (document_of C.meaning self.now).chain
-            (document_of C.meaning self.now).elements.type own.now.shape.items ≡ true }
-        requires shares { share_place own.now.start.items own.now.shape.items
-            write.now.region.start.now write.now.region.shape.now ≡ true }
-        requires rank { length write.now.region.start.now ≡ length own.now.start.items }
-        requires many { AreSoMany self.now write.now.bytes.now
-            (product write.now.region.shape.now) }
-        requires values { list_all (is_value (document_of C.meaning self.now).elements.type)
-            (array_cells self.now write.now.bytes.now) ≡ true }
-        ensures ok { IfOk result (λ found. IfSome found (λ patches.
-            PatchesChunk (document_of C.meaning self.now)
-            (is_exact C.is_function self.now) (extent_of write.now.region)
-            (array_cells self.now write.now.bytes.now)
-            (stores_fill (document_of C.meaning self.now) write.now.options.now
-            (extent_of write.now.region) (region_of own.now)) (region_of own.now)
+        requires writes { WritesTo self.now write.now own.now }
+        requires fit { fits_box (array_of C.ArrayToBytesCodecTraits self.now).document
+            (region_of own.now) ≡ true }
+        ensures ok { IfOk result (λ found. IfSome found (λ patches. PatchesChunk
+            (write_of C.ArrayToBytesCodecTraits self.now write.now) (region_of own.now)
             (patches_in patches))) }
         ensures err { IfErr result (λ e. e ≡ Memory) }
     {
@@ -195,49 +183,24 @@ impl<C: ArrayToBytesCodecTraits> ArrayCore<C> {
         own: &ArraySubset,
         patches: &[ValuePatch<'_>],
     ) -> Result<(), ChunkError>
-        requires small { ¬ IsTooLarge (document_of C.meaning self.now).elements.type
-            (product own.now.shape.items) }
-        requires fit { fits (document_of C.meaning self.now).chain
-            (document_of C.meaning self.now).elements.type own.now.shape.items ≡ true }
-        requires shares { share_place own.now.start.items own.now.shape.items
-            write.now.region.start.now write.now.region.shape.now ≡ true }
-        requires rank { length write.now.region.start.now ≡ length own.now.start.items }
-        requires many { AreSoMany self.now write.now.bytes.now
-            (product write.now.region.shape.now) }
-        requires values { list_all (is_value (document_of C.meaning self.now).elements.type)
-            (array_cells self.now write.now.bytes.now) ≡ true }
-        requires part { holds_box (extent_of write.now.region) (region_of own.now) ≡ false }
+        requires writes { WritesTo self.now write.now own.now }
+        requires fit { fits_box (array_of C.ArrayToBytesCodecTraits self.now).document
+            (region_of own.now) ≡ true }
+        requires part { holds_box (write_of C.ArrayToBytesCodecTraits self.now write.now).region
+            (region_of own.now) ≡ false }
         requires absent { IsTrue (S.is_honest store.old) →
             map.get (S.held store.old) key.now ≡ None }
         requires takes { takes_patches (document_of C.meaning self.now).chain
             (document_of C.meaning self.now).elements.type ≡ true }
-        requires patches { PatchesChunk (document_of C.meaning self.now)
-            (is_exact C.is_function self.now) (extent_of write.now.region)
-            (array_cells self.now write.now.bytes.now)
-            (stores_fill (document_of C.meaning self.now) write.now.options.now
-            (extent_of write.now.region) (region_of own.now)) (region_of own.now)
-            (patches_of patches.now) }
-        ensures ok { IsTrue (S.is_honest store.old) → OnOk result ((made : Option (List ℕ))
-            × MakesValue (document_of C.meaning self.now)
-            (is_exact C.is_function self.now) (extent_of write.now.region)
-            (array_cells self.now write.now.bytes.now)
-            (stores_fill (document_of C.meaning self.now) write.now.options.now
-            (extent_of write.now.region) (region_of own.now)) (region_of own.now)
-            (map.get (S.held store.old) key.now) made
-            × (S.held store.new ≡ with_value (S.held store.old) key.now made)) }
-        ensures err { IsTrue (S.is_honest store.old) → IfErr result
-            (NewValueStops (document_of C.meaning self.now) (extent_of write.now.region)
-            (array_cells self.now write.now.bytes.now)
-            (stores_fill (document_of C.meaning self.now) write.now.options.now
-            (extent_of write.now.region) (region_of own.now)) (region_of own.now)
-            (map.get (S.held store.old) key.now)) }
-        ensures kept { IsTrue (S.is_honest store.old) →
-            OnErr result (S.held store.new ≡ S.held store.old) }
-        ensures honest { S.is_honest store.new ≡ S.is_honest store.old }
-        ensures refused { S.refused_calls store.new ≡
-            refused_after (S.refused_calls store.old) result }
-        ensures counts { CountsUpTo 1 (S.accepted_writes store.old)
-            (S.accepted_writes store.new) }
+        requires patches { PatchesChunk (write_of C.ArrayToBytesCodecTraits self.now write.now)
+            (region_of own.now) (patches_of patches.now) }
+        ensures ok { OnHonestOk S.ReadableStorageTraits store.old store.new result
+            (ChangesAt key.now (MakesValue
+            (write_of C.ArrayToBytesCodecTraits self.now write.now) (region_of own.now))) }
+        ensures err { IfHonestErr S.ReadableStorageTraits store.old store.new result
+            (λ e before _. NewValueStops (write_of C.ArrayToBytesCodecTraits self.now write.now)
+            (region_of own.now) (map.get before key.now) e) }
+        ensures store { Called S.ReadableStorageTraits 1 store.old store.new result }
     {
         if let Some(size) = self.zeros_of_fill(own.shape()) {
             if let Some(value) = over_zeros(write.alloc, size, patches)? {
@@ -260,37 +223,17 @@ impl<C: ArrayToBytesCodecTraits> ArrayCore<C> {
         write: &BoxWrite,
         own: &ArraySubset,
     ) -> Result<bool, ChunkError>
-        requires small { ¬ IsTooLarge (document_of C.meaning self.now).elements.type
-            (product own.now.shape.items) }
-        requires shares { share_place own.now.start.items own.now.shape.items
-            write.now.region.start.now write.now.region.shape.now ≡ true }
-        requires rank { length write.now.region.start.now ≡ length own.now.start.items }
-        requires many { AreSoMany self.now write.now.bytes.now
-            (product write.now.region.shape.now) }
-        requires values { list_all (is_value (document_of C.meaning self.now).elements.type)
-            (array_cells self.now write.now.bytes.now) ≡ true }
+        requires { WritesTo self.now write.now own.now }
         ensures ok { IsTrue (S.is_honest store.old) → IfOk result (λ done. done ≡ true →
-            (made : Option (List ℕ))
-            × MakesValue (document_of C.meaning self.now)
-            (is_exact C.is_function self.now) (extent_of write.now.region)
-            (array_cells self.now write.now.bytes.now)
-            (stores_fill (document_of C.meaning self.now) write.now.options.now
-            (extent_of write.now.region) (region_of own.now)) (region_of own.now)
-            (map.get (S.held store.old) key.now) made
-            × (S.held store.new ≡ with_value (S.held store.old) key.now made)) }
+            ChangesAt key.now (MakesValue (write_of C.ArrayToBytesCodecTraits self.now write.now)
+            (region_of own.now)) (S.held store.old) (S.held store.new)) }
         ensures undone { IsTrue (S.is_honest store.old) → IfOk result (λ done. done ≡ false →
             S.held store.new ≡ S.held store.old) }
-        ensures err { IsTrue (S.is_honest store.old) → IfErr result
-            (ChangeStops (document_of C.meaning self.now) (extent_of write.now.region)
-            (array_cells self.now write.now.bytes.now) write.now.options.now
-            (region_of own.now) (map.get (S.held store.old) key.now)) }
-        ensures kept { IsTrue (S.is_honest store.old) →
-            OnErr result (S.held store.new ≡ S.held store.old) }
-        ensures honest { S.is_honest store.new ≡ S.is_honest store.old }
-        ensures refused { S.refused_calls store.new ≡
-            refused_after (S.refused_calls store.old) result }
-        ensures counts { CountsUpTo 1 (S.accepted_writes store.old)
-            (S.accepted_writes store.new) }
+        ensures err { IfHonestErr S.ReadableStorageTraits store.old store.new result
+            (λ e before _. ChangeStops (write_of C.ArrayToBytesCodecTraits self.now write.now)
+            (region_of own.now) (map.get before key.now) e) }
+        ensures store { Called S.ReadableStorageTraits (calls_of result)
+            store.old store.new result }
         ensures uncounted { IfOk result (λ done. done ≡ false →
             S.accepted_writes store.new ≡ S.accepted_writes store.old) }
     {

@@ -4,6 +4,7 @@ use crate::error::ChunkError;
 use crate::region_chunks::RegionChunks;
 use crate::rooms::ChunkRooms;
 use std::alloc::Global;
+use std::thread::Threads;
 use zarr_array_elements::BoxElements;
 use zarr_array_storage::ReadableStorageTraits;
 use zarr_codecs_arrays::ArrayBytes;
@@ -22,17 +23,13 @@ pub(crate) struct ReadBox<'a> {
     pub options: &'a CodecOptions,
 }
 
-impl<C: ArrayToBytesCodecTraits> ArrayCore<C> {
-    ghost use Rattle.std.specs.Prelude.{◌≡◌, ◌<◌, ◌*◌, IsTrue, IfOk, IfErr, OnOk, true, length, replicate};
+impl<C: ArrayToBytesCodecTraits + Sync> ArrayCore<C> {
+    ghost use Rattle.std.specs.Prelude.{◌≡◌, ◌<◌, IsTrue, IfOk, IfErr};
     ghost use Rattle.zarr_grids_boxes.specs.Boxes.{product};
     ghost use Rattle.zarr_grids_boxes.specs.Subsets.{region_of};
     ghost use Rattle.zarr_grids_chunks.specs.Grids.{IsCovered};
     ghost use Rattle.zarr_grids_cover.specs.Intersecting.{AreIntersecting};
-    ghost use Rattle.zarr_codecs_meaning.specs.Payloads.{fixed_cells};
-    ghost use Rattle.zarr_codecs_meaning.specs.Types.{IsTooLarge};
     ghost use Rattle.zarr_codecs_arrays.specs.Views.{payload_of};
-    ghost use Rattle.zarr_array_meaning.specs.Boxes.{IsRead};
-    ghost use Rattle.zarr_array_elements.specs.Views.{AreShown, cells_shown};
     ghost use Rattle.zarr_array_core.specs.Views.{document_of, path_of};
     ghost use Rattle.zarr_array_core.specs.Outcomes.{GivesBox, ReadStops, IsSmall, refused_after};
 
@@ -40,8 +37,9 @@ impl<C: ArrayToBytesCodecTraits> ArrayCore<C> {
     /// the first that isn't read decides: `Fit` where it has a value and does not fit its codecs,
     /// `Damage` where one of its places in the region cannot be decoded. `Storage` where the store
     /// refuses.
-    pub fn read_region<S: ReadableStorageTraits>(
+    pub fn read_region<R: Threads + Sync, S: ReadableStorageTraits>(
         &self,
+        rt: &R,
         rooms: &mut ChunkRooms,
         store: &mut S,
         target: RegionChunks,
@@ -82,6 +80,18 @@ impl<C: ArrayToBytesCodecTraits> ArrayCore<C> {
             Err(error) => Err(error),
         }
     }
+}
+
+impl<C: ArrayToBytesCodecTraits> ArrayCore<C> {
+    ghost use Rattle.std.specs.Prelude.{◌≡◌, IsTrue, IfOk, IfErr, replicate};
+    ghost use Rattle.zarr_grids_boxes.specs.Boxes.{product};
+    ghost use Rattle.zarr_grids_boxes.specs.Subsets.{region_of};
+    ghost use Rattle.zarr_grids_cover.specs.Intersecting.{AreIntersecting};
+    ghost use Rattle.zarr_array_meaning.specs.Boxes.{IsRead};
+    ghost use Rattle.zarr_array_elements.specs.Views.{AreShown, cells_shown};
+    ghost use Rattle.zarr_array_core.specs.Views.{document_of, path_of};
+    ghost use Rattle.zarr_array_core.specs.Calls.{Reads};
+    ghost use Rattle.zarr_array_core.specs.Outcomes.{ReadStops, IsSmall, refused_after};
 
     /// The elements of a box, which begin as fill values, after those of each chunk that the box
     /// intersects were put over them.
@@ -109,11 +119,8 @@ impl<C: ArrayToBytesCodecTraits> ArrayCore<C> {
         ensures err { IsTrue (S.is_honest store.old) → IfErr result
             (ReadStops (path_of self.now) (document_of C.meaning self.now) (S.held store.old)
             (region_of read.entry.region.now)) }
-        ensures held { S.held store.new ≡ S.held store.old }
-        ensures honest { S.is_honest store.new ≡ S.is_honest store.old }
-        ensures refused { S.refused_calls store.new ≡
-            refused_after (S.refused_calls store.old) result }
-        ensures accepted { S.accepted_writes store.new ≡ S.accepted_writes store.old }
+        ensures store { Reads S.ReadableStorageTraits store.old store.new
+            (refused_after (S.refused_calls store.old) result) }
     {
         let first = read.chunks.start();
         let shape = read.chunks.shape();

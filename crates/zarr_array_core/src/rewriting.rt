@@ -8,6 +8,7 @@ use crate::error::{ChunkError, ManyError};
 use crate::rooms::ChunkRooms;
 use crate::store_calls::{get, size_key};
 use std::alloc::Global;
+use std::thread::Threads;
 use zarr_array_storage::{ReadableStorageTraits, WritableStorageTraits};
 use zarr_codecs_options::CodecOptions;
 use zarr_codecs_traits::ArrayToBytesCodecTraits;
@@ -24,17 +25,81 @@ fn counted_chunk(applied: u64, had: bool) -> u64
     if had { applied + 1 } else { applied }
 }
 
+impl<C: ArrayToBytesCodecTraits + Sync> ArrayCore<C> {
+    ghost use Rattle.std.specs.Prelude.{◌<◌, ◌^◌, length, IsTrue};
+    ghost use Rattle.zarr_grids_boxes.specs.Boxes.{product};
+    ghost use Rattle.zarr_grids_boxes.specs.Subsets.{region_of};
+    ghost use Rattle.zarr_grids_cover.specs.Boxed.{AreBoxed};
+    ghost use Rattle.zarr_array_meaning.specs.Rewriting.{RewroteChunks, keyed_chunks};
+    ghost use Rattle.zarr_array_meaning.specs.StoreMaps.{CountsUpTo};
+    ghost use Rattle.zarr_array_core.specs.Arrays.{array_of, CalledMany, chunks_done, IfHonestErr, OnHonestOk};
+    ghost use Rattle.zarr_array_core.specs.Rewriting.{RewriteStops};
+
+    /// Stores each chunk in the grid anew that has a key, row-major: its cells are read and stored
+    /// whole, so a chunk that is all fill loses its key, unless empty chunks are stored. `chunks`
+    /// are all chunks in the grid that have a box. Errors as those of `write_region`; `applied`
+    /// counts the chunks with a key.
+    pub fn rewrite<R: Threads + Sync, S: WritableStorageTraits>(
+        &self,
+        rt: &R,
+        rooms: &mut ChunkRooms,
+        store: &mut S,
+        chunks: &ArraySubset,
+        options: &CodecOptions,
+    ) -> Result<(), ManyError>
+        requires all { AreBoxed (array_of C.ArrayToBytesCodecTraits self.now).document.grid
+            (region_of chunks.now) }
+        requires few { product chunks.now.shape.items < 2 ^ 63 }
+        // Each chunk that had a key is stored anew, and no other key changes.
+        ensures ok { OnHonestOk S.ReadableStorageTraits store.old store.new result
+            (λ before after. RewroteChunks (array_of C.ArrayToBytesCodecTraits self.now)
+            options.now.store_empty_chunks
+            (keyed_chunks (array_of C.ArrayToBytesCodecTraits self.now) before) before after) }
+        // Of the first `applied` of them that is so, and the next one stopped.
+        ensures err { IfHonestErr S.ReadableStorageTraits store.old store.new result
+            (RewriteStops (array_of C.ArrayToBytesCodecTraits self.now)
+            options.now.store_empty_chunks) }
+        // Over any store, no more writing calls than chunks in the grid, or than applied.
+        ensures store { CalledMany S.ReadableStorageTraits (product chunks.now.shape.items)
+            store.old store.new result }
+        // Over an honest one, by at most one writing call for each of them that is stored anew.
+        ensures counts { IsTrue (S.is_honest store.old) → CountsUpTo (chunks_done
+            (length (keyed_chunks (array_of C.ArrayToBytesCodecTraits self.now)
+            (S.held store.old))) result)
+            (S.accepted_writes store.old) (S.accepted_writes store.new) }
+    {
+        let count = count_places(chunks.shape()).unwrap();
+        let mut room = rooms.take_indices();
+        if room.resize(chunks.dimensionality(), 0).is_err() {
+            let error = ChunkError::Memory;
+            return Err(ManyError { applied: 0, error });
+        }
+        let chunk = room.as_mut_slice();
+        let mut applied: u64 = 0;
+        for n in 0..count {
+            place_into(chunks.start(), chunks.shape(), count, n, chunk);
+            match self.rewrite_chunk(rooms, store, chunk, options) {
+                Ok(had) => applied = counted_chunk(applied, had),
+                Err(error) => return Err(ManyError { applied, error }),
+            }
+        }
+        rooms.keep_indices(room);
+        Ok(())
+    }
+}
+
 impl<C: ArrayToBytesCodecTraits> ArrayCore<C> {
-    ghost use Rattle.std.specs.Prelude.{◌≡◌, ◌↔◌, ◌<◌, ◌^◌, length, IsTrue, IfOk, IfErr};
+    ghost use Rattle.std.specs.Prelude.{◌≡◌, ◌↔◌, ◌<◌, ◌^◌, IsTrue, IfOk, IfErr};
     ghost use Rattle.zarr_grids_boxes.specs.Boxes.{Region, product};
     ghost use Rattle.zarr_grids_boxes.specs.Subsets.{region_of};
     ghost use Rattle.zarr_grids_chunks.specs.Grids.{IsInGrid};
     ghost use Rattle.zarr_grids_cover.specs.Boxed.{AreBoxed};
-    ghost use Rattle.zarr_array_meaning.specs.Rewriting.{IsLargeKeyed, IsRewritten, RewroteChunks, keyed_chunks};
+    ghost use Rattle.zarr_array_meaning.specs.Rewriting.{IsLargeKeyed, IsRewritten};
     ghost use Rattle.zarr_array_storage.specs.Stores.{value_bytes};
-    ghost use Rattle.zarr_array_core.specs.Arrays.{array_of, Called, CalledMany, chunks_done, IfHonestErr, OnHonestOk};
-    ghost use Rattle.zarr_array_core.specs.Outcomes.{CountsUpTo, IsErasureStop, refused_after};
-    ghost use Rattle.zarr_array_core.specs.Rewriting.{calls_of, ChunkRewriteStops, IsLargeKeyedAt, RemakingStops, RewritesChunk, RewriteStops};
+    ghost use Rattle.zarr_array_core.specs.Arrays.{array_of, Called, IfHonestErr};
+    ghost use Rattle.zarr_array_core.specs.Calls.{calls_of};
+    ghost use Rattle.zarr_array_core.specs.Outcomes.{IsErasureStop, refused_after};
+    ghost use Rattle.zarr_array_core.specs.Rewriting.{ChunkRewriteStops, IsLargeKeyedAt, RemakingStops, RewritesChunk};
     ghost use Rattle.zarr_array_core.specs.Views.{document_of};
 
     /// Whether a chunk that has a key has 2^63 cells or bytes or more. `chunks` are all chunks in
@@ -101,55 +166,6 @@ impl<C: ArrayToBytesCodecTraits> ArrayCore<C> {
         let key = self.key_of(rooms.alloc(), chunk)?;
         let size = size_key(store, &key)?;
         Ok(size.is_some())
-    }
-
-    /// Stores each chunk in the grid anew that has a key, row-major: its cells are read and stored
-    /// whole, so a chunk that is all fill loses its key, unless empty chunks are stored. `chunks` are
-    /// all chunks in the grid that have a box. Errors as those of `write_region`; `applied` counts
-    /// the chunks with a key.
-    pub fn rewrite<S: WritableStorageTraits>(
-        &self,
-        rooms: &mut ChunkRooms,
-        store: &mut S,
-        chunks: &ArraySubset,
-        options: &CodecOptions,
-    ) -> Result<(), ManyError>
-        requires all { AreBoxed (array_of C.ArrayToBytesCodecTraits self.now).document.grid
-            (region_of chunks.now) }
-        requires few { product chunks.now.shape.items < 2 ^ 63 }
-        // Each chunk that had a key is stored anew, and no other key changes.
-        ensures ok { OnHonestOk S.ReadableStorageTraits store.old store.new result
-            (λ before after. RewroteChunks (array_of C.ArrayToBytesCodecTraits self.now)
-            options.now.store_empty_chunks
-            (keyed_chunks (array_of C.ArrayToBytesCodecTraits self.now) before) before after) }
-        // Of the first `applied` of them that is so, and the next one stopped.
-        ensures err { IfHonestErr S.ReadableStorageTraits store.old store.new result
-            (RewriteStops (array_of C.ArrayToBytesCodecTraits self.now)
-            options.now.store_empty_chunks) }
-        // By at most one writing call for each of them.
-        ensures store { CalledMany S.ReadableStorageTraits (product chunks.now.shape.items)
-            store.old store.new result }
-        ensures counts { IsTrue (S.is_honest store.old) → CountsUpTo (chunks_done
-            (length (keyed_chunks (array_of C.ArrayToBytesCodecTraits self.now)
-            (S.held store.old))) result) (S.accepted_writes store.old) (S.accepted_writes store.new) }
-    {
-        let count = count_places(chunks.shape()).unwrap();
-        let mut room = rooms.take_indices();
-        if room.resize(chunks.dimensionality(), 0).is_err() {
-            let error = ChunkError::Memory;
-            return Err(ManyError { applied: 0, error });
-        }
-        let chunk = room.as_mut_slice();
-        let mut applied: u64 = 0;
-        for n in 0..count {
-            place_into(chunks.start(), chunks.shape(), count, n, chunk);
-            match self.rewrite_chunk(rooms, store, chunk, options) {
-                Ok(had) => applied = counted_chunk(applied, had),
-                Err(error) => return Err(ManyError { applied, error }),
-            }
-        }
-        rooms.keep_indices(room);
-        Ok(())
     }
 
     /// Stores a chunk anew, if it has a key; the answer is whether it has one.

@@ -1,12 +1,13 @@
 //! Calls of a store, whose refusals are those of calls over chunks.
 ghost use Rattle.std.specs.Prelude.{◌≡◌, ℕ, IsTrue, IfOk, OnOk, OnErr, IfErr, false, if◌then◌else◌, length, option_map};
+ghost use Rattle.zarr_array_core.specs.Arrays.{Called};
 ghost use Rattle.std.specs.FinMap.{get, insert, remove};
 ghost use Rattle.zarr_array_meaning.specs.StoreMaps.{counted};
 ghost use Rattle.zarr_array_storage.specs.Ranges.{patched_at};
 ghost use Rattle.zarr_array_storage.specs.Refusals.{IfByteRange, is_counted};
 ghost use Rattle.zarr_array_storage.specs.Stores.{HasBytesAt, value_bytes};
 ghost use Rattle.zarr_codecs_traits.specs.Patches.{any_too_far, patches_of};
-ghost use Rattle.zarr_array_core.specs.Outcomes.{IsErasureStop, CountsUpTo, refused_after, refused_with};
+ghost use Rattle.zarr_array_core.specs.Outcomes.{IsErasureStop, refused_after, refused_with};
 
 use crate::error::ChunkError;
 use zarr_array_storage::{ReadableStorageTraits, StorageError, ValuePatch, WritableStorageTraits};
@@ -76,13 +77,8 @@ pub(crate) fn set<S: WritableStorageTraits>(
 ) -> Result<(), ChunkError>
     ensures ok { IsTrue (S.is_honest store.old) → OnOk result
         (S.held store.new ≡ insert (S.held store.old) key.now value.now) }
-    ensures err { IsTrue (S.is_honest store.old) →
-        OnErr result (S.held store.new ≡ S.held store.old) }
     ensures stops { IsTrue (S.is_honest store.old) → IfErr result IsErasureStop }
-    ensures honest { S.is_honest store.new ≡ S.is_honest store.old }
-    ensures refused { S.refused_calls store.new ≡
-        refused_after (S.refused_calls store.old) result }
-    ensures counts { CountsUpTo 1 (S.accepted_writes store.old) (S.accepted_writes store.new) }
+    ensures store { Called S.ReadableStorageTraits 1 store.old store.new result }
     ensures unwritten { OnErr result (S.accepted_writes store.new ≡ S.accepted_writes store.old) }
 {
     match store.set(key, value) {
@@ -101,13 +97,8 @@ pub(crate) fn set_partial<S: WritableStorageTraits>(
     ensures ok { IsTrue (S.is_honest store.old) → OnOk result (S.held store.new ≡ insert
         (S.held store.old) key.now
         (patched_at (S.held store.old) key.now (patches_of patches.now))) }
-    ensures err { IsTrue (S.is_honest store.old) →
-        OnErr result (S.held store.new ≡ S.held store.old) }
     ensures stops { IsTrue (S.is_honest store.old) → IfErr result IsErasureStop }
-    ensures honest { S.is_honest store.new ≡ S.is_honest store.old }
-    ensures refused { S.refused_calls store.new ≡
-        refused_after (S.refused_calls store.old) result }
-    ensures counts { CountsUpTo 1 (S.accepted_writes store.old) (S.accepted_writes store.new) }
+    ensures store { Called S.ReadableStorageTraits 1 store.old store.new result }
     ensures unwritten { OnErr result (S.accepted_writes store.new ≡ S.accepted_writes store.old) }
 {
     match store.set_partial(key, patches) {
@@ -123,13 +114,8 @@ pub(crate) fn erase<S: WritableStorageTraits>(
 ) -> Result<(), ChunkError>
     ensures ok { IsTrue (S.is_honest store.old) → OnOk result
         (S.held store.new ≡ remove (S.held store.old) key.now) }
-    ensures err { IsTrue (S.is_honest store.old) →
-        OnErr result (S.held store.new ≡ S.held store.old) }
     ensures stops { IsTrue (S.is_honest store.old) → IfErr result IsErasureStop }
-    ensures honest { S.is_honest store.new ≡ S.is_honest store.old }
-    ensures refused { S.refused_calls store.new ≡
-        refused_after (S.refused_calls store.old) result }
-    ensures counts { CountsUpTo 1 (S.accepted_writes store.old) (S.accepted_writes store.new) }
+    ensures store { Called S.ReadableStorageTraits 1 store.old store.new result }
     ensures unwritten { OnErr result (S.accepted_writes store.new ≡ S.accepted_writes store.old) }
 {
     match store.erase(key) {

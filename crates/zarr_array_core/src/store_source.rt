@@ -3,6 +3,7 @@ ghost use Rattle.std.specs.Prelude.{◌≡◌, ℕ, IsErr, if◌then◌else◌};
 ghost use Rattle.zarr_array_meaning.specs.StoreMaps.{counted};
 ghost use Rattle.zarr_array_storage.specs.Refusals.{IfByteRange, is_counted};
 ghost use Rattle.zarr_codecs_traits.specs.Sources.{ReadRefused, refused_after};
+ghost use Rattle.zarr_array_core.specs.Outcomes.{IsStoreRefusal};
 
 use std::alloc::Global;
 use zarr_array_storage::storage_partial_decoder::of_storage;
@@ -19,6 +20,19 @@ pub(crate) struct StoreSource<'a, S> {
     pub store: &'a mut S,
     pub key: &'a StoreKey,
     pub refusal: &'a mut Option<StorageError>,
+}
+
+/// Why the store refused, where codecs say that it did. A store for which they say so though it
+/// refused nothing, or for which they pass over want of memory, is said to have failed.
+pub(crate) fn refusal_of(refused: Option<StorageError>) -> StorageError
+    ensures { IsStoreRefusal result }
+{
+    match refused {
+        None | Some(StorageError::Memory) | Some(StorageError::InvalidByteRange) => {
+            StorageError::Io
+        }
+        Some(error) => error,
+    }
 }
 
 /// What a source answers where the store refuses for this reason to tell a size.

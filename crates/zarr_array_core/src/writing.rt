@@ -2,53 +2,47 @@
 use crate::array_core::ArrayCore;
 use crate::chunk_value::BoxWrite;
 use crate::error::{ChunkError, ManyError};
-use crate::region_chunks::RegionChunks;
+use crate::region_chunks::RegionBytes;
 use crate::rooms::ChunkRooms;
+use std::thread::Threads;
 use zarr_array_storage::WritableStorageTraits;
-use zarr_codecs_arrays::ArrayBytes;
 use zarr_codecs_options::CodecOptions;
 use zarr_codecs_traits::ArrayToBytesCodecTraits;
 use zarr_grids_boxes::ArraySubset;
 use zarr_grids_boxes::walk::{count_places, place_into};
 use zarr_grids_overlay::Extent;
 
-impl<C: ArrayToBytesCodecTraits> ArrayCore<C> {
-    ghost use Rattle.std.specs.Prelude.{◌≡◌, ◌<◌, ◌*◌, ℕ, List, Option, true, length, IsTrue, OnOk, OnErr, IfErr};
-    ghost use Rattle.std.specs.List.{list_all};
-    ghost use Rattle.zarr_grids_boxes.specs.Boxes.{Region, product};
+impl<C: ArrayToBytesCodecTraits + Sync> ArrayCore<C> {
+    ghost use Rattle.std.specs.Prelude.{◌<◌, List};
+    ghost use Rattle.zarr_grids_boxes.specs.Boxes.{product};
     ghost use Rattle.zarr_grids_boxes.specs.Subsets.{region_of};
-    ghost use Rattle.zarr_grids_chunks.specs.Grids.{IsCovered, IsInGrid, intersects, intersecting};
+    ghost use Rattle.zarr_grids_chunks.specs.Grids.{IsCovered};
     ghost use Rattle.zarr_grids_cover.specs.Intersecting.{AreIntersecting};
-    ghost use Rattle.zarr_grids_keys.specs.Keys.{chunk_key};
-    ghost use Rattle.zarr_grids_overlay.specs.Overlays.{extent_of};
-    ghost use Rattle.zarr_codecs_meaning.specs.Types.{Cell, is_value};
+    ghost use Rattle.zarr_codecs_meaning.specs.Types.{Cell};
     ghost use Rattle.zarr_codecs_arrays.specs.Outcomes.{IsValid};
     ghost use Rattle.zarr_codecs_arrays.specs.Views.{payload_of};
-    ghost use Rattle.zarr_array_meaning.specs.Chunks.{stored_at};
-    ghost use Rattle.zarr_array_meaning.specs.Writing.{WroteChunks};
-    ghost use Rattle.zarr_array_core.specs.Views.{array_cells, AreSoMany, document_of, is_exact, path_of};
-    ghost use Rattle.zarr_array_core.specs.ChunkValues.{with_value};
-    ghost use Rattle.zarr_array_core.specs.IntoShards.{write_of, WritesChunk, WritingStops};
-    ghost use Rattle.zarr_array_core.specs.Outcomes.{WritesBox, WriteStops, CountsWrites, CountsUpTo, IsSmall, refused_after, refused_by_many};
+    ghost use Rattle.zarr_array_core.specs.Arrays.{CalledMany, IfHonestErr, OnHonestOk};
+    ghost use Rattle.zarr_array_core.specs.Views.{document_of, is_exact, path_of};
+    ghost use Rattle.zarr_array_core.specs.Outcomes.{WritesBox, WriteStops, chunks_met, IsSmall};
 
     /// Writes the elements of a region that is not empty, row-major, chunk by chunk: `bytes` are as
     /// many values of the array's data type as the region has places. A chunk that becomes all fill
-    /// loses its key, unless empty chunks are stored. In all, the store accepts no more writing calls
-    /// than the region meets chunks. A chunk that lies in the region is written whatever is stored
-    /// for it, and nothing is fetched for it. With `experimental_partial_encoding` a part is put into
-    /// its chunk's shard.
+    /// loses its key, unless empty chunks are stored. In all the store accepts at most as many
+    /// writing calls as chunks are written. A chunk that lies in the region is written whatever is
+    /// stored for it, and nothing is fetched for it. With `experimental_partial_encoding` a part is
+    /// put into its chunk's shard.
     ///
     /// `Fit` where a chunk does not fit its codecs, `Damage` where a part of a chunk is to stay and
     /// what is stored cannot be decoded or, if that part is put into it, cannot take it, `Codec`
-    /// where a codec refuses to encode, `Size` where an offset or a length is too large for where it
-    /// is written, `Storage` where the store refuses. The chunks before the one that stopped stay
-    /// written.
-    pub fn write_region<S: WritableStorageTraits>(
+    /// where a codec refuses to encode, `Size` where an offset or a length is too large for where
+    /// it is written, `Storage` where the store refuses. The chunks before the one that stopped
+    /// stay written.
+    pub fn write_region<R: Threads + Sync, S: WritableStorageTraits>(
         &self,
+        rt: &R,
         rooms: &mut ChunkRooms,
         store: &mut S,
-        target: RegionChunks,
-        bytes: &ArrayBytes,
+        target: RegionBytes,
         options: &CodecOptions,
     ) -> Result<(), ManyError>
         requires covered { IsCovered (document_of C.meaning self.now).grid
@@ -59,23 +53,17 @@ impl<C: ArrayToBytesCodecTraits> ArrayCore<C> {
             (region_of target.region.now) (region_of target.chunks.now) }
         requires valid { (cells : List Cell)
             × IsValid (document_of C.meaning self.now).elements.type
-            (payload_of bytes.now) (product target.region.now.shape.items) cells }
-        ensures ok { IsTrue (S.is_honest store.old) → OnOk result
+            (payload_of target.bytes.now) (product target.region.now.shape.items) cells }
+        ensures ok { OnHonestOk S.ReadableStorageTraits store.old store.new result
             (WritesBox (path_of self.now) (document_of C.meaning self.now)
-            (is_exact C.is_function self.now)
-            (region_of target.entry.region.now) (payload_of bytes.now) options.now
-            (S.held store.old) (S.held store.new)) }
-        ensures err { IsTrue (S.is_honest store.old) → IfErr result
-            (WriteStops (path_of self.now) (document_of C.meaning self.now)
-            (is_exact C.is_function self.now)
-            (region_of target.entry.region.now) (payload_of bytes.now) options.now
-            (S.held store.old) (S.held store.new)) }
-        ensures honest { S.is_honest store.new ≡ S.is_honest store.old }
-        ensures refused { S.refused_calls store.new ≡
-            refused_by_many (S.refused_calls store.old) result }
-        ensures counts { CountsWrites (document_of C.meaning self.now)
-            (region_of target.entry.region.now)
-            (S.accepted_writes store.old) (S.accepted_writes store.new) }
+            (is_exact C.is_function self.now) (region_of target.entry.region.now)
+            (payload_of target.entry.bytes.now) options.now) }
+        ensures err { IfHonestErr S.ReadableStorageTraits store.old store.new result
+            (λ stopped before after. WriteStops (path_of self.now) (document_of C.meaning self.now)
+            (is_exact C.is_function self.now) (region_of target.entry.region.now)
+            (payload_of target.entry.bytes.now) options.now before after stopped) }
+        ensures store { CalledMany S.ReadableStorageTraits (chunks_met (document_of C.meaning
+            self.now) (region_of target.entry.region.now)) store.old store.new result }
     {
         let (start, shape) = (target.region.start(), target.region.shape());
         let alloc = rooms.alloc();
@@ -83,11 +71,28 @@ impl<C: ArrayToBytesCodecTraits> ArrayCore<C> {
             alloc,
             subset: target.region,
             region: Extent { start, shape },
-            bytes,
+            bytes: target.bytes,
             options,
         };
         self.write_chunks(rooms, store, &write, target.chunks)
     }
+}
+
+impl<C: ArrayToBytesCodecTraits> ArrayCore<C> {
+    ghost use Rattle.std.specs.Prelude.{◌≡◌, ◌<◌, true, length};
+    ghost use Rattle.std.specs.List.{list_all};
+    ghost use Rattle.zarr_grids_boxes.specs.Boxes.{Region, product};
+    ghost use Rattle.zarr_grids_boxes.specs.Subsets.{region_of};
+    ghost use Rattle.zarr_grids_chunks.specs.Grids.{IsInGrid, intersects};
+    ghost use Rattle.zarr_grids_cover.specs.Intersecting.{AreIntersecting};
+    ghost use Rattle.zarr_grids_overlay.specs.Overlays.{extent_of};
+    ghost use Rattle.zarr_codecs_meaning.specs.Types.{is_value};
+    ghost use Rattle.zarr_codecs_arrays.specs.Views.{payload_of};
+    ghost use Rattle.zarr_array_core.specs.Arrays.{Called, CalledMany, IfHonestErr, OnHonestOk};
+    ghost use Rattle.zarr_array_core.specs.IntoShards.{StopsAt, WritesAt, WritesMet};
+    ghost use Rattle.zarr_array_core.specs.BoxWrites.{write_of};
+    ghost use Rattle.zarr_array_core.specs.Outcomes.{WriteStops, IsSmall};
+    ghost use Rattle.zarr_array_core.specs.Views.{array_cells, AreSoMany, document_of, is_exact, path_of};
 
     /// Writes the elements of a box to each chunk that it intersects.
     fn write_chunks<S: WritableStorageTraits>(
@@ -107,22 +112,14 @@ impl<C: ArrayToBytesCodecTraits> ArrayCore<C> {
             (product write.now.region.shape.now) }
         requires values { list_all (is_value (document_of C.meaning self.now).elements.type)
             (array_cells self.now write.now.bytes.now) ≡ true }
-        ensures ok { IsTrue (S.is_honest store.old) → OnOk result (WroteChunks (path_of self.now)
-            (document_of C.meaning self.now) (is_exact C.is_function self.now)
-            (extent_of write.now.region)
-            (array_cells self.now write.now.bytes.now) write.now.options.now
-            (intersecting (document_of C.meaning self.now).grid (extent_of write.now.region))
-            (S.held store.old) (S.held store.new)) }
-        ensures err { IsTrue (S.is_honest store.old) → IfErr result (WriteStops (path_of self.now)
-            (document_of C.meaning self.now) (is_exact C.is_function self.now)
-            (extent_of write.now.region)
-            (payload_of write.now.bytes.now) write.now.options.now
-            (S.held store.old) (S.held store.new)) }
-        ensures honest { S.is_honest store.new ≡ S.is_honest store.old }
-        ensures refused { S.refused_calls store.new ≡
-            refused_by_many (S.refused_calls store.old) result }
-        ensures counts { CountsUpTo (product chunks.now.shape.items)
-            (S.accepted_writes store.old) (S.accepted_writes store.new) }
+        ensures ok { OnHonestOk S.ReadableStorageTraits store.old store.new result
+            (WritesMet (write_of C.ArrayToBytesCodecTraits self.now write.now)) }
+        ensures err { IfHonestErr S.ReadableStorageTraits store.old store.new result
+            (λ stopped before after. WriteStops (path_of self.now) (document_of C.meaning self.now)
+            (is_exact C.is_function self.now) (extent_of write.now.region)
+            (payload_of write.now.bytes.now) write.now.options.now before after stopped) }
+        ensures store { CalledMany S.ReadableStorageTraits (product chunks.now.shape.items)
+            store.old store.new result }
     {
         let count = count_places(chunks.shape()).unwrap();
         let mut room = rooms.take_indices();
@@ -162,25 +159,11 @@ impl<C: ArrayToBytesCodecTraits> ArrayCore<C> {
             (product write.now.region.shape.now) }
         requires values { list_all (is_value (document_of C.meaning self.now).elements.type)
             (array_cells self.now write.now.bytes.now) ≡ true }
-        ensures ok { IsTrue (S.is_honest store.old) → OnOk result
-            ((box : Region) × (made : Option (List ℕ))
-            × IsInGrid (document_of C.meaning self.now).grid chunk.now box
-            × WritesChunk (write_of C.ArrayToBytesCodecTraits self.now write.now)
-            box (stored_at (path_of self.now)
-            (document_of C.meaning self.now) (S.held store.old) chunk.now) made
-            × (S.held store.new ≡ with_value (S.held store.old) (chunk_key (path_of self.now)
-            (document_of C.meaning self.now).keys chunk.now) made)) }
-        ensures err { IsTrue (S.is_honest store.old) → IfErr result (λ e. (box : Region)
-            × IsInGrid (document_of C.meaning self.now).grid chunk.now box
-            × WritingStops (write_of C.ArrayToBytesCodecTraits self.now write.now)
-            box (stored_at (path_of self.now)
-            (document_of C.meaning self.now) (S.held store.old) chunk.now) e) }
-        ensures kept { IsTrue (S.is_honest store.old) →
-            OnErr result (S.held store.new ≡ S.held store.old) }
-        ensures honest { S.is_honest store.new ≡ S.is_honest store.old }
-        ensures refused { S.refused_calls store.new ≡
-            refused_after (S.refused_calls store.old) result }
-        ensures counts { CountsUpTo 1 (S.accepted_writes store.old) (S.accepted_writes store.new) }
+        ensures ok { OnHonestOk S.ReadableStorageTraits store.old store.new result
+            (WritesAt (write_of C.ArrayToBytesCodecTraits self.now write.now) chunk.now) }
+        ensures err { IfHonestErr S.ReadableStorageTraits store.old store.new result (λ e before _.
+            StopsAt (write_of C.ArrayToBytesCodecTraits self.now write.now) chunk.now e before) }
+        ensures store { Called S.ReadableStorageTraits 1 store.old store.new result }
     {
         let key = self.key_of(write.alloc, chunk)?;
         let own = self.box_of(rooms.take_own(), chunk)?;

@@ -1,7 +1,7 @@
 -- No two answers to one read, or to one write.
 use Rattle.std.proofs.Common.{◌≡◌, ◌∙◌, ℕ, ◌<◌, Bool, true, false, ◌||◌, List, length, get_or, slice_get, refl, sym, ap, arith, Option, Some, None, is_some, ⊎_elim}
 use Rattle.std.specs.Prelude.{not}
-use Rattle.std.proofs.lemmas.Bool.{cases_order, false≢true, MatchBool-at_false}
+use Rattle.std.proofs.lemmas.Bool.{cases_order, false≢true, MatchBool-at_true, MatchBool-at_false}
 use Rattle.std.proofs.lemmas.List.{ext_get_or}
 use Rattle.std.proofs.lemmas.Option.{none-some}
 use Rattle.zarr_grids_boxes.specs.Boxes.{Region, product, place_at, is_in_box}
@@ -17,7 +17,7 @@ use Rattle.zarr_array_meaning.specs.Boxes.{cell_of_box, IsDamagedIn, IsUnfitIn, 
 use Rattle.zarr_array_meaning.specs.Chunks.{stored_at, fits_box, holds_box, IsNthIntersecting}
 use Rattle.zarr_array_meaning.specs.Documents.{Document}
 use Rattle.zarr_array_meaning.specs.StoreMaps.{StoreMap}
-use Rattle.zarr_array_meaning.specs.Writing.{cell_read, ChunkBecomes, DecodesAlikeOutside, stores_fill, WrittenUndamaged, WrittenKeysAlike, RewrittenAlike}
+use Rattle.zarr_array_meaning.specs.Writing.{cell_read, ChunkBecomes, DecodesAlikeOutside, is_into_shard, stores_fill, Takes, WrittenUndamaged, WrittenKeysAlike, RewrittenAlike}
 use Rattle.zarr_array_meaning.proofs.HeldBoxes.{not_held}
 use Rattle.zarr_array_meaning.proofs.TakenParts.{read_of_decoded}
 
@@ -56,8 +56,13 @@ reads_one_way path document store region cells = (
 
 -- what was written was not damaged
 pub written_undamaged : WrittenUndamaged
-written_undamaged path document exact region values options chunks old new chunk box wrote below listed whole damaged =
-    false≢true (sym (MatchBool-at_false _ _ whole damaged.lost) ∙ MatchBool-at_false _ _ whole (wrote.undamaged chunk box below listed damaged.part))
+written_undamaged path document exact region values options chunks old new chunk box wrote below listed damaged = go (is_into_shard document options region box) refl where
+  taken : Takes document options region box (stored_at path document old chunk)
+  taken = wrote.undamaged chunk box below listed damaged.part
+
+  go : (b : Bool) → is_into_shard document options region box ≡ b → ⊥
+  go true e = MatchBool-at_true _ _ e taken (MatchBool-at_true _ _ e damaged.lost)
+  go false e = false≢true (sym (MatchBool-at_false _ _ e damaged.lost) ∙ MatchBool-at_false _ _ e taken)
 
 -- where a part of a chunk is to stay, the same cells are read of two stores
 abbrev SameRead : List ℕ → Document → Region → List ℕ → Region → StoreMap → StoreMap → Type 0

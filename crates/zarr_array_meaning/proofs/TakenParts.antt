@@ -29,7 +29,7 @@ pub read_of_decoded : (path : List ℕ) (document : Document) (store : StoreMap)
 read_of_decoded path document store chunk box place cells fit below h =
     ap (λ (read : Option (List Cell)). get_or (unwrap_or read []) 0 document.elements.fill) (part_of_decoded document.chain document.elements box.shape (stored_at path document store chunk) cells (number_in box place) fit below h)
 
-opens_decoded : (document : Document) (box : Region) (stored : Option (List ℕ)) (cells : List Cell) → fits_box document box ≡ true → chunk_decoded document.chain document.elements box.shape stored ≡ Some cells → opens_in document box stored ≡ true
+pub opens_decoded : (document : Document) (box : Region) (stored : Option (List ℕ)) (cells : List Cell) → fits_box document box ≡ true → chunk_decoded document.chain document.elements box.shape stored ≡ Some cells → opens_in document box stored ≡ true
 opens_decoded document box None cells fit h = refl
 opens_decoded document box (Some value) cells fit h =
     (if_some (opens document.chain document.elements box.shape value) (all_there (map (cell_at document.chain document.elements box.shape value) [])) [] (part_read document.chain document.elements box.shape value cells [] fit h refl)).0

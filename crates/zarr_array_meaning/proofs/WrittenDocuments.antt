@@ -1,4 +1,4 @@
--- Written documents: they open, say the same with the mark, and stay when they are written again.
+-- Written documents of version 3: they open, say the same with the mark, and stay when they are written again.
 use Rattle.std.proofs.Common.{◌≡◌, ℕ, List, bytes_eq, codes, Bool, true, false, Option, Some, None, option_map, option_and_then, if◌then◌else◌, refl, ap, ◌∙◌}
 use Rattle.serde_json.specs.Data.{Data, null, boolean, number, string, array, object, Members, put}
 use Rattle.serde_json.specs.Find.{get_member}
@@ -8,7 +8,7 @@ use Rattle.zarr_codecs_meaning.specs.Types.{DataType}
 use Rattle.zarr_codecs_types.specs.Metadata.{data_type_in, point_type}
 use Rattle.zarr_array_meaning.proofs.Points.{extension_point-written}
 use Rattle.zarr_array_meaning.specs.Parts.{dimension_names_in}
-use Rattle.zarr_array_meaning.specs.Written.{mark, marked, is_given, is_left_out, type_given, written_value, written_fields, given_attributes, written_members, written_document}
+use Rattle.zarr_array_meaning.specs.Written.{mark, marked, is_given, is_left_out, type_given, written_value, written_fields, given_attributes, written_members}
 use Rattle.zarr_array_meaning.proofs.WrittenFields.{get_member-written_fields, get_member-left_out, written_fields-put}
 
 -- ---- the fields
@@ -82,7 +82,8 @@ type_given-written ms = ap (option_and_then data_type_in) (get_written (codes "d
 given_attributes-written : (ms : Members) → given_attributes (written_members ms) ≡ marked (given_attributes ms)
 given_attributes-written ms = rw (get_attributes ms)
 
-written_members-twice : (ms : Members) → written_members (written_members ms) ≡ written_members ms
+-- what is written for version 3 stays when it is written again
+pub written_members-twice : (ms : Members) → written_members (written_members ms) ≡ written_members ms
 written_members-twice ms =
     let written = written_members ms in
     let attributes = marked_attributes ms in
@@ -93,11 +94,3 @@ written_members-twice ms =
     ∙ ap (λ given. put (codes "attributes") attributes (written_fields (type_given ms) given written)) (names_given-written ms)
     ∙ ap (put (codes "attributes") attributes) (written_fields-put (type_given ms) (names_given ms) (codes "attributes") attributes ms refl refl)
     ∙ put_put (codes "attributes") attributes attributes fields
-
-pub written_document-twice : (d : Data) → written_document (written_document d) ≡ written_document d
-written_document-twice null = refl
-written_document-twice (boolean b) = refl
-written_document-twice (number n) = refl
-written_document-twice (string s) = refl
-written_document-twice (array ds) = refl
-written_document-twice (object ms) = ap object (written_members-twice ms)

@@ -1,4 +1,4 @@
--- Array documents: what a JSON tree says, by checks in one order (Zarr core specification, "Array metadata"; the order of the checks is this project's own).
+-- Array documents: what a JSON tree says, by checks in one order (Zarr core specification, "Array metadata"; Zarr storage specification version 2, "Metadata"; the order of the checks is this project's own).
 use Rattle.std.specs.Prelude.{ℕ, List, [], ◌∷◌, ◌++◌, length, Bool, false, not, ◌||◌, ◌==◌, nat_le, codes, bytes_eq, if◌then◌else◌, Option, option_map, option_and_then, unwrap_or, Result, Ok, Err, ⊤}
 use Rattle.std.specs.List.{list_any}
 use Rattle.std.specs.Option.{ok_or}
@@ -16,6 +16,8 @@ use Rattle.zarr_codecs_meaning.specs.Chains.{Chain}
 use Rattle.zarr_codecs_types.specs.Metadata.{data_type_in}
 use Rattle.zarr_codecs_metadata.specs.Chains.{ReadsCodecs}
 use Rattle.zarr_grids_metadata.specs.ExtensionPoints.{must_understand_field}
+use Rattle.zarr_array_v2.specs.Conversion.{to_v3}
+use Rattle.zarr_array_v2.specs.Versions.{has_version_2}
 use Rattle.zarr_array_meaning.specs.Parts.{attributes_in, codecs_in, fill_in, has_no_transformers, dimension_names_in}
 use Rattle.zarr_array_meaning.specs.declared.error.DocumentError.{DocumentError}
 use Rattle.zarr_array_meaning.specs.declared.error.DocumentError.TheVariants.{Depth, Float, Fields, AdditionalField, Codecs, DataTypes, ChunkGrid, Dimensionality, FillValue, StorageTransformers, ChunkKeyEncoding, DimensionNames}
@@ -53,11 +55,11 @@ check passed e = if passed then Ok tt else Err e
 
 -- ---- fields
 
--- the names of the fields that every document has
+-- the names of the fields that every document of version 3 has
 abbrev pub required_names : List (List ℕ)
 required_names = codes "zarr_format" ∷ codes "node_type" ∷ codes "shape" ∷ codes "data_type" ∷ codes "chunk_grid" ∷ codes "chunk_key_encoding" ∷ codes "fill_value" ∷ codes "codecs" ∷ []
 
--- the names of the fields that a document may have
+-- the names of the fields that it may have
 abbrev pub optional_names : List (List ℕ)
 optional_names = codes "attributes" ∷ codes "storage_transformers" ∷ codes "dimension_names" ∷ []
 
@@ -75,7 +77,7 @@ abbrev pub must_understand_any : Members → Bool
 must_understand_any no_members = false
 must_understand_any (member name d ms) = must_understand_field d || must_understand_any ms
 
--- the fields that every document has, and the attributes
+-- the fields that every document of version 3 has, and the attributes
 pub record FieldsFound : Type 0 where
   pub shape : List ℕ
   pub data_type : Data
@@ -101,7 +103,7 @@ field ms name = ok_or (get_member name ms) Fields
 abbrev pub shape_in : Members → Result (List ℕ) DocumentError
 shape_in ms = ok_or (option_and_then sizes_in (get_member (codes "shape") ms)) Fields
 
--- the fields of a document: `zarr_format` is 3, `node_type` is "array", `shape` lists sizes, the other required ones are there, and attributes are an object where they are given
+-- the fields of a document of version 3: `zarr_format` is 3, `node_type` is "array", `shape` lists sizes, the other required ones are there, and attributes are an object where they are given
 abbrev pub fields_in : Members → Result FieldsFound DocumentError
 fields_in ms = do
   check (is_number 3 (get_member (codes "zarr_format") ms)) Fields
@@ -137,13 +139,18 @@ read_members reads ms = do
   names ← ok_or (dimension_names_in (length found.shape) (get_member (codes "dimension_names") ms)) DimensionNames
   Ok (record { document = record { shape = found.shape; elements = record { type = type; fill = fill }; grid = grid; keys = keys; chain = chain }; attributes = found.attributes; dimension_names = names; additional_fields = additional_in ms })
 
--- all that a document says, or the first check that refuses it
+-- the members of the version 3 document that says the same: any other document says it itself; one of version 2 has to have its fields, and the order C or F
+abbrev pub version_3_of : Members → Result Members DocumentError
+version_3_of ms = if has_version_2 ms then ok_or (to_v3 ms) Fields else Ok ms
+
+-- all that a document of version 3 or 2 says, or the first check that refuses it
 abbrev pub read_metadata : ReadsCodecs → Data → Result Metadata DocumentError
 read_metadata reads d = do
   check (nat_le (depth d) depth_limit) Depth
   check (not (has_float d)) Float
   ms ← ok_or (as_object d) Fields
-  read_members reads ms
+  members ← version_3_of ms
+  read_members reads members
 
 -- what the metadata says of the cells and of where they are stored
 abbrev pub document_of : Result Metadata DocumentError → Result Document DocumentError

@@ -11,3 +11,4 @@ pub mod Writing
 pub mod Arrays
 pub mod Compacting
 pub mod Rewriting
+pub mod Versions

@@ -1,5 +1,5 @@
 -- What a rewrite makes of the chunks of an array: those that have a key are read and stored anew, whole.
-use Rattle.std.specs.Prelude.{◌≡◌, ◌⊎◌, ℕ, ◌^◌, ◌≤◌, List, map, length, Option, Some, None, is_some, Bool, IsTrue, true, not, ◌&&◌, ◌||◌}
+use Rattle.std.specs.Prelude.{◌≡◌, ◌⊎◌, ℕ, ◌^◌, ◌≤◌, List, map, length, Option, Some, is_some, Bool, IsTrue, true, not, ◌||◌}
 use Rattle.std.specs.List.{filter}
 use Rattle.zarr_grids_boxes.specs.Boxes.{Region, product, places, is_in_box}
 use Rattle.zarr_grids_chunks.specs.Grids.{IsInGrid}
@@ -11,7 +11,6 @@ use Rattle.zarr_codecs_meaning.specs.Standing.{ChunkStands}
 use Rattle.zarr_codecs_meaning.specs.Types.{Cell, is_fill, IsTooLarge}
 use Rattle.zarr_array_meaning.specs.Arrays.{Array, value_at}
 use Rattle.zarr_array_meaning.specs.Chunks.{part_at, is_listed, KeepsOtherKeys}
-use Rattle.zarr_array_meaning.specs.Documents.{Document}
 use Rattle.zarr_array_meaning.specs.Standing.{IsLossless}
 use Rattle.zarr_array_meaning.specs.StoreMaps.{StoreMap}
 

@@ -1,6 +1,7 @@
 -- What writing a box of cells makes of the chunks that it intersects.
 use Rattle.std.specs.Prelude.{◌≡◌, ◌⊎◌, ℕ, ◌^◌, ◌≤◌, List, [], length, get_or, replicate, Option, Some, None, Bool, IsTrue, true, false, not, ◌&&◌, ◌||◌, if◌then◌else◌, is_some, unwrap_or, MatchBool, MatchOption}
 use Rattle.zarr_grids_boxes.specs.Boxes.{Region, product, is_in_box}
+use Rattle.zarr_grids_boxes.specs.Cuts.{overlapped, relative}
 use Rattle.zarr_grids_chunks.specs.Grids.{IsInGrid}
 use Rattle.zarr_codecs_meaning.specs.Types.{Cell, is_fill}
 use Rattle.zarr_codecs_meaning.specs.Chunks.{chunk_decoded}
@@ -12,8 +13,8 @@ use Rattle.zarr_codecs_meaning.specs.Partial.{encodes_in_part}
 use Rattle.zarr_codecs_meaning.specs.Refusals.{CodecRefuses, PassesIndex}
 use Rattle.zarr_codecs_meaning.specs.Laws.{AreCells}
 use Rattle.zarr_codecs_meaning.specs.Standing.{Stands, ChunkStands}
-use Rattle.zarr_codecs_traits.specs.PartWriting.{PassesLength}
-use Rattle.zarr_sharding_changes.specs.Compactions.{compaction, damaged}
+use Rattle.zarr_codecs_traits.specs.Indexers.{numbers_of}
+use Rattle.zarr_codecs_traits.specs.PartWriting.{PassesLength, StopsPart}
 use Rattle.zarr_array_meaning.specs.Boxes.{cell_of_box, with_chunks}
 use Rattle.zarr_array_meaning.specs.Chunks.{stored_at, fits_box, decoded_at, part_at, ReadsCell, holds_box, is_listed, KeepsOtherKeys}
 use Rattle.zarr_array_meaning.specs.Documents.{Document}
@@ -44,19 +45,23 @@ opens_in document box stored = elim stored [ None ↦ true | Some value ↦ open
 abbrev pub takes_cells : Document → CodecOptions → Region → Region → Option (List ℕ) → Bool
 takes_cells document options region box stored = if is_in_part document options region box then opens_in document box stored else is_some (chunk_decoded document.chain document.elements box.shape stored)
 
--- a value has a present slice that lies outside its shard's data part
-abbrev pub HasSliceOutside : Document → Region → Option (List ℕ) → Type 0
-HasSliceOutside document box stored = MatchOption stored ⊥ (λ value. compaction document.chain box.shape value ≡ damaged)
+-- the numbers in a chunk of the places that a box shares with it
+abbrev pub shared_numbers : Region → Region → List ℕ
+shared_numbers region box = numbers_of box.shape (relative (overlapped region box) box.start)
 
--- what is stored for a chunk takes the cells of a write: a shard, if it opens and has no slice outside its data part; then the subchunks that the write doesn't meet don't matter
+-- what is stored for a chunk stops a write that puts a part of it into its shard: the value can't be read at all, a subchunk that the box meets isn't decoded, or a present slice lies outside the shard's data part. The subchunks that the box doesn't meet don't matter
+abbrev pub StopsInto : Document → Region → Region → Option (List ℕ) → Type 0
+StopsInto document region box stored = MatchOption stored ⊥ (λ value. StopsPart document.chain document.elements box.shape value (shared_numbers region box))
+
+-- what is stored for a chunk takes the cells of a write
 abbrev pub Takes : Document → CodecOptions → Region → Region → Option (List ℕ) → Type 0
 Takes document options region box stored =
-    MatchBool (is_into_shard document options region box) ((opens_in document box stored ≡ true) × (¬ HasSliceOutside document box stored)) (takes_cells document options region box stored ≡ true)
+    MatchBool (is_into_shard document options region box) (¬ StopsInto document region box stored) (takes_cells document options region box stored ≡ true)
 
--- what is stored for a chunk doesn't take them: of a shard a subchunk isn't decoded, or it has a slice outside its data part
+-- what is stored for a chunk doesn't take them
 abbrev pub Loses : Document → CodecOptions → Region → Region → Option (List ℕ) → Type 0
 Loses document options region box stored =
-    MatchBool (is_into_shard document options region box) ((chunk_decoded document.chain document.elements box.shape stored ≡ None) ⊎ HasSliceOutside document box stored) (takes_cells document options region box stored ≡ false)
+    MatchBool (is_into_shard document options region box) (StopsInto document region box stored) (takes_cells document options region box stored ≡ false)
 
 -- the cell that is read at a place of a chunk, and the fill value where none can be
 abbrev pub cell_read : List ℕ → Document → StoreMap → List ℕ → Region → List ℕ → Cell
@@ -76,6 +81,14 @@ pub record IsPartDamaged (path : List ℕ) (document : Document) (store : StoreM
   pub fit : fits_box document box ≡ true
   pub part : holds_box region box ≡ false
   pub lost : Loses document options region box (stored_at path document store chunk)
+
+-- a shard isn't decoded, and there is no room behind it for the new slices: put there, they would make 2^63 bytes or more. Of a chain that drops bits the last isn't said
+pub record LacksRoom (path : List ℕ) (document : Document) (store : StoreMap) (region : Region) (values : List Cell) (options : CodecOptions) (chunk : List ℕ) (box : Region) : Type 0 where
+  pub fit : fits_box document box ≡ true
+  pub into : is_into_shard document options region box ≡ true
+  pub undecoded : chunk_decoded document.chain document.elements box.shape (stored_at path document store chunk) ≡ None
+  pub passes : IsLossless document → (cells : List Cell) × ChunkBecomes path document store region values options chunk box cells
+      × PassesLength document.chain document.elements box.shape (stored_at path document store chunk) cells
 
 -- the caller's codec refuses bytes that encoding the chunk's new cells calls for; cells that are all fill are encoded only where such a chunk is stored
 pub record IsCodecRefused (path : List ℕ) (document : Document) (store : StoreMap) (region : Region) (values : List Cell) (options : CodecOptions) (chunk : List ℕ) (box : Region) : Type 0 where
@@ -141,10 +154,10 @@ pub record ErasedChunks (path : List ℕ) (document : Document) (chunks : List (
 
 -- ---- no two of these
 
--- no chunk that was written was damaged where a part of it is to stay, save that a part may be put into a shard whose other subchunks are damaged
+-- no chunk that was written was damaged where a part of it is to stay; where the part is put into a shard, the subchunks that it doesn't meet don't matter
 abbrev pub WrittenUndamaged : Type 0
 WrittenUndamaged = (path : List ℕ) (document : Document) (exact : Bool) (region : Region) (values : List Cell) (options : CodecOptions) (chunks : List (List ℕ)) (old new : StoreMap) (chunk : List ℕ) (box : Region)
-    → WroteChunks path document exact region values options chunks old new → IsInGrid document.grid chunk box → is_listed chunks chunk ≡ true → is_into_shard document options region box ≡ false → IsPartDamaged path document old region options chunk box → ⊥
+    → WroteChunks path document exact region values options chunks old new → IsInGrid document.grid chunk box → is_listed chunks chunk ≡ true → IsPartDamaged path document old region options chunk box → ⊥
 
 -- two writes of the same cells over the same store leave keys to the same chunks of those that they wrote, whatever the chain keeps
 abbrev pub WrittenKeysAlike : Type 0

@@ -1,5 +1,5 @@
 -- The documents that are written (this project's profile): the tree of a document that was read, with each extension point in its shortest form, bytes as lists in the fill value, and a mark among the attributes.
-use Rattle.std.specs.Prelude.{ℕ, List, [], ◌∷◌, bytes_eq, codes, Bool, true, false, not, ◌&&◌, ◌||◌, if◌then◌else◌, Option, Some, None, option_and_then, unwrap_or}
+use Rattle.std.specs.Prelude.{ℕ, List, [], ◌∷◌, bytes_eq, codes, Bool, true, false, not, ◌&&◌, ◌||◌, if◌then◌else◌, Option, Some, None, option_and_then, unwrap_or, is_some}
 use Rattle.std.specs.List.{list_any}
 use Rattle.serde_json.specs.Data.{Data, null, boolean, number, string, array, object, Items, no_items, item, Members, no_members, member, put}
 use Rattle.serde_json.specs.Find.{get_member, as_object}
@@ -7,6 +7,8 @@ use Rattle.zarr_grids_metadata.specs.ExtensionPoints.{written_point_in}
 use Rattle.zarr_codecs_meaning.specs.Types.{DataType}
 use Rattle.zarr_codecs_types.specs.FillMetadata.{cell_in, cell_data}
 use Rattle.zarr_codecs_types.specs.Metadata.{data_type_in}
+use Rattle.zarr_array_v2.specs.Attributes.{joined}
+use Rattle.zarr_array_v2.specs.Versions.{has_version_2}
 use Rattle.zarr_array_meaning.specs.Documents.{Metadata}
 
 -- each extension point of a list, as it is written
@@ -80,18 +82,26 @@ with_field type has_names name d ms = if is_left_out has_names name then ms else
 abbrev pub given_attributes : Members → Members
 given_attributes ms = unwrap_or (option_and_then as_object (get_member (codes "attributes") ms)) no_members
 
--- the document that is written for a document
+-- the document that is written for a document of version 3
 abbrev pub written_members : Members → Members
 written_members ms = put (codes "attributes") (object (marked (given_attributes ms))) (written_fields (type_given ms) (is_given (get_member (codes "dimension_names") ms)) ms)
 
--- the document that is written for a document: each extension point in its shortest form, the fill value as its cell is written, no storage transformers, no null names, and the attribute `_zarrs` added to the given ones; a tree that is no object stays
+-- a document of version 2 with its separator of chunk keys: a dot where it names none
+abbrev pub with_separator : Members → Members
+with_separator ms = if is_some (get_member (codes "dimension_separator") ms) then ms else put (codes "dimension_separator") (string (codes ".")) ms
+
+-- the document that is written for a document of version 2: each field as it is given, also one that isn't known, a separator, and the attribute `_zarrs` added to the given ones
+abbrev pub written_version_2 : Members → Members
+written_version_2 ms = joined (with_separator ms) (object (marked (given_attributes ms)))
+
+-- the document that is written for a document: of version 3 each extension point in its shortest form, the fill value as its cell is written, no storage transformers, no null names, and the attribute `_zarrs` added to the given ones; a tree that is no object stays
 abbrev pub written_document : Data → Data
 written_document null = null
 written_document (boolean b) = boolean b
 written_document (number n) = number n
 written_document (string s) = string s
 written_document (array ds) = array ds
-written_document (object ms) = object (written_members ms)
+written_document (object ms) = object (if has_version_2 ms then written_version_2 ms else written_members ms)
 
 -- what a document says, with the mark
 abbrev pub with_mark : Metadata → Metadata

@@ -1,6 +1,7 @@
 //! Laws of written documents, of the cells that a store shows, and of what reads and writes of
 //! boxes may leave. Each function does nothing: its contract is the law.
-ghost use Rattle.zarr_array_meaning.specs.Laws.{MetadataReadsBack, DocumentReadsBack, WrittenOnce};
+ghost use Rattle.zarr_array_meaning.specs.Laws.{MetadataReadsBack, DocumentReadsBack, WrittenOnce, KeepsVersion, KeepsGiven, ConvertedSaysSame, StoredReadsBack, HasOneDocument};
+ghost use Rattle.zarr_array_meaning.specs.Versions.{RetrievesOne, ErasedAreGone};
 ghost use Rattle.zarr_array_meaning.specs.Boxes.{ReadsOneWay};
 ghost use Rattle.zarr_array_meaning.specs.Standing.{StandingShows, NothingStoredShows, ShowingSomething, ReadsValues};
 ghost use Rattle.zarr_array_meaning.specs.Writing.{WrittenUndamaged, WrittenKeysAlike, RewrittenAlike};
@@ -19,6 +20,42 @@ pub fn document_reads_back()
 /// What is written for a written document is that document.
 pub fn written_once()
     ensures { WrittenOnce }
+{}
+
+/// What is written for a document has its version.
+pub fn keeps_version()
+    ensures { KeepsVersion }
+{}
+
+/// What is written for a version 2 document keeps its fields, also those that aren't known.
+pub fn keeps_given()
+    ensures { KeepsGiven }
+{}
+
+/// The version 3 document that a version 2 document is converted to says what it says.
+pub fn converted_says_same()
+    ensures { ConvertedSaysSame }
+{}
+
+/// A written document that was stored is read again.
+pub fn stored_reads_back()
+    ensures { StoredReadsBack }
+{}
+
+/// Of one version a path has no more than one document.
+pub fn has_one_document()
+    ensures { HasOneDocument }
+{}
+
+/// A path has no more than one document of the version that is asked for.
+pub fn retrieves_one()
+    ensures { RetrievesOne }
+{}
+
+/// Once the keys of some versions are erased, no document of them is left, and no other key
+/// changed.
+pub fn erased_are_gone()
+    ensures { ErasedAreGone }
 {}
 
 /// What stands for cells shows no others.

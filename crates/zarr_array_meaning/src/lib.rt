@@ -4,5 +4,7 @@
 
 pub mod error;
 pub mod laws;
+pub mod versions;
 
 pub use error::DocumentError;
+pub use versions::{MetadataEraseVersion, MetadataRetrieveVersion};

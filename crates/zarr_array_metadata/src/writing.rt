@@ -1,12 +1,14 @@
 //! The document that is written for an array.
 ghost use Rattle.std.specs.Prelude.{◌≡◌, IfOk, OnOk, codes, option_map, option_and_then};
+ghost use Rattle.serde_json.specs.Data.{object};
 ghost use Rattle.serde_json.specs.Find.{get_member, as_object};
 ghost use Rattle.serde_json.specs.View.{view, items_view, members_view};
 ghost use Rattle.zarr_codecs_types.specs.Views.{type_of};
-ghost use Rattle.zarr_array_meaning.specs.Written.{mark, marked, is_given, is_left_out, type_given, written_fill, written_value, with_field, written_points, written_codecs, written_fields, given_attributes, written_members, written_document};
+ghost use Rattle.zarr_array_meaning.specs.Written.{mark, marked, is_given, is_left_out, type_given, written_fill, written_value, with_field, written_points, written_codecs, written_fields, given_attributes, written_members, with_separator, written_version_2, written_document};
 
 use serde_json::{Map, Value, json, put};
 use std::alloc::{AllocError, Global};
+use zarr_array_v2::{has_version_2, with_attributes, without_attributes};
 use zarr_codecs_types::{DataType, DataTypeError, FillValue, FillValueError};
 use zarr_grids_metadata::{member, written_point};
 
@@ -19,19 +21,70 @@ struct Form {
     has_names: bool,
 }
 
-/// The tree that is written for a document: each extension point in its shortest form, base64 in
-/// the fill value as a list of bytes, no storage transformers, no dimension names that are null,
-/// and among the attributes the mark `_zarrs`. A value that is no object stays. `Err` only where an
-/// allocation failed.
+/// The tree that is written for a document, with the mark `_zarrs` among the attributes. In version
+/// 3: extension points in their shortest form, base64 in the fill value as bytes, no storage
+/// transformers, no null dimension names. In version 2: each field as it is, and a separator. What
+/// is no object stays. `Err` only where an allocation failed.
 pub fn written_document(alloc: Global, tree: &Value) -> Result<Value, AllocError>
     ensures { IfOk result (λ written. view written ≡ written_document (view tree.now)) }
 {
     match tree {
-        Value::Object(members) => Ok(Value::Object(written_members(alloc, members)?)),
+        Value::Object(members) => Ok(Value::Object(written_object(alloc, members)?)),
         _ => tree.clone(),
     }
 }
 
+fn written_object(
+    alloc: Global,
+    members: &Map<String, Value>,
+) -> Result<Map<String, Value>, AllocError>
+    ensures { IfOk result (λ written. object (members_view written.entries)
+        ≡ written_document (object (members_view members.now.entries))) }
+{
+    if has_version_2(members) {
+        written_version_2(alloc, members)
+    } else {
+        written_members(alloc, members)
+    }
+}
+
+/// The members of a version 2 document as they are written.
+fn written_version_2(
+    alloc: Global,
+    members: &Map<String, Value>,
+) -> Result<Map<String, Value>, AllocError>
+    ensures { IfOk result (λ written. members_view written.entries
+        ≡ written_version_2 (members_view members.now.entries)) }
+{
+    let separated = with_separator(alloc, members)?;
+    let attributes = Value::Object(marked_attributes(alloc, members)?);
+    with_attributes(alloc, without_attributes(&separated)?, Some(attributes))
+}
+
+/// A version 2 document with its separator of chunk keys, a dot where it names none.
+fn with_separator(
+    alloc: Global,
+    members: &Map<String, Value>,
+) -> Result<Map<String, Value>, AllocError>
+    ensures { IfOk result (λ separated. members_view separated.entries
+        ≡ with_separator (members_view members.now.entries)) }
+{
+    let mut separated = copied(members)?;
+    if member(members, "dimension_separator").is_none() {
+        let dot = Value::try_from_str(alloc, ".")?;
+        put(&mut separated, alloc, "dimension_separator", dot)?;
+    }
+    Ok(separated)
+}
+
+fn copied(members: &Map<String, Value>) -> Result<Map<String, Value>, AllocError>
+    ensures { IfOk result
+        (λ copy. members_view copy.entries ≡ members_view members.now.entries) }
+{
+    members.clone()
+}
+
+/// The members of a version 3 document as they are written.
 fn written_members(
     alloc: Global,
     members: &Map<String, Value>,

@@ -5,3 +5,4 @@ pub mod Listed
 pub mod Named
 pub mod Read
 pub mod Removed
+pub mod SameVersions

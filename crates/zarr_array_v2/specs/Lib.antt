@@ -5,5 +5,6 @@ pub mod Fields
 pub mod Laws
 pub mod Conversion
 pub mod Reading
+pub mod Versions
 pub mod Views
 pub mod Worked

@@ -7,7 +7,9 @@ mod conversion;
 mod dtypes;
 mod fields;
 pub mod laws;
+mod version;
 
 pub use attributes::{attributes_of, with_attributes, without_attributes};
 pub use conversion::to_v3;
 pub use fields::Order;
+pub use version::{has_version_2, is_version_2};

@@ -62,7 +62,7 @@ not_rewritten array store store_empty n e small r = record {
 
 walk_stops : (array : Array) (store : StoreMap) (store_empty : Bool) (n : ℕ) (e : ChunkError) → (HasTooLargeKeyed array store → ⊥) → WalkStops array store_empty (record { applied = n; error = e }) store e → RewriteStopsAt array store store_empty n (cause_of e)
 walk_stops array store store_empty n error.Fit small stops = not_rewritten array store store_empty n error.Fit small stops
-walk_stops array store store_empty n (error.Storage e) small stops = stops
+walk_stops array store store_empty n (error.Storage e) small stops = stops.0
 walk_stops array store store_empty n error.Damage small stops = not_rewritten array store store_empty n error.Damage small stops
 walk_stops array store store_empty n error.Codec small stops = not_rewritten array store store_empty n error.Codec small stops
 walk_stops array store store_empty n error.Size small stops = not_rewritten array store store_empty n error.Size small stops

@@ -118,7 +118,7 @@ writes_empty path document exact region payload options store values z are = rec
 chunk_refuses : (path : List ℕ) (document : Document) (store : StoreMap) (region : Region) (values : List Cell) (options : CodecOptions) (chunk : List ℕ) (box : Region) (e : ChunkError)
     → ChunkStops path document store region values options chunk box e → ChunkRefuses path document store region values options chunk box (cause_of e)
 chunk_refuses path document store region values options chunk box error.Fit stops = stops
-chunk_refuses path document store region values options chunk box (error.Storage e) stops = stops
+chunk_refuses path document store region values options chunk box (error.Storage e) stops = stops.0
 chunk_refuses path document store region values options chunk box error.Damage stops = stops
 chunk_refuses path document store region values options chunk box error.Codec stops = stops
 chunk_refuses path document store region values options chunk box error.Size stops = stops

@@ -1,6 +1,7 @@
 //! Chunks that commands compact.
 ghost use Rattle.std.specs.Prelude.{IsTrue, IfOk, OnOk, IfErr};
 ghost use Rattle.zarr_array_core.specs.Arrays.{array_of, IfHonestErr};
+ghost use Rattle.zarr_array_core.specs.Calls.{calls_of};
 ghost use Rattle.zarr_array_core.specs.Views.{document_of};
 ghost use Rattle.zarr_run_boxes.specs.Calls.{Called};
 ghost use Rattle.zarr_run_boxes.specs.Compacting.{CompactsTarget, CompactRefused, IsSmallChunk, SmallChunkRefused};
@@ -8,6 +9,7 @@ ghost use Rattle.zarr_run_boxes.specs.Compacting.{CompactsTarget, CompactRefused
 use crate::refusal::cause_of;
 use crate::targets::chunk_region;
 use std::alloc::Global;
+use std::thread::Threads;
 use zarr_array_core::{ArrayCore, ChunkRooms};
 use zarr_array_storage::WritableStorageTraits;
 use zarr_codecs_options::CodecOptions;
@@ -19,7 +21,8 @@ use zarr_run_meaning::Cause;
 /// `Region` where the chunk is none in the grid or has no box, `Size` where it has 2^63 cells or
 /// bytes or more, `Fit` where it has a value and does not fit its codecs, `Damage` where a present
 /// slice lies outside its shard's data, `Store` where the store refuses.
-pub fn compact<C: ArrayToBytesCodecTraits, S: WritableStorageTraits>(
+pub fn compact<R: Threads + Sync, C: ArrayToBytesCodecTraits + Sync, S: WritableStorageTraits>(
+    rt: &R,
     rooms: &mut ChunkRooms,
     array: &ArrayCore<C>,
     store: &mut S,
@@ -32,11 +35,11 @@ pub fn compact<C: ArrayToBytesCodecTraits, S: WritableStorageTraits>(
     ensures err { IfHonestErr S.ReadableStorageTraits store.old store.new result
         (λ cause before _. CompactRefused (array_of C.ArrayToBytesCodecTraits array.now) chunk.now
         cause before) }
-    // By at most one writing call; a refusal changes nothing.
-    ensures store { Called S.ReadableStorageTraits 1 store.old store.new result }
+    // By at most one writing call where it changes the chunk, and else by none.
+    ensures store { Called S.ReadableStorageTraits (calls_of result) store.old store.new result }
 {
     check_small(rooms.alloc(), array, chunk)?;
-    match array.compact_chunk(rooms, store, chunk, options) {
+    match array.compact_chunk(rt, rooms, store, chunk, options) {
         Ok(changed) => Ok(changed),
         Err(error) => Err(cause_of(&error)),
     }

@@ -11,6 +11,7 @@ ghost use Rattle.zarr_run_boxes.specs.Outcomes.{GivesCovered, CoveredReadRefused
 use crate::refusal::cause_of;
 use crate::targets::small_chunks_intersecting;
 use std::alloc::Global;
+use std::thread::Threads;
 use zarr_array_core::{ArrayCore, ChunkRooms, RegionChunks};
 use zarr_array_storage::ReadableStorageTraits;
 use zarr_codecs_arrays::ArrayBytes;
@@ -36,14 +37,19 @@ fn no_cells<C: ArrayToBytesCodecTraits>(
 }
 
 /// The cells of a covered region, row-major.
-pub(crate) fn read_covered<C: ArrayToBytesCodecTraits, S: ReadableStorageTraits>(
+pub(crate) fn read_covered<
+    R: Threads + Sync,
+    C: ArrayToBytesCodecTraits + Sync,
+    S: ReadableStorageTraits,
+>(
+    rt: &R,
     rooms: &mut ChunkRooms,
     array: &ArrayCore<C>,
     store: &mut S,
     region: &ArraySubset,
     options: &CodecOptions,
 ) -> Result<ArrayBytes, Cause>
-    requires { IsCovered (document_of C.meaning array.now).grid (region_of region.now) }
+    requires covered { IsCovered (document_of C.meaning array.now).grid (region_of region.now) }
     ensures ok { IsTrue (S.is_honest store.old) → IfOk result (λ bytes.
         GivesCovered (path_of array.now) (document_of C.meaning array.now) (S.held store.old)
         (region_of region.now) (payload_of bytes)) }
@@ -53,6 +59,7 @@ pub(crate) fn read_covered<C: ArrayToBytesCodecTraits, S: ReadableStorageTraits>
     ensures held { S.held store.new ≡ S.held store.old }
     ensures honest { S.is_honest store.new ≡ S.is_honest store.old }
     ensures refused { S.refused_calls store.new ≡ refused_with (S.refused_calls store.old) result }
+    ensures accepted { S.accepted_writes store.new ≡ S.accepted_writes store.old }
 {
     let alloc = rooms.alloc();
     let Some(count) = count_places(&region.shape) else {
@@ -66,7 +73,7 @@ pub(crate) fn read_covered<C: ArrayToBytesCodecTraits, S: ReadableStorageTraits>
         region,
         chunks: &chunks,
     };
-    match array.read_region(rooms, store, target, options) {
+    match array.read_region(rt, rooms, store, target, options) {
         Ok(bytes) => Ok(bytes),
         Err(error) => Err(cause_of(&error)),
     }

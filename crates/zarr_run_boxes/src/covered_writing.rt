@@ -8,20 +8,23 @@ ghost use Rattle.zarr_codecs_arrays.specs.Views.{payload_of};
 ghost use Rattle.zarr_codecs_meaning.specs.Payloads.{values_in};
 ghost use Rattle.zarr_codecs_meaning.specs.Types.{Cell};
 ghost use Rattle.zarr_codecs_types.specs.Given.{given_bytes, given_in, given_json};
+ghost use Rattle.zarr_array_core.specs.Outcomes.{chunks_met};
 ghost use Rattle.zarr_array_core.specs.Views.{document_of, is_exact, path_of};
-ghost use Rattle.zarr_run_boxes.specs.Outcomes.{AreValuesOf, CoveredWriteRefused, ElementsRefused, JsonRefused, WritesCovered, refused_by};
+ghost use Rattle.zarr_run_boxes.specs.Calls.{CalledMany};
+ghost use Rattle.zarr_run_boxes.specs.Outcomes.{AreValuesOf, CoveredWriteRefused, ElementsRefused, JsonRefused, WritesCovered};
 ghost use Rattle.zarr_run_commands.specs.Commands.{given};
 ghost use Rattle.zarr_run_commands.specs.LineCells.{number_list};
 
+use crate::cell_write::{CellWrite, ElementWrite};
 use crate::refusal::Refusal;
 use crate::targets::small_chunks_intersecting;
 use serde_json::Value;
 use std::alloc::Global;
-use zarr_array_core::{ArrayCore, ChunkRooms, RegionChunks};
+use std::thread::Threads;
+use zarr_array_core::{ArrayCore, ChunkRooms, RegionBytes};
 use zarr_array_storage::WritableStorageTraits;
 use zarr_codecs_arrays::ArrayBytes;
 use zarr_codecs_json::{elements_in, elements_of_numbers};
-use zarr_codecs_options::CodecOptions;
 use zarr_codecs_traits::ArrayToBytesCodecTraits;
 use zarr_grids_boxes::ArraySubset;
 use zarr_grids_boxes::walk::count_places;
@@ -29,37 +32,53 @@ use zarr_run_commands::CommandCells;
 use zarr_run_meaning::Cause;
 
 /// Writes the cells of a covered region, row-major.
-pub(crate) fn write_covered<C: ArrayToBytesCodecTraits, S: WritableStorageTraits>(
+pub(crate) fn write_covered<
+    R: Threads + Sync,
+    C: ArrayToBytesCodecTraits + Sync,
+    S: WritableStorageTraits,
+>(
+    rt: &R,
     rooms: &mut ChunkRooms,
     array: &ArrayCore<C>,
     store: &mut S,
     region: &ArraySubset,
-    cells: &CommandCells,
-    options: &CodecOptions,
+    write: CellWrite,
 ) -> Result<(), Refusal>
-    requires { IsCovered (document_of C.meaning array.now).grid (region_of region.now) }
+    requires covered { IsCovered (document_of C.meaning array.now).grid (region_of region.now) }
     ensures ok { IsTrue (S.is_honest store.old) → OnOk result
         (WritesCovered (path_of array.now) (document_of C.meaning array.now)
         (is_exact C.is_function array.now)
-        (region_of region.now) (given cells.now) options.now
+        (region_of region.now) (given write.entry.cells.now) write.entry.options.now
         (S.held store.old) (S.held store.new)) }
     ensures err { IsTrue (S.is_honest store.old) → IfErr result
         (CoveredWriteRefused (path_of array.now) (document_of C.meaning array.now)
         (is_exact C.is_function array.now)
-        (region_of region.now) (given cells.now) options.now
+        (region_of region.now) (given write.entry.cells.now) write.entry.options.now
         (S.held store.old) (S.held store.new)) }
-    ensures honest { S.is_honest store.new ≡ S.is_honest store.old }
-    ensures refused { S.refused_calls store.new ≡ refused_by (S.refused_calls store.old) result }
+    ensures store { CalledMany S.ReadableStorageTraits (chunks_met
+        (document_of C.meaning array.now) (region_of region.now)) store.old store.new result }
 {
     let alloc = rooms.alloc();
+    let CellWrite { cells, options } = write;
     match cells {
-        CommandCells::Bytes(bytes) => write_elements(rooms, array, store, region, bytes, options),
+        CommandCells::Bytes(elements) => {
+            let write = ElementWrite { elements, options };
+            write_elements(rt, rooms, array, store, region, write)
+        }
         CommandCells::Json(value) => match json_elements(alloc, array, value) {
-            Ok(bytes) => write_elements(rooms, array, store, region, &bytes, options),
+            Ok(bytes) => {
+                let elements = &bytes;
+                let write = ElementWrite { elements, options };
+                write_elements(rt, rooms, array, store, region, write)
+            }
             Err(cause) => Err(Refusal::whole(cause)),
         },
         CommandCells::Numbers(numbers) => match number_elements(alloc, array, numbers.as_slice()) {
-            Ok(bytes) => write_elements(rooms, array, store, region, &bytes, options),
+            Ok(bytes) => {
+                let elements = &bytes;
+                let write = ElementWrite { elements, options };
+                write_elements(rt, rooms, array, store, region, write)
+            }
             Err(cause) => Err(Refusal::whole(cause)),
         },
     }
@@ -135,28 +154,31 @@ fn count_values<C: ArrayToBytesCodecTraits>(
 }
 
 /// Writes elements to a covered region, row-major.
-fn write_elements<C: ArrayToBytesCodecTraits, S: WritableStorageTraits>(
+fn write_elements<R: Threads + Sync, C: ArrayToBytesCodecTraits + Sync, S: WritableStorageTraits>(
+    rt: &R,
     rooms: &mut ChunkRooms,
     array: &ArrayCore<C>,
     store: &mut S,
     region: &ArraySubset,
-    elements: &ArrayBytes,
-    options: &CodecOptions,
+    write: ElementWrite,
 ) -> Result<(), Refusal>
-    requires { IsCovered (document_of C.meaning array.now).grid (region_of region.now) }
+    requires covered { IsCovered (document_of C.meaning array.now).grid (region_of region.now) }
     ensures ok { IsTrue (S.is_honest store.old) → OnOk result
         (WritesCovered (path_of array.now) (document_of C.meaning array.now)
         (is_exact C.is_function array.now)
-        (region_of region.now) (given_bytes (payload_of elements.now)) options.now
+        (region_of region.now) (given_bytes (payload_of write.entry.elements.now))
+        write.entry.options.now
         (S.held store.old) (S.held store.new)) }
     ensures err { IsTrue (S.is_honest store.old) → IfErr result
         (CoveredWriteRefused (path_of array.now) (document_of C.meaning array.now)
         (is_exact C.is_function array.now)
-        (region_of region.now) (given_bytes (payload_of elements.now)) options.now
+        (region_of region.now) (given_bytes (payload_of write.entry.elements.now))
+        write.entry.options.now
         (S.held store.old) (S.held store.new)) }
-    ensures honest { S.is_honest store.new ≡ S.is_honest store.old }
-    ensures refused { S.refused_calls store.new ≡ refused_by (S.refused_calls store.old) result }
+    ensures store { CalledMany S.ReadableStorageTraits (chunks_met
+        (document_of C.meaning array.now) (region_of region.now)) store.old store.new result }
 {
+    let ElementWrite { elements, options } = write;
     let count = match count_values(array, region, elements) {
         Ok(0) => return Ok(()),
         Ok(count) => count,
@@ -166,11 +188,12 @@ fn write_elements<C: ArrayToBytesCodecTraits, S: WritableStorageTraits>(
         Ok(chunks) => chunks,
         Err(cause) => return Err(Refusal::whole(cause)),
     };
-    let target = RegionChunks {
+    let target = RegionBytes {
         region,
         chunks: &chunks,
+        bytes: elements,
     };
-    match array.write_region(rooms, store, target, elements, options) {
+    match array.write_region(rt, rooms, store, target, options) {
         Ok(()) => Ok(()),
         Err(stopped) => Err(Refusal::at_chunk(&stopped)),
     }

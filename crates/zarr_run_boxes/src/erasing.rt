@@ -1,8 +1,10 @@
 //! Chunks that commands erase.
-ghost use Rattle.std.specs.Prelude.{◌≡◌, IsTrue, OnOk, IfErr};
+ghost use Rattle.std.specs.Prelude.{IsTrue, OnOk, IfErr};
+ghost use Rattle.zarr_grids_boxes.specs.Boxes.{product};
 ghost use Rattle.zarr_grids_boxes.specs.Subsets.{region_of};
 ghost use Rattle.zarr_array_core.specs.Views.{document_of, path_of};
-ghost use Rattle.zarr_run_boxes.specs.Outcomes.{ErasesTarget, EraseRefused, refused_by};
+ghost use Rattle.zarr_run_boxes.specs.Calls.{CalledMany};
+ghost use Rattle.zarr_run_boxes.specs.Outcomes.{ErasesTarget, EraseRefused};
 
 use crate::refusal::Refusal;
 use crate::targets::has_too_large_chunk;
@@ -30,8 +32,9 @@ pub fn erase_chunks<C: ArrayToBytesCodecTraits, S: WritableStorageTraits>(
     ensures err { IsTrue (S.is_honest store.old) → IfErr result
         (EraseRefused (path_of array.now) (document_of C.meaning array.now)
         (region_of chunks.now) (S.held store.old) (S.held store.new)) }
-    ensures honest { S.is_honest store.new ≡ S.is_honest store.old }
-    ensures refused { S.refused_calls store.new ≡ refused_by (S.refused_calls store.old) result }
+    // By at most one writing call for each chunk that is erased.
+    ensures store { CalledMany S.ReadableStorageTraits (product chunks.now.shape.items)
+        store.old store.new result }
 {
     if !are_in_grid(array.grid().dimensions(), chunks) {
         return Err(Refusal::whole(Cause::Region));

@@ -2,6 +2,7 @@
 //! and stored anew.
 #![tactic(auto)]
 
+pub mod cell_write;
 pub mod compacting;
 mod covered_reading;
 mod covered_writing;
@@ -12,6 +13,7 @@ pub mod rewriting;
 mod targets;
 pub mod writing;
 
+pub use cell_write::CellWrite;
 pub use compacting::compact;
 pub use erasing::erase_chunks;
 pub use reading::{read_box, read_chunk};

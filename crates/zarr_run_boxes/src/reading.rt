@@ -8,6 +8,7 @@ ghost use Rattle.zarr_run_boxes.specs.Outcomes.{ReadsTarget, ReadRefused, refuse
 
 use crate::covered_reading::read_covered;
 use crate::targets::{chunk_region, is_covered};
+use std::thread::Threads;
 use zarr_array_core::{ArrayCore, ChunkRooms};
 use zarr_array_storage::ReadableStorageTraits;
 use zarr_codecs_arrays::ArrayBytes;
@@ -20,7 +21,8 @@ use zarr_run_meaning::Cause;
 /// array or a place in no chunk, `Size` where it or a chunk that it intersects has 2^63 cells or
 /// bytes or more, `Fit` where such a chunk has a value and does not fit its codecs, `Damage` where
 /// a place cannot be decoded, `Store` where the store refuses.
-pub fn read_box<C: ArrayToBytesCodecTraits, S: ReadableStorageTraits>(
+pub fn read_box<R: Threads + Sync, C: ArrayToBytesCodecTraits + Sync, S: ReadableStorageTraits>(
+    rt: &R,
     rooms: &mut ChunkRooms,
     array: &ArrayCore<C>,
     store: &mut S,
@@ -36,16 +38,18 @@ pub fn read_box<C: ArrayToBytesCodecTraits, S: ReadableStorageTraits>(
     ensures held { S.held store.new ≡ S.held store.old }
     ensures honest { S.is_honest store.new ≡ S.is_honest store.old }
     ensures refused { S.refused_calls store.new ≡ refused_with (S.refused_calls store.old) result }
+    ensures accepted { S.accepted_writes store.new ≡ S.accepted_writes store.old }
 {
     if !is_covered(array, region) {
         return Err(Cause::Region);
     }
-    read_covered(rooms, array, store, region, options)
+    read_covered(rt, rooms, array, store, region, options)
 }
 
 /// The cells of a chunk, row-major. As `read_box`; `Region` where the chunk is none in the grid or
 /// has no box.
-pub fn read_chunk<C: ArrayToBytesCodecTraits, S: ReadableStorageTraits>(
+pub fn read_chunk<R: Threads + Sync, C: ArrayToBytesCodecTraits + Sync, S: ReadableStorageTraits>(
+    rt: &R,
     rooms: &mut ChunkRooms,
     array: &ArrayCore<C>,
     store: &mut S,
@@ -61,7 +65,8 @@ pub fn read_chunk<C: ArrayToBytesCodecTraits, S: ReadableStorageTraits>(
     ensures held { S.held store.new ≡ S.held store.old }
     ensures honest { S.is_honest store.new ≡ S.is_honest store.old }
     ensures refused { S.refused_calls store.new ≡ refused_with (S.refused_calls store.old) result }
+    ensures accepted { S.accepted_writes store.new ≡ S.accepted_writes store.old }
 {
     let region = chunk_region(rooms.alloc(), array, chunk)?;
-    read_covered(rooms, array, store, &region, options)
+    read_covered(rt, rooms, array, store, &region, options)
 }

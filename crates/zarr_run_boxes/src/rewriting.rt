@@ -4,13 +4,14 @@ ghost use Rattle.zarr_grids_boxes.specs.Boxes.{product};
 ghost use Rattle.zarr_grids_boxes.specs.Subsets.{region_of};
 ghost use Rattle.zarr_grids_cover.specs.Boxed.{AreBoxed, boxed_chunks};
 ghost use Rattle.zarr_array_core.specs.Arrays.{array_of, IfHonestErr, OnHonestOk};
-ghost use Rattle.zarr_array_core.specs.Outcomes.{CountsUpTo};
 ghost use Rattle.zarr_array_core.specs.Views.{document_of};
 ghost use Rattle.zarr_array_meaning.specs.Rewriting.{HasTooLargeKeyed, keyed_chunks};
+ghost use Rattle.zarr_array_meaning.specs.StoreMaps.{CountsUpTo};
 ghost use Rattle.zarr_run_boxes.specs.Calls.{Called, CalledMany, chunks_done};
 ghost use Rattle.zarr_run_boxes.specs.Rewriting.{RewritesTarget, RewriteRefused, WholeRefused};
 
 use crate::refusal::{Refusal, cause_of};
+use std::thread::Threads;
 use zarr_array_core::{ArrayCore, ChunkRooms};
 use zarr_array_storage::{ReadableStorageTraits, WritableStorageTraits};
 use zarr_codecs_options::CodecOptions;
@@ -25,7 +26,8 @@ use zarr_run_meaning::Cause;
 /// where 2^63 chunks or more have a box, or one that has a key has as many cells or bytes, `Fit`
 /// where a chunk does not fit its codecs, `Damage` where its value cannot be decoded, `Store` where
 /// the store refuses.
-pub fn rewrite<C: ArrayToBytesCodecTraits, S: WritableStorageTraits>(
+pub fn rewrite<R: Threads + Sync, C: ArrayToBytesCodecTraits + Sync, S: WritableStorageTraits>(
+    rt: &R,
     rooms: &mut ChunkRooms,
     array: &ArrayCore<C>,
     store: &mut S,
@@ -37,10 +39,11 @@ pub fn rewrite<C: ArrayToBytesCodecTraits, S: WritableStorageTraits>(
     ensures err { IfHonestErr S.ReadableStorageTraits store.old store.new result
         (RewriteRefused (array_of C.ArrayToBytesCodecTraits array.now)
         options.now.store_empty_chunks) }
-    // By at most one writing call for each chunk that has a key.
+    // Over any store, no more writing calls than chunks in the grid, or than applied.
     ensures store { CalledMany S.ReadableStorageTraits
         (length (boxed_chunks (document_of C.meaning array.now).grid))
         store.old store.new result }
+    // Over an honest one, at most one writing call for each chunk with a key that is stored anew.
     ensures counts { IsTrue (S.is_honest store.old) → CountsUpTo
         (chunks_done (length (keyed_chunks (array_of C.ArrayToBytesCodecTraits array.now)
         (S.held store.old))) result)
@@ -50,7 +53,7 @@ pub fn rewrite<C: ArrayToBytesCodecTraits, S: WritableStorageTraits>(
         Ok(chunks) => chunks,
         Err(cause) => return Err(Refusal::whole(cause)),
     };
-    match array.rewrite(rooms, store, &chunks, options) {
+    match array.rewrite(rt, rooms, store, &chunks, options) {
         Ok(()) => Ok(()),
         Err(stopped) => Err(Refusal::at_chunk(&stopped)),
     }

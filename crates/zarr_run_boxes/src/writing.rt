@@ -1,20 +1,22 @@
 //! Boxes and chunks that commands write.
-ghost use Rattle.std.specs.Prelude.{◌≡◌, IsTrue, OnOk, IfErr};
+ghost use Rattle.std.specs.Prelude.{IsTrue, OnOk, IfErr};
 ghost use Rattle.zarr_grids_boxes.specs.Subsets.{region_of};
 ghost use Rattle.zarr_run_meaning.specs.Requests.{in_box, in_chunk};
+ghost use Rattle.zarr_array_core.specs.Outcomes.{chunks_met};
 ghost use Rattle.zarr_array_core.specs.Views.{document_of, is_exact, path_of};
-ghost use Rattle.zarr_run_boxes.specs.Outcomes.{WritesTarget, WriteRefused, refused_by};
+ghost use Rattle.zarr_run_boxes.specs.Calls.{CalledMany};
+ghost use Rattle.zarr_run_boxes.specs.Outcomes.{WritesTarget, WriteRefused};
 ghost use Rattle.zarr_run_commands.specs.Commands.{given};
 
+use crate::cell_write::CellWrite;
 use crate::covered_writing::write_covered;
 use crate::refusal::Refusal;
 use crate::targets::{chunk_region, is_covered};
+use std::thread::Threads;
 use zarr_array_core::{ArrayCore, ChunkRooms};
 use zarr_array_storage::WritableStorageTraits;
-use zarr_codecs_options::CodecOptions;
 use zarr_codecs_traits::ArrayToBytesCodecTraits;
 use zarr_grids_boxes::ArraySubset;
-use zarr_run_commands::CommandCells;
 use zarr_run_meaning::Cause;
 
 /// Writes the cells of a box of places, row-major, chunk by chunk. `Region` where the box has other
@@ -24,58 +26,58 @@ use zarr_run_meaning::Cause;
 /// does not fit its codecs, `Damage` where a part of it is to stay and cannot be decoded, `Codec`
 /// where a codec refuses to encode, `Size` where its value is too large, `Store` where the store
 /// refuses.
-pub fn write_box<C: ArrayToBytesCodecTraits, S: WritableStorageTraits>(
+pub fn write_box<R: Threads + Sync, C: ArrayToBytesCodecTraits + Sync, S: WritableStorageTraits>(
+    rt: &R,
     rooms: &mut ChunkRooms,
     array: &ArrayCore<C>,
     store: &mut S,
     region: &ArraySubset,
-    cells: &CommandCells,
-    options: &CodecOptions,
+    write: CellWrite,
 ) -> Result<(), Refusal>
     ensures ok { IsTrue (S.is_honest store.old) → OnOk result
         (WritesTarget (path_of array.now) (document_of C.meaning array.now)
         (is_exact C.is_function array.now)
-        (in_box (region_of region.now)) (given cells.now) options.now
+        (in_box (region_of region.now)) (given write.entry.cells.now) write.entry.options.now
         (S.held store.old) (S.held store.new)) }
     ensures err { IsTrue (S.is_honest store.old) → IfErr result
         (WriteRefused (path_of array.now) (document_of C.meaning array.now)
         (is_exact C.is_function array.now)
-        (in_box (region_of region.now)) (given cells.now) options.now
+        (in_box (region_of region.now)) (given write.entry.cells.now) write.entry.options.now
         (S.held store.old) (S.held store.new)) }
-    ensures honest { S.is_honest store.new ≡ S.is_honest store.old }
-    ensures refused { S.refused_calls store.new ≡ refused_by (S.refused_calls store.old) result }
+    // By at most one writing call for each chunk that is written.
+    ensures store { CalledMany S.ReadableStorageTraits (chunks_met
+        (document_of C.meaning array.now) (region_of region.now)) store.old store.new result }
 {
     if !is_covered(array, region) {
         return Err(Refusal::whole(Cause::Region));
     }
-    write_covered(rooms, array, store, region, cells, options)
+    write_covered(rt, rooms, array, store, region, write)
 }
 
 /// Writes the cells of a chunk, row-major. As `write_box`; `Region` where the chunk is none in the
 /// grid or has no box.
-pub fn write_chunk<C: ArrayToBytesCodecTraits, S: WritableStorageTraits>(
+pub fn write_chunk<R: Threads + Sync, C: ArrayToBytesCodecTraits + Sync, S: WritableStorageTraits>(
+    rt: &R,
     rooms: &mut ChunkRooms,
     array: &ArrayCore<C>,
     store: &mut S,
     chunk: &[u64],
-    cells: &CommandCells,
-    options: &CodecOptions,
+    write: CellWrite,
 ) -> Result<(), Refusal>
     ensures ok { IsTrue (S.is_honest store.old) → OnOk result
         (WritesTarget (path_of array.now) (document_of C.meaning array.now)
         (is_exact C.is_function array.now)
-        (in_chunk chunk.now) (given cells.now) options.now
+        (in_chunk chunk.now) (given write.entry.cells.now) write.entry.options.now
         (S.held store.old) (S.held store.new)) }
     ensures err { IsTrue (S.is_honest store.old) → IfErr result
         (WriteRefused (path_of array.now) (document_of C.meaning array.now)
         (is_exact C.is_function array.now)
-        (in_chunk chunk.now) (given cells.now) options.now
+        (in_chunk chunk.now) (given write.entry.cells.now) write.entry.options.now
         (S.held store.old) (S.held store.new)) }
-    ensures honest { S.is_honest store.new ≡ S.is_honest store.old }
-    ensures refused { S.refused_calls store.new ≡ refused_by (S.refused_calls store.old) result }
+    ensures store { CalledMany S.ReadableStorageTraits 1 store.old store.new result }
 {
     match chunk_region(rooms.alloc(), array, chunk) {
-        Ok(region) => write_covered(rooms, array, store, &region, cells, options),
+        Ok(region) => write_covered(rt, rooms, array, store, &region, write),
         Err(cause) => Err(Refusal::whole(cause)),
     }
 }

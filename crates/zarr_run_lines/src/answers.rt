@@ -14,6 +14,7 @@ use crate::lines::LinesFault;
 use memchr::memchr;
 use std::alloc::{AllocError, Global};
 use std::io::{BufReader, Read, Write};
+use std::thread::Threads;
 use zarr_array_storage::WritableStorageTraits;
 use zarr_codecs_traits::BytesToBytesCodecTraits;
 use zarr_codecs_types::DataType;
@@ -58,7 +59,8 @@ fn take_command(
 
 /// Runs the command of a line, and appends the line of its answer. After an error a part of it may
 /// stand there.
-fn run_command<S: WritableStorageTraits, B: BytesToBytesCodecTraits>(
+fn run_command<H: Threads + Sync, S: WritableStorageTraits, B: BytesToBytesCodecTraits + Sync>(
+    rt: &H,
     alloc: Global,
     commands: &mut CommandReader,
     session: &mut Session<S, B>,
@@ -78,7 +80,7 @@ fn run_command<S: WritableStorageTraits, B: BytesToBytesCodecTraits>(
     let Some(command) = take_command(alloc, commands, line)? else {
         return pending.extend_from_slice(b"{\"fault\":\"line\"}\n");
     };
-    let reply = session.step(&command);
+    let reply = session.step(rt, &command);
     let data_type = session.data_type_at(command.path());
     match append_reply(pending, data_type, &reply) {
         Ok(()) => Ok(()),
@@ -88,7 +90,12 @@ fn run_command<S: WritableStorageTraits, B: BytesToBytesCodecTraits>(
 
 /// Runs a line, and appends the line of its answer. The text of a long line is let go once it is
 /// read.
-pub(crate) fn answer_line<S: WritableStorageTraits, B: BytesToBytesCodecTraits>(
+pub(crate) fn answer_line<
+    H: Threads + Sync,
+    S: WritableStorageTraits,
+    B: BytesToBytesCodecTraits + Sync,
+>(
+    rt: &H,
     alloc: Global,
     commands: &mut CommandReader,
     session: &mut Session<S, B>,
@@ -107,7 +114,7 @@ pub(crate) fn answer_line<S: WritableStorageTraits, B: BytesToBytesCodecTraits>(
     ensures fault { IfErr result (λ fault. fault ≡ LinesFault.Memory) }
 {
     let before = pending.len();
-    match run_command(alloc, commands, session, line, pending) {
+    match run_command(rt, alloc, commands, session, line, pending) {
         Ok(()) => Ok(()),
         Err(_) => {
             pending.truncate(before);

@@ -9,6 +9,7 @@ use crate::answers::{answer_line, write_before_wait, write_pending};
 use crate::input::{Limits, limited, next_line};
 use std::alloc::{AllocError, Global};
 use std::io::{Read, Write};
+use std::thread::Threads;
 use zarr_array_storage::WritableStorageTraits;
 use zarr_codecs_traits::BytesToBytesCodecTraits;
 use zarr_run_commands::CommandReader;
@@ -35,7 +36,14 @@ impl From<AllocError> for LinesFault {
 ///
 /// All answers are written and flushed before a read that may wait. The line that passes a limit is
 /// not run, and the answers before it are written.
-pub fn run_lines<R: Read + Drop, W: Write, S: WritableStorageTraits, B: BytesToBytesCodecTraits>(
+pub fn run_lines<
+    H: Threads + Sync,
+    R: Read + Drop,
+    W: Write,
+    S: WritableStorageTraits,
+    B: BytesToBytesCodecTraits + Sync,
+>(
+    rt: &H,
     alloc: Global,
     session: &mut Session<S, B>,
     reader: R,
@@ -58,7 +66,7 @@ pub fn run_lines<R: Read + Drop, W: Write, S: WritableStorageTraits, B: BytesToB
     ensures honest { S.is_honest (store_of session.new) ≡ S.is_honest (store_of session.old) }
 {
     let mut pending = Vec::new(alloc);
-    match answer_lines(alloc, session, reader, writer, &mut pending) {
+    match answer_lines(rt, alloc, session, reader, writer, &mut pending) {
         Ok(()) => write_pending(writer, &mut pending),
         Err(LinesFault::Write) => Err(LinesFault::Write),
         Err(fault) => {
@@ -69,7 +77,14 @@ pub fn run_lines<R: Read + Drop, W: Write, S: WritableStorageTraits, B: BytesToB
 }
 
 /// Runs the lines of a reader. The last answers may be left in `pending`.
-fn answer_lines<R: Read + Drop, W: Write, S: WritableStorageTraits, B: BytesToBytesCodecTraits>(
+fn answer_lines<
+    H: Threads + Sync,
+    R: Read + Drop,
+    W: Write,
+    S: WritableStorageTraits,
+    B: BytesToBytesCodecTraits + Sync,
+>(
+    rt: &H,
     alloc: Global,
     session: &mut Session<S, B>,
     reader: R,
@@ -100,7 +115,7 @@ fn answer_lines<R: Read + Drop, W: Write, S: WritableStorageTraits, B: BytesToBy
     let mut commands = CommandReader::new(alloc);
     let mut line = Vec::new(alloc);
     while next_line(&mut reader, &mut limits, &mut line)? {
-        answer_line(alloc, &mut commands, session, &mut line, pending)?;
+        answer_line(rt, alloc, &mut commands, session, &mut line, pending)?;
         write_before_wait(&reader, writer, pending)?;
     }
     Ok(())

@@ -4,15 +4,14 @@ use Rattle.std.specs.Prelude.{All}
 use Rattle.std.proofs.lemmas.Bool.{false≢true}
 use Rattle.std.proofs.lemmas.List.Elements.{All-head, All-tail, All-nil, All-cons}
 use Rattle.std.proofs.lemmas.Option.{none-some, same_Some}
-use Rattle.zarr_grids_keys.specs.Documents.{document_key, document_name}
 use Rattle.zarr_grids_keys.specs.Keys.{encoded_key}
 use Rattle.zarr_grids_keys.specs.Paths.{is_node_path}
 use Rattle.zarr_grids_keys.specs.Related.{is_related}
-use Rattle.zarr_grids_keys.specs.declared.document_name.DocumentName.TheVariants.{ZarrJson}
 use Rattle.zarr_grids_keys.proofs.RelatedLemmas.{key_under-unrelated}
 use Rattle.zarr_codecs_metadata.specs.Chains.{ReadsCodecs}
 use Rattle.zarr_codecs_options.specs.declared.subchunk_write_order.SubchunkWriteOrder.{SubchunkWriteOrder}
 use Rattle.zarr_array_meaning.specs.StoreMaps.{StoreMap}
+use Rattle.zarr_array_meaning.specs.Texts.{version_key}
 use Rattle.zarr_run_meaning.specs.declared.cause.Cause.{Cause}
 use Rattle.zarr_run_meaning.specs.declared.cause.Cause.TheVariants as cause
 use Rattle.zarr_run_meaning.specs.Causes.{ReopenRefuses, IsChunkKeyIn}
@@ -67,9 +66,9 @@ module _ (reads : ReadsCodecs) (closed old new : World) (path : List ℕ) (h : H
       ap (λ p. is_related p g.path) here ∙ ap (is_related h.path) (ap (λ (x : Held). x.path) was.2.0) ∙ unrelated_paths closed.arrays path q h was.0 sound.apart found was.1 differs)
 
   -- and the key of the document is no key of a chunk
-  no_chunk : held_at path old.arrays ≡ None → IsChunkKeyIn old.arrays (document_key path ZarrJson) → ⊥
+  no_chunk : held_at path old.arrays ≡ None → IsChunkKeyIn old.arrays (version_key path h.tree) → ⊥
   no_chunk none k =
-      key_under-unrelated path k.held.path (document_name ZarrJson) (encoded_key k.held.document.keys k.names.chunk) node (old_sound.each k.held.path k.held k.found).node
+      key_under-unrelated path k.held.path _ (encoded_key k.held.document.keys k.names.chunk) node (old_sound.each k.held.path k.held k.found).node
       (free_of path k.held.path old.arrays k.held (free none) k.found) k.names.is
 
   -- ---- it is done

@@ -1,12 +1,9 @@
 -- One array stays sound, whatever is stored for the others.
-use Rattle.std.proofs.Common.{◌≡◌, ◌∙◌, ⊎_elim, ℕ, false, List, [], ◌∷◌, ◌++◌, sym, ap, subst, Some, None}
-use Rattle.std.specs.FinMap.{insert}
+use Rattle.std.proofs.Common.{◌≡◌, ◌∙◌, ⊎_elim, ℕ, false, List, [], ◌∷◌, ◌++◌, refl, sym, ap, subst, Some, None}
 use Rattle.std.proofs.lemmas.Bool.{false≢true}
 use Rattle.std.proofs.lemmas.Option.{none-some}
 use Rattle.serde_json.specs.Data.{Data}
-use Rattle.zarr_grids_keys.specs.Documents.{document_key}
 use Rattle.zarr_grids_keys.specs.Related.{is_related}
-use Rattle.zarr_grids_keys.specs.declared.document_name.DocumentName.TheVariants.{ZarrJson}
 use Rattle.zarr_grids_keys.proofs.RelatedLemmas.{is_related-comm}
 use Rattle.zarr_codecs_metadata.specs.Chains.{ReadsCodecs}
 use Rattle.zarr_codecs_options.specs.declared.subchunk_write_order.SubchunkWriteOrder.{SubchunkWriteOrder}
@@ -21,10 +18,11 @@ use Rattle.zarr_run_meaning.specs.Steps.{Step}
 use Rattle.zarr_run_meaning.specs.Tables.{Table}
 use Rattle.zarr_run_meaning.specs.Worlds.{Held, World, held_at, is_taken, WithTable}
 use Rattle.zarr_run_meaning.proofs.Arrays.{Stayed, at_path, near, apart, held_at-path, held_once, held_at-before, held_at-more, held_at-ordered, held_at-reordered, held_before, held_after, free_of, free_none, unrelated_paths}
-use Rattle.zarr_run_meaning.proofs.Begun.{created_array, created_there, opened_array, opened_there}
-use Rattle.zarr_run_meaning.proofs.Effects.{Effect, kept, created, reordered, opened, wrote, erased, stored_anew, step_effect}
-use Rattle.zarr_run_meaning.proofs.Keys.{others_kept, put_kept}
+use Rattle.zarr_run_meaning.proofs.Begun.{created_array, created_put, created_there, opened_array, opened_there}
+use Rattle.zarr_run_meaning.proofs.Effects.{LeftAttributes, left_put, Effect, kept, left, created, reordered, opened, wrote, erased, stored_anew, step_effect}
+use Rattle.zarr_run_meaning.proofs.Keys.{others_kept}
 use Rattle.zarr_run_meaning.proofs.Standing.{sound_under, written_sound, erased_sound, anew_sound}
+use Rattle.zarr_run_meaning.proofs.Stored.{put_kept}
 
 pub sound_alone : SoundAlone
 sound_alone reads world path h sound found = record {
@@ -63,11 +61,20 @@ module _ (reads : ReadsCodecs) (old new : World) (path : List ℕ) (good : Reads
   created_alone : (p : List ℕ) (document : Data) (order : SubchunkWriteOrder) → Creates reads p document order old new → IsSoundAlone reads new path
   created_alone p document order c =
       let away = free_of p path old.arrays sound.array c.free sound.found in
-      let put : StoreMap = insert old.store (document_key p ZarrJson) c.text in
-      more_alone (created_array reads old new p document order c) put (free_none p old.arrays c.free)
+      more_alone (created_array reads old new p document order c) new.store (free_none p old.arrays c.free)
       (is_related-comm path p ∙ ap (is_related p) here ∙ away)
-      (sound_under reads old.store put sound.array (put_kept p sound.array.path old.store c.text c.node sound.there.node away) sound.there)
-      c.begins.holds c.stores
+      (sound_under reads old.store new.store sound.array (put_kept p sound.array.path old.store new.store (created_put reads old new p document order c) c.node sound.there.node away) sound.there)
+      c.begins.holds refl
+
+  -- where only the attributes of a free path were stored
+  left_alone : LeftAttributes old new → IsSoundAlone reads new path
+  left_alone l = record {
+    array = sound.array;
+    found = ap (held_at path) l.arrays ∙ sound.found;
+    there = sound_under reads old.store new.store sound.array
+        (put_kept l.path sound.array.path old.store new.store (left_put old new l) l.node sound.there.node (free_of l.path path old.arrays sound.array l.free sound.found)) sound.there;
+    alone = λ other h e. sound.alone other h (sym (ap (held_at other) l.arrays) ∙ e);
+  }
 
   opened_alone : (p : List ℕ) (order : SubchunkWriteOrder) → (held_at p old.arrays ≡ None → is_related path p ≡ false) → Opens reads p order old new → IsSoundAlone reads new path
   opened_alone p order away o = more_alone (opened_array reads old new p order o) old.store o.begins.free (away o.begins.free) sound.there o.begins.holds o.stores
@@ -83,7 +90,7 @@ module _ (reads : ReadsCodecs) (old new : World) (path : List ℕ) (good : Reads
         found = ap (held_at path) r.updates ∙ h.1;
         there = ⊎_elim
             (λ is. subst P (sym is) s)
-            (λ is. subst P (sym is) (record { node = s.node; says = s.says; stored = s.stored; lossless = s.lossless; values = s.values; stands = s.stands }))
+            (λ is. subst P (sym is) (record { node = s.node; says = s.says; stored = s.stored; first = s.first; lossless = s.lossless; values = s.values; stands = s.stands }))
             h.2;
         alone = λ other x e differs. let g = held_at-ordered p other order old.arrays x (sym (ap (held_at other) r.updates) ∙ e) in sound.alone other g.0 g.1 differs;
       }
@@ -117,6 +124,7 @@ module _ (reads : ReadsCodecs) (old new : World) (path : List ℕ) (good : Reads
 
   effect_alone : (request : Request) (answer : Answer) → OpensApart path old request answer → Effect reads request answer old new → IsSoundAlone reads new path
   effect_alone request answer away (kept arrays store) = kept_alone arrays store
+  effect_alone request answer away (left l) = left_alone l
   effect_alone request answer away (created p document order begins c) = created_alone p document order c
   effect_alone request answer away (reordered p order r) = reordered_alone p order r
   effect_alone request answer away (opened p order begins such o) = opened_alone p order (such path away) o
@@ -146,14 +154,14 @@ module _ (reads : ReadsCodecs) (old new : World) (path : List ℕ) (sound : IsSo
   begins_apart (reopen p order) done begins s = λ none. ⊎_elim
       (λ (r : Reopens p order old new). absurd (none-some r.held (sym none ∙ r.found)))
       (λ (o : Opens reads p order old new).
-      let free = begins o.tree o.meaning none o.stored o.opens in
+      let free = begins o.tree o.meaning none o.found o.opens in
       is_related-comm path p ∙ ap (is_related p) (held_at-path path old.arrays sound.array sound.found) ∙ free_of p path old.arrays sound.array free.0 sound.found)
       s.0
   begins_apart request answer begins s = tt
 
 -- ---- an array that begins
 
-module _ (reads : ReadsCodecs) (old new : World) (path : List ℕ) (h : Held) (good : ReadsGood reads) (none : held_at path old.arrays ≡ None) (found : held_at path new.arrays ≡ Some h) where
+module _ (reads : ReadsCodecs) (old new : World) (path : List ℕ) (h : Held) (good : ReadsGood reads) (tables : HasTables reads old) (none : held_at path old.arrays ≡ None) (found : held_at path new.arrays ≡ Some h) where
   -- it is the new one, at a free path
   begun_alone : (b : Held) (store : StoreMap) → held_at b.path old.arrays ≡ None → is_taken b.path old.arrays ≡ false → IsSoundAt reads store b → new.arrays ≡ old.arrays ++ b ∷ [] → new.store ≡ store → IsSoundAlone reads new path
   begun_alone b store free away there arrays is = ⊎_elim
@@ -177,15 +185,16 @@ module _ (reads : ReadsCodecs) (old new : World) (path : List ℕ) (h : Held) (g
 
   begins_effect : (request : Request) (answer : Answer) → BeginsSound reads old request answer → Effect reads request answer old new → IsSoundAlone reads new path
   begins_effect request answer begins (kept arrays store) = absurd (none-some h (sym none ∙ sym (ap (held_at path) arrays) ∙ found))
+  begins_effect request answer begins (left l) = absurd (none-some h (sym none ∙ sym (ap (held_at path) l.arrays) ∙ found))
   begins_effect request answer begins (created p document order such c) =
-      begun_alone (created_array reads old new p document order c) (insert old.store (document_key p ZarrJson) c.text) (free_none p old.arrays c.free) c.free
-      (created_there reads old new p document order c good (such begins c.meaning c.opens)) c.begins.holds c.stores
+      begun_alone (created_array reads old new p document order c) new.store (free_none p old.arrays c.free) c.free
+      (created_there reads old new p document order c good (such begins c.meaning c.opens)) c.begins.holds refl
   begins_effect request answer begins (reordered p order r) =
       let g = held_at-ordered p path order old.arrays h (sym (ap (held_at path) r.updates) ∙ found) in
       absurd (none-some g.0 (sym none ∙ g.1))
   begins_effect request answer begins (opened p order such away o) =
-      let b = such begins o.tree o.meaning o.begins.free o.stored o.opens in
-      begun_alone (opened_array reads old new p order o) old.store o.begins.free b.0 (opened_there reads old new p order o good b.1) o.begins.holds o.stores
+      let b = such begins o.tree o.meaning o.begins.free o.found o.opens in
+      begun_alone (opened_array reads old new p order o) old.store o.begins.free b.0 (opened_there reads old new p order o good (λ q g at. (tables q g at).0) b.0 b.1) o.begins.holds o.stores
   begins_effect request answer begins (wrote w) =
       let g = held_before w.held.path w.writes.table new.store old.arrays new.arrays w.writes.updates path h found in
       absurd (none-some g.0 (sym none ∙ g.1))
@@ -197,4 +206,4 @@ module _ (reads : ReadsCodecs) (old new : World) (path : List ℕ) (h : Held) (g
       absurd (none-some g.0 (sym none ∙ g.1))
 
 pub begins_alone : BeginsAlone
-begins_alone reads old new request answer path h good begins none s found = begins_effect reads old new path h good none found request answer begins (step_effect reads old new request answer s)
+begins_alone reads old new request answer path h good tables begins none s found = begins_effect reads old new path h good tables none found request answer begins (step_effect reads old new request answer s)

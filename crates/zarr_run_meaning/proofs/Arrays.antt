@@ -3,6 +3,7 @@ use Rattle.std.proofs.Common.{◌≡◌, ◌≢◌, ◌∙◌, ◌⊎◌, inl, i
 use Rattle.std.proofs.lemmas.Bool.{false≢true, or_left, or_right, or_from, or_parts, false_from_ne_true, MatchBool-at_true, MatchBool-at_false}
 use Rattle.std.proofs.lemmas.Option.{none-some, same_Some}
 use Rattle.std.proofs.lemmas.Slice.Eq.{bytes_eq-Decides}
+use Rattle.zarr_grids_keys.specs.Paths.{is_node_path}
 use Rattle.zarr_grids_keys.specs.Related.{is_related}
 use Rattle.zarr_grids_keys.proofs.RelatedLemmas.{is_related-comm, is_related-refl}
 use Rattle.zarr_grids_chunks.proofs.Filters.{told}
@@ -13,6 +14,10 @@ use Rattle.zarr_run_meaning.specs.Tables.{Table}
 use Rattle.zarr_run_meaning.specs.Worlds.{Held, held_at, is_taken, with_order, IsTableAt, StaysBut, WithTable}
 
 -- ---- what is held at a path
+
+-- each array that is held stands at a node path
+abbrev pub AreNodes : List Held → Type 0
+AreNodes arrays = (q : List ℕ) (g : Held) → held_at q arrays ≡ Some g → is_node_path g.path ≡ true
 
 same_path : (p q : List ℕ) → p ≡ q → bytes_eq p q ≡ true
 same_path p q e = (bytes_eq-Decides p q).1 e

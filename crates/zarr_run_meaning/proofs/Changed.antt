@@ -1,18 +1,15 @@
 -- What a command changes at the path that it names, and what it leaves alone.
 use Rattle.std.proofs.Common.{◌≡◌, ◌∙◌, ⊎_elim, ℕ, true, false, List, [], ◌∷◌, ◌++◌, refl, sym, ap, subst, Some}
-use Rattle.std.specs.FinMap.{get, insert}
+use Rattle.std.specs.FinMap.{get}
 use Rattle.std.proofs.lemmas.Bool.{false≢true}
 use Rattle.std.proofs.lemmas.Option.{none-some, same_Some}
-use Rattle.zarr_grids_keys.specs.Documents.{document_key}
 use Rattle.zarr_grids_keys.specs.Keys.{key_under}
 use Rattle.zarr_grids_keys.specs.Paths.{is_node_path}
 use Rattle.zarr_grids_keys.specs.Related.{is_related}
-use Rattle.zarr_grids_keys.specs.declared.document_name.DocumentName.TheVariants.{ZarrJson}
 use Rattle.zarr_grids_keys.proofs.RelatedLemmas.{is_related-refl}
 use Rattle.zarr_codecs_metadata.specs.Chains.{ReadsCodecs}
 use Rattle.zarr_codecs_options.specs.declared.subchunk_write_order.SubchunkWriteOrder.{SubchunkWriteOrder}
 use Rattle.zarr_array_meaning.specs.Chunks.{KeepsOtherKeys}
-use Rattle.zarr_array_meaning.specs.StoreMaps.{StoreMap}
 use Rattle.zarr_run_meaning.specs.declared.cause.Cause.{Cause}
 use Rattle.zarr_run_meaning.specs.declared.cause.Cause.TheVariants as cause
 use Rattle.zarr_run_meaning.specs.Changes.{Reopens, Opens}
@@ -22,8 +19,10 @@ use Rattle.zarr_run_meaning.specs.Steps.{Stays, WritesFirst, ErasesFirst, Rewrit
 use Rattle.zarr_run_meaning.specs.Tables.{Table}
 use Rattle.zarr_run_meaning.specs.Worlds.{Held, World, held_at, with_order, WithTable}
 use Rattle.zarr_run_meaning.proofs.Arrays.{Stayed, at_path, near, apart, held_at-path, held_at-before, held_at-reordered, held_after}
-use Rattle.zarr_run_meaning.proofs.Effects.{at_cases, held_cases}
-use Rattle.zarr_run_meaning.proofs.Keys.{KeepsUnder, others_kept, put_kept}
+use Rattle.zarr_run_meaning.proofs.Begun.{created_put}
+use Rattle.zarr_run_meaning.proofs.Effects.{left_put, at_cases, create_cases, held_cases}
+use Rattle.zarr_run_meaning.proofs.Keys.{KeepsUnder, others_kept}
+use Rattle.zarr_run_meaning.proofs.Stored.{PutsDocuments, put_kept}
 
 -- what a command changes, by the path that it names
 pub data Change (path : List ℕ) (old new : World) : Type 0 where
@@ -32,7 +31,9 @@ pub data Change (path : List ℕ) (old new : World) : Type 0 where
   -- one more array is held
   more : (b : Held) → new.arrays ≡ old.arrays ++ b ∷ [] → new.store ≡ old.store → Change path old new
   -- and its document is written
-  put : is_node_path path ≡ true → (b : Held) → (text : List ℕ) → new.arrays ≡ old.arrays ++ b ∷ [] → new.store ≡ insert old.store (document_key path ZarrJson) text → Change path old new
+  put : is_node_path path ≡ true → (b : Held) → new.arrays ≡ old.arrays ++ b ∷ [] → PutsDocuments path old.store new.store → Change path old new
+  -- attributes alone
+  attributes : is_node_path path ≡ true → new.arrays ≡ old.arrays → PutsDocuments path old.store new.store → Change path old new
   -- a write order
   ordered : (order : SubchunkWriteOrder) → new.arrays ≡ with_order path order old.arrays → new.store ≡ old.store → Change path old new
   -- the table of the array at the path, and some of its chunks
@@ -58,10 +59,12 @@ module _ (reads : ReadsCodecs) (old new : World) where
   refusing path request refuses c n s by held = whole path request c n s (λ node r. held_cases (held_at path old.arrays) refuses c n old new (Change path old new) (by r) (stayed path c n) (held node))
 
   pub step_change : (request : Request) (answer : Answer) → Step reads old request answer new → Change (path_of request) old new
-  step_change (create path document order) done s = let c = s.0 in put c.node _ c.text c.begins.holds c.stores
+  step_change (create path document order) done s = let c = s.0 in put c.node _ c.begins.holds (created_put reads old new path document order c)
   step_change (create path document order) (cells payload) s = absurd s
   step_change (create path document order) (compacted changed) s = absurd s
-  step_change (create path document order) (refused c n) s = whole path (create path document order) c n s (λ node r. stayed path c n r.1)
+  step_change (create path document order) (refused c n) s = create_cases reads path document order c n old new (Change path old new) s (stayed path c n) (λ l at.
+      let P : List ℕ → Type 0 = λ p. Change p old new in
+      subst P at (attributes l.node l.arrays (left_put old new l)))
   step_change (reopen path order) done s = ⊎_elim (λ (r : Reopens path order old new). ordered order r.updates r.stores) (λ (o : Opens reads path order old new). more _ o.begins.holds o.stores) s.0
   step_change (reopen path order) (cells payload) s = absurd s
   step_change (reopen path order) (compacted changed) s = absurd s
@@ -99,9 +102,8 @@ store_under path old new same = record { under = λ name. ap (λ store. get stor
 pub keeps_unrelated : (path other : List ℕ) (old new : World) → is_node_path other ≡ true → is_related path other ≡ false → Change path old new → KeepsUnder other old.store new.store
 keeps_unrelated path other old new there away (unchanged arrays store) = store_under other old new store
 keeps_unrelated path other old new there away (more b arrays store) = store_under other old new store
-keeps_unrelated path other old new there away (put node b text arrays store) =
-    let P : StoreMap → Type 0 = λ s. KeepsUnder other old.store s in
-    subst P (sym store) (put_kept path other old.store text node there away)
+keeps_unrelated path other old new there away (put node b arrays stored) = put_kept path other old.store new.store stored node there away
+keeps_unrelated path other old new there away (attributes node arrays stored) = put_kept path other old.store new.store stored node there away
 keeps_unrelated path other old new there away (ordered order arrays store) = store_under other old new store
 keeps_unrelated path other old new there away (chunked node held found chunks table updates others) =
     let at = held_at-path path old.arrays held found in
@@ -118,7 +120,8 @@ reordered path other order old new h found arrays =
 pub holds_unrelated : (path other : List ℕ) (old new : World) (h : Held) → held_at other old.arrays ≡ Some h → is_related path other ≡ false → Change path old new → IsHeldStill other h new
 holds_unrelated path other old new h found away (unchanged arrays store) = record { order = h.order; found = ap (held_at other) arrays ∙ found }
 holds_unrelated path other old new h found away (more b arrays store) = record { order = h.order; found = ap (held_at other) arrays ∙ held_at-before other old.arrays b h found }
-holds_unrelated path other old new h found away (put node b text arrays store) = record { order = h.order; found = ap (held_at other) arrays ∙ held_at-before other old.arrays b h found }
+holds_unrelated path other old new h found away (put node b arrays stored) = record { order = h.order; found = ap (held_at other) arrays ∙ held_at-before other old.arrays b h found }
+holds_unrelated path other old new h found away (attributes node arrays stored) = record { order = h.order; found = ap (held_at other) arrays ∙ found }
 holds_unrelated path other old new h found away (ordered order arrays store) = reordered path other order old new h found arrays
 holds_unrelated path other old new h found away (chunked node held at chunks table updates others) = go after.2 where
   after : (x : Held) × (held_at other new.arrays ≡ Some x) × Stayed held.path table new.store h x

@@ -19,7 +19,7 @@ use Rattle.zarr_grids_keys.specs.EncodingMetadata.{separator_of, separator_in, s
 use Rattle.zarr_codecs_types.specs.Metadata.{data_type_in}
 use Rattle.zarr_codecs_metadata.specs.Chains.{ReadsCodecs}
 use Rattle.zarr_codecs_meaning.proofs.Lists.{bind_some, map_some, if_some, some_same}
-use Rattle.zarr_array_meaning.specs.Documents.{Document, Metadata, ◌>>=◌, ◌>>◌, fields_in, read_members, read_metadata, read_document}
+use Rattle.zarr_array_meaning.specs.Documents.{Document, Metadata, ◌>>=◌, ◌>>◌, fields_in, read_members, version_3_of, read_metadata, read_document}
 use Rattle.zarr_array_meaning.specs.Parts.{codecs_in, fill_in, dimension_names_in}
 
 -- ---- checks that passed
@@ -152,4 +152,5 @@ formed reads d document h =
     let whole = bind_ok (read_metadata reads d) _ document h in
     let members = bind_ok (ok_or (as_object d) _) _ whole.0 (then_ok _ _ whole.0 (then_ok _ _ whole.0 whole.1)) in
     let is = ok_same whole.0.document document whole.2 in
-    subst IsFormed is (formed_members reads members.0 whole.0 members.2)
+    let version_3 = bind_ok (version_3_of members.0) _ whole.0 members.2 in
+    subst IsFormed is (formed_members reads version_3.0 whole.0 version_3.2)

@@ -1,11 +1,14 @@
 -- What a step does to the arrays and to what is stored, by kinds.
-use Rattle.std.proofs.Common.{◌≡◌, ◌∙◌, ℕ, Bool, List, [], ◌∷◌, length, take, refl, sym, ap, ⊎_elim, true, Option, Some, None, is_some, option_and_then}
+use Rattle.std.proofs.Common.{◌≡◌, ◌∙◌, ℕ, Bool, List, [], ◌∷◌, length, take, refl, sym, ap, subst, ⊎_elim, true, false, Option, Some, None, is_some, option_and_then}
 use Rattle.std.specs.List.{list_all}
 use Rattle.serde_json.specs.Data.{Data}
 use Rattle.serde_json.specs.Find.{as_array}
 use Rattle.zarr_grids_boxes.specs.Boxes.{Region, product, places}
 use Rattle.zarr_grids_chunks.specs.Grids.{Grid, intersecting}
 use Rattle.zarr_grids_cover.specs.Boxed.{boxed_chunks}
+use Rattle.zarr_grids_keys.specs.Documents.{document_key}
+use Rattle.zarr_grids_keys.specs.Paths.{is_node_path}
+use Rattle.zarr_grids_keys.specs.declared.document_name.DocumentName.TheVariants.{ZAttrs}
 use Rattle.zarr_codecs_meaning.specs.Types.{Cell, DataType, is_value}
 use Rattle.zarr_codecs_meaning.specs.Payloads.{values_only, cells_in}
 use Rattle.zarr_codecs_meaning.proofs.Lists.{bind_some, if_some, some_same}
@@ -17,15 +20,19 @@ use Rattle.zarr_array_meaning.specs.Arrays.{Array, value_at}
 use Rattle.zarr_array_meaning.specs.Chunks.{is_listed}
 use Rattle.zarr_array_meaning.specs.Rewriting.{keyed_chunks}
 use Rattle.zarr_array_meaning.specs.StoreMaps.{StoreMap}
+use Rattle.zarr_array_meaning.specs.Texts.{StoresTree}
+use Rattle.zarr_array_meaning.specs.Written.{written_document}
 use Rattle.zarr_run_meaning.specs.declared.cause.Cause.{Cause}
 use Rattle.zarr_run_meaning.specs.declared.cause.Cause.TheVariants as cause
-use Rattle.zarr_run_meaning.specs.Causes.{AreTargets}
+use Rattle.zarr_run_meaning.specs.Causes.{AreTargets, CreateRefuses}
 use Rattle.zarr_run_meaning.specs.Changes.{Creates, Reopens, Opens, WritesChunks, ErasesChunks, Compacts, RewritesChunks}
 use Rattle.zarr_run_meaning.specs.Requests.{Request, create, reopen, write, read, erase, compact, rewrite, Answer, done, cells, compacted, refused}
 use Rattle.zarr_run_meaning.specs.Sound.{OpensApart, BeginsSound}
-use Rattle.zarr_run_meaning.specs.Steps.{Stays, WritesFirst, ErasesFirst, RewritesFirst, RefusesHeld, RefusesWrite, RefusesRead, RefusesErase, RefusesCompact, RefusesRewrite, Refuses, RefusesAt, Step}
-use Rattle.zarr_run_meaning.specs.Worlds.{Held, World, array_of, held_at}
+use Rattle.zarr_run_meaning.specs.Steps.{Stays, LeavesAttributes, WritesFirst, ErasesFirst, RewritesFirst, RefusesHeld, RefusesWrite, RefusesRead, RefusesErase, RefusesCompact, RefusesRewrite, Refuses, RefusesAt, Step}
+use Rattle.zarr_run_meaning.specs.Worlds.{Held, World, array_of, held_at, is_taken}
+use Rattle.zarr_run_meaning.proofs.Arrays.{held_at-before, held_at-reordered, held_after}
 use Rattle.zarr_run_meaning.proofs.Keys.{AreBelow, listed_take, listed_filter, listed_inside, boxed_below}
+use Rattle.zarr_run_meaning.proofs.Stored.{PutsDocuments, attributes_put}
 use Rattle.zarr_run_meaning.proofs.StoredAnew.{StoredAnew, compacted_below, compacted_keeps, rewritten_keeps}
 
 only_values : (type : DataType) (cs values : List Cell) → values_only type cs ≡ Some values → list_all (is_value type) values ≡ true
@@ -61,9 +68,23 @@ pub record Erased (old new : World) : Type 0 where
   pub below : AreBelow held.document.grid chunks
   pub erases : ErasesChunks held chunks old new
 
+-- only the attributes of a free path were stored
+pub record LeftAttributes (old new : World) : Type 0 where
+  pub path : List ℕ
+  pub node : is_node_path path ≡ true
+  pub free : is_taken path old.arrays ≡ false
+  pub arrays : new.arrays ≡ old.arrays
+  pub tree : Data
+  pub stores : StoresTree (document_key path ZAttrs) tree old.store new.store
+
+-- no other key changed
+pub left_put : (old new : World) (l : LeftAttributes old new) → PutsDocuments l.path old.store new.store
+left_put old new l = attributes_put l.path l.tree old.store new.store l.stores
+
 -- what a step does
 pub data Effect (reads : ReadsCodecs) (request : Request) (answer : Answer) (old new : World) : Type 0 where
   kept : new.arrays ≡ old.arrays → new.store ≡ old.store → Effect reads request answer old new
+  left : LeftAttributes old new → Effect reads request answer old new
   created : (path : List ℕ) (document : Data) (order : SubchunkWriteOrder) → (BeginsSound reads old request answer → BeginsSound reads old (create path document order) done) → Creates reads path document order old new → Effect reads request answer old new
   reordered : (path : List ℕ) (order : SubchunkWriteOrder) → Reopens path order old new → Effect reads request answer old new
   opened : (path : List ℕ) (order : SubchunkWriteOrder) → (BeginsSound reads old request answer → BeginsSound reads old (reopen path order) done) → ((other : List ℕ) → OpensApart other old request answer → OpensApart other old (reopen path order) done) → Opens reads path order old new → Effect reads request answer old new
@@ -74,10 +95,34 @@ pub data Effect (reads : ReadsCodecs) (request : Request) (answer : Answer) (old
 -- ---- refusals
 
 -- how a command with a path is refused, by what came first
+pub node_cases : (reads : ReadsCodecs) (path : List ℕ) (request : Request) (c : Cause) (n : ℕ) (old new : World) (P : Type 0) → RefusesAt reads path request c n old new → (Stays c n old new → P)
+    → (is_node_path path ≡ true → Refuses reads request c n old new → P) → P
+node_cases reads path request cause.Path n old new P h stays refuses = stays h.1
+node_cases reads path request cause.Memory n old new P h stays refuses = ⊎_elim stays (λ r. refuses r.0 r.1) h
+node_cases reads path request c n old new P h stays refuses = refuses h.0 h.1
+
 pub at_cases : (reads : ReadsCodecs) (path : List ℕ) (request : Request) (c : Cause) (n : ℕ) (old new : World) (P : Type 0) → RefusesAt reads path request c n old new → (Stays c n old new → P) → (Refuses reads request c n old new → P) → P
-at_cases reads path request cause.Path n old new P h stays refuses = stays h.1
-at_cases reads path request cause.Memory n old new P h stays refuses = ⊎_elim stays (λ r. refuses r.1) h
-at_cases reads path request c n old new P h stays refuses = refuses h.1
+at_cases reads path request c n old new P h stays refuses = node_cases reads path request c n old new P h stays (λ node. refuses)
+
+-- a create is refused where its path is free, if it leaves attributes
+left_free : (reads : ReadsCodecs) (old new : World) (path : List ℕ) (document tree : Data) (c : Cause) → CreateRefuses reads old path document c → LeavesAttributes path tree c old new → is_taken path old.arrays ≡ false
+left_free reads old new path document tree c r l =
+    let P : Cause → Type 0 = λ x. CreateRefuses reads old path document x in
+    ⊎_elim (λ is. let s : P cause.Store = subst P is r in s.0) (λ is. let m : P cause.Memory = subst P is r in m.0) l.by
+
+pub create_cases : (reads : ReadsCodecs) (path : List ℕ) (document : Data) (order : SubchunkWriteOrder) (c : Cause) (n : ℕ) (old new : World) (P : Type 0) → RefusesAt reads path (create path document order) c n old new
+    → (Stays c n old new → P) → ((l : LeftAttributes old new) → l.path ≡ path → P) → P
+create_cases reads path document order c n old new P h stays left_some = node_cases reads path (create path document order) c n old new P h stays (λ node r.
+    ⊎_elim stays
+    (λ l. left_some (record {
+      path = path;
+      node = node;
+      free = left_free reads old new path document (written_document document) c r.0 l.1;
+      arrays = ap (λ (w : World). w.arrays) l.1.is;
+      tree = _;
+      stores = l.1.stores.attributes;
+    }) refl)
+    r.1)
 
 -- how a command on a held array is refused
 pub held_cases : (o : Option Held) (refuses : Held → Cause → ℕ → World → World → Type 0) (c : Cause) (n : ℕ) (old new : World) (P : Type 0) → RefusesHeld o refuses c n old new → (Stays c n old new → P) → ((h : Held) → o ≡ Some h → refuses h c n old new → P) → P
@@ -124,7 +169,7 @@ step_effect reads old new (create path document order) (cells payload) s = absur
 step_effect reads old new (create path document order) (compacted changed) s = absurd s
 step_effect reads old new (create path document order) (refused c n) s =
     let r : Request = create path document order in
-    at_cases reads path r c n old new (Effect reads r (refused c n) old new) s (stayed reads r c n old new) (λ h. stayed reads r c n old new h.1)
+    create_cases reads path document order c n old new (Effect reads r (refused c n) old new) s (stayed reads r c n old new) (λ l at. left l)
 step_effect reads old new (reopen path order) done s = ⊎_elim (λ h. reordered path order h) (λ h. opened path order (λ begins. begins) (λ other away. away) h) s.0
 step_effect reads old new (reopen path order) (cells payload) s = absurd s
 step_effect reads old new (reopen path order) (compacted changed) s = absurd s
@@ -186,3 +231,15 @@ step_effect reads old new (rewrite path options) (refused c n) s =
     ⊎_elim (λ whole. stayed reads r c n old new whole.1) (λ (first : RewritesFirst g options c n old new).
     let keyed = keyed_chunks (array_of g) old.store in
     stored_anew (rewrote_some path g options (take n keyed) old new found (first_below g.document.grid n keyed (keyed_below (array_of g) old.store)) first.rewrites))))
+
+-- ---- what is held stays so
+
+pub held_effect : (reads : ReadsCodecs) (old new : World) (request : Request) (answer : Answer) → Effect reads request answer old new → (q : List ℕ) (g : Held) → held_at q old.arrays ≡ Some g → (x : Held) × (held_at q new.arrays ≡ Some x)
+held_effect reads old new request answer (kept arrays store) q g e = (g, ap (held_at q) arrays ∙ e)
+held_effect reads old new request answer (left l) q g e = (g, ap (held_at q) l.arrays ∙ e)
+held_effect reads old new request answer (created p document order begins c) q g e = (g, ap (held_at q) c.begins.holds ∙ held_at-before q old.arrays _ g e)
+held_effect reads old new request answer (reordered p order r) q g e = let x = held_at-reordered p q order old.arrays g e in (x.0, ap (held_at q) r.updates ∙ x.1)
+held_effect reads old new request answer (opened p order begins such o) q g e = (g, ap (held_at q) o.begins.holds ∙ held_at-before q old.arrays _ g e)
+held_effect reads old new request answer (wrote w) q g e = let x = held_after w.held.path w.writes.table new.store old.arrays new.arrays w.writes.updates q g e in (x.0, x.1)
+held_effect reads old new request answer (erased w) q g e = let x = held_after w.held.path w.erases.table new.store old.arrays new.arrays w.erases.updates q g e in (x.0, x.1)
+held_effect reads old new request answer (stored_anew w) q g e = let x = held_after w.held.path w.held.table new.store old.arrays new.arrays w.updates q g e in (x.0, x.1)

@@ -1,17 +1,14 @@
 -- What a step leaves of the tables: each stored chunk shows only its table's cells, over any stored bytes.
 use Rattle.std.proofs.Common.{◌≡◌, ◌∙◌, ℕ, Bool, true, false, if◌then◌else◌, ◌&&◌, List, [], ◌∷◌, length, refl, sym, ap, subst, ⊎_elim, Option, Some, Ok}
 use Rattle.std.specs.List.{list_any}
-use Rattle.std.specs.FinMap.{insert}
 use Rattle.std.proofs.lemmas.Bool.{MatchBool-at_true, MatchBool-at_false}
 use Rattle.serde_json.specs.Data.{Data}
 use Rattle.zarr_grids_boxes.specs.Boxes.{Region, product, is_in_box}
 use Rattle.zarr_grids_chunks.specs.Grids.{lies_in_chunk, intersecting}
 use Rattle.zarr_grids_chunks.proofs.Filters.{told}
 use Rattle.zarr_grids_chunks.proofs.Partition.{lies_here, any_at}
-use Rattle.zarr_grids_keys.specs.Documents.{document_key}
 use Rattle.zarr_grids_keys.specs.Keys.{encoded_key}
 use Rattle.zarr_grids_keys.specs.Paths.{is_node_path}
-use Rattle.zarr_grids_keys.specs.declared.document_name.DocumentName.TheVariants.{ZarrJson}
 use Rattle.zarr_codecs_meaning.specs.Types.{Cell}
 use Rattle.zarr_codecs_meaning.specs.Chunks.{chunk_part}
 use Rattle.zarr_codecs_metadata.specs.Chains.{ReadsCodecs}
@@ -32,9 +29,10 @@ use Rattle.zarr_run_meaning.specs.Worlds.{Held, World, held_at, writes_exactly, 
 use Rattle.zarr_run_meaning.proofs.Arrays.{Stayed, at_path, near, apart, held_at-path, held_once, held_at-more, held_at-ordered, held_before, free_of, free_none}
 use Rattle.zarr_run_meaning.proofs.Beginning.{fill_read}
 use Rattle.zarr_run_meaning.proofs.Documents.{IsFormed, formed}
-use Rattle.zarr_run_meaning.proofs.Effects.{Effect, kept, created, reordered, opened, wrote, erased, stored_anew, Wrote, Erased, step_effect}
-use Rattle.zarr_run_meaning.proofs.Keys.{AreBelow, KeepsUnder, chunk_kept, others_kept, put_kept, put_chunk, listed_below}
+use Rattle.zarr_run_meaning.proofs.Effects.{LeftAttributes, left_put, Effect, kept, left, created, reordered, opened, wrote, erased, stored_anew, Wrote, Erased, step_effect}
+use Rattle.zarr_run_meaning.proofs.Keys.{AreBelow, KeepsUnder, chunk_kept, others_kept, listed_below}
 use Rattle.zarr_run_meaning.proofs.FillLemmas.{cell-fills}
+use Rattle.zarr_run_meaning.proofs.Stored.{PutsDocuments, document_put, put_kept, put_chunk}
 use Rattle.zarr_run_meaning.proofs.StoredAnew.{KeepsCells, StoredAnew}
 use Rattle.zarr_run_meaning.proofs.Tables.{cell-written, unlisted_lies}
 
@@ -58,7 +56,7 @@ pub read_same : (path : List ℕ) (document : Document) (old new : StoreMap) (ch
     → part_at path document new chunk box place ≡ part_at path document old chunk box place
 read_same path document old new chunk box place same = ap (λ o. chunk_part document.chain document.elements box.shape o (number_in box place ∷ [])) same
 
-read_once : (path : List ℕ) (document : Document) (store : StoreMap) (chunk : List ℕ) (box : Region) (place : List ℕ) (c d : Cell) → ReadsCell path document store chunk box place c → ReadsCell path document store chunk box place d → c ≡ d
+pub read_once : (path : List ℕ) (document : Document) (store : StoreMap) (chunk : List ℕ) (box : Region) (place : List ℕ) (c d : Cell) → ReadsCell path document store chunk box place c → ReadsCell path document store chunk box place d → c ≡ d
 read_once path document store chunk box place c d r s = go (part_at path document store chunk box place) r s where
   go : (o : Option (List Cell)) → o ≡ Some (c ∷ []) → o ≡ Some (d ∷ []) → c ≡ d
   go o e f = cc
@@ -157,24 +155,28 @@ module _ (reads : ReadsCodecs) (old new : World) (tables : HasTables reads old) 
       subst P (sym store) (tables path h (sym (ap (held_at path) arrays) ∙ e))
 
   created_tables : (path : List ℕ) (document : Data) (order : SubchunkWriteOrder) → Creates reads path document order old new → HasTables reads new
-  created_tables path document order c q h e =
-      let P : StoreMap → Type 0 = λ s. IsShown reads s h in
-      subst P (sym c.stores) (⊎_elim here before (held_at-more q old.arrays b h (free_none path old.arrays c.free) (sym (ap (held_at q) c.begins.holds) ∙ e))) where
-        b : Held
-        b = record { path = path; tree = written_document document; document = c.meaning; order = order; table = c.begins.table }
+  created_tables path document order c q h e = ⊎_elim here before (held_at-more q old.arrays b h (free_none path old.arrays c.free) (sym (ap (held_at q) c.begins.holds) ∙ e)) where
+    b : Held
+    b = record { path = path; tree = written_document document; document = c.meaning; order = order; table = c.begins.table }
 
-        put : StoreMap
-        put = insert old.store (document_key path ZarrJson) c.text
+    put : PutsDocuments path old.store new.store
+    put = document_put path (written_document document) old.store new.store c.stores
 
-        here : h ≡ b → IsShown reads put h
-        here is =
-            let P : Held → Type 0 = λ x. IsShown reads put x in
-            subst P (sym is) (c.node, read_document-written_document reads document c.meaning c.opens, table_kept path c.meaning old.store put c.begins.table (put_chunk path c.meaning old.store c.text) c.begins.shows)
+    here : h ≡ b → IsShown reads new.store h
+    here is =
+        let P : Held → Type 0 = λ x. IsShown reads new.store x in
+        subst P (sym is) (c.node, read_document-written_document reads document c.meaning c.opens, table_kept path c.meaning old.store new.store c.begins.table (put_chunk path c.meaning old.store new.store put) c.begins.shows)
 
-        before : held_at q old.arrays ≡ Some h → IsShown reads put h
-        before at =
-            let s = tables q h at in
-            shown_under reads old.store put h (put_kept path h.path old.store c.text c.node s.0 (free_of path q old.arrays h c.free at)) s
+    before : held_at q old.arrays ≡ Some h → IsShown reads new.store h
+    before at =
+        let s = tables q h at in
+        shown_under reads old.store new.store h (put_kept path h.path old.store new.store put c.node s.0 (free_of path q old.arrays h c.free at)) s
+
+  left_tables : LeftAttributes old new → HasTables reads new
+  left_tables l q h e =
+      let at = sym (ap (held_at q) l.arrays) ∙ e in
+      let s = tables q h at in
+      shown_under reads old.store new.store h (put_kept l.path h.path old.store new.store (left_put old new l) l.node s.0 (free_of l.path q old.arrays h l.free at)) s
 
   opened_tables : (path : List ℕ) (order : SubchunkWriteOrder) → Opens reads path order old new → HasTables reads new
   opened_tables path order o q h e =
@@ -233,6 +235,7 @@ module _ (reads : ReadsCodecs) (old new : World) (tables : HasTables reads old) 
 
   effect_shows : (request : Request) (answer : Answer) → Effect reads request answer old new → HasTables reads new
   effect_shows request answer (kept arrays store) = kept_tables arrays store
+  effect_shows request answer (left l) = left_tables l
   effect_shows request answer (created path document order begins c) = created_tables path document order c
   effect_shows request answer (reordered path order r) = reordered_tables path order r
   effect_shows request answer (opened path order begins away o) = opened_tables path order o

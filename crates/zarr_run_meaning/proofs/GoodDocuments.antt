@@ -21,7 +21,7 @@ use Rattle.zarr_codecs_metadata.specs.Chains.{ReadsCodecs, ReadsCodec, endian_in
 use Rattle.zarr_codecs_metadata.specs.Sections.{names_vlen, names_optional, width_in, location_in, vlen_with, vlen_of, optional_with, optional_of}
 use Rattle.zarr_codecs_metadata.specs.PackBits.{padding_in, bit_in, packbits_with, packbits_of}
 use Rattle.zarr_sharding_metadata.specs.Metadata.{shard_points_in, shard_of, sharding_of, names_shard, array_to_bytes_of, array_chain_of}
-use Rattle.zarr_array_meaning.specs.Documents.{Metadata, fields_in, read_members, read_metadata}
+use Rattle.zarr_array_meaning.specs.Documents.{Metadata, fields_in, read_members, version_3_of, read_metadata}
 use Rattle.zarr_array_meaning.specs.declared.error.DocumentError.TheVariants.{Codecs, FillValue}
 use Rattle.zarr_array_meaning.specs.Parts.{codecs_in, fill_in, dimension_names_in}
 use Rattle.zarr_array_meaning.specs.Standing.{IsGood}
@@ -196,4 +196,5 @@ pub lawful_good : LawfulGood
 lawful_good reads law d document h =
     let whole = bind_ok (read_metadata reads d) _ document h in
     let members = bind_ok (ok_or (as_object d) _) _ whole.0 (then_ok _ _ whole.0 (then_ok _ _ whole.0 whole.1)) in
-    subst IsGood (ok_same whole.0.document document whole.2) (members_good reads law members.0 whole.0 members.2)
+    let version_3 = bind_ok (version_3_of members.0) _ whole.0 members.2 in
+    subst IsGood (ok_same whole.0.document document whole.2) (members_good reads law version_3.0 whole.0 version_3.2)

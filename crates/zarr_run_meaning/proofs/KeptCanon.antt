@@ -11,7 +11,7 @@ use Rattle.zarr_grids_chunks.proofs.Filters.{told}
 use Rattle.zarr_grids_keys.specs.Documents.{document_key}
 use Rattle.zarr_grids_keys.specs.Keys.{key_under, chunk_key, encoded_key}
 use Rattle.zarr_grids_keys.specs.Related.{is_related}
-use Rattle.zarr_grids_keys.specs.declared.document_name.DocumentName.TheVariants.{ZarrJson}
+use Rattle.zarr_grids_keys.specs.declared.document_name.DocumentName.TheVariants.{ZarrJson, ZArray}
 use Rattle.zarr_grids_keys.proofs.RelatedLemmas.{is_related-comm}
 use Rattle.zarr_codecs_meaning.specs.Encoding.{encoded, stored_chunk}
 use Rattle.zarr_codecs_meaning.specs.Laws.{AreCells}
@@ -43,7 +43,7 @@ use Rattle.zarr_run_meaning.proofs.Arrays.{held_at-path, free_of}
 use Rattle.zarr_run_meaning.proofs.Beginning.{no_arrays_sound}
 use Rattle.zarr_run_meaning.proofs.Canon.{rewrites_canon, canon_stays}
 use Rattle.zarr_run_meaning.proofs.Changed.{step_change, keeps_unrelated, holds_unrelated, reordered, same_table}
-use Rattle.zarr_run_meaning.proofs.Effects.{at_cases, held_cases}
+use Rattle.zarr_run_meaning.proofs.Effects.{at_cases, create_cases, held_cases}
 use Rattle.zarr_run_meaning.proofs.Frames.{steps_show}
 use Rattle.zarr_run_meaning.proofs.Keys.{key_listed}
 use Rattle.zarr_run_meaning.proofs.Owning.{empty_owned, steps_own, runs_own}
@@ -174,7 +174,8 @@ module _ (reads : ReadsCodecs) (old new : World) (path : List ℕ) (good : Reads
   after (create p document order) done differs away s = beside (create p document order) done (ap (is_related p) here ∙ free_of p path old.arrays h s.0.free k.sound.found) s
   after (create p document order) (cells payload) differs away s = absurd s
   after (create p document order) (compacted changed) differs away s = absurd s
-  after (create p document order) (refused c n) differs away s = at_cases reads p (create p document order) c n old new Same s (stayed c n) (λ r. stayed c n r.1)
+  after (create p document order) (refused c n) differs away s = create_cases reads p document order c n old new Same s (stayed c n) (λ l at.
+      beside (create p document order) (refused c n) (ap (λ q. is_related q path) (sym at) ∙ ap (is_related l.path) here ∙ free_of l.path path old.arrays h l.free k.sound.found) s)
   after (reopen p order) done differs away s = ⊎_elim
       (λ (r : Reopens p order old new). record { held = reordered p path order old new h k.sound.found r.updates; chunks = same_store r.stores })
       (λ (o : Opens reads p order old new). beside (reopen p order) done (is_related-comm p path ∙ away o.begins.free) s)
@@ -251,16 +252,16 @@ all_owned world owned [] = All-nil (AsksOwned world)
 all_owned world owned (request ∷ requests) = All-cons (AsksOwned world) request requests (one request) (all_owned world owned requests) where
   one : (other : Request) → AsksOwned world other
   one (create path document order) = λ name. owned (key_under path name)
-  one (reopen path order) = owned (document_key path ZarrJson)
+  one (reopen path order) = λ none. (owned (document_key path ZarrJson), owned (document_key path ZArray))
   one other = tt
 
 pub runs_leave_canon : RunsLeaveCanon
-runs_leave_canon reads mid last new count requests more answers others path options h good lossless first found exact unstored s lossless_more asks then =
+runs_leave_canon reads mid last new count requests more answers others path options h good faithful first found exact unstored s faithful_more asks then =
     let begins = world_over empty count in
-    let sound = owned_runs_sound reads begins mid requests answers good (all_owned begins (empty_owned count) requests) lossless (no_arrays_sound reads empty count) first in
+    let sound = owned_runs_sound reads begins mid requests answers good (all_owned begins (empty_owned count) requests) faithful (no_arrays_sound reads empty count) first in
     let alone = sound_alone reads mid path h sound found in
     let canon = rewritten_alone reads mid last path options h good (sound_tables reads mid good sound) alone s ((rewrites_canon reads mid last path options h good alone found exact unstored).0 s) in
     let next = steps_sound reads mid last (rewrite path options) done good tt sound s in
     let owned : OwnsAllKeys last = λ key. steps_own reads mid last (rewrite path options) done key s (runs_own reads begins mid requests answers key first (empty_owned count key)) in
-    let end = sound_runs_keep_canon reads last new more others path good next asks canon (owned_run reads last new more others good (all_owned last owned more) lossless_more next then) in
+    let end = sound_runs_keep_canon reads last new more others path good next asks canon (owned_run reads last new more others good (all_owned last owned more) faithful_more next then) in
     (end.sound.array, end.sound.found, end.canon)

@@ -1,14 +1,12 @@
 -- What is stored for an array stays tight.
-use Rattle.std.proofs.Common.{◌≡◌, ◌∙◌, ⊎_elim, ℕ, Bool, true, false, List, [], ◌∷◌, ◌++◌, ◌||◌, map, refl, sym, ap, subst, Option, Some, None}
-use Rattle.std.specs.FinMap.{insert, empty}
+use Rattle.std.proofs.Common.{◌≡◌, ◌∙◌, inl, ⊎_elim, ℕ, Bool, true, false, List, [], ◌∷◌, ◌++◌, ◌||◌, map, refl, sym, ap, subst, Option, Some, None}
+use Rattle.std.specs.FinMap.{empty}
 use Rattle.std.proofs.lemmas.Bool.{false≢true}
 use Rattle.std.proofs.lemmas.List.Elements.{All-head, All-tail}
 use Rattle.std.proofs.lemmas.Option.{none-some, same_Some}
 use Rattle.serde_json.specs.Data.{Data}
 use Rattle.zarr_grids_boxes.specs.Boxes.{places}
-use Rattle.zarr_grids_keys.specs.Documents.{document_key}
 use Rattle.zarr_grids_keys.specs.Related.{is_related}
-use Rattle.zarr_grids_keys.specs.declared.document_name.DocumentName.TheVariants.{ZarrJson}
 use Rattle.zarr_grids_keys.proofs.RelatedLemmas.{is_related-comm}
 use Rattle.zarr_codecs_meaning.specs.Fits.{is_plain}
 use Rattle.zarr_codecs_meaning.specs.Types.{Cell}
@@ -26,7 +24,7 @@ use Rattle.zarr_run_meaning.specs.Laws.{HasTables}
 use Rattle.zarr_run_meaning.specs.Requests.{Request, create, reopen, Answer, done}
 use Rattle.zarr_run_meaning.specs.Rewrites.{ReopensApart}
 use Rattle.zarr_run_meaning.specs.Runs.{world_over}
-use Rattle.zarr_run_meaning.specs.Sound.{IsSoundAt, IsSound, HasNoChunks, IsStoredAs, AsksLossless, AsksOwned, ReadsGood}
+use Rattle.zarr_run_meaning.specs.Sound.{IsSoundAt, IsSound, HasNoChunks, IsStoredAs, AsksFaithful, AsksOwned, ReadsGood}
 use Rattle.zarr_run_meaning.specs.Steps.{Step}
 use Rattle.zarr_run_meaning.specs.Tables.{Table, cell}
 use Rattle.zarr_run_meaning.specs.Tight.{StoreTight, IsTightHeld, IsTightAlone, IsTightThere, BeginsTight, StepsKeepTight, IsEncodedAt, CompactsExactly, AsksRowMajor, RunsKeepTight, OwnedRunsTight, RunsTight}
@@ -34,14 +32,15 @@ use Rattle.zarr_run_meaning.specs.Worlds.{Held, World, array_of, held_at, is_row
 use Rattle.zarr_run_meaning.proofs.Alone.{sound_alone, steps_keep_sound, reopens_apart, begins_apart}
 use Rattle.zarr_run_meaning.proofs.Arrays.{Stayed, at_path, near, apart, held_at-path, held_once, held_at-before, held_at-more, held_at-ordered, held_at-reordered, held_after, free_of, free_none}
 use Rattle.zarr_run_meaning.proofs.Beginning.{no_arrays_sound}
-use Rattle.zarr_run_meaning.proofs.Begun.{stored_cells, no_chunks_are_fill, created_array, opened_array}
-use Rattle.zarr_run_meaning.proofs.Effects.{Effect, kept, created, reordered, opened, wrote, erased, stored_anew, step_effect}
+use Rattle.zarr_run_meaning.proofs.Begun.{stored_cells, no_chunks_are_fill, created_array, created_put, opened_array}
+use Rattle.zarr_run_meaning.proofs.Effects.{LeftAttributes, left_put, Effect, kept, left, created, reordered, opened, wrote, erased, stored_anew, step_effect}
 use Rattle.zarr_run_meaning.proofs.Frames.{steps_show}
 use Rattle.zarr_run_meaning.proofs.KeptCanon.{sound_tables, all_owned}
-use Rattle.zarr_run_meaning.proofs.Keys.{others_kept, put_kept, put_chunk}
+use Rattle.zarr_run_meaning.proofs.Keys.{others_kept}
 use Rattle.zarr_run_meaning.proofs.Orders.{Begun, none_began, creates, reopens, step_begun, orders}
 use Rattle.zarr_run_meaning.proofs.Owning.{empty_owned, owned_has_no_chunks, opens_none}
 use Rattle.zarr_run_meaning.proofs.Sound.{steps_sound, owned_begins, all_still, asks_still}
+use Rattle.zarr_run_meaning.proofs.Stored.{put_kept, put_chunk}
 use Rattle.zarr_run_meaning.proofs.TightChunks.{tight_alike, tight_same, tight_under, written_tight, erased_tight, anew_tight, no_chunks_are_tight}
 
 -- ---- one step
@@ -67,8 +66,16 @@ module _ (reads : ReadsCodecs) (old new : World) (path : List ℕ) (good : Reads
   created_kept : (p : List ℕ) (document : Data) (order : SubchunkWriteOrder) → Creates reads p document order old new → HeldTight new path
   created_kept p document order c =
       let away = free_of p path old.arrays h c.free t.sound.found in
-      let put : StoreMap = insert old.store (document_key p ZarrJson) c.text in
-      more_tight (created_array reads old new p document order c) put (tight_under old.store put h (put_kept p h.path old.store c.text c.node t.sound.there.node away) t.tight) c.begins.holds c.stores
+      more_tight (created_array reads old new p document order c) new.store
+      (tight_under old.store new.store h (put_kept p h.path old.store new.store (created_put reads old new p document order c) c.node t.sound.there.node away) t.tight) c.begins.holds refl
+
+  -- where only the attributes of a free path were stored
+  left_kept : LeftAttributes old new → HeldTight new path
+  left_kept l = (
+    h,
+    ap (held_at path) l.arrays ∙ t.sound.found,
+    tight_under old.store new.store h (put_kept l.path h.path old.store new.store (left_put old new l) l.node t.sound.there.node (free_of l.path path old.arrays h l.free t.sound.found)) t.tight,
+  )
 
   reordered_kept : (p : List ℕ) (order : SubchunkWriteOrder) → Reopens p order old new → HeldTight new path
   reordered_kept p order r =
@@ -102,6 +109,7 @@ module _ (reads : ReadsCodecs) (old new : World) (path : List ℕ) (good : Reads
 
   effect_tight : (request : Request) (answer : Answer) → Effect reads request answer old new → HeldTight new path
   effect_tight request answer (kept arrays store) = (h, ap (held_at path) arrays ∙ t.sound.found, stored_in h old.store store t.tight)
+  effect_tight request answer (left l) = left_kept l
   effect_tight request answer (created p document order begins c) = created_kept p document order c
   effect_tight request answer (reordered p order r) = reordered_kept p order r
   effect_tight request answer (opened p order begins such o) = more_tight (opened_array reads old new p order o) old.store t.tight o.begins.holds o.stores
@@ -175,8 +183,8 @@ module _ (reads : ReadsCodecs) (old new : World) (path : List ℕ) (h : Held) (c
       (held_at-more path old.arrays b h free (sym (ap (held_at path) arrays) ∙ found))
 
   created_tight : (p : List ℕ) (document : Data) (order : SubchunkWriteOrder) → Creates reads p document order old new → IsTightHeld new.store h
-  created_tight p document order c = new_tight (created_array reads old new p document order c) (insert old.store (document_key p ZarrJson) c.text) (free_none p old.arrays c.free) c.begins.holds
-      (record { good = good document c.meaning c.opens; shows = c.begins.shows; chunks = put_chunk p c.meaning old.store c.text }) c.stores
+  created_tight p document order c = new_tight (created_array reads old new p document order c) new.store (free_none p old.arrays c.free) c.begins.holds
+      (record { good = good document c.meaning c.opens; shows = c.begins.shows; chunks = put_chunk p c.meaning old.store new.store (created_put reads old new p document order c) }) refl
 
   opened_tight : (p : List ℕ) (order : SubchunkWriteOrder) → Opens reads p order old new → IsTightHeld new.store h
   opened_tight p order o = new_tight (opened_array reads old new p order o) old.store o.begins.free o.begins.holds (record { good = good o.tree o.meaning o.opens; shows = o.begins.shows; chunks = λ chunk. refl }) o.stores
@@ -223,17 +231,18 @@ abbrev IsEmptyIn : StoreMap → Held → Type 0
 IsEmptyIn store h = IsLossless h.document × HasNoChunks h.path h.document store
 
 -- an array that begins in a sound world over keys that aren't foreign has no chunks
-begun_empty : (reads : ReadsCodecs) (old new : World) (request : Request) (answer : Answer) (path : List ℕ) (h : Held) → IsSound reads old → AsksOwned old request → AsksLossless reads request answer → held_at path old.arrays ≡ None
+begun_empty : (reads : ReadsCodecs) (old new : World) (request : Request) (answer : Answer) (path : List ℕ) (h : Held) → IsSound reads old → AsksOwned old request → AsksFaithful reads request answer → held_at path old.arrays ≡ None
     → Step reads old request answer new → held_at path new.arrays ≡ Some h → IsLossless h.document × HasNoChunks path h.document old.store
-begun_empty reads old new request answer path h sound owned lossless none s found = go (step_begun reads old new request answer s) where
+begun_empty reads old new request answer path h sound owned faithful none s found = go (step_begun reads old new request answer s) where
   there : IsEmptyIn old.store h → IsLossless h.document × HasNoChunks path h.document old.store
   there e = let P : List ℕ → Type 0 = λ p. HasNoChunks p h.document old.store in (e.0, subst P (sym (held_at-path path new.arrays h found)) e.1)
 
-  created_empty : (p : List ℕ) (document : Data) (order : SubchunkWriteOrder) → AsksOwned old (create p document order) → AsksLossless reads (create p document order) done → Creates reads p document order old new → IsEmptyIn old.store h
+  created_empty : (p : List ℕ) (document : Data) (order : SubchunkWriteOrder) → AsksOwned old (create p document order) → AsksFaithful reads (create p document order) done → Creates reads p document order old new → IsEmptyIn old.store h
   created_empty p document order own keeps c =
+      let faithful = keeps c.meaning c.opens in
       let P : Held → Type 0 = λ x. IsEmptyIn old.store x in
       ⊎_elim
-      (λ same. subst P (sym same) (keeps c.meaning c.opens, owned_has_no_chunks reads old p c.meaning sound own c.node c.free))
+      (λ same. subst P (sym same) (faithful.lossless, owned_has_no_chunks reads old p c.meaning sound own c.node c.free (inl faithful.ends)))
       (λ before. absurd (none-some h (sym none ∙ before)))
       (held_at-more path old.arrays (created_array reads old new p document order c) h (free_none p old.arrays c.free) (sym (ap (held_at path) c.begins.holds) ∙ found))
 
@@ -241,19 +250,21 @@ begun_empty reads old new request answer path h sound owned lossless none s foun
   go (none_began same) = let g = same path h found in absurd (none-some g.0 (sym none ∙ g.1))
   go (creates p document order is ends c) =
       let P : Request → Type 0 = λ q. AsksOwned old q in
-      let Q : Request → Type 0 = λ q. AsksLossless reads q answer in
-      let R : Answer → Type 0 = λ a. AsksLossless reads (create p document order) a in
-      there (created_empty p document order (subst P is owned) (subst R ends (subst Q is lossless)) c)
+      let Q : Request → Type 0 = λ q. AsksFaithful reads q answer in
+      let R : Answer → Type 0 = λ a. AsksFaithful reads (create p document order) a in
+      there (created_empty p document order (subst P is owned) (subst R ends (subst Q is faithful)) c)
   go (reopens p order is ends r) = ⊎_elim
       (λ (again : Reopens p order old new). let g = held_at-ordered p path order old.arrays h (sym (ap (held_at path) again.updates) ∙ found) in absurd (none-some g.0 (sym none ∙ g.1)))
       (λ (o : Opens reads p order old new).
       let P : Request → Type 0 = λ q. AsksOwned old q in
       let Q : Request → Type 0 = λ q. Step reads old q answer new in
       let R : Answer → Type 0 = λ a. Step reads old (reopen p order) a new in
-      absurd (opens_none reads old new p order sound (subst P is owned) o.begins.free (subst R ends (subst Q is s))))
+      let asked : AsksOwned old (reopen p order) = subst P is owned in
+      let own = asked o.begins.free in
+      absurd ((opens_none reads old new p order sound own.0 own.1 o.begins.free).0 (subst R ends (subst Q is s))))
       r
 
-module _ (reads : ReadsCodecs) (old new : World) (request : Request) (answer : Answer) (path : List ℕ) (good : ReadsGood reads) (sound : IsSound reads old) (owned : AsksOwned old request) (lossless : AsksLossless reads request answer)
+module _ (reads : ReadsCodecs) (old new : World) (request : Request) (answer : Answer) (path : List ℕ) (good : ReadsGood reads) (sound : IsSound reads old) (owned : AsksOwned old request) (faithful : AsksFaithful reads request answer)
     (there : IsTightThere old path) (s : Step reads old request answer new) where
   -- what was tight, and what begins
   next_tight : (h : Held) → held_at path new.arrays ≡ Some h → IsTightHeld new.store h
@@ -263,19 +274,19 @@ module _ (reads : ReadsCodecs) (old new : World) (request : Request) (answer : A
         let alone = sound_alone reads old path g sound at in
         let was = there alone.array alone.found in
         let t : IsTightAlone reads old path = record { sound = alone; tight = was.1 } in
-        let away = begins_apart reads old new path alone request answer (owned_begins reads old new request answer good owned lossless sound s) s in
+        let away = begins_apart reads old new path alone request answer (owned_begins reads old new request answer good owned faithful sound s) s in
         let next = steps_keep_tight reads old new request answer path good (sound_tables reads old good sound) away t (exactly_written alone.array was.0) s in
         let P : Held → Type 0 = λ x. IsTightHeld new.store x in
         subst P (same_Some next.sound.array h (sym next.sound.found ∙ found)) next.tight
 
     fresh : held_at path old.arrays ≡ None → IsTightHeld new.store h
     fresh none =
-        let empty_there = begun_empty reads old new request answer path h sound owned lossless none s found in
+        let empty_there = begun_empty reads old new request answer path h sound owned faithful none s found in
         let good_document = held_good in
         begins_tight reads old new request answer path h (λ place. h.document.elements.fill) good none s found
         (no_chunks_are_fill path h.document old.store good_document empty_there.0 empty_there.1) (no_chunks_are_tight path h.document old.store empty_there.1) where
           held_good : IsGood h.document
-          held_good = let after = (steps_sound reads old new request answer good (owned_begins reads old new request answer good owned lossless sound s) sound s).each path h found in good h.tree h.document after.says
+          held_good = let after = (steps_sound reads old new request answer good (owned_begins reads old new request answer good owned faithful sound s) sound s).each path h found in good h.tree h.document after.says
 
     go : (o : Option Held) → held_at path old.arrays ≡ o → IsTightHeld new.store h
     go None e = fresh e
@@ -285,17 +296,17 @@ module _ (reads : ReadsCodecs) (old new : World) (request : Request) (answer : A
   next_there asks h found = (orders reads old new path (λ g e. (there g e).0) request answer asks s h found, next_tight h found)
 
 pub owned_runs_tight : OwnedRunsTight
-owned_runs_tight reads old new [] [] path good owned lossless asks sound there r = let P : World → Type 0 = λ w. IsTightThere w path in subst P (sym r) there
-owned_runs_tight reads old new [] (answer ∷ answers) path good owned lossless asks sound there r = absurd r
-owned_runs_tight reads old new (request ∷ requests) [] path good owned lossless asks sound there r = absurd r
-owned_runs_tight reads old new (request ∷ requests) (answer ∷ answers) path good owned lossless asks sound there r =
+owned_runs_tight reads old new [] [] path good owned faithful asks sound there r = let P : World → Type 0 = λ w. IsTightThere w path in subst P (sym r) there
+owned_runs_tight reads old new [] (answer ∷ answers) path good owned faithful asks sound there r = absurd r
+owned_runs_tight reads old new (request ∷ requests) [] path good owned faithful asks sound there r = absurd r
+owned_runs_tight reads old new (request ∷ requests) (answer ∷ answers) path good owned faithful asks sound there r =
     let own = All-head (AsksOwned old) request requests owned in
-    let begins = owned_begins reads old r.0 request answer good own lossless.0 sound r.1 in
+    let begins = owned_begins reads old r.0 request answer good own faithful.0 sound r.1 in
     owned_runs_tight reads r.0 new requests answers path good
-    (all_still old r.0 (asks_still reads old r.0 request answer r.1) requests (All-tail (AsksOwned old) request requests owned)) lossless.1 asks.1
-    (steps_sound reads old r.0 request answer good begins sound r.1) (next_there reads old r.0 request answer path good sound own lossless.0 there r.1 asks.0) r.2
+    (all_still old r.0 (asks_still reads old r.0 request answer r.1) requests (All-tail (AsksOwned old) request requests owned)) faithful.1 asks.1
+    (steps_sound reads old r.0 request answer good begins sound r.1) (next_there reads old r.0 request answer path good sound own faithful.0 there r.1 asks.0) r.2
 
 pub runs_tight : RunsTight
-runs_tight reads new count requests answers path good lossless asks r =
+runs_tight reads new count requests answers path good faithful asks r =
     let begins = world_over empty count in
-    owned_runs_tight reads begins new requests answers path good (all_owned begins (empty_owned count) requests) lossless asks (no_arrays_sound reads empty count) (λ h e. absurd (none-some h e)) r
+    owned_runs_tight reads begins new requests answers path good (all_owned begins (empty_owned count) requests) faithful asks (no_arrays_sound reads empty count) (λ h e. absurd (none-some h e)) r

@@ -2,11 +2,9 @@
 use Rattle.std.proofs.Common.{◌≡◌, ◌≢◌, ◌∙◌, ◌⊎◌, inl, inr, ⊎_elim, ℕ, zero, suc, ◌<◌, ◌^◌, cond, true, false, Bool, List, [], ◌∷◌, length, take, replicate, slice_get, refl, sym, ap, arith, Option, Some, None, IsTrue, is_some, bytes_eq, ◌||◌}
 use Rattle.std.specs.List.{filter}
 use Rattle.std.specs.Option.{option_map_or}
-use Rattle.std.specs.FinMap.{get, insert, get-insert}
-use Rattle.std.proofs.lemmas.Bool.{false≢true, both_ways, or_cases, or_left, or_right, cond-true, cond-false, false_from_ne_true}
-use Rattle.std.proofs.lemmas.Cmp.{nat_list_cmp_total}
+use Rattle.std.specs.FinMap.{get}
+use Rattle.std.proofs.lemmas.Bool.{false≢true, both_ways, or_cases, or_left, or_right}
 use Rattle.std.proofs.lemmas.List.{length-map, length-replicate}
-use Rattle.std.proofs.lemmas.Map.Text.{is_eq-slice_cmp}
 use Rattle.std.proofs.lemmas.Slice.Eq.{bytes_eq-Decides}
 use Rattle.zarr_grids_boxes.specs.Boxes.{Region, places, is_in_box, share_place, IsSmall}
 use Rattle.zarr_grids_boxes.proofs.Lawful.{place_by_number}
@@ -19,11 +17,11 @@ use Rattle.zarr_grids_dimensions.proofs.Union.{in-of, interval-positive}
 use Rattle.zarr_grids_dimensions.proofs.UnionBox.{box-more}
 use Rattle.zarr_grids_cover.specs.Boxed.{boxed_chunks}
 use Rattle.zarr_grids_cover.proofs.ChunkBoxes.{chunk_box-chunk_rank}
-use Rattle.zarr_grids_keys.specs.Documents.{document_key, document_name}
+use Rattle.zarr_grids_keys.specs.Documents.{document_key}
 use Rattle.zarr_grids_keys.specs.Keys.{encoded_key, key_under, chunk_key}
 use Rattle.zarr_grids_keys.specs.Paths.{is_node_path}
 use Rattle.zarr_grids_keys.specs.Related.{is_related}
-use Rattle.zarr_grids_keys.specs.declared.document_name.DocumentName.TheVariants.{ZarrJson}
+use Rattle.zarr_grids_keys.specs.declared.document_name.DocumentName.{DocumentName}
 use Rattle.zarr_grids_keys.proofs.HeadLemmas.{chunk_key-no_own_document}
 use Rattle.zarr_grids_keys.proofs.KeyLemmas.{chunk_key-injective}
 use Rattle.zarr_grids_keys.proofs.RelatedLemmas.{key_under-unrelated}
@@ -124,9 +122,9 @@ chunk_kept path document chunks old new chunk box formed are others below not =
     let b = are.below c l in
     false≢true (sym not ∙ ap (is_listed chunks) (key_once path document chunk c box b.0 formed below b.1 e) ∙ l))
 
--- the array's own document
-pub document_kept : (path : List ℕ) (document : Document) (chunks : List (List ℕ)) (old new : StoreMap) → KeepsOtherKeys path document chunks old new → get new (document_key path ZarrJson) ≡ get old (document_key path ZarrJson)
-document_kept path document chunks old new others = others (document_key path ZarrJson) (λ c l e. chunk_key-no_own_document path document.keys c ZarrJson (sym e))
+-- the array's own documents
+pub documents_kept : (path : List ℕ) (document : Document) (chunks : List (List ℕ)) (old new : StoreMap) → KeepsOtherKeys path document chunks old new → (name : DocumentName) → get new (document_key path name) ≡ get old (document_key path name)
+documents_kept path document chunks old new others name = others (document_key path name) (λ c l e. chunk_key-no_own_document path document.keys c name (sym e))
 
 -- what is stored under a path stays
 pub record KeepsUnder (path : List ℕ) (old new : StoreMap) : Type 0 where
@@ -160,24 +158,3 @@ kept_or_listed path document chunks old new key are others = ⊎_elim
     (λ c. let b = are.below c.0 c.1 in inl (record { chunk = c.0; box = b.0; within = b.1; is = c.2 }))
     (λ ne. inr (others key ne))
     (key_listed path document chunks key)
-
--- ---- one key put
-
-get-put : (m : StoreMap) (k v q : List ℕ) → get (insert m k v) q ≡ cond (bytes_eq q k) (Some v) (get m q)
-get-put m k v q = get-insert nat_list_cmp_total m k v q ∙ ap (λ b. cond b (Some v) (get m q)) (is_eq-slice_cmp q k)
-
-pub put_here : (m : StoreMap) (k v : List ℕ) → get (insert m k v) k ≡ Some v
-put_here m k v = get-put m k v k ∙ cond-true (bytes_eq k k) (Some v) (get m k) ((bytes_eq-Decides k k).1 refl)
-
-pub put_other : (m : StoreMap) (k v q : List ℕ) → q ≢ k → get (insert m k v) q ≡ get m q
-put_other m k v q ne = get-put m k v q ∙ cond-false (bytes_eq q k) (Some v) (get m q) (false_from_ne_true (bytes_eq q k) (λ t. ne ((bytes_eq-Decides q k).0 t)))
-
--- a document that is put leaves what is stored under an unrelated path
-pub put_kept : (path other : List ℕ) (m : StoreMap) (v : List ℕ) → IsTrue (is_node_path path) → IsTrue (is_node_path other) → is_related path other ≡ false → KeepsUnder other m (insert m (document_key path ZarrJson) v)
-put_kept path other m v node there apart = record {
-  under = λ name. put_other m (document_key path ZarrJson) v (key_under other name) (λ e. key_under-unrelated path other (document_name ZarrJson) name node there apart (sym e));
-}
-
--- and the chunks of its array
-pub put_chunk : (path : List ℕ) (document : Document) (m : StoreMap) (v chunk : List ℕ) → stored_at path document (insert m (document_key path ZarrJson) v) chunk ≡ stored_at path document m chunk
-put_chunk path document m v chunk = put_other m (document_key path ZarrJson) v (chunk_key path document.keys chunk) (chunk_key-no_own_document path document.keys chunk ZarrJson)

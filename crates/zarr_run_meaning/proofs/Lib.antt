@@ -5,7 +5,9 @@ pub mod Arrays
 pub mod Documents
 pub mod GoodDocuments
 pub mod Tables
+pub mod AttributesKeys
 pub mod Keys
+pub mod Stored
 pub mod Reading
 pub mod StoredAnew
 pub mod Effects

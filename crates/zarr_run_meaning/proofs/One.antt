@@ -1,20 +1,18 @@
 -- One array that a session left sound, opened by another one over the same store, whatever is stored for the others and done to them.
 use Rattle.std.proofs.Common.{◌≡◌, ◌∙◌, ◌⊎◌, inl, inr, ⊎_elim, ℕ, zero, suc, false, List, [], ◌∷◌, ◌++◌, slice_get, refl, sym, ap, subst, Option, Some, None}
-use Rattle.std.specs.FinMap.{insert}
 use Rattle.std.specs.Prelude.{All}
 use Rattle.std.proofs.lemmas.Bool.{false≢true}
 use Rattle.std.proofs.lemmas.List.Elements.{All-head, All-tail}
 use Rattle.std.proofs.lemmas.Option.{none-some, same_Some}
 use Rattle.serde_json.specs.Data.{Data}
-use Rattle.zarr_grids_keys.specs.Documents.{document_key, document_name}
 use Rattle.zarr_grids_keys.specs.Keys.{encoded_key}
 use Rattle.zarr_grids_keys.specs.Related.{is_related}
-use Rattle.zarr_grids_keys.specs.declared.document_name.DocumentName.TheVariants.{ZarrJson}
 use Rattle.zarr_grids_keys.proofs.RelatedLemmas.{is_related-comm, is_related-refl, key_under-unrelated}
 use Rattle.zarr_codecs_metadata.specs.Chains.{ReadsCodecs}
 use Rattle.zarr_codecs_options.specs.declared.subchunk_write_order.SubchunkWriteOrder.{SubchunkWriteOrder}
 use Rattle.zarr_array_meaning.specs.Chunks.{KeepsOtherKeys}
 use Rattle.zarr_array_meaning.specs.StoreMaps.{StoreMap}
+use Rattle.zarr_array_meaning.specs.Texts.{version_key}
 use Rattle.zarr_run_meaning.specs.declared.cause.Cause.{Cause}
 use Rattle.zarr_run_meaning.specs.declared.cause.Cause.TheVariants as cause
 use Rattle.zarr_run_meaning.specs.Causes.{ReopenRefuses, IsChunkKeyIn}
@@ -26,14 +24,15 @@ use Rattle.zarr_run_meaning.specs.Sound.{IsSoundAt, IsSoundAlone, ReadsGood}
 use Rattle.zarr_run_meaning.specs.Steps.{Stays, WritesFirst, ErasesFirst, RewritesFirst, RefusesWrite, RefusesRead, RefusesErase, RefusesCompact, RefusesRewrite, Refuses, RefusesAt, Step}
 use Rattle.zarr_run_meaning.specs.Tables.{Table, cell}
 use Rattle.zarr_run_meaning.specs.Worlds.{Held, World, held_at, WithTable}
-use Rattle.zarr_run_meaning.proofs.Arrays.{Stayed, at_path, near, apart, held_at-first, held_at-path, held_at-before, held_at-more, held_at-new, held_at-ordered, held_at-reordered, held_before, held_after, free_none}
-use Rattle.zarr_run_meaning.proofs.Begun.{created_array, opened_array}
-use Rattle.zarr_run_meaning.proofs.Effects.{Effect, kept, created, reordered, opened, wrote, erased, stored_anew, step_effect, at_cases, held_cases}
+use Rattle.zarr_run_meaning.proofs.Arrays.{Stayed, at_path, near, apart, held_at-first, held_at-path, held_at-more, held_at-new, held_at-ordered, held_at-reordered, held_before, free_none}
+use Rattle.zarr_run_meaning.proofs.Begun.{created_array, created_put, opened_array}
+use Rattle.zarr_run_meaning.proofs.Effects.{LeftAttributes, left_put, step_effect, held_effect, at_cases, create_cases, held_cases}
 use Rattle.zarr_run_meaning.proofs.Frames.{steps_show}
-use Rattle.zarr_run_meaning.proofs.Keys.{others_kept, put_kept}
+use Rattle.zarr_run_meaning.proofs.Keys.{others_kept}
 use Rattle.zarr_run_meaning.proofs.Reading.{alone_undamaged}
 use Rattle.zarr_run_meaning.proofs.Reopening.{again_sound, reopens_alike}
 use Rattle.zarr_run_meaning.proofs.Standing.{sound_under}
+use Rattle.zarr_run_meaning.proofs.Stored.{put_kept}
 
 -- the array is stored as it was; only it is held at a related path, if at all, with its document and its cells
 record Keeps (reads : ReadsCodecs) (h : Held) (world : World) : Type 0 where
@@ -53,17 +52,6 @@ held_alone reads h world k g e =
       there = subst P (sym again.0) (again_sound reads world.store world.store h g.order g.table k.there refl (subst Q again.0 again.1));
       alone = λ other x found differs. ⊎_elim (λ is. absurd (differs is)) (λ away. away) (k.alone other x found);
     }
-
--- ---- what is held stays so
-
-held_effect : (reads : ReadsCodecs) (old new : World) (request : Request) (answer : Answer) → Effect reads request answer old new → (q : List ℕ) (g : Held) → held_at q old.arrays ≡ Some g → (x : Held) × (held_at q new.arrays ≡ Some x)
-held_effect reads old new request answer (kept arrays store) q g e = (g, ap (held_at q) arrays ∙ e)
-held_effect reads old new request answer (created p document order begins c) q g e = (g, ap (held_at q) c.begins.holds ∙ held_at-before q old.arrays _ g e)
-held_effect reads old new request answer (reordered p order r) q g e = let x = held_at-reordered p q order old.arrays g e in (x.0, ap (held_at q) r.updates ∙ x.1)
-held_effect reads old new request answer (opened p order begins such o) q g e = (g, ap (held_at q) o.begins.holds ∙ held_at-before q old.arrays _ g e)
-held_effect reads old new request answer (wrote w) q g e = let x = held_after w.held.path w.writes.table new.store old.arrays new.arrays w.writes.updates q g e in (x.0, x.1)
-held_effect reads old new request answer (erased w) q g e = let x = held_after w.held.path w.erases.table new.store old.arrays new.arrays w.erases.updates q g e in (x.0, x.1)
-held_effect reads old new request answer (stored_anew w) q g e = let x = held_after w.held.path w.held.table new.store old.arrays new.arrays w.updates q g e in (x.0, x.1)
 
 -- ---- one step
 
@@ -100,11 +88,17 @@ module _ (reads : ReadsCodecs) (old new : World) (h : Held) (good : ReadsGood re
 
   created_beside : (p : List ℕ) (document : Data) (order : SubchunkWriteOrder) → is_related h.path p ≡ false → Creates reads p document order old new → Keeps reads h new
   created_beside p document order away c =
-      let put : StoreMap = insert old.store (document_key p ZarrJson) c.text in
-      let P : StoreMap → Type 0 = λ s. IsSoundAt reads s h in
       more (created_array reads old new p document order c) (free_none p old.arrays c.free) c.begins.holds
-      (subst P (sym c.stores) (sound_under reads old.store put h (put_kept p h.path old.store c.text c.node k.there.node (is_related-comm p h.path ∙ away)) k.there))
+      (sound_under reads old.store new.store h (put_kept p h.path old.store new.store (created_put reads old new p document order c) c.node k.there.node (is_related-comm p h.path ∙ away)) k.there)
       (inr away) (λ same. absurd (other p away same))
+
+  -- where only attributes were stored, at an unrelated path
+  left_beside : (l : LeftAttributes old new) → is_related h.path l.path ≡ false → Keeps reads h new
+  left_beside l away = record {
+    there = sound_under reads old.store new.store h (put_kept l.path h.path old.store new.store (left_put old new l) l.node k.there.node (is_related-comm l.path h.path ∙ away)) k.there;
+    alone = λ q g e. k.alone q g (sym (ap (held_at q) l.arrays) ∙ e);
+    same = λ g e. k.same g (sym (ap (held_at h.path) l.arrays) ∙ e);
+  }
 
   opened_beside : (p : List ℕ) (order : SubchunkWriteOrder) → is_related h.path p ≡ false → Opens reads p order old new → Keeps reads h new
   opened_beside p order away o =
@@ -147,7 +141,7 @@ module _ (reads : ReadsCodecs) (old new : World) (h : Held) (good : ReadsGood re
   beside (create p document order) done away s = created_beside p document order away s.0
   beside (create p document order) (cells payload) away s = absurd s
   beside (create p document order) (compacted changed) away s = absurd s
-  beside (create p document order) (refused c n) away s = whole p (create p document order) c n s (λ r. stayed c n r.1)
+  beside (create p document order) (refused c n) away s = create_cases reads p document order c n old new (Keeps reads h new) s (stayed c n) (λ l at. left_beside l (ap (is_related h.path) at ∙ away))
   beside (reopen p order) done away s = ⊎_elim (with_order_again p order) (opened_beside p order away) s.0
   beside (reopen p order) (cells payload) away s = absurd s
   beside (reopen p order) (compacted changed) away s = absurd s
@@ -184,10 +178,10 @@ module _ (reads : ReadsCodecs) (old new : World) (h : Held) (good : ReadsGood re
   -- ---- a reopening of the path
 
   -- the key of the document is no chunk's
-  no_chunk : held_at h.path old.arrays ≡ None → IsChunkKeyIn old.arrays (document_key h.path ZarrJson) → ⊥
+  no_chunk : held_at h.path old.arrays ≡ None → IsChunkKeyIn old.arrays (version_key h.path h.tree) → ⊥
   no_chunk none c = ⊎_elim
       (λ same. none-some c.held (sym none ∙ ap (λ q. held_at q old.arrays) (sym same) ∙ c.found))
-      (λ away. key_under-unrelated h.path c.held.path (document_name ZarrJson) (encoded_key c.held.document.keys c.names.chunk) k.there.node (tables c.held.path c.held c.found).0 away c.names.is)
+      (λ away. key_under-unrelated h.path c.held.path _ (encoded_key c.held.document.keys c.names.chunk) k.there.node (tables c.held.path c.held c.found).0 away c.names.is)
       (k.alone c.held.path c.held c.found)
 
   alike : (order : SubchunkWriteOrder) (answer : Answer) → held_at h.path old.arrays ≡ None → Step reads old (reopen h.path order) answer new → IsReopenedAs h order answer new ⊎ (answer ≡ refused cause.Memory 0) ⊎ (answer ≡ refused cause.Store 0)

@@ -15,7 +15,7 @@ use Rattle.zarr_run_meaning.specs.Tables.{Table}
 use Rattle.zarr_run_meaning.specs.Tight.{AsksRowMajor}
 use Rattle.zarr_run_meaning.specs.Worlds.{Held, World, held_at, with_order, WithTable, is_row_major}
 use Rattle.zarr_run_meaning.proofs.Arrays.{Stayed, at_path, near, apart, held_at-path, held_at-later, held_at-more, held_at-ordered, held_before, free_none}
-use Rattle.zarr_run_meaning.proofs.Effects.{at_cases, held_cases}
+use Rattle.zarr_run_meaning.proofs.Effects.{at_cases, create_cases, held_cases}
 
 -- another path has the array that it had
 other_order : (p q : List ℕ) (order : SubchunkWriteOrder) (w : List Held) → q ≢ p → held_at q (with_order p order w) ≡ held_at q w
@@ -67,7 +67,9 @@ pub step_begun : (reads : ReadsCodecs) (old new : World) (request : Request) (an
 step_begun reads old new (create p document order) done s = creates p document order refl refl s.0
 step_begun reads old new (create p document order) (cells payload) s = absurd s
 step_begun reads old new (create p document order) (compacted changed) s = absurd s
-step_begun reads old new (create p document order) (refused c n) s = whole reads old new p (create p document order) c n s (λ r. r.1)
+step_begun reads old new (create p document order) (refused c n) s =
+    let q : Request = create p document order in
+    create_cases reads p document order c n old new (Begun reads q (refused c n) old new) s (stays reads old new q (refused c n) c n) (λ l at. same_arrays reads old new q (refused c n) l.arrays)
 step_begun reads old new (reopen p order) done s = reopens p order refl refl s.0
 step_begun reads old new (reopen p order) (cells payload) s = absurd s
 step_begun reads old new (reopen p order) (compacted changed) s = absurd s

@@ -10,10 +10,9 @@ use Rattle.serde_json.specs.Find.{get_member, as_object}
 use Rattle.zarr_grids_boxes.specs.Boxes.{Region, product, places, place_at, is_in_box, share_place}
 use Rattle.zarr_grids_boxes.proofs.InBox.{in_box-place_at, ravel-place_at}
 use Rattle.zarr_grids_boxes.proofs.Sharing.{share_place-of}
-use Rattle.zarr_grids_chunks.specs.Grids.{Grid, IsInGrid, intersects}
+use Rattle.zarr_grids_chunks.specs.Grids.{intersects}
 use Rattle.zarr_grids_configurations.specs.Configurations.{configuration_in}
 use Rattle.zarr_grids_configurations.specs.Grids.{grid_in}
-use Rattle.zarr_grids_cover.proofs.ChunkBoxes.{chunk_box-rank}
 use Rattle.zarr_grids_keys.specs.EncodingMetadata.{keys_in}
 use Rattle.zarr_grids_metadata.specs.ExtensionPoints.{ExtensionPoint, extension_point, configuration_members}
 use Rattle.zarr_grids_metadata.specs.Members.{has_only}
@@ -24,19 +23,19 @@ use Rattle.zarr_codecs_types.specs.Metadata.{Row, rows, type_named, is_optional_
 use Rattle.zarr_codecs_metadata.specs.Chains.{ReadsCodecs}
 use Rattle.zarr_array_meaning.specs.Boxes.{IsRead, cell_of_box}
 use Rattle.zarr_array_meaning.specs.Chunks.{number_in, stored_at}
-use Rattle.zarr_array_meaning.specs.Documents.{Document, Metadata, fields_in, read_members, read_metadata, read_document}
+use Rattle.zarr_array_meaning.specs.Documents.{Document, Metadata, fields_in, read_members, version_3_of, read_metadata, read_document}
 use Rattle.zarr_array_meaning.specs.declared.error.DocumentError.TheVariants.{DataTypes}
 use Rattle.zarr_array_meaning.specs.Parts.{codecs_in, fill_in, dimension_names_in}
 use Rattle.zarr_array_meaning.specs.Standing.{IsGood}
 use Rattle.zarr_array_meaning.specs.StoreMaps.{StoreMap}
 use Rattle.zarr_array_meaning.proofs.Showing.{first_cell, length_listed, listed_at, each_inside, each_place}
 use Rattle.zarr_array_meaning.proofs.ShownValues.{stored_value}
-use Rattle.zarr_run_meaning.specs.Causes.{IsTarget}
 use Rattle.zarr_run_meaning.specs.Laws.{HasTables, RunsPrint, ReadsPrint}
-use Rattle.zarr_run_meaning.specs.Printing.{has_text, is_printed, PrintsValues, IsFormed}
-use Rattle.zarr_run_meaning.specs.Requests.{Request, Answer, Target, in_box, in_chunk}
+use Rattle.zarr_run_meaning.specs.Printing.{has_text, is_printed, PrintsValues}
+use Rattle.zarr_run_meaning.specs.Requests.{Request, Answer}
 use Rattle.zarr_run_meaning.specs.Runs.{Run}
 use Rattle.zarr_run_meaning.specs.Worlds.{World}
+use Rattle.zarr_run_meaning.proofs.Apart.{IsFilled, target_filled}
 use Rattle.zarr_run_meaning.proofs.Documents.{bind_ok, then_ok, ok_some, ok_same}
 use Rattle.zarr_run_meaning.proofs.Frames.{steps_show}
 
@@ -155,7 +154,8 @@ document_prints : (reads : ReadsCodecs) (d : Data) (document : Document) → rea
 document_prints reads d document h =
     let whole = bind_ok (read_metadata reads d) _ document h in
     let members = bind_ok (ok_or (as_object d) _) _ whole.0 (then_ok _ _ whole.0 (then_ok _ _ whole.0 whole.1)) in
-    subst (λ (x : Document). PrintsValues x.elements.type) (ok_same whole.0.document document whole.2) (members_print reads members.0 whole.0 members.2)
+    let version_3 = bind_ok (version_3_of members.0) _ whole.0 members.2 in
+    subst (λ (x : Document). PrintsValues x.elements.type) (ok_same whole.0.document document whole.2) (members_print reads version_3.0 whole.0 version_3.2)
 
 run_shows : (reads : ReadsCodecs) (old new : World) (requests : List Request) (answers : List Answer) → HasTables reads old → Run reads old requests answers new → HasTables reads new
 run_shows reads old new [] [] tables r = subst (HasTables reads) (sym r) tables
@@ -169,17 +169,6 @@ runs_print reads store count requests answers new r path h held =
     document_prints reads h.tree h.document (tables path h held).1
 
 -- ---- what is read
-
--- a box has a length for each start, and each place of it lies in a chunk in the grid
-record IsFilled (grid : Grid) (box : Region) : Type 0 where
-  formed : length box.start ≡ length box.shape
-  covered : (place : List ℕ) → is_in_box box.start box.shape place ≡ true → (chunk : List ℕ) × (other : Region) × IsInGrid grid chunk other × (is_in_box other.start other.shape place ≡ true)
-
-target_filled : (grid : Grid) (target : Target) (box : Region) → IsFormed target → IsTarget grid target box → IsFilled grid box
-target_filled grid (in_box region) box formed is = subst (IsFilled grid) (sym is.0) (record { formed = formed; covered = is.1.covered })
-target_filled grid (in_chunk chunk) box formed is =
-    let rank = chunk_box-rank grid chunk box is.has_box in
-    record { formed = rank.0 ∙ sym rank.1; covered = λ place inside. (chunk, box, is, inside) }
 
 module _ (path : List ℕ) (document : Document) (store : StoreMap) (box : Region) (values : List Cell) (good : IsGood document) (filled : IsFilled document.grid box) (reading : IsRead path document store box values) where
   abbrev cell_there : List ℕ → Cell

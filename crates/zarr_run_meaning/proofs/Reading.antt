@@ -1,5 +1,5 @@
 -- What is read in a sound world.
-use Rattle.std.proofs.Common.{◌≡◌, ◌∙◌, ℕ, Bool, List, [], ◌∷◌, map, length, refl, sym, ap, subst, ⊎_elim, true, false, Option, Some, None, is_some}
+use Rattle.std.proofs.Common.{◌≡◌, ◌∙◌, ◌⊎◌, ℕ, Bool, List, [], ◌∷◌, map, length, refl, sym, ap, subst, ⊎_elim, true, false, Option, Some, None, is_some}
 use Rattle.std.specs.Prelude.{nat_lt, ◌&&◌}
 use Rattle.std.proofs.lemmas.Bool.{lt-ltb, false≢true, MatchBool-at_true, MatchBool-at_false}
 use Rattle.std.proofs.lemmas.Option.{none-some, same_Some}
@@ -15,6 +15,7 @@ use Rattle.zarr_codecs_meaning.specs.Types.{Cell}
 use Rattle.zarr_codecs_meaning.proofs.Chunks.{stored_part, stored_decoded}
 use Rattle.zarr_sharding_values.proofs.ChainCompaction.{standing_undamaged}
 use Rattle.zarr_codecs_metadata.specs.Chains.{ReadsCodecs}
+use Rattle.zarr_codecs_traits.proofs.Damage.{decoded_intact}
 use Rattle.zarr_codecs_options.specs.declared.codec_options.CodecOptions.{CodecOptions}
 use Rattle.zarr_array_meaning.specs.Boxes.{IsDamagedIn, IsUnfitIn}
 use Rattle.zarr_array_meaning.specs.Chunks.{number_in, stored_at, fits_box, decoded_at, ReadsCell, IsNthIntersecting}
@@ -22,9 +23,9 @@ use Rattle.zarr_array_meaning.specs.Documents.{Document}
 use Rattle.zarr_array_meaning.specs.Standing.{ChunkStandsAt, IsLossless, IsGood, AreValues}
 use Rattle.zarr_array_meaning.specs.StoreMaps.{StoreMap}
 use Rattle.zarr_array_meaning.specs.Texts.{HasDocument}
-use Rattle.zarr_array_meaning.specs.Writing.{IsPartDamaged, is_into_shard, HasSliceOutside}
+use Rattle.zarr_array_meaning.specs.Writing.{IsPartDamaged, is_into_shard, LacksRoom, StopsInto, shared_numbers}
 use Rattle.zarr_array_meaning.proofs.Showing.{are_cells, listed_at}
-use Rattle.zarr_array_meaning.proofs.TakenParts.{takes_decoded}
+use Rattle.zarr_array_meaning.proofs.TakenParts.{opens_decoded, takes_decoded}
 use Rattle.zarr_run_meaning.specs.declared.cause.Cause.TheVariants as cause
 use Rattle.zarr_run_meaning.specs.Causes.{ReopenRefuses, IsNotCompacted, IsNotRewritten}
 use Rattle.zarr_run_meaning.specs.Laws.{NeverDamaged, AloneUndamaged, ReadsFit}
@@ -57,27 +58,36 @@ module _ (path : List ℕ) (document : Document) (store : StoreMap) (chunk : Lis
 -- ---- nothing is damaged
 
 module _ (reads : ReadsCodecs) (store : StoreMap) (h : Held) (good : ReadsGood reads) (sound : IsSoundAt reads store h) where
-  -- what stands is no shard with a slice outside its data part
-  none_outside : (chunk : List ℕ) (box : Region) (o : Option (List ℕ)) → fits_box h.document box ≡ true → IsStored h.document.chain h.document.elements box.shape o (map (cell h.document.elements.fill h.table) (places box.start box.shape)) → HasSliceOutside h.document box o → ⊥
-  none_outside chunk box None fit stands outside = outside
-  none_outside chunk box (Some value) fit stands outside =
+  -- what stands stops no write of a part of it into its shard: it opens, has lost nothing, and is no shard with a slice outside its data part
+  none_stopped : (region box : Region) (o : Option (List ℕ)) → fits_box h.document box ≡ true → chunk_decoded h.document.chain h.document.elements box.shape o ≡ Some (map (cell h.document.elements.fill h.table) (places box.start box.shape))
+      → IsStored h.document.chain h.document.elements box.shape o (map (cell h.document.elements.fill h.table) (places box.start box.shape)) → StopsInto h.document region box o → ⊥
+  none_stopped region box None fit is stands stops = stops
+  none_stopped region box (Some value) fit is stands stops =
       let cells = map (cell h.document.elements.fill h.table) (places box.start box.shape) in
       let stood : Stands h.document.chain h.document.elements box.shape value cells = MatchBool-at_true _ _ fit stands in
-      standing_undamaged standing_slices h.document.chain h.document.elements box.shape value cells stood outside
+      ⊎_elim
+      (λ closed. false≢true (sym closed ∙ opens_decoded h.document box (Some value) cells fit is))
+      (λ more. ⊎_elim (decoded_intact h.document.chain h.document.elements box.shape value (shared_numbers region box) cells is) (standing_undamaged standing_slices h.document.chain h.document.elements box.shape value cells stood) more)
+      stops
 
-  no_part_damaged : (region : Region) (options : CodecOptions) (n : ℕ) (chunk : List ℕ) (box : Region) → IsNthIntersecting h.document.grid region n chunk box → IsPartDamaged h.path h.document store region options chunk box → ⊥
-  no_part_damaged region options n chunk box nth damaged = ⊎_elim
-      (λ into. ⊎_elim (λ lost. none-some _ (sym lost ∙ decoded)) (none_outside chunk box stored damaged.fit (sound.stands chunk box below)) (MatchBool-at_true _ _ into damaged.lost))
-      (λ whole. false≢true (sym (MatchBool-at_false _ _ whole damaged.lost) ∙ takes_decoded h.document options region box stored (map (cell h.document.elements.fill h.table) (places box.start box.shape)) damaged.fit decoded))
-      (told (is_into_shard h.document options region box)) where
-        stored : Option (List ℕ)
-        stored = stored_at h.path h.document store chunk
+  -- nor is there no room behind it
+  no_part_damaged : (region : Region) (values : List Cell) (options : CodecOptions) (n : ℕ) (chunk : List ℕ) (box : Region) → IsNthIntersecting h.document.grid region n chunk box
+      → IsPartDamaged h.path h.document store region options chunk box ⊎ LacksRoom h.path h.document store region values options chunk box → ⊥
+  no_part_damaged region values options n chunk box nth damaged = ⊎_elim part (λ (no : LacksRoom h.path h.document store region values options chunk box). none-some _ (sym no.undecoded ∙ decoded)) damaged where
+    stored : Option (List ℕ)
+    stored = stored_at h.path h.document store chunk
 
-        below : IsInGrid h.document.grid chunk box
-        below = let among = listed_below h.document.grid region chunk (number_listed _ n chunk nth.listed) in record { below = among.1.below; has_box = nth.has_box }
+    below : IsInGrid h.document.grid chunk box
+    below = let among = listed_below h.document.grid region chunk (number_listed _ n chunk nth.listed) in record { below = among.1.below; has_box = nth.has_box }
 
-        decoded : chunk_decoded h.document.chain h.document.elements box.shape stored ≡ Some (map (cell h.document.elements.fill h.table) (places box.start box.shape))
-        decoded = standing_decoded h.path h.document store chunk box (cell h.document.elements.fill h.table) (good h.tree h.document sound.says) sound.lossless sound.values below (sound.stands chunk box below)
+    decoded : chunk_decoded h.document.chain h.document.elements box.shape stored ≡ Some (map (cell h.document.elements.fill h.table) (places box.start box.shape))
+    decoded = standing_decoded h.path h.document store chunk box (cell h.document.elements.fill h.table) (good h.tree h.document sound.says) sound.lossless sound.values below (sound.stands chunk box below)
+
+    part : IsPartDamaged h.path h.document store region options chunk box → ⊥
+    part is = ⊎_elim
+        (λ into. none_stopped region box stored is.fit decoded (sound.stands chunk box below) (MatchBool-at_true _ _ into is.lost))
+        (λ whole. false≢true (sym (MatchBool-at_false _ _ whole is.lost) ∙ takes_decoded h.document options region box stored (map (cell h.document.elements.fill h.table) (places box.start box.shape)) is.fit decoded))
+        (told (is_into_shard h.document options region box))
 
   none_damaged : (region : Region) → IsDamagedIn h.path h.document store region → ⊥
   none_damaged region damaged =
@@ -131,7 +141,7 @@ module _ (reads : ReadsCodecs) (old new : World) (n : ℕ) (good : ReadsGood rea
     go : (o : Option Held) → held_at path old.arrays ≡ o → RefusesHeld o (RefusesWrite target given options) cause.Damage n old new → ⊥
     go None e r = r
     go (Some h) e r = ⊎_elim (λ whole. whole.0) (λ (first : WritesFirst h target given options cause.Damage n old new).
-        no_part_damaged reads old.store h good (sound h e) first.box options n first.stops.chunk first.stops.box first.stops.nth first.stops.refuses) r
+        no_part_damaged reads old.store h good (sound h e) first.box first.values options n first.stops.chunk first.stops.box first.stops.nth first.stops.refuses) r
   undamaged (read path target options) sound s = go (held_at path old.arrays) refl s.1 where
     go : (o : Option Held) → held_at path old.arrays ≡ o → RefusesHeld o (RefusesRead target) cause.Damage n old new → ⊥
     go None e r = r

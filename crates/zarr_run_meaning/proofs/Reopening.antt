@@ -1,52 +1,48 @@
 -- A store that a session leaves, opened by another one.
-use Rattle.std.proofs.Common.{◌≡◌, ◌∙◌, ◌⊎◌, inl, inr, ⊎_elim, ℕ, true, List, [], ◌∷◌, ◌++◌, refl, sym, ap, subst, Option, Some, None, Result, Ok, IsErr, IsUtf8}
+use Rattle.std.proofs.Common.{◌≡◌, ◌∙◌, ◌⊎◌, inl, inr, ⊎_elim, ℕ, Bool, true, false, if◌then◌else◌, List, [], ◌∷◌, ◌++◌, refl, sym, ap, subst, Option, Some, None, Result, Ok, IsErr}
 use Rattle.std.specs.FinMap.{get}
 use Rattle.std.proofs.lemmas.Bool.{false≢true}
 use Rattle.std.proofs.lemmas.Option.{none-some, same_Some}
 use Rattle.serde_json.specs.Data.{Data}
-use Rattle.serde_json.specs.Read.{read}
 use Rattle.zarr_grids_boxes.specs.Boxes.{Region, is_in_box}
 use Rattle.zarr_grids_chunks.specs.Grids.{IsInGrid}
 use Rattle.zarr_grids_keys.specs.Documents.{document_key}
 use Rattle.zarr_grids_keys.specs.Paths.{is_node_path}
-use Rattle.zarr_grids_keys.specs.declared.document_name.DocumentName.TheVariants.{ZarrJson}
+use Rattle.zarr_grids_keys.specs.declared.document_name.DocumentName.TheVariants.{ZarrJson, ZArray}
 use Rattle.zarr_codecs_meaning.specs.Types.{is_value}
 use Rattle.zarr_codecs_metadata.specs.Chains.{ReadsCodecs}
 use Rattle.zarr_codecs_options.specs.declared.subchunk_write_order.SubchunkWriteOrder.{SubchunkWriteOrder}
+use Rattle.zarr_array_v2.specs.Versions.{is_version_2}
 use Rattle.zarr_array_meaning.specs.Documents.{read_document}
 use Rattle.zarr_array_meaning.specs.StoreMaps.{StoreMap}
-use Rattle.zarr_array_meaning.specs.Texts.{HasDocument}
+use Rattle.zarr_array_meaning.specs.Texts.{HasDocument, version_key}
+use Rattle.zarr_array_meaning.proofs.Stored.{one_document}
 use Rattle.zarr_run_meaning.specs.declared.cause.Cause.{Cause}
 use Rattle.zarr_run_meaning.specs.declared.cause.Cause.TheVariants as cause
-use Rattle.zarr_run_meaning.specs.Causes.{ReopenRefuses, IsChunkKeyIn, HasNoneAt, IsNoDocumentIn}
+use Rattle.zarr_run_meaning.specs.Causes.{ReopenRefuses, IsChunkKeyIn, HasNoneAt, HasNoDocumentIn, IsFoundIn}
 use Rattle.zarr_run_meaning.specs.Changes.{Opens}
 use Rattle.zarr_run_meaning.specs.Laws.{SameCells, HasCells, IsReopenedAs, ReopensAlike, ReopenedSound, ReopenedOwned}
 use Rattle.zarr_run_meaning.specs.Requests.{reopen, Answer, done, cells, compacted, refused}
-use Rattle.zarr_run_meaning.specs.Sound.{OwnsKey, IsSoundAt, ReadsGood}
+use Rattle.zarr_run_meaning.specs.Sound.{OwnsKey, IsOwnKey, IsSoundAt, ReadsGood}
 use Rattle.zarr_run_meaning.specs.Steps.{RefusesAt, Step}
 use Rattle.zarr_run_meaning.specs.Tables.{Table, cell}
 use Rattle.zarr_run_meaning.specs.Worlds.{Held, World, held_at, IsTableAt}
 use Rattle.zarr_run_meaning.proofs.Arrays.{held_at-path, held_own, held_at-new}
 use Rattle.zarr_run_meaning.proofs.Reading.{standing_reads}
 use Rattle.zarr_run_meaning.proofs.Standing.{stands_alike}
+use Rattle.zarr_run_meaning.proofs.Stored.{stored_text}
 
 -- ---- the document that is stored
 
 ok_once : {A E : Type 0} (r : Result A E) (x y : A) → r ≡ Ok x → r ≡ Ok y → x ≡ y
 ok_once r x y e f = cc
 
--- one tree is stored at a path
-tree_once : (path : List ℕ) (tree other : Data) (store : StoreMap) → HasDocument path tree store → HasDocument path other store → tree ≡ other
-tree_once path tree other store d e =
-    let text = same_Some d.text e.text (sym d.found ∙ e.found) in
-    same_Some tree other (sym d.reads ∙ ap read text ∙ e.reads)
-
 ok_no_error : {A E : Type 0} (r : Result A E) (x : A) → r ≡ Ok x → IsErr r → ⊥
 ok_no_error {A} {E} r x e h = let P : Result A E → Type 0 = λ s. IsErr s in false≢true (subst P e h)
 
 -- ---- a path that is opened again
 
-module _ (reads : ReadsCodecs) (closed old new : World) (path : List ℕ) (h : Held) (order : SubchunkWriteOrder) (good : ReadsGood reads) (found : held_at path closed.arrays ≡ Some h) (there : IsSoundAt reads closed.store h) (same : old.store ≡ closed.store) (none : held_at path old.arrays ≡ None) (other : ¬ IsChunkKeyIn old.arrays (document_key path ZarrJson)) where
+module _ (reads : ReadsCodecs) (closed old new : World) (path : List ℕ) (h : Held) (order : SubchunkWriteOrder) (good : ReadsGood reads) (found : held_at path closed.arrays ≡ Some h) (there : IsSoundAt reads closed.store h) (same : old.store ≡ closed.store) (none : held_at path old.arrays ≡ None) (other : ¬ IsChunkKeyIn old.arrays (version_key path h.tree)) where
   at : path ≡ h.path
   at = held_at-path path closed.arrays h found
 
@@ -57,10 +53,33 @@ module _ (reads : ReadsCodecs) (closed old new : World) (path : List ℕ) (h : H
       let Q : StoreMap → Type 0 = λ s. HasDocument h.path h.tree s in
       subst P (sym at) (subst Q (sym same) there.stored)
 
+  -- beside a document of version 2 none of version 3 is stored
+  alone : is_version_2 h.tree ≡ true → get old.store (document_key path ZarrJson) ≡ None
+  alone older = ap (λ m. get m (document_key path ZarrJson)) same ∙ ap (λ p. get closed.store (document_key p ZarrJson)) at ∙ there.first older
+
+  -- so it is the one that is found there
+  the_document : (tree : Data) → IsFoundIn old.arrays path tree old.store → tree ≡ h.tree
+  the_document tree found_in = go (is_version_2 tree) (is_version_2 h.tree) refl refl where
+    by : Bool → List ℕ
+    by b = document_key path (if b then ZArray else ZarrJson)
+
+    -- a text stands under the key of each version that a document has
+    text : (d : Data) (b : Bool) → HasDocument path d old.store → is_version_2 d ≡ b → get old.store (by b) ≡ None → ⊥
+    text d b has is none = let t = stored_text path d old.store has in none-some t.0 (sym none ∙ ap (λ v. get old.store (by v)) (sym is) ∙ t.1)
+
+    go : (a b : Bool) → is_version_2 tree ≡ a → is_version_2 h.tree ≡ b → tree ≡ h.tree
+    go true true a b = one_document path tree h.tree old.store (a ∙ sym b) found_in.stored stored
+    go false false a b = one_document path tree h.tree old.store (a ∙ sym b) found_in.stored stored
+    go false true a b = absurd (text tree false found_in.stored a (alone b))
+    go true false a b = absurd (⊎_elim
+        (λ none_at. text h.tree false stored b none_at)
+        (λ chunk. let P : List ℕ → Type 0 = λ key. IsChunkKeyIn old.arrays key in other (subst P (sym (ap by b)) chunk))
+        (found_in.first a))
+
   opened_alike : Opens reads path order old new → IsReopenedAs h order done new
   opened_alike o = record { is = refl; table = o.begins.table; held = again; cells = shown } where
     tree : o.tree ≡ h.tree
-    tree = tree_once path o.tree h.tree old.store o.stored stored
+    tree = the_document o.tree o.found
 
     document : o.meaning ≡ h.document
     document = ok_once (read_document reads o.tree) o.meaning h.document o.opens (ap (read_document reads) tree ∙ there.says)
@@ -89,20 +108,21 @@ module _ (reads : ReadsCodecs) (closed old new : World) (path : List ℕ) (h : H
   Alike answer = IsReopenedAs h order answer new ⊎ (answer ≡ refused cause.Memory 0) ⊎ (answer ≡ refused cause.Store 0)
 
   -- the document stands there, and is no chunk
-  stored_there : HasNoneAt old.arrays old.store (document_key path ZarrJson) → ⊥
-  stored_there none_at = ⊎_elim (λ e. none-some stored.text (sym e ∙ stored.found)) other none_at
+  stored_there : HasNoneAt old.arrays old.store (version_key path h.tree) → ⊥
+  stored_there none_at = let t = stored_text path h.tree old.store stored in ⊎_elim (λ e. none-some t.0 (sym e ∙ t.1)) other none_at
+
+  none_there : HasNoDocumentIn old.arrays path old.store → ⊥
+  none_there none_in = stored_there (one (is_version_2 h.tree)) where
+    one : (b : Bool) → HasNoneAt old.arrays old.store (document_key path (if b then ZArray else ZarrJson))
+    one true = none_in.1
+    one false = none_in.0
 
   -- no cause but a refused call is left
   refused_open : (c : Cause) (n : ℕ) → ReopenRefuses reads old path None c → n ≡ 0 → Alike (refused c n)
-  refused_open cause.NoArray n r zero = absurd (stored_there r.0)
-  refused_open cause.Document n r zero = absurd (⊎_elim
-      (λ (none_in : IsNoDocumentIn reads old.arrays path old.store).
-      let no = none_in.0 in
-      let text = same_Some no.0 stored.text (sym no.1 ∙ stored.found) in
-      let P : List ℕ → Type 0 = λ t. IsUtf8 t in
-      ok_no_error (read_document reads h.tree) h.document there.says (no.2 h.tree (subst P (sym text) stored.utf8) (ap read text ∙ stored.reads)))
-      (λ older. stored_there older.0)
-      r)
+  refused_open cause.NoArray n r zero = absurd (none_there r)
+  refused_open cause.Document n r zero =
+      let is : IsFoundIn old.arrays path h.tree old.store = record { stored = stored; other = other; first = λ older. inl (alone older) } in
+      absurd (ok_no_error (read_document reads h.tree) h.document there.says (r.none h.tree is))
   refused_open cause.Store n r zero = inr (inr (ap (refused cause.Store) zero))
   refused_open c n r zero = absurd r
 
@@ -131,6 +151,7 @@ again_sound reads closed new h order table s same cells_again =
       node = s.node;
       says = s.says;
       stored = s.stored;
+      first = s.first;
       lossless = s.lossless;
       values = λ chunk box place below inside. ap (is_value h.document.elements.type) (cells_again chunk box place below inside) ∙ s.values chunk box place below inside;
       stands = λ chunk box below. stands_alike h.path h.document closed chunk box (cell h.document.elements.fill h.table) (cell h.document.elements.fill table) below
@@ -155,8 +176,9 @@ own_again g before h key same is own =
     subst P (sym is) (same_keys (subst P same own))
 
 pub reopened_owned : ReopenedOwned
-reopened_owned closed new key again all owned value e =
-    let own = owned value (ap (λ m. get m key) (sym again.store) ∙ e) in
-    let h = all own.0.path own.0 own.1 in
-    let r = again.each own.0.path h.0 h.1 in
-    (h.0, held_own own.0.path new.arrays h.0 h.1, own_again own.0 r.0 h.0 key (same_Some own.0 r.0 (sym own.1 ∙ r.1)) r.2.0 own.2)
+reopened_owned closed new key again all owned value e = ⊎_elim (λ own. inl (mine own)) inr (owned value (ap (λ m. get m key) (sym again.store) ∙ e)) where
+  mine : IsOwnKey closed.arrays key → IsOwnKey new.arrays key
+  mine own =
+      let h = all own.0.path own.0 own.1 in
+      let r = again.each own.0.path h.0 h.1 in
+      (h.0, held_own own.0.path new.arrays h.0 h.1, own_again own.0 r.0 h.0 key (same_Some own.0 r.0 (sym own.1 ∙ r.1)) r.2.0 own.2)

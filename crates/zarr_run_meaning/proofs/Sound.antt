@@ -1,12 +1,13 @@
 -- A step leads from a sound world to a sound one.
-use Rattle.std.proofs.Common.{◌≡◌, ◌∙◌, ⊎_elim, ℕ, false, List, [], ◌∷◌, ◌++◌, sym, ap, subst, Some}
-use Rattle.std.specs.FinMap.{insert}
+use Rattle.std.proofs.Common.{◌≡◌, ◌∙◌, inl, ⊎_elim, ℕ, true, false, List, [], ◌∷◌, ◌++◌, refl, sym, ap, subst, Option, Some, None}
 use Rattle.std.specs.Prelude.{All}
 use Rattle.std.proofs.lemmas.Bool.{false≢true}
 use Rattle.std.proofs.lemmas.List.Elements.{All-head, All-tail, All-nil, All-cons}
+use Rattle.std.proofs.lemmas.Option.{none-some}
 use Rattle.serde_json.specs.Data.{Data}
 use Rattle.zarr_grids_keys.specs.Documents.{document_key}
-use Rattle.zarr_grids_keys.specs.declared.document_name.DocumentName.TheVariants.{ZarrJson}
+use Rattle.zarr_grids_keys.specs.Paths.{is_node_path}
+use Rattle.zarr_grids_keys.specs.declared.document_name.DocumentName.TheVariants.{ZarrJson, ZArray}
 use Rattle.zarr_codecs_meaning.specs.Types.{Cell}
 use Rattle.zarr_codecs_metadata.specs.Chains.{ReadsCodecs}
 use Rattle.zarr_codecs_options.specs.declared.subchunk_write_order.SubchunkWriteOrder.{SubchunkWriteOrder}
@@ -16,16 +17,17 @@ use Rattle.zarr_run_meaning.specs.Changes.{Creates, Reopens, Opens}
 use Rattle.zarr_run_meaning.specs.Laws.{StepsSound, RunsSound, OwnedBegins, OwnedRunsSound}
 use Rattle.zarr_run_meaning.specs.Requests.{Request, create, reopen, Answer, done}
 use Rattle.zarr_run_meaning.specs.Runs.{Run}
-use Rattle.zarr_run_meaning.specs.Sound.{IsSoundAt, IsSound, IsStoredAs, BeginsSound, SoundRun, AllAskLossless, AsksOwned, ReadsGood}
+use Rattle.zarr_run_meaning.specs.Sound.{AreApart, IsSoundAt, IsSound, IsStoredAs, BeginsSound, SoundRun, AllAskFaithful, AsksOwned, ReadsGood}
 use Rattle.zarr_run_meaning.specs.Steps.{Step}
 use Rattle.zarr_run_meaning.specs.Tables.{Table}
 use Rattle.zarr_run_meaning.specs.Worlds.{Held, World, held_at, is_taken, with_order, WithTable}
-use Rattle.zarr_run_meaning.proofs.Arrays.{Stayed, at_path, near, apart, held_at-path, held_once, held_at-more, held_at-ordered, held_before, apart_more, apart_ordered, apart_after, free_of, free_none, unrelated_paths}
-use Rattle.zarr_run_meaning.proofs.Begun.{no_chunks_are_fill, created_array, created_there, opened_array, opened_there}
-use Rattle.zarr_run_meaning.proofs.Effects.{Effect, kept, created, reordered, opened, wrote, erased, stored_anew, Wrote, Erased, step_effect}
-use Rattle.zarr_run_meaning.proofs.Keys.{others_kept, put_kept}
+use Rattle.zarr_run_meaning.proofs.Arrays.{AreNodes, Stayed, at_path, near, apart, held_at-path, held_once, held_at-more, held_at-ordered, held_before, apart_more, apart_ordered, apart_after, free_of, free_none, unrelated_paths}
+use Rattle.zarr_run_meaning.proofs.Begun.{no_chunks_are_fill, created_array, created_put, created_there, opened_array, opened_there}
+use Rattle.zarr_run_meaning.proofs.Effects.{LeftAttributes, left_put, Effect, kept, left, created, reordered, opened, wrote, erased, stored_anew, Wrote, Erased, step_effect, held_effect}
+use Rattle.zarr_run_meaning.proofs.Keys.{others_kept}
 use Rattle.zarr_run_meaning.proofs.Owning.{steps_own, owned_has_no_chunks, opens_none}
 use Rattle.zarr_run_meaning.proofs.Standing.{sound_under, written_sound, erased_sound, anew_sound}
+use Rattle.zarr_run_meaning.proofs.Stored.{PutsDocuments, put_kept}
 use Rattle.zarr_run_meaning.proofs.StoredAnew.{StoredAnew}
 
 -- a world with a sound one's arrays and store
@@ -53,16 +55,30 @@ more_sound reads old new store b before sound free there arrays is =
           (λ at. before q h at)
           (held_at-more q old.arrays b h (free_none b.path old.arrays free) e)
 
+sound_nodes : (reads : ReadsCodecs) (world : World) → IsSound reads world → AreNodes world.arrays
+sound_nodes reads world sound q g at = (sound.each q g at).node
+
+module _ (reads : ReadsCodecs) (old new : World) (sound : IsSound reads old) where
+  -- where only keys of documents at a free path changed, each array is sound still
+  still : (p : List ℕ) → is_node_path p ≡ true → is_taken p old.arrays ≡ false → PutsDocuments p old.store new.store → AreSoundOver reads old.arrays new.store
+  still p node free put q h at = let s = sound.each q h at in sound_under reads old.store new.store h (put_kept p h.path old.store new.store put node s.node (free_of p q old.arrays h free at)) s
+
+  -- where only the attributes of a free path were stored
+  left_sound : LeftAttributes old new → IsSound reads new
+  left_sound l = record {
+    apart = let P : List Held → Type 0 = λ hs. AreApart hs in subst P (sym l.arrays) sound.apart;
+    each = λ q h e. still l.path l.node l.free (left_put old new l) q h (sym (ap (held_at q) l.arrays) ∙ e);
+  }
+
 module _ (reads : ReadsCodecs) (old new : World) (path : List ℕ) (order : SubchunkWriteOrder) (good : ReadsGood reads) (sound : IsSound reads old) where
   created_sound : (document : Data) (c : Creates reads path document order old new) → (cells : List ℕ → Cell) × IsStoredAs path c.meaning old.store cells → IsSound reads new
   created_sound document c begins =
-      let put : StoreMap = insert old.store (document_key path ZarrJson) c.text in
-      more_sound reads old new put (created_array reads old new path document order c)
-      (λ q h at. let s = sound.each q h at in sound_under reads old.store put h (put_kept path h.path old.store c.text c.node s.node (free_of path q old.arrays h c.free at)) s)
-      sound c.free (created_there reads old new path document order c good begins) c.begins.holds c.stores
+      more_sound reads old new new.store (created_array reads old new path document order c)
+      (still reads old new sound path c.node c.free (created_put reads old new path document order c))
+      sound c.free (created_there reads old new path document order c good begins) c.begins.holds refl
 
   opened_sound : (o : Opens reads path order old new) → is_taken path old.arrays ≡ false → (cells : List ℕ → Cell) × IsStoredAs path o.meaning old.store cells → IsSound reads new
-  opened_sound o free begins = more_sound reads old new old.store (opened_array reads old new path order o) sound.each sound free (opened_there reads old new path order o good begins) o.begins.holds o.stores
+  opened_sound o free begins = more_sound reads old new old.store (opened_array reads old new path order o) sound.each sound free (opened_there reads old new path order o good (sound_nodes reads old sound) free begins) o.begins.holds o.stores
 
 -- ---- another write order
 
@@ -75,7 +91,7 @@ reordered_sound reads old new path order sound r = same_sound reads (record { ar
       let s = sound.each q g.0 g.1 in
       ⊎_elim
       (λ is. subst P (sym is) s)
-      (λ is. subst P (sym is) (record { node = s.node; says = s.says; stored = s.stored; lossless = s.lossless; values = s.values; stands = s.stands }))
+      (λ is. subst P (sym is) (record { node = s.node; says = s.says; stored = s.stored; first = s.first; lossless = s.lossless; values = s.values; stands = s.stands }))
       g.2
 
 -- ---- another table
@@ -123,10 +139,11 @@ module _ (reads : ReadsCodecs) (old new : World) (good : ReadsGood reads) (sound
 
   effect_sound : (request : Request) (answer : Answer) → BeginsSound reads old request answer → Effect reads request answer old new → IsSound reads new
   effect_sound request answer begins (kept arrays store) = same_sound reads old new sound arrays store
+  effect_sound request answer begins (left l) = left_sound reads old new sound l
   effect_sound request answer begins (created path document order such c) = created_sound reads old new path order good sound document c (such begins c.meaning c.opens)
   effect_sound request answer begins (reordered path order r) = reordered_sound reads old new path order sound r
   effect_sound request answer begins (opened path order such away o) =
-      let b = such begins o.tree o.meaning o.begins.free o.stored o.opens in
+      let b = such begins o.tree o.meaning o.begins.free o.found o.opens in
       opened_sound reads old new path order good sound o b.0 b.1
   effect_sound request answer begins (wrote w) = wrote_sound w
   effect_sound request answer begins (erased w) = all_erased_sound w
@@ -146,17 +163,22 @@ runs_sound reads old new (request ∷ requests) (answer ∷ answers) good sound 
 -- ---- where no key is foreign
 
 pub owned_begins : OwnedBegins
-owned_begins reads old new (create path document order) done good owned lossless sound s = λ meaning opens. (
+owned_begins reads old new (create path document order) done good owned faithful sound s = λ meaning opens. (
   λ place. meaning.elements.fill,
-  no_chunks_are_fill path meaning old.store (good document meaning opens) (lossless meaning opens) (owned_has_no_chunks reads old path meaning sound owned s.0.node s.0.free),
+  no_chunks_are_fill path meaning old.store (good document meaning opens) (faithful meaning opens).lossless (owned_has_no_chunks reads old path meaning sound owned s.0.node s.0.free (inl (faithful meaning opens).ends)),
 )
-owned_begins reads old new (reopen path order) done good owned lossless sound s = λ tree meaning none stored opens. absurd (opens_none reads old new path order sound owned none s)
-owned_begins reads old new request answer good owned lossless sound s = tt
+owned_begins reads old new (reopen path order) done good owned faithful sound s = λ tree meaning none found opens. let own = owned none in absurd ((opens_none reads old new path order sound own.0 own.1 none).0 s)
+owned_begins reads old new request answer good owned faithful sound s = tt
 
 -- what a command asks is owned still after a step
 pub asks_still : (reads : ReadsCodecs) (old mid : World) (request : Request) (answer : Answer) → Step reads old request answer mid → (other : Request) → AsksOwned old other → AsksOwned mid other
 asks_still reads old mid request answer s (create path document order) owned = λ name. steps_own reads old mid request answer _ s (owned name)
-asks_still reads old mid request answer s (reopen path order) owned = steps_own reads old mid request answer (document_key path ZarrJson) s owned
+asks_still reads old mid request answer s (reopen path order) owned = λ none. let own = owned (not_before (held_at path old.arrays) refl none) in
+    (steps_own reads old mid request answer (document_key path ZarrJson) s own.0, steps_own reads old mid request answer (document_key path ZArray) s own.1) where
+      -- what is held stays so
+      not_before : (o : Option Held) → held_at path old.arrays ≡ o → held_at path mid.arrays ≡ None → held_at path old.arrays ≡ None
+      not_before None e none = e
+      not_before (Some g) e none = let x = held_effect reads old mid request answer (step_effect reads old mid request answer s) path g e in absurd (none-some x.0 (sym none ∙ x.1))
 asks_still reads old mid request answer s other owned = tt
 
 pub all_still : (old mid : World) → ((other : Request) → AsksOwned old other → AsksOwned mid other) → (requests : List Request) → All (AsksOwned old) requests → All (AsksOwned mid) requests
@@ -165,20 +187,20 @@ all_still old mid still (request ∷ requests) owned =
     All-cons (AsksOwned mid) request requests (still request (All-head (AsksOwned old) request requests owned)) (all_still old mid still requests (All-tail (AsksOwned old) request requests owned))
 
 -- in such a run each array begins over chunks that stand for cells
-pub owned_run : (reads : ReadsCodecs) (old new : World) (requests : List Request) (answers : List Answer) → ReadsGood reads → All (AsksOwned old) requests → AllAskLossless reads requests answers
+pub owned_run : (reads : ReadsCodecs) (old new : World) (requests : List Request) (answers : List Answer) → ReadsGood reads → All (AsksOwned old) requests → AllAskFaithful reads requests answers
     → IsSound reads old → Run reads old requests answers new → SoundRun reads old requests answers new
-owned_run reads old new [] [] good owned lossless sound r = r
-owned_run reads old new [] (answer ∷ answers) good owned lossless sound r = absurd r
-owned_run reads old new (request ∷ requests) [] good owned lossless sound r = absurd r
-owned_run reads old new (request ∷ requests) (answer ∷ answers) good owned lossless sound r =
-    let begins = owned_begins reads old r.0 request answer good (All-head (AsksOwned old) request requests owned) lossless.0 sound r.1 in (
+owned_run reads old new [] [] good owned faithful sound r = r
+owned_run reads old new [] (answer ∷ answers) good owned faithful sound r = absurd r
+owned_run reads old new (request ∷ requests) [] good owned faithful sound r = absurd r
+owned_run reads old new (request ∷ requests) (answer ∷ answers) good owned faithful sound r =
+    let begins = owned_begins reads old r.0 request answer good (All-head (AsksOwned old) request requests owned) faithful.0 sound r.1 in (
       r.0,
       begins,
       r.1,
       owned_run reads r.0 new requests answers good
-          (all_still old r.0 (asks_still reads old r.0 request answer r.1) requests (All-tail (AsksOwned old) request requests owned)) lossless.1
+          (all_still old r.0 (asks_still reads old r.0 request answer r.1) requests (All-tail (AsksOwned old) request requests owned)) faithful.1
           (steps_sound reads old r.0 request answer good begins sound r.1) r.2,
     )
 
 pub owned_runs_sound : OwnedRunsSound
-owned_runs_sound reads old new requests answers good owned lossless sound r = runs_sound reads old new requests answers good sound (owned_run reads old new requests answers good owned lossless sound r)
+owned_runs_sound reads old new requests answers good owned faithful sound r = runs_sound reads old new requests answers good sound (owned_run reads old new requests answers good owned faithful sound r)

@@ -28,8 +28,9 @@ use Rattle.zarr_run_meaning.specs.Tables.{Table, cell}
 use Rattle.zarr_run_meaning.specs.Worlds.{Held, writes_exactly}
 use Rattle.zarr_run_meaning.proofs.Documents.{formed}
 use Rattle.zarr_run_meaning.proofs.Frames.{IsWritten, IsErased, written_cell, erased_cell}
-use Rattle.zarr_run_meaning.proofs.Keys.{AreBelow, KeepsUnder, chunk_kept, document_kept}
+use Rattle.zarr_run_meaning.proofs.Keys.{AreBelow, KeepsUnder, chunk_kept, documents_kept}
 use Rattle.zarr_run_meaning.proofs.Reading.{box_same}
+use Rattle.zarr_run_meaning.proofs.Stored.{document_stays, under_documents}
 use Rattle.zarr_run_meaning.proofs.StoredAnew.{KeepsCells}
 use Rattle.zarr_run_meaning.proofs.TableLemmas.{value_at}
 use Rattle.zarr_run_meaning.proofs.Tables.{unlisted_lies}
@@ -74,7 +75,8 @@ pub sound_under : (reads : ReadsCodecs) (old new : StoreMap) (h : Held) → Keep
 sound_under reads old new h same s = record {
   node = s.node;
   says = s.says;
-  stored = record { text = s.stored.text; found = same.under (document_name ZarrJson) ∙ s.stored.found; utf8 = s.stored.utf8; reads = s.stored.reads };
+  stored = document_stays h.path h.tree old new (under_documents h.path old new same) s.stored;
+  first = λ older. same.under (document_name ZarrJson) ∙ s.first older;
   lossless = s.lossless;
   values = s.values;
   stands = λ chunk box below. stands_same h.path h.document old new chunk box (cell h.document.elements.fill h.table) (same.under (encoded_key h.document.keys chunk)) (s.stands chunk box below);
@@ -86,7 +88,8 @@ with_table : (reads : ReadsCodecs) (old new : StoreMap) (h : Held) (chunks : Lis
 with_table reads old new h chunks table others s values stands = record {
   node = s.node;
   says = s.says;
-  stored = record { text = s.stored.text; found = document_kept h.path h.document chunks old new others ∙ s.stored.found; utf8 = s.stored.utf8; reads = s.stored.reads };
+  stored = document_stays h.path h.tree old new (documents_kept h.path h.document chunks old new others) s.stored;
+  first = λ older. documents_kept h.path h.document chunks old new others ZarrJson ∙ s.first older;
   lossless = s.lossless;
   values = values;
   stands = stands;

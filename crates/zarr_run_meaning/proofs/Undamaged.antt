@@ -30,4 +30,4 @@ runs_undamaged reads old new (first ∷ requests) (given ∷ answers) good sound
     runs_undamaged reads r.0 new requests answers good (steps_sound reads old r.0 first given good r.1 sound r.2) r.3 n request answer e f
 
 pub owned_runs_undamaged : OwnedRunsUndamaged
-owned_runs_undamaged reads old new requests answers good owned lossless sound r = runs_undamaged reads old new requests answers good sound (owned_run reads old new requests answers good owned lossless sound r)
+owned_runs_undamaged reads old new requests answers good owned faithful sound r = runs_undamaged reads old new requests answers good sound (owned_run reads old new requests answers good owned faithful sound r)

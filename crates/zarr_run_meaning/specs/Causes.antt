@@ -1,8 +1,7 @@
 -- When a cause may be answered: the conditions of each, where none before it in the command's order holds.
-use Rattle.std.specs.Prelude.{◌≡◌, ◌⊎◌, ℕ, ◌^◌, ◌<◌, ◌≤◌, List, length, slice_get, Bool, true, false, Option, Some, None, IsErr, IsOk, IsSome, IsUtf8}
+use Rattle.std.specs.Prelude.{◌≡◌, ◌⊎◌, ℕ, ◌^◌, ◌<◌, ◌≤◌, List, length, slice_get, Bool, true, false, Option, Some, None, IsErr, IsOk, IsSome}
 use Rattle.std.specs.FinMap.{get}
 use Rattle.serde_json.specs.Data.{Data}
-use Rattle.serde_json.specs.Read.{read}
 use Rattle.zarr_grids_boxes.specs.Boxes.{Region, product, is_in_box}
 use Rattle.zarr_grids_chunks.specs.Grids.{Grid, IsInGrid, AreInGrid, IsCovered, intersects}
 use Rattle.zarr_grids_keys.specs.Documents.{document_key}
@@ -18,14 +17,15 @@ use Rattle.zarr_sharding_changes.specs.Refusals.{CompactionRefused, CompactionTo
 use Rattle.zarr_codecs_metadata.specs.Chains.{ReadsCodecs}
 use Rattle.zarr_codecs_options.specs.declared.codec_options.CodecOptions.{CodecOptions}
 use Rattle.zarr_codecs_types.specs.Given.{GivenCells, given_in}
+use Rattle.zarr_array_v2.specs.Versions.{is_version_2}
 use Rattle.zarr_array_meaning.specs.Arrays.{Array, value_at}
 use Rattle.zarr_array_meaning.specs.Boxes.{IsDamagedIn, IsUnfitIn}
 use Rattle.zarr_array_meaning.specs.Chunks.{IsNthIntersecting, fits_box}
 use Rattle.zarr_array_meaning.specs.Documents.{Document, read_document}
 use Rattle.zarr_array_meaning.specs.Rewriting.{HasTooLargeKeyed, keyed_chunks}
 use Rattle.zarr_array_meaning.specs.StoreMaps.{StoreMap}
-use Rattle.zarr_array_meaning.specs.Texts.{HasDocument}
-use Rattle.zarr_array_meaning.specs.Writing.{IsPartDamaged, IsCodecRefused, IsOversized}
+use Rattle.zarr_array_meaning.specs.Texts.{HasDocument, version_key}
+use Rattle.zarr_array_meaning.specs.Writing.{IsPartDamaged, LacksRoom, IsCodecRefused, IsOversized}
 use Rattle.zarr_run_meaning.specs.declared.cause.Cause.{Cause}
 use Rattle.zarr_run_meaning.specs.declared.cause.Cause.TheVariants as cause
 use Rattle.zarr_run_meaning.specs.Requests.{Target, in_box, in_chunk}
@@ -93,17 +93,16 @@ HasSomeAt arrays store key = IsSome (get store key) × (¬ IsChunkKeyIn arrays k
 abbrev pub HasNoDocumentIn : List Held → List ℕ → StoreMap → Type 0
 HasNoDocumentIn arrays path store = HasNoneAt arrays store (document_key path ZarrJson) × HasNoneAt arrays store (document_key path ZArray)
 
--- what is stored under the key of a path's document is no text of a document that opens
-abbrev pub IsNoDocument : ReadsCodecs → List ℕ → StoreMap → Type 0
-IsNoDocument reads path store = (text : List ℕ) × (get store (document_key path ZarrJson) ≡ Some text) × ((tree : Data) → IsUtf8 text → read text ≡ Some tree → IsErr (read_document reads tree))
+-- a document is the one that a path has: it is stored there, and no chunk of an array that is held has its key; one of version 2 only where nothing is stored under `zarr.json`, a chunk of a held array aside
+pub record IsFoundIn (arrays : List Held) (path : List ℕ) (tree : Data) (store : StoreMap) : Type 0 where
+  pub stored : HasDocument path tree store
+  pub other : ¬ IsChunkKeyIn arrays (version_key path tree)
+  pub first : is_version_2 tree ≡ true → HasNoneAt arrays store (document_key path ZarrJson)
 
--- what is stored at a path is no document that opens, and no chunk of an array that is held
-abbrev pub IsNoDocumentIn : ReadsCodecs → List Held → List ℕ → StoreMap → Type 0
-IsNoDocumentIn reads arrays path store = IsNoDocument reads path store × (¬ IsChunkKeyIn arrays (document_key path ZarrJson))
-
--- a document of Zarr version 2 is stored at a path, and none of version 3: it is not opened so far
-abbrev pub HasOlderAlone : List Held → List ℕ → StoreMap → Type 0
-HasOlderAlone arrays path store = HasNoneAt arrays store (document_key path ZarrJson) × HasSomeAt arrays store (document_key path ZArray)
+-- something is stored under the key of a path's document, of Zarr version 3 or 2, and it is no document that opens
+pub record HasBadDocument (reads : ReadsCodecs) (arrays : List Held) (path : List ℕ) (store : StoreMap) : Type 0 where
+  pub some : HasSomeAt arrays store (document_key path ZarrJson) ⊎ HasSomeAt arrays store (document_key path ZArray)
+  pub none : (tree : Data) → IsFoundIn arrays path tree store → IsErr (read_document reads tree)
 
 -- ---- the causes of each command, once its path is a node path
 
@@ -112,13 +111,14 @@ abbrev pub CreateRefuses : ReadsCodecs → World → List ℕ → Data → Cause
 CreateRefuses reads world path document cause.PathTaken = (is_taken path world.arrays ≡ true) ⊎ ((is_taken path world.arrays ≡ false) × IsOk (read_document reads document) × HasSomeDocument path world.store)
 CreateRefuses reads world path document cause.Document = (is_taken path world.arrays ≡ false) × IsErr (read_document reads document)
 CreateRefuses reads world path document cause.Store = (is_taken path world.arrays ≡ false) × IsOk (read_document reads document)
+CreateRefuses reads world path document cause.Memory = (is_taken path world.arrays ≡ false) × IsOk (read_document reads document)
 CreateRefuses reads world path document c = ⊥
 
 -- a reopening: where an array is held at the path, another tree is stored or none; else no document is stored, or none that opens
 abbrev pub ReopenRefuses : ReadsCodecs → World → List ℕ → Option Held → Cause → Type 0
 ReopenRefuses reads world path (Some h) cause.DocumentChanged = (tree : Data) → HasDocument path tree world.store → ¬ SameTree tree h.tree
 ReopenRefuses reads world path None cause.NoArray = HasNoDocumentIn world.arrays path world.store
-ReopenRefuses reads world path None cause.Document = IsNoDocumentIn reads world.arrays path world.store ⊎ HasOlderAlone world.arrays path world.store
+ReopenRefuses reads world path None cause.Document = HasBadDocument reads world.arrays path world.store
 ReopenRefuses reads world path found cause.Store = Unit {0}
 ReopenRefuses reads world path found c = ⊥
 
@@ -138,7 +138,7 @@ WriteRefuses document target given c = ⊥
 abbrev pub ChunkRefuses : List ℕ → Document → StoreMap → Region → List Cell → CodecOptions → List ℕ → Region → Cause → Type 0
 ChunkRefuses path document store region values options chunk box cause.Fit = fits_box document box ≡ false
 ChunkRefuses path document store region values options chunk box cause.Store = fits_box document box ≡ true
-ChunkRefuses path document store region values options chunk box cause.Damage = IsPartDamaged path document store region options chunk box
+ChunkRefuses path document store region values options chunk box cause.Damage = IsPartDamaged path document store region options chunk box ⊎ LacksRoom path document store region values options chunk box
 ChunkRefuses path document store region values options chunk box cause.Codec = IsCodecRefused path document store region values options chunk box
 ChunkRefuses path document store region values options chunk box cause.Size = IsOversized path document store region values options chunk box
 ChunkRefuses path document store region values options chunk box cause.Memory = Unit {0}

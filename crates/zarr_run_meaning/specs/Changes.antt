@@ -1,12 +1,9 @@
 -- What commands change.
 use Rattle.std.specs.Prelude.{◌≡◌, ℕ, Bool, List, [], ◌∷◌, ◌++◌, map, true, false, Some, None, Ok}
-use Rattle.std.specs.FinMap.{insert}
 use Rattle.serde_json.specs.Data.{Data}
 use Rattle.zarr_grids_boxes.specs.Boxes.{Region, places}
 use Rattle.zarr_grids_chunks.specs.Grids.{intersecting}
-use Rattle.zarr_grids_keys.specs.Documents.{document_key}
 use Rattle.zarr_grids_keys.specs.Paths.{is_node_path}
-use Rattle.zarr_grids_keys.specs.declared.document_name.DocumentName.TheVariants.{ZarrJson}
 use Rattle.zarr_grids_metadata.specs.Trees.{SameTree}
 use Rattle.zarr_codecs_meaning.specs.Types.{Cell}
 use Rattle.zarr_codecs_meaning.specs.Payloads.{Payload, cells_in}
@@ -19,10 +16,10 @@ use Rattle.zarr_array_meaning.specs.Compacting.{CompactsChunk}
 use Rattle.zarr_array_meaning.specs.Documents.{Document, read_document}
 use Rattle.zarr_array_meaning.specs.Rewriting.{RewroteChunks, HasTooLargeKeyed, keyed_chunks}
 use Rattle.zarr_array_meaning.specs.Standing.{IsLossless}
-use Rattle.zarr_array_meaning.specs.Texts.{IsTextOf, HasDocument, HasNoDocument}
+use Rattle.zarr_array_meaning.specs.Texts.{HasDocument, HasNoDocument, StoresDocument}
 use Rattle.zarr_array_meaning.specs.Writing.{WroteChunks, ErasedChunks}
 use Rattle.zarr_array_meaning.specs.Written.{written_document}
-use Rattle.zarr_run_meaning.specs.Causes.{IsTarget, AreTargets, IsGiven, HasTooLarge, HasTooLargeChunk, IsTooLargeChunk, IsChunkKeyIn}
+use Rattle.zarr_run_meaning.specs.Causes.{IsTarget, AreTargets, IsGiven, HasTooLarge, HasTooLargeChunk, IsTooLargeChunk, IsFoundIn}
 use Rattle.zarr_run_meaning.specs.Requests.{Target}
 use Rattle.zarr_run_meaning.specs.Tables.{Table, cell, updated, changes, changes_in, fills}
 use Rattle.zarr_run_meaning.specs.Worlds.{Held, World, array_of, held_at, is_taken, with_order, writes_exactly, IsTableAt, WithTable}
@@ -34,7 +31,7 @@ pub record Begins (path : List ℕ) (tree : Data) (document : Document) (order :
   pub shows : IsTableAt path document old.store table
   pub holds : new.arrays ≡ old.arrays ++ record { path = path; tree = tree; document = document; order = order; table = table } ∷ []
 
--- a create that is done: the path was free, and the document is written; no other key changed
+-- a create that is done: the path was free, and the document is written, of version 2 in its two parts; no other key changed
 pub record Creates (reads : ReadsCodecs) (path : List ℕ) (document : Data) (order : SubchunkWriteOrder) (old new : World) : Type 0 where
   pub node : is_node_path path ≡ true
   pub free : is_taken path old.arrays ≡ false
@@ -42,9 +39,7 @@ pub record Creates (reads : ReadsCodecs) (path : List ℕ) (document : Data) (or
   pub meaning : Document
   pub opens : read_document reads document ≡ Ok meaning
   pub begins : Begins path (written_document document) meaning order old new
-  pub text : List ℕ
-  pub writes : IsTextOf (written_document document) text
-  pub stores : new.store ≡ insert old.store (document_key path ZarrJson) text
+  pub stores : StoresDocument path (written_document document) old.store new.store
 
 -- an array that is held gets a write order: the tree that is stored is the one that was written or opened
 pub record Reopens (path : List ℕ) (order : SubchunkWriteOrder) (old new : World) : Type 0 where
@@ -57,12 +52,11 @@ pub record Reopens (path : List ℕ) (order : SubchunkWriteOrder) (old new : Wor
   pub updates : new.arrays ≡ with_order path order old.arrays
   pub stores : new.store ≡ old.store
 
--- an array that was not held is opened from the document that is stored, which is no chunk of an array that is held
+-- an array that was not held is opened from the document that its path has
 pub record Opens (reads : ReadsCodecs) (path : List ℕ) (order : SubchunkWriteOrder) (old new : World) : Type 0 where
   pub node : is_node_path path ≡ true
   pub tree : Data
-  pub stored : HasDocument path tree old.store
-  pub other : ¬ IsChunkKeyIn old.arrays (document_key path ZarrJson)
+  pub found : IsFoundIn old.arrays path tree old.store
   pub meaning : Document
   pub opens : read_document reads tree ≡ Ok meaning
   pub begins : Begins path tree meaning order old new

@@ -1,14 +1,14 @@
 -- Laws of steps and runs.
 use Rattle.std.specs.Prelude.{◌≡◌, ◌⊎◌, ℕ, List, ◌++◌, length, All, slice_get, Some, None, Ok, true, false}
-use Rattle.std.specs.FinMap.{empty}
+use Rattle.std.specs.FinMap.{empty, get}
 use Rattle.serde_json.specs.Data.{Data}
 use Rattle.zarr_grids_boxes.specs.Boxes.{Region, is_in_box}
 use Rattle.zarr_grids_chunks.specs.Grids.{IsInGrid}
 use Rattle.zarr_grids_keys.specs.Documents.{document_key}
 use Rattle.zarr_grids_keys.specs.Paths.{is_node_path}
-use Rattle.zarr_grids_keys.specs.Related.{is_related}
-use Rattle.zarr_grids_keys.specs.declared.document_name.DocumentName.TheVariants.{ZarrJson}
-use Rattle.zarr_codecs_meaning.specs.Payloads.{Payload}
+use Rattle.zarr_grids_keys.specs.Related.{is_under, is_related}
+use Rattle.zarr_grids_keys.specs.declared.document_name.DocumentName.TheVariants.{ZarrJson, ZArray, ZAttrs}
+use Rattle.zarr_codecs_meaning.specs.Payloads.{Payload, cells_in}
 use Rattle.zarr_codecs_meaning.specs.Types.{Cell}
 use Rattle.zarr_codecs_metadata.specs.Chains.{ReadsCodecs}
 use Rattle.zarr_codecs_options.specs.declared.codec_options.CodecOptions.{CodecOptions}
@@ -18,14 +18,14 @@ use Rattle.zarr_array_meaning.specs.Chunks.{stored_at}
 use Rattle.zarr_array_meaning.specs.Documents.{Document, read_document}
 use Rattle.zarr_array_meaning.specs.Standing.{IsGood, IsLossless, AreValues, ValuesFit}
 use Rattle.zarr_array_meaning.specs.StoreMaps.{StoreMap}
-use Rattle.zarr_array_meaning.specs.Texts.{HasDocument}
+use Rattle.zarr_array_meaning.specs.Texts.{HasDocument, version_key}
 use Rattle.zarr_array_meaning.specs.Writing.{is_into_shard}
 use Rattle.zarr_run_meaning.specs.declared.cause.Cause.TheVariants as cause
 use Rattle.zarr_run_meaning.specs.Causes.{IsTarget, IsChunkKeyIn}
 use Rattle.zarr_run_meaning.specs.Printing.{PrintsValues, IsFormed, GivesValues}
 use Rattle.zarr_run_meaning.specs.Requests.{Target, Request, create, reopen, read, write, compact, rewrite, path_of, Answer, done, cells as gives, refused}
 use Rattle.zarr_run_meaning.specs.Runs.{Run, world_over}
-use Rattle.zarr_run_meaning.specs.Sound.{AreApart, IsSoundAt, IsSound, IsSoundAlone, OpensApart, IsOwned, OwnsAllKeys, OwnsKeysUnder, HasNoChunks, IsStoredAs, BeginsSound, SoundRun, AsksLossless, AllAskLossless, AsksOwned, ReadsLawful, ReadsGood}
+use Rattle.zarr_run_meaning.specs.Sound.{AreApart, IsSoundAt, IsSound, IsSoundAlone, OpensApart, IsOwned, OwnsAllKeys, OwnsKeysUnder, HasNoChunks, IsStoredAs, BeginsSound, SoundRun, EndsOtherwise, AsksFaithful, AllAskFaithful, AsksOwned, ReadsLawful, ReadsGood}
 use Rattle.zarr_run_meaning.specs.Steps.{Step}
 use Rattle.zarr_run_meaning.specs.Tables.{Table, cell}
 use Rattle.zarr_run_meaning.specs.Worlds.{Held, World, held_at, is_taken, IsTableAt}
@@ -55,12 +55,17 @@ HasTables reads world = (path : List ℕ) (h : Held) → held_at path world.arra
 abbrev pub LawfulGood : Type 0
 LawfulGood = (reads : ReadsCodecs) → ReadsLawful reads → ReadsGood reads
 
--- in one world, whatever is stored: a read that has cells is refused neither for damage nor because a chunk doesn't fit, and none is refused for both
+-- in one world, whatever is stored and whatever the options are: a read that has cells is refused neither for damage nor because a chunk doesn't fit, and none is refused for both
 abbrev pub ReadsApart : Type 0
-ReadsApart = (reads : ReadsCodecs) (old new other : World) (path : List ℕ) (target : Target) (options : CodecOptions) (payload : Payload) (n m : ℕ)
-    → (Step reads old (read path target options) (gives payload) new → Step reads old (read path target options) (refused cause.Damage n) other → ⊥)
-    × (Step reads old (read path target options) (gives payload) new → Step reads old (read path target options) (refused cause.Fit n) other → ⊥)
-    × (Step reads old (read path target options) (refused cause.Damage n) new → Step reads old (read path target options) (refused cause.Fit m) other → ⊥)
+ReadsApart = (reads : ReadsCodecs) (old new other : World) (path : List ℕ) (target : Target) (options more : CodecOptions) (payload : Payload) (n m : ℕ)
+    → (Step reads old (read path target options) (gives payload) new → Step reads old (read path target more) (refused cause.Damage n) other → ⊥)
+    × (Step reads old (read path target options) (gives payload) new → Step reads old (read path target more) (refused cause.Fit n) other → ⊥)
+    × (Step reads old (read path target options) (refused cause.Damage n) new → Step reads old (read path target more) (refused cause.Fit m) other → ⊥)
+
+-- in one world, whatever is stored: two reads of the same cells give the same, whatever their options
+abbrev pub ReadsAlike : Type 0
+ReadsAlike = (reads : ReadsCodecs) (old new other : World) (path : List ℕ) (target : Target) (options more : CodecOptions) (payload again : Payload) (h : Held) → IsFormed target → held_at path old.arrays ≡ Some h
+    → Step reads old (read path target options) (gives payload) new → Step reads old (read path target more) (gives again) other → cells_in h.document.elements.type payload ≡ cells_in h.document.elements.type again
 
 -- a write puts no part of a chunk into the chunk's shard
 abbrev pub PutsNoPart : World → List ℕ → Target → CodecOptions → Type 0
@@ -102,15 +107,19 @@ StepsOwn = (reads : ReadsCodecs) (old new : World) (request : Request) (answer :
 abbrev pub RunsOwn : Type 0
 RunsOwn = (reads : ReadsCodecs) (old new : World) (requests : List Request) (answers : List Answer) (key : List ℕ) → Run reads old requests answers new → IsOwned old key → IsOwned new key
 
--- where no key under a path is foreign, and no array is held at a related one, no chunk of it has a value
+-- no attributes of version 2 are stored under a path
+abbrev pub HasNoAttributes : List ℕ → World → Type 0
+HasNoAttributes path world = (other : List ℕ) → is_node_path other ≡ true → is_under path other ≡ true → get world.store (document_key other ZAttrs) ≡ None
+
+-- where no key under a path is foreign, and no array is held at a related one, no chunk of it has a value: if its chunks' keys don't end as those of attributes, or no attributes are stored under the path
 abbrev pub OwnedHasNoChunks : Type 0
 OwnedHasNoChunks = (reads : ReadsCodecs) (world : World) (path : List ℕ) (document : Document) → IsSound reads world → OwnsKeysUnder path world
-    → is_node_path path ≡ true → is_taken path world.arrays ≡ false → HasNoChunks path document world.store
+    → is_node_path path ≡ true → is_taken path world.arrays ≡ false → EndsOtherwise document.keys ⊎ HasNoAttributes path world → HasNoChunks path document world.store
 
--- in a sound world no array is opened at a path where none is held and the key of whose document isn't foreign
+-- in a sound world no array is opened at a path where none is held and the keys of whose documents, of either version, aren't foreign; nor is a document found there that doesn't open
 abbrev pub OpensNone : Type 0
-OpensNone = (reads : ReadsCodecs) (old new : World) (path : List ℕ) (order : SubchunkWriteOrder) → IsSound reads old → IsOwned old (document_key path ZarrJson) → held_at path old.arrays ≡ None
-    → Step reads old (reopen path order) done new → ⊥
+OpensNone = (reads : ReadsCodecs) (old new : World) (path : List ℕ) (order : SubchunkWriteOrder) → IsSound reads old → IsOwned old (document_key path ZarrJson) → IsOwned old (document_key path ZArray) → held_at path old.arrays ≡ None
+    → (Step reads old (reopen path order) done new → ⊥) × ((n : ℕ) → Step reads old (reopen path order) (refused cause.Document n) new → ⊥)
 
 -- ---- how arrays begin
 
@@ -157,12 +166,12 @@ RunsSound = (reads : ReadsCodecs) (old new : World) (requests : List Request) (a
 
 -- where no key is foreign of those that a command may begin an array over, a step begins one only over chunks that stand for cells
 abbrev pub OwnedBegins : Type 0
-OwnedBegins = (reads : ReadsCodecs) (old new : World) (request : Request) (answer : Answer) → ReadsGood reads → AsksOwned old request → AsksLossless reads request answer
+OwnedBegins = (reads : ReadsCodecs) (old new : World) (request : Request) (answer : Answer) → ReadsGood reads → AsksOwned old request → AsksFaithful reads request answer
     → IsSound reads old → Step reads old request answer new → BeginsSound reads old request answer
 
--- a run whose creates name lossless documents leads from a sound world to a sound one, where no key is foreign of those that its commands may begin an array over
+-- a run whose creates name faithful documents leads from a sound world to a sound one, where no key is foreign of those that its commands may begin an array over
 abbrev pub OwnedRunsSound : Type 0
-OwnedRunsSound = (reads : ReadsCodecs) (old new : World) (requests : List Request) (answers : List Answer) → ReadsGood reads → All (AsksOwned old) requests → AllAskLossless reads requests answers
+OwnedRunsSound = (reads : ReadsCodecs) (old new : World) (requests : List Request) (answers : List Answer) → ReadsGood reads → All (AsksOwned old) requests → AllAskFaithful reads requests answers
     → IsSound reads old → Run reads old requests answers new → IsSound reads new
 
 -- an answer is neither damage nor that a document has changed, and of a read, a compaction or a rewrite not that a chunk does not fit
@@ -183,9 +192,9 @@ abbrev pub RunsUndamaged : Type 0
 RunsUndamaged = (reads : ReadsCodecs) (old new : World) (requests : List Request) (answers : List Answer) → ReadsGood reads
     → IsSound reads old → SoundRun reads old requests answers new → AreUndamaged requests answers
 
--- and so is none of a run whose creates name lossless documents, where no key is foreign of those that its commands may begin an array over
+-- and so is none of a run whose creates name faithful documents, where no key is foreign of those that its commands may begin an array over
 abbrev pub OwnedRunsUndamaged : Type 0
-OwnedRunsUndamaged = (reads : ReadsCodecs) (old new : World) (requests : List Request) (answers : List Answer) → ReadsGood reads → All (AsksOwned old) requests → AllAskLossless reads requests answers
+OwnedRunsUndamaged = (reads : ReadsCodecs) (old new : World) (requests : List Request) (answers : List Answer) → ReadsGood reads → All (AsksOwned old) requests → AllAskFaithful reads requests answers
     → IsSound reads old → Run reads old requests answers new → AreUndamaged requests answers
 
 -- ---- one array, whatever is stored for the others
@@ -196,7 +205,7 @@ SoundAlone = (reads : ReadsCodecs) (world : World) (path : List ℕ) (h : Held) 
 
 -- an array that begins over chunks that stand for cells is sound alone, whatever is stored for the others
 abbrev pub BeginsAlone : Type 0
-BeginsAlone = (reads : ReadsCodecs) (old new : World) (request : Request) (answer : Answer) (path : List ℕ) (h : Held) → ReadsGood reads → BeginsSound reads old request answer → held_at path old.arrays ≡ None
+BeginsAlone = (reads : ReadsCodecs) (old new : World) (request : Request) (answer : Answer) (path : List ℕ) (h : Held) → ReadsGood reads → HasTables reads old → BeginsSound reads old request answer → held_at path old.arrays ≡ None
     → Step reads old request answer new → held_at path new.arrays ≡ Some h → IsSoundAlone reads new path
 
 -- a step that opens no array at a related path keeps an array sound alone
@@ -215,7 +224,7 @@ AloneUndamaged = (reads : ReadsCodecs) (old new : World) (request : Request) (n 
 abbrev pub ReopensAlike : Type 0
 ReopensAlike = (reads : ReadsCodecs) (closed old new : World) (path : List ℕ) (h : Held) (order : SubchunkWriteOrder) (answer : Answer) → ReadsGood reads
     → held_at path closed.arrays ≡ Some h → IsSoundAt reads closed.store h → old.store ≡ closed.store → held_at path old.arrays ≡ None
-    → (¬ IsChunkKeyIn old.arrays (document_key path ZarrJson)) → Step reads old (reopen path order) answer new → IsReopenedAs h order answer new ⊎ (answer ≡ refused cause.Memory 0) ⊎ (answer ≡ refused cause.Store 0)
+    → (¬ IsChunkKeyIn old.arrays (version_key path h.tree)) → Step reads old (reopen path order) answer new → IsReopenedAs h order answer new ⊎ (answer ≡ refused cause.Memory 0) ⊎ (answer ≡ refused cause.Store 0)
 
 -- an array is another one again: with its document and its cells
 abbrev pub IsAgain : Held → Held → Type 0

@@ -3,6 +3,7 @@ pub mod Requests
 pub mod Worlds
 pub mod Causes
 pub mod Changes
+pub mod Counts
 pub mod Steps
 pub mod Runs
 pub mod Sound

@@ -16,7 +16,7 @@ use Rattle.zarr_run_meaning.specs.declared.cause.Cause.{Cause}
 use Rattle.zarr_run_meaning.specs.Laws.{HasTables}
 use Rattle.zarr_run_meaning.specs.Requests.{Request, reopen, read, compact, rewrite, path_of, Answer, done, refused}
 use Rattle.zarr_run_meaning.specs.Runs.{Run, world_over}
-use Rattle.zarr_run_meaning.specs.Sound.{IsSound, IsSoundAlone, OpensApart, SoundRun, AllAskLossless, ReadsGood}
+use Rattle.zarr_run_meaning.specs.Sound.{IsSound, IsSoundAlone, OpensApart, SoundRun, AllAskFaithful, ReadsGood}
 use Rattle.zarr_run_meaning.specs.Steps.{Step}
 use Rattle.zarr_run_meaning.specs.Tables.{cell}
 use Rattle.zarr_run_meaning.specs.Worlds.{Held, World, array_of, held_at, writes_exactly}
@@ -95,12 +95,12 @@ abbrev pub SoundRunsKeepCanon : Type 0
 SoundRunsKeepCanon = (reads : ReadsCodecs) (old new : World) (requests : List Request) (answers : List Answer) (path : List ℕ) → ReadsGood reads → IsSound reads old
     → All (LeavesCells path) requests → IsCanonAlone reads old path → SoundRun reads old requests answers new → IsCanonAlone reads new path
 
--- a session over a store that began without keys, whose creates name lossless documents: after a rewrite that stores no empty chunk, of an array whose chunks' values depend on their cells alone, the store holds for that array what storing its cells afresh leaves, as long as no command changes its cells
+-- a session over a store that began without keys, whose creates name faithful documents: after a rewrite that stores no empty chunk, of an array whose chunks' values depend on their cells alone, the store holds for that array what storing its cells afresh leaves, as long as no command changes its cells
 abbrev pub RunsLeaveCanon : Type 0
 RunsLeaveCanon = (reads : ReadsCodecs) (mid last new : World) (count : ℕ) (requests more : List Request) (answers others : List Answer) (path : List ℕ) (options : CodecOptions) (h : Held) → ReadsGood reads
-    → AllAskLossless reads requests answers → Run reads (world_over empty count) requests answers mid
+    → AllAskFaithful reads requests answers → Run reads (world_over empty count) requests answers mid
     → held_at path mid.arrays ≡ Some h → writes_exactly h ≡ true → options.store_empty_chunks ≡ false → Step reads mid (rewrite path options) done last
-    → AllAskLossless reads more others → All (LeavesCells path) more → Run reads last more others new
+    → AllAskFaithful reads more others → All (LeavesCells path) more → Run reads last more others new
     → (g : Held) × (held_at path new.arrays ≡ Some g) × IsCanonHeld new.store g
 
 -- no key has another value

@@ -1,25 +1,26 @@
 -- Worlds in which nothing is damaged and no document has changed, and which keys of their stores are foreign.
-use Rattle.std.specs.Prelude.{◌≡◌, ◌≢◌, ◌⊎◌, ℕ, List, [], ◌∷◌, true, false, Some, None, Ok}
+use Rattle.std.specs.Prelude.{◌≡◌, ◌≢◌, ◌⊎◌, ℕ, List, [], ◌∷◌, ◌++◌, codes, true, false, Some, None, Ok}
 use Rattle.std.specs.FinMap.{get}
 use Rattle.serde_json.specs.Data.{Data}
 use Rattle.zarr_grids_boxes.specs.Boxes.{Region}
 use Rattle.zarr_grids_chunks.specs.Grids.{IsInGrid}
 use Rattle.zarr_grids_keys.specs.Documents.{document_key}
-use Rattle.zarr_grids_keys.specs.Keys.{key_under}
+use Rattle.zarr_grids_keys.specs.Keys.{KeyEncoding, default, v2, suffixed, key_under}
 use Rattle.zarr_grids_keys.specs.Paths.{is_node_path}
 use Rattle.zarr_grids_keys.specs.Related.{is_related}
-use Rattle.zarr_grids_keys.specs.declared.document_name.DocumentName.TheVariants.{ZarrJson}
+use Rattle.zarr_grids_keys.specs.declared.document_name.DocumentName.TheVariants.{ZarrJson, ZArray, ZAttrs}
 use Rattle.zarr_grids_metadata.specs.ExtensionPoints.{ExtensionPoint}
 use Rattle.zarr_codecs_meaning.specs.Chains.{ByteCodec}
 use Rattle.zarr_codecs_meaning.specs.Laws.{IsLawful}
 use Rattle.zarr_codecs_meaning.specs.Types.{Cell}
 use Rattle.zarr_codecs_metadata.specs.Chains.{ReadsCodecs}
+use Rattle.zarr_array_v2.specs.Versions.{is_version_2}
 use Rattle.zarr_array_meaning.specs.Chunks.{stored_at}
 use Rattle.zarr_array_meaning.specs.Documents.{Document, read_document}
 use Rattle.zarr_array_meaning.specs.Standing.{StoreStands, IsLossless, IsGood, AreValues}
 use Rattle.zarr_array_meaning.specs.StoreMaps.{StoreMap}
-use Rattle.zarr_array_meaning.specs.Texts.{HasDocument}
-use Rattle.zarr_run_meaning.specs.Causes.{IsChunkKey}
+use Rattle.zarr_array_meaning.specs.Texts.{HasDocument, version_key}
+use Rattle.zarr_run_meaning.specs.Causes.{IsChunkKey, IsFoundIn}
 use Rattle.zarr_run_meaning.specs.Requests.{Request, create, reopen, Answer, done}
 use Rattle.zarr_run_meaning.specs.Steps.{Step}
 use Rattle.zarr_run_meaning.specs.Tables.{cell}
@@ -30,11 +31,12 @@ abbrev pub AreApart : List Held → Type 0
 AreApart [] = Unit {0}
 AreApart (h ∷ hs) = (is_taken h.path hs ≡ false) × AreApart hs
 
--- an array whose document is stored, and for the cells of whose table its chunks' values stand
+-- an array whose document is stored, one of version 2 with none of version 3 beside it, and for the cells of whose table its chunks' values stand
 pub record IsSoundAt (reads : ReadsCodecs) (store : StoreMap) (h : Held) : Type 0 where
   pub node : is_node_path h.path ≡ true
   pub says : read_document reads h.tree ≡ Ok h.document
   pub stored : HasDocument h.path h.tree store
+  pub first : is_version_2 h.tree ≡ true → get store (document_key h.path ZarrJson) ≡ None
   pub lossless : IsLossless h.document
   pub values : AreValues h.document (cell h.document.elements.fill h.table)
   pub stands : StoreStands h.path h.document store (cell h.document.elements.fill h.table)
@@ -58,13 +60,21 @@ OpensApart path old request answer = Unit {0}
 
 -- ---- which keys are the arrays' own
 
--- a key is an array's own: it is that of its document, or of a chunk in its grid
+-- a key is an array's own: it is that of its document, of version 2 `.zarray`, or of a chunk in its grid
 abbrev pub OwnsKey : Held → List ℕ → Type 0
-OwnsKey h key = (key ≡ document_key h.path ZarrJson) ⊎ IsChunkKey h.path h.document key
+OwnsKey h key = (key ≡ version_key h.path h.tree) ⊎ IsChunkKey h.path h.document key
 
--- a key isn't foreign: where it has a value, it is the own key of an array that is held
+-- a key is the own key of an array that is held
+abbrev pub IsOwnKey : List Held → List ℕ → Type 0
+IsOwnKey arrays key = (h : Held) × (held_at h.path arrays ≡ Some h) × OwnsKey h key
+
+-- a key is that of the attributes of a node, as version 2 stores them
+abbrev pub IsAttributesKey : List ℕ → Type 0
+IsAttributesKey key = (path : List ℕ) × (is_node_path path ≡ true) × (key ≡ document_key path ZAttrs)
+
+-- a key isn't foreign: where it has a value, it is the own key of an array that is held; or it is that of a node's attributes, which a refused create may leave
 abbrev pub IsOwned : World → List ℕ → Type 0
-IsOwned world key = (value : List ℕ) → get world.store key ≡ Some value → (h : Held) × (held_at h.path world.arrays ≡ Some h) × OwnsKey h key
+IsOwned world key = (value : List ℕ) → get world.store key ≡ Some value → IsOwnKey world.arrays key ⊎ IsAttributesKey key
 
 -- the store has no foreign key
 abbrev pub OwnsAllKeys : World → Type 0
@@ -89,7 +99,7 @@ pub record IsStoredAs (path : List ℕ) (document : Document) (store : StoreMap)
 -- if the command is done and begins an array, what is stored for that array stands for some cells; and if it is opened, its path is unrelated to those of the arrays that are held
 abbrev pub BeginsSound : ReadsCodecs → World → Request → Answer → Type 0
 BeginsSound reads old (create path document order) done = (meaning : Document) → read_document reads document ≡ Ok meaning → (cells : List ℕ → Cell) × IsStoredAs path meaning old.store cells
-BeginsSound reads old (reopen path order) done = (tree : Data) (meaning : Document) → held_at path old.arrays ≡ None → HasDocument path tree old.store → read_document reads tree ≡ Ok meaning
+BeginsSound reads old (reopen path order) done = (tree : Data) (meaning : Document) → held_at path old.arrays ≡ None → IsFoundIn old.arrays path tree old.store → read_document reads tree ≡ Ok meaning
     → (is_taken path old.arrays ≡ false) × ((cells : List ℕ → Cell) × IsStoredAs path meaning old.store cells)
 BeginsSound reads old request answer = Unit {0}
 
@@ -100,21 +110,32 @@ SoundRun reads old (request ∷ requests) (answer ∷ answers) new = (mid : Worl
 SoundRun reads old [] (answer ∷ answers) new = ⊥
 SoundRun reads old (request ∷ requests) [] new = ⊥
 
--- a create that is done names a lossless document
-abbrev pub AsksLossless : ReadsCodecs → Request → Answer → Type 0
-AsksLossless reads (create path document order) done = (meaning : Document) → read_document reads document ≡ Ok meaning → IsLossless meaning
-AsksLossless reads request answer = Unit {0}
+-- the suffix of chunks' keys, if they have one, doesn't end as the key of a node's attributes does
+abbrev pub EndsOtherwise : KeyEncoding → Type 0
+EndsOtherwise (default separator) = Unit {0}
+EndsOtherwise (v2 separator) = Unit {0}
+EndsOtherwise (suffixed separator suffix) = (front : List ℕ) → suffix ≢ front ++ codes "/.zattrs"
 
--- each create that is done names a lossless document
-abbrev pub AllAskLossless : ReadsCodecs → List Request → List Answer → Type 0
-AllAskLossless reads [] answers = Unit {0}
-AllAskLossless reads (request ∷ requests) [] = Unit {0}
-AllAskLossless reads (request ∷ requests) (answer ∷ answers) = AsksLossless reads request answer × AllAskLossless reads requests answers
+-- a document by which an array begins as fill over keys that aren't foreign: its chain keeps every bit, and none of its chunks' keys is that of a node's attributes
+pub record IsFaithful (document : Document) : Type 0 where
+  pub lossless : IsLossless document
+  pub ends : EndsOtherwise document.keys
 
--- where a create may begin an array no key is foreign, and where a reopening may open one its document is not
+-- a create that is done names such a document
+abbrev pub AsksFaithful : ReadsCodecs → Request → Answer → Type 0
+AsksFaithful reads (create path document order) done = (meaning : Document) → read_document reads document ≡ Ok meaning → IsFaithful meaning
+AsksFaithful reads request answer = Unit {0}
+
+-- each create that is done names such a document
+abbrev pub AllAskFaithful : ReadsCodecs → List Request → List Answer → Type 0
+AllAskFaithful reads [] answers = Unit {0}
+AllAskFaithful reads (request ∷ requests) [] = Unit {0}
+AllAskFaithful reads (request ∷ requests) (answer ∷ answers) = AsksFaithful reads request answer × AllAskFaithful reads requests answers
+
+-- where a create may begin an array no key is foreign, and where a reopening may open one, since none is held there, its documents are not, of either version
 abbrev pub AsksOwned : World → Request → Type 0
 AsksOwned world (create path document order) = OwnsKeysUnder path world
-AsksOwned world (reopen path order) = IsOwned world (document_key path ZarrJson)
+AsksOwned world (reopen path order) = held_at path world.arrays ≡ None → IsOwned world (document_key path ZarrJson) × IsOwned world (document_key path ZArray)
 AsksOwned world request = Unit {0}
 
 -- each of the caller's codecs that metadata says is lawful

@@ -1,5 +1,6 @@
 -- What a session may answer to a command, and what each command changes.
 use Rattle.std.specs.Prelude.{◌≡◌, ◌⊎◌, ℕ, ◌<◌, List, take, true, false, Option, Some, None}
+use Rattle.serde_json.specs.Data.{Data}
 use Rattle.zarr_grids_boxes.specs.Boxes.{Region, product, places}
 use Rattle.zarr_grids_chunks.specs.Grids.{intersecting}
 use Rattle.zarr_grids_keys.specs.Paths.{is_node_path}
@@ -9,6 +10,8 @@ use Rattle.zarr_codecs_options.specs.declared.codec_options.CodecOptions.{CodecO
 use Rattle.zarr_codecs_types.specs.Given.{GivenCells}
 use Rattle.zarr_array_meaning.specs.Rewriting.{HasTooLargeKeyed, keyed_chunks}
 use Rattle.zarr_array_meaning.specs.StoreMaps.{counted}
+use Rattle.zarr_array_meaning.specs.Texts.{HasNoDocument, StoresAttributes}
+use Rattle.zarr_array_meaning.specs.Written.{written_document}
 use Rattle.zarr_run_meaning.specs.declared.cause.Cause.{Cause}
 use Rattle.zarr_run_meaning.specs.declared.cause.Cause.TheVariants as cause
 use Rattle.zarr_run_meaning.specs.Causes.{CreateRefuses, ReopenRefuses, WriteRefuses, ReadRefuses, EraseRefuses, EraseStops, CompactRefuses, RewriteRefuses, RewriteStopsAt, AreTargets, IsGiven, HasTooLarge, HasTooLargeChunk, StopsAt}
@@ -25,6 +28,13 @@ refused_after c count = count
 pub record Stays (c : Cause) (n : ℕ) (old new : World) : Type 0 where
   pub applied : n ≡ 0
   pub is : new ≡ record old { refused = refused_after c old.refused }
+
+-- a create of a document of version 2 that is refused once its attributes are stored: no array is added, and no other key changed
+pub record LeavesAttributes (path : List ℕ) (tree : Data) (c : Cause) (old new : World) : Type 0 where
+  pub by : (c ≡ cause.Store) ⊎ (c ≡ cause.Memory)
+  pub fresh : HasNoDocument path old.store
+  pub stores : StoresAttributes path tree old.store new.store
+  pub is : new ≡ record old { store = new.store; refused = refused_after c old.refused }
 
 -- a write that stopped at a chunk: of the chunks that the box intersects exactly those before it are written
 pub record WritesFirst (h : Held) (target : Target) (given : GivenCells) (options : CodecOptions) (c : Cause) (n : ℕ) (old new : World) : Type 0 where
@@ -80,7 +90,7 @@ RefusesRewrite options h c n old new = (RewriteRefuses (array_of h) old.store c 
 
 -- how a command with a node path is refused, running out of memory before anything changed aside
 abbrev pub Refuses : ReadsCodecs → Request → Cause → ℕ → World → World → Type 0
-Refuses reads (create path document order) c n old new = CreateRefuses reads old path document c × Stays c n old new
+Refuses reads (create path document order) c n old new = CreateRefuses reads old path document c × (Stays c n old new ⊎ ((n ≡ 0) × LeavesAttributes path (written_document document) c old new))
 Refuses reads (reopen path order) c n old new = ReopenRefuses reads old path (held_at path old.arrays) c × Stays c n old new
 Refuses reads (write path target given options) c n old new = RefusesHeld (held_at path old.arrays) (RefusesWrite target given options) c n old new
 Refuses reads (read path target options) c n old new = RefusesHeld (held_at path old.arrays) (RefusesRead target) c n old new

@@ -15,7 +15,7 @@ use Rattle.zarr_run_meaning.specs.Laws.{HasTables}
 use Rattle.zarr_run_meaning.specs.Requests.{Request, create, reopen, compact, Answer, done, compacted}
 use Rattle.zarr_run_meaning.specs.Rewrites.{ReopensApart, IsCanonHeld}
 use Rattle.zarr_run_meaning.specs.Runs.{Run, world_over}
-use Rattle.zarr_run_meaning.specs.Sound.{IsSound, IsSoundAt, IsSoundAlone, OpensApart, HasNoChunks, IsStoredAs, AllAskLossless, AsksOwned, ReadsGood}
+use Rattle.zarr_run_meaning.specs.Sound.{IsSound, IsSoundAt, IsSoundAlone, OpensApart, HasNoChunks, IsStoredAs, AllAskFaithful, AsksOwned, ReadsGood}
 use Rattle.zarr_run_meaning.specs.Steps.{Step}
 use Rattle.zarr_run_meaning.specs.Tables.{cell}
 use Rattle.zarr_run_meaning.specs.Worlds.{Held, World, array_of, held_at, is_row_major, writes_exactly}
@@ -91,12 +91,12 @@ abbrev pub RunsKeepTight : Type 0
 RunsKeepTight = (reads : ReadsCodecs) (old new : World) (requests : List Request) (answers : List Answer) (path : List ℕ) → ReadsGood reads → HasTables reads old → All (ReopensApart path) requests
     → AllAskRowMajor path requests answers → (tight : IsTightAlone reads old path) → is_row_major tight.sound.array.order ≡ true → Run reads old requests answers new → IsTightAlone reads new path
 
--- and so does one from a sound world whose creates name lossless documents, where no key is foreign of those that its commands may begin an array over; an array that begins in it is tight, too
+-- and so does one from a sound world whose creates name faithful documents, where no key is foreign of those that its commands may begin an array over; an array that begins in it is tight, too
 abbrev pub OwnedRunsTight : Type 0
-OwnedRunsTight = (reads : ReadsCodecs) (old new : World) (requests : List Request) (answers : List Answer) (path : List ℕ) → ReadsGood reads → All (AsksOwned old) requests → AllAskLossless reads requests answers
+OwnedRunsTight = (reads : ReadsCodecs) (old new : World) (requests : List Request) (answers : List Answer) (path : List ℕ) → ReadsGood reads → All (AsksOwned old) requests → AllAskFaithful reads requests answers
     → AllAskRowMajor path requests answers → IsSound reads old → IsTightThere old path → Run reads old requests answers new → IsTightThere new path
 
--- a session over a store that began without keys, whose creates name lossless documents: where each create and reopening of a path that is done asks for row-major order, what is stored for the array that is held there at the end is tight
+-- a session over a store that began without keys, whose creates name faithful documents: where each create and reopening of a path that is done asks for row-major order, what is stored for the array that is held there at the end is tight
 abbrev pub RunsTight : Type 0
-RunsTight = (reads : ReadsCodecs) (new : World) (count : ℕ) (requests : List Request) (answers : List Answer) (path : List ℕ) → ReadsGood reads → AllAskLossless reads requests answers
+RunsTight = (reads : ReadsCodecs) (new : World) (count : ℕ) (requests : List Request) (answers : List Answer) (path : List ℕ) → ReadsGood reads → AllAskFaithful reads requests answers
     → AllAskRowMajor path requests answers → Run reads (world_over empty count) requests answers new → IsTightThere new path

@@ -3,7 +3,7 @@ ghost use Rattle.zarr_run_meaning.specs.Laws.{LawfulGood, TableFound, NoArraysSo
 ghost use Rattle.zarr_run_meaning.specs.Laws.{EmptyOwned, StepsOwn, RunsOwn, OwnedHasNoChunks, NoChunksAreFill, CreatesCells, CreatesFill, OpensCells};
 ghost use Rattle.zarr_run_meaning.specs.Laws.{RunsSound, OwnedBegins, OwnedRunsSound, ReopensAlike, ReopenedSound, ReopenedOwned, RunsReopen, RunsGoOn};
 ghost use Rattle.zarr_run_meaning.specs.Laws.{RunsUndamaged, OwnedRunsUndamaged, RunsReopenOne};
-ghost use Rattle.zarr_run_meaning.specs.Laws.{ReadsApart, WritesApart};
+ghost use Rattle.zarr_run_meaning.specs.Laws.{ReadsApart, ReadsAlike, WritesApart};
 ghost use Rattle.zarr_run_meaning.specs.Rewrites.{StepsLeaveUnrelated, ChangesNoCell, RewritesCanon, KeepsCanon};
 ghost use Rattle.zarr_run_meaning.specs.Rewrites.{RunsKeepCanon, SoundRunsKeepCanon, RunsLeaveCanon, CanonStays, RewrittenTwice};
 ghost use Rattle.zarr_run_meaning.specs.Tight.{NoChunksAreTight, BeginsTight, CanonTight, StepsKeepTight, CompactsExactly};
@@ -46,8 +46,8 @@ pub fn owned_has_no_chunks()
     ensures { OwnedHasNoChunks }
 {}
 
-/// In a sound world no array is opened where none is held and the key of the document isn't
-/// foreign.
+/// In a sound world no array is opened where none is held and the keys of its documents aren't
+/// foreign, nor is a document found there that does not open.
 pub fn opens_none()
     ensures { OpensNone }
 {}
@@ -108,7 +108,7 @@ pub fn runs_sound()
 {}
 
 /// A step is such a one, where none of the keys that its command may begin an array over is
-/// foreign, and a create that is done names a lossless document.
+/// foreign, and a create that is done names a faithful document.
 pub fn owned_begins()
     ensures { OwnedBegins }
 {}
@@ -205,6 +205,11 @@ pub fn reads_print()
 /// does not fit its codecs.
 pub fn reads_apart()
     ensures { ReadsApart }
+{}
+
+/// Whatever is stored, two reads of the same cells give the same, whatever their options.
+pub fn reads_alike()
+    ensures { ReadsAlike }
 {}
 
 /// Whatever is stored, a write that is done is not refused for damage, where it puts no part of a

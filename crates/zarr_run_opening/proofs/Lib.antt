@@ -8,5 +8,7 @@ pub mod OpenLemmas
 pub mod OpeningLemmas
 pub mod OrderLemmas
 pub mod ReopeningLemmas
+pub mod StoredLemmas
 pub mod TakenLemmas
+pub mod TextLemmas
 pub mod WorldLemmas

@@ -22,13 +22,13 @@ use Rattle.zarr_run_meaning.specs.declared.cause.Cause.{Cause}
 use Rattle.zarr_run_meaning.specs.declared.cause.Cause.TheVariants as cause
 use Rattle.zarr_run_meaning.proofs.FoundTables.{table_found}
 use Rattle.zarr_grids_metadata.specs.Trees.{SameTree}
-use Rattle.zarr_array_meaning.specs.Texts.{HasDocument}
-use Rattle.zarr_run_meaning.specs.Causes.{ReopenRefuses, HasNoneAt, HasSomeAt, IsNoDocument, IsChunkKey, IsChunkKeyIn}
+use Rattle.zarr_array_meaning.specs.Texts.{HasDocument, version_key}
+use Rattle.zarr_run_meaning.specs.Causes.{ReopenRefuses, HasNoneAt, HasSomeAt, IsFoundIn, IsChunkKey, IsChunkKeyIn}
 use Rattle.zarr_run_meaning.specs.Requests.{reopen, Answer, done, refused}
 use Rattle.zarr_run_opening.specs.Arrays.{IsReordered, KeepsArrays, KeepsOtherArrays}
 use Rattle.zarr_run_opening.specs.Calls.{refused_by}
 use Rattle.zarr_run_opening.specs.ChunkKeys.{IsChunkKeyOf, HasNoneBeside, HasSomeBeside}
-use Rattle.zarr_run_opening.specs.Reopenings.{HasSameDocument, ComparisonRefused, IsOpenedFrom, OpeningRefused, Reopened}
+use Rattle.zarr_run_opening.specs.Reopenings.{HasSameDocument, ComparisonRefused, IsFoundBeside, IsOpenedFrom, OpeningRefused, Reopened}
 use Rattle.zarr_run_opening.specs.Sessions.{Arrays, array_at, document_of, IsHeld, Agrees, IsIn, answer_of}
 use Rattle.zarr_run_opening.specs.declared.held.HeldArray.{HeldArray}
 use Rattle.zarr_run_opening.proofs.BeginLemmas.{in_begun}
@@ -161,19 +161,36 @@ module _ (B : Type 0) (meaning : B → ByteCodec) (reads : ReadsCodecs) (path : 
         let R : Document → Type 0 = λ d. IsChunkKey c.held.path d key in
         record { path = c.held.path; node = a.2.node; at = record { array = a.0; found = a.1; names = subst R a.2.document c.names } }
 
-    none_in_world : (key : List ℕ) → HasNoneBeside meaning old store key → HasNoneAt w.arrays w.store key
+    abbrev IsChunk : List ℕ → Type 0
+    IsChunk = IsChunkKeyOf meaning old
+
+    none_in_world : (key : List ℕ) → HasNoneBeside IsChunk store key → HasNoneAt w.arrays w.store key
     none_in_world key n = ⊎_elim (λ e. inl (ap (λ (s : StoreMap). get s key) k.store ∙ e)) (λ c. inr (in_world key c)) n
 
-    some_in_world : (key : List ℕ) → HasSomeBeside meaning old store key → HasSomeAt w.arrays w.store key
+    none_of_world : (key : List ℕ) → HasNoneAt w.arrays w.store key → HasNoneBeside IsChunk store key
+    none_of_world key n = ⊎_elim (λ e. inl (ap (λ (s : StoreMap). get s key) (sym k.store) ∙ e)) (λ c. inr (of_world key c)) n
+
+    some_in_world : (key : List ℕ) → HasSomeBeside IsChunk store key → HasSomeAt w.arrays w.store key
     some_in_world key s = let P : StoreMap → Type 0 = λ (s : StoreMap). IsSome (get s key) in (subst P (sym k.store) s.0, λ c. s.1 (of_world key c))
 
-    document_in_world : OpeningRefused meaning reads old path store cause.Document → ReopenRefuses reads w path None cause.Document
-    document_in_world why = ⊎_elim
-        (λ (no : IsNoDocument reads path store × (¬ IsChunkKeyOf meaning old (document_key path ZarrJson))). let P : StoreMap → Type 0 = λ (s : StoreMap). IsNoDocument reads path s in inl (subst P (sym k.store) no.0, λ c. no.1 (of_world (document_key path ZarrJson) c)))
-        (λ older. inr (none_in_world (document_key path ZarrJson) older.0, some_in_world (document_key path ZArray) older.1))
-        why
+    -- the document that the path has is the one that it has in the world
+    found_in_world : (tree : Data) → IsFoundBeside IsChunk path tree store → IsFoundIn w.arrays path tree w.store
+    found_in_world tree f =
+        let P : StoreMap → Type 0 = λ (s : StoreMap). HasDocument path tree s in
+        record { stored = subst P (sym k.store) f.stored; other = λ c. f.other (of_world (version_key path tree) c); first = λ v. none_in_world (document_key path ZarrJson) (f.first v) }
 
-    opening_refused : (c : Cause) → OpeningRefused meaning reads old path store c → Step reads w (reopen path order) (refused c 0) (record w { refused = refused_after c w.refused })
+    found_of_world : (tree : Data) → IsFoundIn w.arrays path tree w.store → IsFoundBeside IsChunk path tree store
+    found_of_world tree f =
+        let P : StoreMap → Type 0 = λ (s : StoreMap). HasDocument path tree s in
+        record { stored = subst P k.store f.stored; other = λ c. f.other (in_world (version_key path tree) c); first = λ v. none_of_world (document_key path ZarrJson) (f.first v) }
+
+    document_in_world : OpeningRefused IsChunk reads path store cause.Document → ReopenRefuses reads w path None cause.Document
+    document_in_world why = record {
+      some = ⊎_elim (λ s. inl (some_in_world (document_key path ZarrJson) s)) (λ s. inr (some_in_world (document_key path ZArray) s)) why.some;
+      none = λ tree f. why.none tree (found_of_world tree f);
+    }
+
+    opening_refused : (c : Cause) → OpeningRefused IsChunk reads path store c → Step reads w (reopen path order) (refused c 0) (record w { refused = refused_after c w.refused })
     opening_refused cause.NoArray why = refused_by_cause None cause.NoArray free (none_in_world (document_key path ZarrJson) why.0, none_in_world (document_key path ZArray) why.1)
     opening_refused cause.Document why = refused_by_cause None cause.Document free (document_in_world why)
     opening_refused cause.Store why = refused_by_cause None cause.Store free tt
@@ -200,15 +217,13 @@ module _ (B : Type 0) (meaning : B → ByteCodec) (reads : ReadsCodecs) (path : 
 
       pub opened : StepsTo meaning reads w path order done new store n
       opened =
-          let P : StoreMap → Type 0 = λ (s : StoreMap). HasDocument path from.tree s in
           let Q : StoreMap → Type 0 = λ (s : StoreMap). IsTableAt path document s found.0 in (
             record { arrays = w.arrays ++ begun ∷ []; store = store; refused = n },
             (
               inr (record {
                 node = node;
                 tree = from.tree;
-                stored = subst P (sym k.store) from.stored;
-                other = λ c. from.other (of_world (document_key path ZarrJson) c);
+                found = found_in_world from.tree from.found;
                 meaning = document;
                 opens = from.opened.says;
                 begins = record { free = free; table = found.0; shows = subst Q (sym k.store) found.1; holds = refl };

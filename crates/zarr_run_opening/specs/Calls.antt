@@ -18,6 +18,13 @@ IsStoreCause cause.Store = Unit {0}
 IsStoreCause cause.Memory = Unit {0}
 IsStoreCause c = ⊥
 
+-- the causes that a call of any store gives: one that is not honest may answer a wrong range where none was asked for
+abbrev pub IsCallCause : Cause → Type 0
+IsCallCause cause.Store = Unit {0}
+IsCallCause cause.Memory = Unit {0}
+IsCallCause cause.Damage = Unit {0}
+IsCallCause c = ⊥
+
 -- the causes of a document that is not read
 abbrev pub DocumentRefused : ReadsCodecs → Data → Cause → Type 0
 DocumentRefused reads tree cause.Document = IsErr (read_document reads tree)

@@ -30,10 +30,10 @@ length_above path = if bytes_eq path (codes "/") then 0 else length path
 abbrev pub IsDocumentKey : List ℕ → Type 0
 IsDocumentKey key = (path : List ℕ) × IsTrue (is_node_path path) × ((name : DocumentName) × (key ≡ document_key path name))
 
--- no document is stored under a key: it has no value, or it is that of a chunk of an array that is held
-abbrev pub HasNoneBeside : {B : Type 0} → (B → ByteCodec) → Arrays B → StoreMap → List ℕ → Type 0
-HasNoneBeside meaning arrays store key = (get store key ≡ None) ⊎ IsChunkKeyOf meaning arrays key
+-- no document is stored under a key: it has no value, or is the key of a chunk
+abbrev pub HasNoneBeside : (List ℕ → Type 0) → StoreMap → List ℕ → Type 0
+HasNoneBeside IsChunk store key = (get store key ≡ None) ⊎ IsChunk key
 
--- a value is stored under a key that is not that of a chunk of an array that is held
-abbrev pub HasSomeBeside : {B : Type 0} → (B → ByteCodec) → Arrays B → StoreMap → List ℕ → Type 0
-HasSomeBeside meaning arrays store key = IsSome (get store key) × (¬ IsChunkKeyOf meaning arrays key)
+-- a value is stored under a key that is no chunk's
+abbrev pub HasSomeBeside : (List ℕ → Type 0) → StoreMap → List ℕ → Type 0
+HasSomeBeside IsChunk store key = IsSome (get store key) × (¬ IsChunk key)

@@ -1,21 +1,30 @@
 //! Arrays that commands create.
-ghost use Rattle.std.specs.Prelude.{◌≡◌, IsTrue, None, Some, Ok, false, IfOk, IfErr, OnOk, OnErr, string_bytes};
-ghost use Rattle.std.specs.FinMap.{insert};
+ghost use Rattle.std.specs.Prelude.{◌≡◌, ◌≤◌, IsTrue, None, Some, Ok, false, is_some, IfOk, IfErr, OnOk, OnErr, string_bytes};
+ghost use Rattle.std.specs.FinMap.{get};
+ghost use Rattle.serde_json.specs.Data.{depth};
 ghost use Rattle.serde_json.specs.View.{view};
+ghost use Rattle.zarr_grids_keys.specs.Documents.{document_key};
 ghost use Rattle.zarr_grids_keys.specs.Paths.{is_node_path};
 ghost use Rattle.zarr_array_core.specs.Views.{path_of, document_of};
 ghost use Rattle.zarr_array_meaning.specs.Documents.{read_document};
+ghost use Rattle.zarr_array_meaning.specs.StoreMaps.{CountsUpTo};
+ghost use Rattle.zarr_array_meaning.specs.Texts.{HasNoDocument};
+ghost use Rattle.zarr_array_meaning.specs.Written.{written_document};
 ghost use Rattle.zarr_sharding_arrays.specs.ArrayChains.{array_meaning};
+ghost use Rattle.zarr_run_meaning.specs.Causes.{HasSomeDocument};
+ghost use Rattle.zarr_run_meaning.specs.Counts.{WritesAtMost};
 ghost use Rattle.zarr_run_meaning.specs.Requests as ask;
+ghost use Rattle.zarr_run_meaning.specs.Worlds.{World};
 ghost use Rattle.zarr_run_opening.specs.Arrays.{IsFreeIn, KeepsArrays, KeepsOtherArrays};
 ghost use Rattle.zarr_run_opening.specs.Calls.{IsStoreCause, refused_by};
-ghost use Rattle.zarr_run_opening.specs.Creations.{IsPrepared, PreparationRefused, HasNeither, HasEither, IsStored, StoringRefused};
+ghost use Rattle.zarr_run_opening.specs.Creations.{IsWritten, IsPrepared, PreparationRefused, IsStored, StoredFirst, StoringRefused, LeavesFirst, with_texts, most_calls, most_created};
 ghost use Rattle.zarr_run_opening.specs.Sessions.{FollowsOrder, StepsFrom, answer_of, array_at};
 
 use crate::arrays::{hold, is_path_taken, release};
 use crate::held::HeldArray;
 use crate::opening::open_tree;
-use crate::store_calls::{get, set, store_key};
+use crate::store_calls::{get, store_key};
+use crate::texts::{Texts, store_texts, texts_of};
 use serde_json::Value;
 use std::alloc::{AllocError, Global};
 use std::collections::BTreeMap;
@@ -24,25 +33,30 @@ use zarr_array_metadata::written_document;
 use zarr_array_storage::{ReadableStorageTraits, WritableStorageTraits};
 use zarr_codecs_options::SubchunkWriteOrder;
 use zarr_codecs_traits::BytesToBytesCodecTraits;
-use zarr_grids_keys::{DocumentName, StoreKey, is_node_path};
+use zarr_grids_keys::{DocumentName, is_node_path};
 use zarr_run_meaning::Cause;
 use zarr_sharding_arrays::ArrayChain;
 
-/// A new array that isn't held yet, its path, the keys of its documents of Zarr version 3 and 2,
-/// and the text that is stored under the first.
+/// The document that is written for a new array at a path, and its texts.
+#[derive(Drop)]
+struct WrittenDocument {
+    at: String,
+    tree: Value,
+    texts: Texts,
+}
+
+/// A new array that isn't held yet, its path, and the texts of its document.
 #[derive(Drop)]
 pub(crate) struct Prepared<B: BytesToBytesCodecTraits> {
     at: String,
-    key: StoreKey,
-    older: StoreKey,
-    text: Vec<u8>,
+    texts: Texts,
     array: HeldArray<B>,
 }
 
-/// Creates the array that a document describes, and writes the document into the store. `Path`
-/// where the text is no node path, `PathTaken` where an array is held at a related path, `Document`
-/// where the document cannot be opened, `PathTaken` where a document is stored at the path, `Store`
-/// where the store refuses. The array is held only after the last call of the store.
+/// Creates an array, and stores its document: of version 2 first `.zattrs`. `Path` where the text
+/// is no node path, `PathTaken` where an array is held at a related path, `Document` where the
+/// document cannot be opened, `PathTaken` where one is stored at the path, `Store` where the store
+/// refuses. The array is held only after the store's last call.
 pub fn create<B: BytesToBytesCodecTraits, S: WritableStorageTraits>(
     alloc: Global,
     arrays: &mut BTreeMap<String, HeldArray<B>>,
@@ -57,9 +71,14 @@ pub fn create<B: BytesToBytesCodecTraits, S: WritableStorageTraits>(
         (arrays.new, (S.held store.new, S.refused_calls store.new)) }
     ensures honest { S.is_honest store.new ≡ S.is_honest store.old }
     ensures calls { S.refused_calls store.new ≡ refused_by (S.refused_calls store.old) result }
+    ensures writes { IsTrue (S.is_honest store.old) → (world : World) → WritesAtMost world
+        (ask.create path.now (view document.now) order) (answer_of result)
+        (S.accepted_writes store.old) (S.accepted_writes store.new) }
+    ensures accepted { CountsUpTo (most_created (view document.now) result)
+        (S.accepted_writes store.old) (S.accepted_writes store.new) }
 {
     match prepare(alloc, arrays, path, document, order) {
-        Ok(prepared) => put(arrays, store, path, prepared),
+        Ok(prepared) => put(alloc, arrays, store, path, prepared),
         Err(cause) => Err(cause),
     }
 }
@@ -91,14 +110,14 @@ fn prepare<B: BytesToBytesCodecTraits>(
         Ok(core) => core,
         Err(cause) => return Err(cause),
     };
-    match with_text(alloc, path, document, core, order) {
+    match with_document(alloc, path, document, core, order) {
         Ok(prepared) => Ok(prepared),
         Err(_) => Err(Cause::Memory),
     }
 }
 
-/// Makes the text of the document that is written for a new array, and its keys.
-fn with_text<B: BytesToBytesCodecTraits>(
+/// Makes the document that is written for a new array.
+fn with_document<B: BytesToBytesCodecTraits>(
     alloc: Global,
     path: &str,
     document: &Value,
@@ -113,44 +132,58 @@ fn with_text<B: BytesToBytesCodecTraits>(
     ensures { IfOk result
         (IsPrepared B.meaning B.reads path.now (view document.now) order) }
 {
+    match write_texts(alloc, path, document) {
+        Ok(WrittenDocument { at, tree, texts }) => {
+            let array = HeldArray { core, tree, order };
+            Ok(Prepared { at, texts, array })
+        }
+        // By a call: the drop of so large a value is then proved once, and not field by field here.
+        Err(error) => {
+            drop(core);
+            Err(error)
+        }
+    }
+}
+
+/// The document that is written, and its texts.
+fn write_texts(alloc: Global, path: &str, document: &Value) -> Result<WrittenDocument, AllocError>
+    requires node { IsTrue (is_node_path path.now) }
+    requires shallow { depth (written_document (view document.now)) ≤ 127 }
+    ensures { IfOk result (IsWritten path.now (view document.now)) }
+{
     let tree = written_document(alloc, document)?;
-    let text = tree.to_vec_pretty(alloc)?;
-    let key = store_key(alloc, path, DocumentName::ZarrJson)?;
-    let older = store_key(alloc, path, DocumentName::ZArray)?;
+    let texts = texts_of(alloc, path, &tree)?;
     let at = String::from_str(alloc, path)?;
-    let array = HeldArray { core, tree, order };
-    Ok(Prepared {
-        at,
-        key,
-        older,
-        text,
-        array,
-    })
+    Ok(WrittenDocument { at, tree, texts })
 }
 
 /// Holds a new array, and stores its document where none is stored. All memory is taken before the
 /// store is changed, and where the store refuses, the array isn't held any more.
 fn put<B: BytesToBytesCodecTraits, S: WritableStorageTraits>(
+    alloc: Global,
     arrays: &mut BTreeMap<String, HeldArray<B>>,
     store: &mut S,
     path: &str,
     prepared: Prepared<B>,
 ) -> Result<(), Cause>
+    requires node { IsTrue (is_node_path path.now) }
     requires free { array_at arrays.old path.now ≡ None }
     requires at { string_bytes prepared.at ≡ path.now }
     ensures ok { IsTrue (S.is_honest store.old) → OnOk result (IsStored path.now prepared
         arrays.old arrays.new (S.held store.old) (S.held store.new)) }
     ensures refused { IsTrue (S.is_honest store.old) →
-        IfErr result (StoringRefused prepared (S.held store.old)) }
+        IfErr result (StoringRefused path.now (S.held store.old)) }
+    ensures leaves { IsTrue (S.is_honest store.old) → OnErr result
+        (LeavesFirst path.now prepared.texts (S.held store.old) (S.held store.new)) }
     ensures arrays { OnErr result (KeepsArrays arrays.old arrays.new) }
-    ensures store { IsTrue (S.is_honest store.old) →
-        OnErr result (S.held store.new ≡ S.held store.old) }
     ensures honest { S.is_honest store.new ≡ S.is_honest store.old }
     ensures calls { S.refused_calls store.new ≡ refused_by (S.refused_calls store.old) result }
+    ensures accepted { CountsUpTo (most_calls prepared.texts result)
+        (S.accepted_writes store.old) (S.accepted_writes store.new) }
 {
-    match has_either(store, &prepared.key, &prepared.older) {
+    match has_document(alloc, store, path) {
         Ok(false) => hold_stored(arrays, store, path, prepared),
-        // By a call: the drop of so large a value is then proved once, and not field by field here.
+        // By a call, as above.
         Ok(true) => {
             drop(prepared);
             Err(Cause::PathTaken)
@@ -173,26 +206,22 @@ fn hold_stored<B: BytesToBytesCodecTraits, S: WritableStorageTraits>(
     requires at { string_bytes prepared.at ≡ path.now }
     ensures held { OnOk result (array_at arrays.new path.now ≡ Some prepared.array) }
     ensures others { OnOk result (KeepsOtherArrays path.now arrays.old arrays.new) }
-    ensures writes { IsTrue (S.is_honest store.old) → OnOk result (S.held store.new
-        ≡ insert (S.held store.old) prepared.key prepared.text.items) }
+    ensures writes { IsTrue (S.is_honest store.old) → OnOk result
+        (S.held store.new ≡ with_texts prepared.texts (S.held store.old)) }
     ensures cause { IsTrue (S.is_honest store.old) → IfErr result IsStoreCause }
+    ensures leaves { IsTrue (S.is_honest store.old) → OnErr result
+        (StoredFirst prepared.texts (S.held store.old) (S.held store.new)) }
     ensures arrays { OnErr result (KeepsArrays arrays.old arrays.new) }
-    ensures store { IsTrue (S.is_honest store.old) →
-        OnErr result (S.held store.new ≡ S.held store.old) }
     ensures honest { S.is_honest store.new ≡ S.is_honest store.old }
     ensures calls { S.refused_calls store.new ≡ refused_by (S.refused_calls store.old) result }
+    ensures accepted { CountsUpTo (most_calls prepared.texts result)
+        (S.accepted_writes store.old) (S.accepted_writes store.new) }
 {
-    let Prepared {
-        at,
-        key,
-        text,
-        array,
-        ..
-    } = prepared;
+    let Prepared { at, texts, array } = prepared;
     let Ok(()) = hold(arrays, at, array) else {
         return Err(Cause::Memory);
     };
-    match set(store, &key, text.as_slice()) {
+    match store_texts(store, &texts) {
         Ok(()) => Ok(()),
         Err(cause) => {
             release(arrays, path);
@@ -201,23 +230,50 @@ fn hold_stored<B: BytesToBytesCodecTraits, S: WritableStorageTraits>(
     }
 }
 
-/// Whether one of two keys has a value.
-fn has_either<S: ReadableStorageTraits>(
+/// Whether a document is stored at a path, of Zarr version 3 or 2.
+fn has_document<S: ReadableStorageTraits>(
+    alloc: Global,
     store: &mut S,
-    key: &StoreKey,
-    older: &StoreKey,
+    path: &str,
 ) -> Result<bool, Cause>
+    requires { IsTrue (is_node_path path.now) }
     ensures some { IsTrue (S.is_honest store.old) → IfOk result
-        (λ found. IsTrue found → HasEither (S.held store.old) key.now older.now) }
+        (λ found. IsTrue found → HasSomeDocument path.now (S.held store.old)) }
     ensures none { IsTrue (S.is_honest store.old) → IfOk result
-        (λ found. found ≡ false → HasNeither (S.held store.old) key.now older.now) }
+        (λ found. found ≡ false → HasNoDocument path.now (S.held store.old)) }
     ensures cause { IsTrue (S.is_honest store.old) → IfErr result IsStoreCause }
     ensures held { S.held store.new ≡ S.held store.old }
     ensures honest { S.is_honest store.new ≡ S.is_honest store.old }
     ensures calls { S.refused_calls store.new ≡ refused_by (S.refused_calls store.old) result }
+    ensures accepted { S.accepted_writes store.new ≡ S.accepted_writes store.old }
 {
-    if get(store, key)?.is_some() {
+    if has_value(alloc, store, path, DocumentName::ZarrJson)? {
         return Ok(true);
     }
-    Ok(get(store, older)?.is_some())
+    has_value(alloc, store, path, DocumentName::ZArray)
+}
+
+/// Whether something is stored as this document of the node at a path.
+fn has_value<S: ReadableStorageTraits>(
+    alloc: Global,
+    store: &mut S,
+    path: &str,
+    name: DocumentName,
+) -> Result<bool, Cause>
+    requires { IsTrue (is_node_path path.now) }
+    ensures found { IsTrue (S.is_honest store.old) → IfOk result
+        (λ found. found ≡ is_some (get (S.held store.old) (document_key path.now name))) }
+    ensures cause { IsTrue (S.is_honest store.old) → IfErr result IsStoreCause }
+    ensures held { S.held store.new ≡ S.held store.old }
+    ensures honest { S.is_honest store.new ≡ S.is_honest store.old }
+    ensures calls { S.refused_calls store.new ≡ refused_by (S.refused_calls store.old) result }
+    ensures accepted { S.accepted_writes store.new ≡ S.accepted_writes store.old }
+{
+    let Ok(key) = store_key(alloc, path, name) else {
+        return Err(Cause::Memory);
+    };
+    match get(store, &key) {
+        Ok(value) => Ok(value.is_some()),
+        Err(cause) => Err(cause),
+    }
 }

@@ -9,6 +9,8 @@ pub mod laws;
 mod opening;
 pub mod reopening;
 mod store_calls;
+mod stored;
+mod texts;
 mod write_order;
 
 pub use creating::create;

@@ -2,41 +2,31 @@
 ghost use Rattle.std.specs.Prelude.{◌≡◌, IsTrue, IfOk, IfErr, OnOk, OnErr};
 ghost use Rattle.zarr_grids_keys.specs.Paths.{is_node_path};
 ghost use Rattle.zarr_run_meaning.specs.Requests as ask;
-ghost use Rattle.zarr_run_meaning.specs.Steps.{refused_after};
 ghost use Rattle.zarr_run_opening.specs.Arrays.{KeepsArrays, KeepsOtherArrays};
 ghost use Rattle.zarr_run_opening.specs.Calls.{IsStoreCause, refused_by};
-ghost use Rattle.zarr_run_opening.specs.Reopenings.{IsStoredAt, IsStoredBeside, HasSameDocument, ComparisonRefused, IsOpenedFrom, OpeningRefused, NothingRefused, Reopened};
+ghost use Rattle.zarr_run_opening.specs.ChunkKeys.{IsChunkKeyOf};
+ghost use Rattle.zarr_run_opening.specs.Reopenings.{HasSameDocument, ComparisonRefused, IsDocumentBeside, IsOpenedFrom, IsVersionBeside, OpeningRefused, Reopened};
 ghost use Rattle.zarr_run_opening.specs.Sessions.{StepsFrom, answer_of, array_at};
 
 use crate::arrays::{find, hold, set_order};
 use crate::chunk_keys::is_chunk_key;
 use crate::held::HeldArray;
 use crate::opening::open_tree;
-use crate::store_calls::{get, store_key};
-use serde_json::Value;
+use crate::stored::{StoredDocument, stored_document};
 use std::alloc::Global;
 use std::collections::BTreeMap;
 use zarr_array_storage::ReadableStorageTraits;
+use zarr_array_v2::is_version_2;
 use zarr_codecs_options::SubchunkWriteOrder;
 use zarr_codecs_traits::BytesToBytesCodecTraits;
 use zarr_grids_keys::{DocumentName, is_node_path};
 use zarr_grids_metadata::same_tree;
 use zarr_run_meaning::Cause;
 
-/// What is stored under the key of a path's document.
-#[derive(Drop)]
-enum StoredDocument {
-    Nothing,
-    /// No text, or one that reads as no tree.
-    NoTree,
-    Tree(Value),
-}
-
-/// Gives the array that is held at a path another write order, where its document is still stored:
-/// else `DocumentChanged`. Where no array is held there, opens the document that is stored:
-/// `NoArray` where none is, `Document` where it cannot be opened. What is stored for a chunk of an
-/// array that is held is no document, whatever it spells. `Path` where the text is no node path,
-/// `Store` where the store refuses.
+/// Gives a held array another write order, where its document is still stored; else
+/// `DocumentChanged`. Where none is held, opens what is stored, of version 3 before 2: `NoArray`
+/// where nothing is, `Document` where it cannot be opened. A chunk of a held array is no document.
+/// `Path` where the text is no node path, `Store` where the store refuses.
 pub fn reopen<B: BytesToBytesCodecTraits, S: ReadableStorageTraits>(
     alloc: Global,
     arrays: &mut BTreeMap<String, HeldArray<B>>,
@@ -50,6 +40,7 @@ pub fn reopen<B: BytesToBytesCodecTraits, S: ReadableStorageTraits>(
         (arrays.new, (S.held store.new, S.refused_calls store.new)) }
     ensures honest { S.is_honest store.new ≡ S.is_honest store.old }
     ensures calls { S.refused_calls store.new ≡ refused_by (S.refused_calls store.old) result }
+    ensures accepted { S.accepted_writes store.new ≡ S.accepted_writes store.old }
 {
     if !is_node_path(path) {
         return Err(Cause::Path);
@@ -73,6 +64,7 @@ fn reopened<B: BytesToBytesCodecTraits, S: ReadableStorageTraits>(
     ensures held { S.held store.new ≡ S.held store.old }
     ensures honest { S.is_honest store.new ≡ S.is_honest store.old }
     ensures calls { S.refused_calls store.new ≡ refused_by (S.refused_calls store.old) result }
+    ensures accepted { S.accepted_writes store.new ≡ S.accepted_writes store.old }
 {
     if let Some(array) = find(arrays, path) {
         match compare(alloc, store, path, array) {
@@ -82,12 +74,12 @@ fn reopened<B: BytesToBytesCodecTraits, S: ReadableStorageTraits>(
         set_order(alloc, arrays, path, order);
         return Ok(());
     }
+    let Ok(at) = String::from_str(alloc, path) else {
+        return Err(Cause::Memory);
+    };
     let array = match open(alloc, arrays, store, path, order) {
         Ok(array) => array,
         Err(cause) => return Err(cause),
-    };
-    let Ok(at) = String::from_str(alloc, path) else {
-        return Err(Cause::Memory);
     };
     match hold(arrays, at, array) {
         Ok(()) => Ok(()),
@@ -95,7 +87,7 @@ fn reopened<B: BytesToBytesCodecTraits, S: ReadableStorageTraits>(
     }
 }
 
-/// Tests whether the document of an array is stored.
+/// Tests whether the document of an array is stored, under the keys of its version.
 fn compare<B: BytesToBytesCodecTraits, S: ReadableStorageTraits>(
     alloc: Global,
     store: &mut S,
@@ -110,8 +102,9 @@ fn compare<B: BytesToBytesCodecTraits, S: ReadableStorageTraits>(
     ensures held { S.held store.new ≡ S.held store.old }
     ensures honest { S.is_honest store.new ≡ S.is_honest store.old }
     ensures calls { S.refused_calls store.new ≡ refused_by (S.refused_calls store.old) result }
+    ensures accepted { S.accepted_writes store.new ≡ S.accepted_writes store.old }
 {
-    match stored_document(alloc, store, path) {
+    match stored_document(alloc, store, path, is_version_2(&array.tree)) {
         Ok(StoredDocument::Tree(tree)) => {
             if same_tree(&tree, &array.tree) {
                 Ok(())
@@ -119,7 +112,8 @@ fn compare<B: BytesToBytesCodecTraits, S: ReadableStorageTraits>(
                 Err(Cause::DocumentChanged)
             }
         }
-        Ok(_) => Err(Cause::DocumentChanged),
+        Ok(StoredDocument::NoDocument) => Err(Cause::DocumentChanged),
+        Ok(StoredDocument::Nothing) => Err(Cause::DocumentChanged),
         Err(cause) => Err(cause),
     }
 }
@@ -135,16 +129,17 @@ fn open<B: BytesToBytesCodecTraits, S: ReadableStorageTraits>(
     requires { IsTrue (is_node_path path.now) }
     ensures ok { IsTrue (S.is_honest store.old) →
         IfOk result (IsOpenedFrom B.meaning B.reads arrays.now path.now (S.held store.old) order) }
-    ensures refused { IsTrue (S.is_honest store.old) →
-        IfErr result (OpeningRefused B.meaning B.reads arrays.now path.now (S.held store.old)) }
+    ensures refused { IsTrue (S.is_honest store.old) → IfErr result
+        (OpeningRefused (IsChunkKeyOf B.meaning arrays.now) B.reads path.now (S.held store.old)) }
     ensures held { S.held store.new ≡ S.held store.old }
     ensures honest { S.is_honest store.new ≡ S.is_honest store.old }
     ensures calls { S.refused_calls store.new ≡ refused_by (S.refused_calls store.old) result }
+    ensures accepted { S.accepted_writes store.new ≡ S.accepted_writes store.old }
 {
     let tree = match document_beside(alloc, arrays, store, path) {
         Ok(StoredDocument::Tree(tree)) => tree,
-        Ok(StoredDocument::NoTree) => return Err(Cause::Document),
-        Ok(StoredDocument::Nothing) => return Err(cause_of_none(alloc, arrays, store, path)),
+        Ok(StoredDocument::NoDocument) => return Err(Cause::Document),
+        Ok(StoredDocument::Nothing) => return Err(Cause::NoArray),
         Err(cause) => return Err(cause),
     };
     match open_tree(alloc, path, &tree, order) {
@@ -153,38 +148,8 @@ fn open<B: BytesToBytesCodecTraits, S: ReadableStorageTraits>(
     }
 }
 
-/// Why no array is opened where no document of Zarr version 3 is stored: one of version 2 is none
-/// that can be opened so far.
-fn cause_of_none<B: BytesToBytesCodecTraits, S: ReadableStorageTraits>(
-    alloc: Global,
-    arrays: &BTreeMap<String, HeldArray<B>>,
-    store: &mut S,
-    path: &str,
-) -> Cause
-    requires { IsTrue (is_node_path path.now) }
-    ensures cause { IsTrue (S.is_honest store.old) →
-        NothingRefused B.meaning arrays.now path.now (S.held store.old) result }
-    ensures held { S.held store.new ≡ S.held store.old }
-    ensures honest { S.is_honest store.new ≡ S.is_honest store.old }
-    ensures calls { S.refused_calls store.new ≡ refused_after result (S.refused_calls store.old) }
-{
-    match is_chunk_key(alloc, arrays, path, DocumentName::ZArray) {
-        Ok(true) => return Cause::NoArray,
-        Ok(false) => {}
-        Err(_) => return Cause::Memory,
-    }
-    let Ok(key) = store_key(alloc, path, DocumentName::ZArray) else {
-        return Cause::Memory;
-    };
-    match get(store, &key) {
-        Ok(Some(_)) => Cause::Document,
-        Ok(None) => Cause::NoArray,
-        Err(cause) => cause,
-    }
-}
-
-/// What is stored under the key of a path's document, and nothing where that is the key of a chunk
-/// of an array that is held.
+/// The document that a path has: of Zarr version 3, or else of version 2. What is stored for a
+/// chunk of an array that is held is none.
 fn document_beside<B: BytesToBytesCodecTraits, S: ReadableStorageTraits>(
     alloc: Global,
     arrays: &BTreeMap<String, HeldArray<B>>,
@@ -192,48 +157,47 @@ fn document_beside<B: BytesToBytesCodecTraits, S: ReadableStorageTraits>(
     path: &str,
 ) -> Result<StoredDocument, Cause>
     requires { IsTrue (is_node_path path.now) }
-    ensures is { IsTrue (S.is_honest store.old) →
-        IfOk result (IsStoredBeside B.meaning arrays.now path.now (S.held store.old)) }
+    ensures is { IsTrue (S.is_honest store.old) → IfOk result
+        (IsDocumentBeside (IsChunkKeyOf B.meaning arrays.now) path.now (S.held store.old)) }
     ensures cause { IsTrue (S.is_honest store.old) → IfErr result IsStoreCause }
     ensures held { S.held store.new ≡ S.held store.old }
     ensures honest { S.is_honest store.new ≡ S.is_honest store.old }
     ensures calls { S.refused_calls store.new ≡ refused_by (S.refused_calls store.old) result }
+    ensures accepted { S.accepted_writes store.new ≡ S.accepted_writes store.old }
 {
-    match is_chunk_key(alloc, arrays, path, DocumentName::ZarrJson) {
-        Ok(true) => Ok(StoredDocument::Nothing),
-        Ok(false) => stored_document(alloc, store, path),
-        Err(_) => Err(Cause::Memory),
+    match version_beside(alloc, arrays, store, path, false) {
+        Ok(StoredDocument::Nothing) => version_beside(alloc, arrays, store, path, true),
+        Ok(found) => Ok(found),
+        Err(cause) => Err(cause),
     }
 }
 
-/// What is stored under the key of a path's document.
-fn stored_document<S: ReadableStorageTraits>(
+/// The document of version 2, or else 3, that is stored at a path, and nothing where its key is
+/// that of a chunk of an array that is held.
+fn version_beside<B: BytesToBytesCodecTraits, S: ReadableStorageTraits>(
     alloc: Global,
+    arrays: &BTreeMap<String, HeldArray<B>>,
     store: &mut S,
     path: &str,
+    version_2: bool,
 ) -> Result<StoredDocument, Cause>
     requires { IsTrue (is_node_path path.now) }
-    ensures is { IsTrue (S.is_honest store.old) →
-        IfOk result (IsStoredAt path.now (S.held store.old)) }
+    ensures is { IsTrue (S.is_honest store.old) → IfOk result (IsVersionBeside
+        (IsChunkKeyOf B.meaning arrays.now) version_2 path.now (S.held store.old)) }
     ensures cause { IsTrue (S.is_honest store.old) → IfErr result IsStoreCause }
     ensures held { S.held store.new ≡ S.held store.old }
     ensures honest { S.is_honest store.new ≡ S.is_honest store.old }
     ensures calls { S.refused_calls store.new ≡ refused_by (S.refused_calls store.old) result }
+    ensures accepted { S.accepted_writes store.new ≡ S.accepted_writes store.old }
 {
-    let Ok(key) = store_key(alloc, path, DocumentName::ZarrJson) else {
-        return Err(Cause::Memory);
+    let name = if version_2 {
+        DocumentName::ZArray
+    } else {
+        DocumentName::ZarrJson
     };
-    let Some(text) = get(store, &key)? else {
-        return Ok(StoredDocument::Nothing);
-    };
-    match Value::from_slice(alloc, text.as_slice()) {
-        Ok(tree) => Ok(StoredDocument::Tree(tree)),
-        Err(error) => {
-            if error.is_memory() {
-                Err(Cause::Memory)
-            } else {
-                Ok(StoredDocument::NoTree)
-            }
-        }
+    match is_chunk_key(alloc, arrays, path, name) {
+        Ok(true) => Ok(StoredDocument::Nothing),
+        Ok(false) => stored_document(alloc, store, path, version_2),
+        Err(_) => Err(Cause::Memory),
     }
 }

@@ -7,7 +7,7 @@ ghost use Rattle.zarr_array_meaning.specs.StoreMaps.{counted};
 ghost use Rattle.zarr_array_storage.specs.Refusals.{IfByteRange, is_counted};
 ghost use Rattle.zarr_array_storage.specs.Stores.{value_bytes};
 ghost use Rattle.zarr_run_meaning.specs.Steps.{refused_after};
-ghost use Rattle.zarr_run_opening.specs.Calls.{IsStoreCause, refused_by};
+ghost use Rattle.zarr_run_opening.specs.Calls.{IsStoreCause, IsCallCause, refused_by};
 
 use std::alloc::{AllocError, Global};
 use zarr_array_storage::{ReadableStorageTraits, StorageError, WritableStorageTraits};
@@ -18,6 +18,7 @@ use zarr_run_meaning::Cause;
 /// range to a call that names none isn't honest, and what it holds is taken as damaged.
 fn cause_of_storage(error: StorageError) -> Cause
     ensures cause { IfByteRange error ⊥ → IsStoreCause result }
+    ensures call { IsCallCause result }
     ensures refused { (count : ℕ) → refused_after result count
         ≡ (if is_counted error then counted count 1 else count) }
 {
@@ -39,6 +40,7 @@ pub(crate) fn get<S: ReadableStorageTraits>(
     ensures held { S.held store.new ≡ S.held store.old }
     ensures honest { S.is_honest store.new ≡ S.is_honest store.old }
     ensures refused { S.refused_calls store.new ≡ refused_by (S.refused_calls store.old) result }
+    ensures accepted { S.accepted_writes store.new ≡ S.accepted_writes store.old }
 {
     match store.get(key) {
         Ok(found) => Ok(found),
@@ -57,8 +59,13 @@ pub(crate) fn set<S: WritableStorageTraits>(
     ensures err { IsTrue (S.is_honest store.old) →
         OnErr result (S.held store.new ≡ S.held store.old) }
     ensures cause { IsTrue (S.is_honest store.old) → IfErr result IsStoreCause }
+    ensures call { IfErr result IsCallCause }
     ensures honest { S.is_honest store.new ≡ S.is_honest store.old }
     ensures refused { S.refused_calls store.new ≡ refused_by (S.refused_calls store.old) result }
+    ensures accepted { OnOk result
+        (S.accepted_writes store.new ≡ counted (S.accepted_writes store.old) 1) }
+    ensures none_accepted { OnErr result
+        (S.accepted_writes store.new ≡ S.accepted_writes store.old) }
 {
     match store.set(key, value) {
         Ok(()) => Ok(()),

@@ -10,7 +10,7 @@ use Rattle.zarr_run_meaning.specs.Laws.{HasTables}
 use Rattle.zarr_run_meaning.specs.Requests.{Request, create, rewrite, path_of, Answer, done}
 use Rattle.zarr_run_meaning.specs.Rewrites.{IsCanonHeld, IsCanonAlone, ReopensApart}
 use Rattle.zarr_run_meaning.specs.Runs.{Run}
-use Rattle.zarr_run_meaning.specs.Sound.{IsSound, IsSoundAlone, OpensApart, OwnsKeysUnder, AsksOwned, AsksLossless, AllAskLossless, ReadsGood}
+use Rattle.zarr_run_meaning.specs.Sound.{IsSound, IsSoundAlone, OpensApart, OwnsKeysUnder, AsksOwned, AsksFaithful, AllAskFaithful, ReadsGood}
 use Rattle.zarr_run_meaning.specs.Steps.{Step}
 use Rattle.zarr_run_meaning.specs.Tight.{IsTightHeld, AsksRowMajor, AllAskRowMajor}
 use Rattle.zarr_run_meaning.specs.Worlds.{Held, World, held_at, is_row_major, writes_exactly}
@@ -23,16 +23,16 @@ use Rattle.zarr_run_meaning.proofs.Frames.{steps_show}
 use Rattle.zarr_run_meaning.proofs.KeptCanon.{sound_tables, runs_keep_canon}
 use Rattle.zarr_run_meaning.proofs.KeptTight.{steps_keep_tight, begins_tight}
 use Rattle.zarr_run_meaning.proofs.Orders.{IsRowMajorThere, orders}
-use Rattle.zarr_run_meaning.proofs.Owning.{steps_own}
+use Rattle.zarr_run_meaning.proofs.Owning.{steps_own, free_no_chunks}
 use Rattle.zarr_run_meaning.proofs.Sound.{steps_sound, owned_begins, asks_still, all_still}
 use Rattle.zarr_run_meaning.proofs.TightChunks.{no_chunks_are_tight}
-use Rattle.zarr_run_session.specs.Headline.{Exchanges, IsIntact, BeginsFill, IsPlainThere, EndsCanonAt, IsAloneOrFree, NamesLossless, AsksAlone, AloneStep, RunOf, IsTightExactly, EndsAlone, EndsTables, AsksFresh}
-use Rattle.zarr_run_session.proofs.Beginning.{free_no_chunks, asks_free, begins_free, free_intact}
+use Rattle.zarr_run_session.specs.Headline.{Exchanges, IsIntact, BeginsFill, IsPlainThere, EndsCanonAt, IsAloneOrFree, NamesFaithful, AsksAlone, AloneStep, RunOf, IsTightExactly, EndsAlone, EndsTables, AsksFresh}
+use Rattle.zarr_run_session.proofs.Beginning.{asks_free, begins_free, free_intact}
 use Rattle.zarr_run_session.proofs.Headline.{All-left, All-right, intact, ends_canon, or_left, or_right, written_exactly}
 use Rattle.zarr_run_session.proofs.Plain.{document_stays, plain_before}
 
-names_parts : (reads : ReadsCodecs) (path : List ℕ) (first last : List Request) (firsts lasts : List Answer) → length first ≡ length firsts → NamesLossless reads path (first ++ last) (firsts ++ lasts)
-    → NamesLossless reads path first firsts × NamesLossless reads path last lasts
+names_parts : (reads : ReadsCodecs) (path : List ℕ) (first last : List Request) (firsts lasts : List Answer) → length first ≡ length firsts → NamesFaithful reads path (first ++ last) (firsts ++ lasts)
+    → NamesFaithful reads path first firsts × NamesFaithful reads path last lasts
 names_parts reads path [] last [] lasts many names = (tt, names)
 names_parts reads path [] last (a ∷ firsts) lasts many names = absurd (cc)
 names_parts reads path (r ∷ first) last [] lasts many names = absurd (cc)
@@ -53,15 +53,15 @@ module _ (reads : ReadsCodecs) (path : List ℕ) (good : ReadsGood reads) (old n
       subst P (same_Some next.sound.array h (sym next.sound.found ∙ found)) next.tight
 
   -- and that of one that begins is
-  tight_begun : held_at path old.arrays ≡ None → (path_of request ≡ path → AsksOwned old request) → (path_of request ≡ path → AsksLossless reads request answer) → IsTightHeld new.store h
-  tight_begun none owned lossless =
-      let b = begins_free reads old new path h good tables none found request answer owned lossless s in
+  tight_begun : held_at path old.arrays ≡ None → (path_of request ≡ path → AsksOwned old request) → (path_of request ≡ path → AsksFaithful reads request answer) → IsTightHeld new.store h
+  tight_begun none owned faithful =
+      let b = begins_free reads old new path h good tables none found request answer owned faithful s in
       begins_tight reads old new request answer path h (λ place. h.document.elements.fill) good none s found
       (no_chunks_are_fill path h.document old.store (good h.tree h.document (steps_show reads old new request answer tables s path h found).1) b.lossless b.none)
       (no_chunks_are_tight path h.document old.store b.none)
 
 module _ (reads : ReadsCodecs) (path : List ℕ) (good : ReadsGood reads) (old new : World) (request : Request) (answer : Answer) (tables : HasTables reads old)
-    (lossless : path_of request ≡ path → AsksLossless reads request answer) (beside : ReopensApart path request) (s : Step reads old request answer new) where
+    (faithful : path_of request ≡ path → AsksFaithful reads request answer) (beside : ReopensApart path request) (s : Step reads old request answer new) where
   alone_after : IsSoundAlone reads old path → IsSoundAlone reads new path
   alone_after alone = steps_keep_sound reads old new request answer path good tables (reopens_apart reads old new path alone request answer beside) alone s
 
@@ -69,7 +69,7 @@ module _ (reads : ReadsCodecs) (path : List ℕ) (good : ReadsGood reads) (old n
   free_after none owned = go (held_at path new.arrays) refl where
     go : (o : Option Held) → held_at path new.arrays ≡ o → IsAloneOrFree reads path new
     go None e = inr (e, λ name. steps_own reads old new request answer _ s (owned name))
-    go (Some h) e = let b = begins_free reads old new path h good tables none e request answer (asks_free old path request owned) lossless s in inl b.alone
+    go (Some h) e = let b = begins_free reads old new path h good tables none e request answer (asks_free old path request owned) faithful s in inl b.alone
 
   pub there_after : IsAloneOrFree reads path old → IsAloneOrFree reads path new
   there_after there = ⊎_elim (λ alone. inl (alone_after alone)) (λ free. free_after free.0 free.1) there
@@ -84,22 +84,27 @@ module _ (reads : ReadsCodecs) (path : List ℕ) (good : ReadsGood reads) (old n
   tight_after : IsAloneOrFree reads path old → IsTightExactly path old → (h : Held) → held_at path new.arrays ≡ Some h → IsTightHeld new.store h
   tight_after there was h found = ⊎_elim
       (λ alone. tight_kept reads path good old new request answer tables s h found alone (reopens_apart reads old new path alone request answer beside) was)
-      (λ free. tight_begun reads path good old new request answer tables s h found free.0 (asks_free old path request free.1) lossless)
+      (λ free. tight_begun reads path good old new request answer tables s h found free.0 (asks_free old path request free.1) faithful)
       there
 
 -- an array that is created at the path begins as fill
-fill_there : (reads : ReadsCodecs) (path : List ℕ) (good : ReadsGood reads) (old new : World) (request : Request) (answer : Answer) → HasTables reads old → (path_of request ≡ path → AsksLossless reads request answer) → IsAloneOrFree reads path old
+fill_there : (reads : ReadsCodecs) (path : List ℕ) (good : ReadsGood reads) (old new : World) (request : Request) (answer : Answer) → HasTables reads old → (path_of request ≡ path → AsksFaithful reads request answer) → IsAloneOrFree reads path old
     → Step reads old request answer new → path_of request ≡ path → BeginsFill request answer new
-fill_there reads path good old new (create p document order) done tables lossless there s same =
+fill_there reads path good old new (create p document order) done tables faithful there s same =
     let c = s.0 in
     let h = created_array reads old new p document order c in
     let found : held_at p new.arrays ≡ Some h = ap (held_at p) c.begins.holds ∙ held_at-new p old.arrays h (free_none p old.arrays c.free) refl in
     let Q : List ℕ → Type 0 = λ q. OwnsKeysUnder q old in
     ⊎_elim
     (λ alone. absurd (none-some alone.array (sym (ap (λ q. held_at q old.arrays) (sym same) ∙ free_none p old.arrays c.free) ∙ alone.found)))
-    (λ free. (h, found, creates_fill reads old new p document order h good s found (lossless same c.meaning c.opens) (free_no_chunks reads old p c.meaning tables (subst Q (sym same) free.1) c.node c.free)))
+    (λ free. (
+      h,
+      found,
+      creates_fill reads old new p document order h good s found (faithful same c.meaning c.opens).lossless
+          (free_no_chunks old p c.meaning (λ q g at. (tables q g at).0) (subst Q (sym same) free.1) c.node c.free (inl (faithful same c.meaning c.opens).ends)),
+    ))
     there
-fill_there reads path good old new request answer tables lossless there s same = tt
+fill_there reads path good old new request answer tables faithful there s same = tt
 
 -- ---- how the array is written
 
@@ -141,7 +146,7 @@ rewritten_canon reads path good old new options tables alone exact unstored s =
     record { sound = sound; canon = subst P (same_Some alone.array sound.array (sym left.0 ∙ sound.found)) left.1 }
 
 module _ (reads : ReadsCodecs) (path : List ℕ) (good : ReadsGood reads) where
-  pub alone_run : (old new : World) (requests : List Request) (answers : List Answer) → HasTables reads old → IsAloneOrFree reads path old → NamesLossless reads path requests answers → All (ReopensApart path) requests
+  pub alone_run : (old new : World) (requests : List Request) (answers : List Answer) → HasTables reads old → IsAloneOrFree reads path old → NamesFaithful reads path requests answers → All (ReopensApart path) requests
       → Run reads old requests answers new → RunOf (AloneStep reads path) old requests answers new
   alone_run old new [] [] tables there names beside r = r
   alone_run old new [] (answer ∷ answers) tables there names beside r = absurd r
@@ -160,7 +165,7 @@ module _ (reads : ReadsCodecs) (path : List ℕ) (good : ReadsGood reads) where
       )
 
   -- the world at the end
-  alone_end : (old new : World) (requests : List Request) (answers : List Answer) → HasTables reads old → IsAloneOrFree reads path old → NamesLossless reads path requests answers → All (ReopensApart path) requests
+  alone_end : (old new : World) (requests : List Request) (answers : List Answer) → HasTables reads old → IsAloneOrFree reads path old → NamesFaithful reads path requests answers → All (ReopensApart path) requests
       → Run reads old requests answers new → HasTables reads new × IsAloneOrFree reads path new
   alone_end old new [] [] tables there names beside r = let P : World → Type 0 = λ w. HasTables reads w × IsAloneOrFree reads path w in subst P (sym r) (tables, there)
   alone_end old new [] (answer ∷ answers) tables there names beside r = absurd r
@@ -178,7 +183,7 @@ module _ (reads : ReadsCodecs) (path : List ℕ) (good : ReadsGood reads) where
       asks
 
   -- tight layout
-  tight_end : (old new : World) (requests : List Request) (answers : List Answer) → HasTables reads old → IsAloneOrFree reads path old → NamesLossless reads path requests answers → All (ReopensApart path) requests
+  tight_end : (old new : World) (requests : List Request) (answers : List Answer) → HasTables reads old → IsAloneOrFree reads path old → NamesFaithful reads path requests answers → All (ReopensApart path) requests
       → AllAskRowMajor path requests answers ⊎ IsPlainThere path new → IsTightExactly path old → Run reads old requests answers new → IsTightExactly path new
   tight_end old new [] [] tables there names beside asks was r = let P : World → Type 0 = λ w. IsTightExactly path w in subst P (sym r) was
   tight_end old new [] (answer ∷ answers) tables there names beside asks was r = absurd r
@@ -197,12 +202,12 @@ module _ (reads : ReadsCodecs) (path : List ℕ) (good : ReadsGood reads) where
   canon_end before after es tables asks r k =
       let rest : Exchanges = (rewrite path k.options ∷ k.last.0, done ∷ k.last.1) in
       let P : List Request → Type 0 = λ q. All (ReopensApart path) q in
-      let Q : List Request → Type 0 = λ q. NamesLossless reads path q es.1 in
-      let R : List Answer → Type 0 = λ a. NamesLossless reads path (k.first.0 ++ rest.0) a in
+      let Q : List Request → Type 0 = λ q. NamesFaithful reads path q es.1 in
+      let R : List Answer → Type 0 = λ a. NamesFaithful reads path (k.first.0 ++ rest.0) a in
       let S : List Request → Type 0 = λ q. Run reads before q es.1 after in
       let T : List Answer → Type 0 = λ a. Run reads before (k.first.0 ++ rest.0) a after in
       let beside = subst P k.requests asks.apart in
-      let names = names_parts reads path k.first.0 rest.0 k.first.1 rest.1 k.many (subst R k.answers (subst Q k.requests asks.lossless)) in
+      let names = names_parts reads path k.first.0 rest.0 k.first.1 rest.1 k.many (subst R k.answers (subst Q k.requests asks.faithful)) in
       let parts = runs_go_on reads before after k.first.0 rest.0 k.first.1 rest.1 k.many (subst T k.answers (subst S k.requests r)) in
       let mid = parts.0 in
       let next = parts.2.0 in
@@ -217,42 +222,42 @@ module _ (reads : ReadsCodecs) (path : List ℕ) (good : ReadsGood reads) where
 
   pub ends_alone : (before after : World) (es : Exchanges) → HasTables reads before → AsksAlone reads path before es → Run reads before es.0 es.1 after → EndsAlone reads path before es after
   ends_alone before after es tables asks r = record {
-    there = (alone_end before after es.0 es.1 tables asks.there asks.lossless asks.apart r).1;
+    there = (alone_end before after es.0 es.1 tables asks.there asks.faithful asks.apart r).1;
     canon = canon_end before after es tables asks r;
     still = λ canon leaves. runs_keep_canon reads before after es.0 es.1 path good tables leaves asks.apart canon r;
-    tight = λ order was. tight_end before after es.0 es.1 tables asks.there asks.lossless asks.apart order was r;
+    tight = λ order was. tight_end before after es.0 es.1 tables asks.there asks.faithful asks.apart order was r;
   }
 
 -- ---- runs from sound worlds
 
 module _ (reads : ReadsCodecs) (path : List ℕ) (good : ReadsGood reads) where
-  tight_sound : (old new : World) (request : Request) (answer : Answer) → AsksOwned old request → AsksLossless reads request answer → IsSound reads old → IsTightExactly path old → Step reads old request answer new
+  tight_sound : (old new : World) (request : Request) (answer : Answer) → AsksOwned old request → AsksFaithful reads request answer → IsSound reads old → IsTightExactly path old → Step reads old request answer new
       → (h : Held) → held_at path new.arrays ≡ Some h → IsTightHeld new.store h
-  tight_sound old new request answer own lossless sound was s h found = go (held_at path old.arrays) refl where
+  tight_sound old new request answer own faithful sound was s h found = go (held_at path old.arrays) refl where
     go : (o : Option Held) → held_at path old.arrays ≡ o → IsTightHeld new.store h
-    go None e = tight_begun reads path good old new request answer (sound_tables reads old good sound) s h found e (λ same. own) (λ same. lossless)
+    go None e = tight_begun reads path good old new request answer (sound_tables reads old good sound) s h found e (λ same. own) (λ same. faithful)
     go (Some g) e =
         let alone = sound_alone reads old path g sound e in
-        let away = begins_apart reads old new path alone request answer (owned_begins reads old new request answer good own lossless sound s) s in
+        let away = begins_apart reads old new path alone request answer (owned_begins reads old new request answer good own faithful sound s) s in
         tight_kept reads path good old new request answer (sound_tables reads old good sound) s h found alone away was
 
-  pub sound_tight_end : (old new : World) (requests : List Request) (answers : List Answer) → All (AsksOwned old) requests → AllAskLossless reads requests answers → IsSound reads old
+  pub sound_tight_end : (old new : World) (requests : List Request) (answers : List Answer) → All (AsksOwned old) requests → AllAskFaithful reads requests answers → IsSound reads old
       → AllAskRowMajor path requests answers ⊎ IsPlainThere path new → IsTightExactly path old → Run reads old requests answers new → IsTightExactly path new
-  sound_tight_end old new [] [] owned lossless sound asks was r = let P : World → Type 0 = λ w. IsTightExactly path w in subst P (sym r) was
-  sound_tight_end old new [] (answer ∷ answers) owned lossless sound asks was r = absurd r
-  sound_tight_end old new (request ∷ requests) [] owned lossless sound asks was r = absurd r
-  sound_tight_end old new (request ∷ requests) (answer ∷ answers) owned lossless sound asks was r =
+  sound_tight_end old new [] [] owned faithful sound asks was r = let P : World → Type 0 = λ w. IsTightExactly path w in subst P (sym r) was
+  sound_tight_end old new [] (answer ∷ answers) owned faithful sound asks was r = absurd r
+  sound_tight_end old new (request ∷ requests) [] owned faithful sound asks was r = absurd r
+  sound_tight_end old new (request ∷ requests) (answer ∷ answers) owned faithful sound asks was r =
       let own = All-head (AsksOwned old) request requests owned in
-      let begins = owned_begins reads old r.0 request answer good own lossless.0 sound r.1 in
+      let begins = owned_begins reads old r.0 request answer good own faithful.0 sound r.1 in
       let next : IsTightExactly path r.0 = λ h found. (
         exactly_next reads path good old r.0 new request answer requests answers asks (λ g at. (was g at).0) r.1 r.2 h found,
-        tight_sound old r.0 request answer own lossless.0 sound was r.1 h found,
+        tight_sound old r.0 request answer own faithful.0 sound was r.1 h found,
       ) in
-      sound_tight_end r.0 new requests answers (all_still old r.0 (asks_still reads old r.0 request answer r.1) requests (All-tail (AsksOwned old) request requests owned)) lossless.1
+      sound_tight_end r.0 new requests answers (all_still old r.0 (asks_still reads old r.0 request answer r.1) requests (All-tail (AsksOwned old) request requests owned)) faithful.1
       (steps_sound reads old r.0 request answer good begins sound r.1) (⊎_elim (λ (order : AllAskRowMajor path (request ∷ requests) (answer ∷ answers)). inl order.1) (λ plain. inr plain) asks) next r.2
 
 pub ends_tables : (reads : ReadsCodecs) (good : ReadsGood reads) (before after : World) (es : Exchanges) → IsSound reads before → AsksFresh reads before es → Run reads before es.0 es.1 after → EndsTables before es after
 ends_tables reads good before after es sound fresh r = record {
   canon = ends_canon reads good before after es sound fresh r;
-  tight = λ path asks was. sound_tight_end reads path good before after es.0 es.1 fresh.owned fresh.lossless sound asks was r;
+  tight = λ path asks was. sound_tight_end reads path good before after es.0 es.1 fresh.owned fresh.faithful sound asks was r;
 }

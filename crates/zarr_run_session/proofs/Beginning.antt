@@ -1,49 +1,27 @@
 -- An array that begins at a path under which no key is foreign, whatever is stored elsewhere.
-use Rattle.std.proofs.Common.{◌≡◌, ◌∙◌, ⊎_elim, ℕ, true, false, List, refl, sym, ap, subst, Option, Some, None}
+use Rattle.std.proofs.Common.{◌≡◌, ◌∙◌, inl, ⊎_elim, ℕ, List, sym, ap, subst, Option, Some, None, Ok}
 use Rattle.std.proofs.lemmas.Option.{none-some}
 use Rattle.serde_json.specs.Data.{Data}
-use Rattle.zarr_grids_keys.specs.Documents.{document_key, document_name}
-use Rattle.zarr_grids_keys.specs.Keys.{encoded_key, key_under}
-use Rattle.zarr_grids_keys.specs.Paths.{is_node_path}
-use Rattle.zarr_grids_keys.specs.declared.document_name.DocumentName.TheVariants.{ZarrJson}
-use Rattle.zarr_grids_keys.proofs.KeyLemmas.{document_key-injective}
-use Rattle.zarr_grids_keys.proofs.RelatedLemmas.{key_under-unrelated}
+use Rattle.zarr_grids_keys.specs.Documents.{document_name}
+use Rattle.zarr_grids_keys.specs.declared.document_name.DocumentName.TheVariants.{ZarrJson, ZArray}
 use Rattle.zarr_codecs_metadata.specs.Chains.{ReadsCodecs}
 use Rattle.zarr_codecs_options.specs.declared.subchunk_write_order.SubchunkWriteOrder.{SubchunkWriteOrder}
-use Rattle.zarr_array_meaning.specs.Chunks.{stored_at}
-use Rattle.zarr_array_meaning.specs.Documents.{Document}
+use Rattle.zarr_array_meaning.specs.Documents.{Document, read_document}
 use Rattle.zarr_array_meaning.specs.Standing.{IsLossless}
 use Rattle.zarr_run_meaning.specs.declared.cause.Cause.TheVariants as cause
-use Rattle.zarr_run_meaning.specs.Causes.{IsChunkKey, ReopenRefuses}
+use Rattle.zarr_run_meaning.specs.Causes.{ReopenRefuses}
 use Rattle.zarr_run_meaning.specs.Changes.{Reopens, Opens}
 use Rattle.zarr_run_meaning.specs.Laws.{HasTables}
 use Rattle.zarr_run_meaning.specs.Requests.{Request, create, reopen, write, read, erase, compact, rewrite, path_of, Answer, done, refused}
-use Rattle.zarr_run_meaning.specs.Sound.{IsSoundAlone, BeginsSound, HasNoChunks, OwnsKeysUnder, IsOwned, AsksOwned, AsksLossless, ReadsGood}
+use Rattle.zarr_run_meaning.specs.Sound.{IsSoundAlone, BeginsSound, HasNoChunks, OwnsKeysUnder, AsksOwned, AsksFaithful, ReadsGood}
 use Rattle.zarr_run_meaning.specs.Steps.{RefusesHeld, RefusesWrite, RefusesRead, RefusesErase, RefusesCompact, RefusesRewrite, Step}
-use Rattle.zarr_run_meaning.specs.Worlds.{Held, World, held_at, is_taken}
+use Rattle.zarr_run_meaning.specs.Worlds.{Held, World, held_at}
 use Rattle.zarr_run_meaning.proofs.Alone.{begins_alone}
-use Rattle.zarr_run_meaning.proofs.Arrays.{held_at-path, held_at-more, held_at-ordered, free_of, free_none}
+use Rattle.zarr_run_meaning.proofs.Arrays.{held_at-path, held_at-more, held_at-ordered, free_none}
 use Rattle.zarr_run_meaning.proofs.Begun.{no_chunks_are_fill, created_array, opened_array}
 use Rattle.zarr_run_meaning.proofs.Orders.{Begun, none_began, creates, reopens, step_begun}
+use Rattle.zarr_run_meaning.proofs.Owning.{free_no_chunks, no_opening}
 use Rattle.zarr_run_session.specs.Headline.{IsIntact}
-
--- nothing where each value would be absurd
-none_from : (o : Option (List ℕ)) → ((value : List ℕ) → o ≡ Some value → ⊥) → o ≡ None
-none_from None never = refl
-none_from (Some value) never = absurd (never value refl)
-
--- no chunk of a path that is free has a value
-pub free_no_chunks : (reads : ReadsCodecs) (world : World) (path : List ℕ) (document : Document) → HasTables reads world → OwnsKeysUnder path world → is_node_path path ≡ true → is_taken path world.arrays ≡ false
-    → HasNoChunks path document world.store
-free_no_chunks reads world path document tables owned node free chunk box below = none_from (stored_at path document world.store chunk) (λ value e.
-    let name = encoded_key document.keys chunk in
-    let own = owned name value e in
-    let there = (tables own.0.path own.0 own.1).0 in
-    let away = free_of path own.0.path world.arrays own.0 free own.1 in
-    ⊎_elim
-    (λ same. key_under-unrelated path own.0.path name (document_name ZarrJson) node there away same)
-    (λ (c : IsChunkKey own.0.path own.0.document (key_under path name)). key_under-unrelated path own.0.path name (encoded_key own.0.document.keys c.chunk) node there away c.is)
-    own.2)
 
 -- an array that began: it is sound alone, and nothing was stored for its chunks
 pub record BeganFree (reads : ReadsCodecs) (old new : World) (path : List ℕ) (h : Held) : Type 0 where
@@ -53,49 +31,50 @@ pub record BeganFree (reads : ReadsCodecs) (old new : World) (path : List ℕ) (
 
 module _ (reads : ReadsCodecs) (old new : World) (path : List ℕ) (h : Held) (good : ReadsGood reads) (tables : HasTables reads old) (none : held_at path old.arrays ≡ None)
     (found : held_at path new.arrays ≡ Some h) where
-  created_free : (p : List ℕ) (document : Data) (order : SubchunkWriteOrder) → (p ≡ path → OwnsKeysUnder p old) → (p ≡ path → AsksLossless reads (create p document order) done) → Step reads old (create p document order) done new → BeganFree reads old new path h
-  created_free p document order own lossless s =
+  created_free : (p : List ℕ) (document : Data) (order : SubchunkWriteOrder) → (p ≡ path → OwnsKeysUnder p old) → (p ≡ path → AsksFaithful reads (create p document order) done) → Step reads old (create p document order) done new → BeganFree reads old new path h
+  created_free p document order own faithful s =
       let c = s.0 in
       let b = created_array reads old new p document order c in
       ⊎_elim
       (λ same.
       let at : p ≡ path = sym (held_at-path path new.arrays h found ∙ ap (λ (x : Held). x.path) same) in
-      let empty = λ (meaning : Document). free_no_chunks reads old p meaning tables (own at) c.node c.free in
-      let begins : BeginsSound reads old (create p document order) done = λ meaning opens. (λ place. meaning.elements.fill, no_chunks_are_fill p meaning old.store (good document meaning opens) (lossless at meaning opens) (empty meaning)) in
+      let empty = λ (meaning : Document). λ (opens : read_document reads document ≡ Ok meaning).
+      free_no_chunks old p meaning (λ q g e. (tables q g e).0) (own at) c.node c.free (inl (faithful at meaning opens).ends) in
+      let begins : BeginsSound reads old (create p document order) done = λ meaning opens. (
+        λ place. meaning.elements.fill,
+        no_chunks_are_fill p meaning old.store (good document meaning opens) (faithful at meaning opens).lossless (empty meaning opens),
+      ) in
       let P : Held → Type 0 = λ x. IsLossless x.document in
-      let R : List ℕ → Type 0 = λ q. HasNoChunks q h.document old.store in
+      let R : Held → Type 0 = λ x. HasNoChunks p x.document old.store in
+      let S : List ℕ → Type 0 = λ q. HasNoChunks q h.document old.store in
       record {
-        alone = begins_alone reads old new (create p document order) done path h good begins none s found;
-        lossless = subst P (sym same) (lossless at c.meaning c.opens);
-        none = subst R at (empty h.document);
+        alone = begins_alone reads old new (create p document order) done path h good tables begins none s found;
+        lossless = subst P (sym same) (faithful at c.meaning c.opens).lossless;
+        none = subst S at (subst R (sym same) (empty c.meaning c.opens));
       })
       (λ before. absurd (none-some h (sym none ∙ before)))
       (held_at-more path old.arrays b h (free_none p old.arrays c.free) (sym (ap (held_at path) c.begins.holds) ∙ found))
 
-  not_opened : (p : List ℕ) (order : SubchunkWriteOrder) → (p ≡ path → IsOwned old (document_key p ZarrJson)) → Opens reads p order old new → ⊥
+  not_opened : (p : List ℕ) (order : SubchunkWriteOrder) → (p ≡ path → AsksOwned old (reopen p order)) → Opens reads p order old new → ⊥
   not_opened p order asks o = ⊎_elim
       (λ same.
       let at : p ≡ path = sym (held_at-path path new.arrays h found ∙ ap (λ (x : Held). x.path) same) in
-      let own = asks at o.stored.text o.stored.found in
-      ⊎_elim
-      (λ same. let once = document_key-injective p own.0.path ZarrJson ZarrJson o.node (tables own.0.path own.0 own.1).0 same in
-      none-some own.0 (sym o.begins.free ∙ ap (λ q. held_at q old.arrays) once.0 ∙ own.1))
-      (λ c. o.other (record { held = own.0; found = own.1; names = c }))
-      own.2)
+      let own = asks at o.begins.free in
+      no_opening reads old p (λ q g e. (tables q g e).0) own.0 own.1 o.begins.free new order o)
       (λ before. none-some h (sym none ∙ before))
       (held_at-more path old.arrays (opened_array reads old new p order o) h o.begins.free (sym (ap (held_at path) o.begins.holds) ∙ found))
 
-  pub begins_free : (request : Request) (answer : Answer) → (path_of request ≡ path → AsksOwned old request) → (path_of request ≡ path → AsksLossless reads request answer) → Step reads old request answer new → BeganFree reads old new path h
-  begins_free request answer owned lossless s = go (step_begun reads old new request answer s) where
+  pub begins_free : (request : Request) (answer : Answer) → (path_of request ≡ path → AsksOwned old request) → (path_of request ≡ path → AsksFaithful reads request answer) → Step reads old request answer new → BeganFree reads old new path h
+  begins_free request answer owned faithful s = go (step_begun reads old new request answer s) where
     go : Begun reads request answer old new → BeganFree reads old new path h
     go (none_began same) = let g = same path h found in absurd (none-some g.0 (sym none ∙ g.1))
     go (creates p document order is ends c) =
-        let P : Request → Type 0 = λ q. path_of q ≡ path → AsksLossless reads q answer in
+        let P : Request → Type 0 = λ q. path_of q ≡ path → AsksFaithful reads q answer in
         let T : Request → Type 0 = λ q. path_of q ≡ path → AsksOwned old q in
-        let Q : Answer → Type 0 = λ a. p ≡ path → AsksLossless reads (create p document order) a in
+        let Q : Answer → Type 0 = λ a. p ≡ path → AsksFaithful reads (create p document order) a in
         let R : Request → Type 0 = λ q. Step reads old q answer new in
         let S : Answer → Type 0 = λ a. Step reads old (create p document order) a new in
-        created_free p document order (subst T is owned) (subst Q ends (subst P is lossless)) (subst S ends (subst R is s))
+        created_free p document order (subst T is owned) (subst Q ends (subst P is faithful)) (subst S ends (subst R is s))
     go (reopens p order is ends r) = ⊎_elim
         (λ (again : Reopens p order old new). let g = held_at-ordered p path order old.arrays h (sym (ap (held_at path) again.updates) ∙ found) in absurd (none-some g.0 (sym none ∙ g.1)))
         (λ (o : Opens reads p order old new). let T : Request → Type 0 = λ q. path_of q ≡ path → AsksOwned old q in absurd (not_opened p order (subst T is owned) o))
@@ -104,7 +83,9 @@ module _ (reads : ReadsCodecs) (old new : World) (path : List ℕ) (h : Held) (g
 -- a command on a path asks for what is owned, where no key under the path is foreign
 pub asks_free : (old : World) (path : List ℕ) (request : Request) → OwnsKeysUnder path old → path_of request ≡ path → AsksOwned old request
 asks_free old path (create p document order) owned same = let P : List ℕ → Type 0 = λ q. OwnsKeysUnder q old in subst P (sym same) owned
-asks_free old path (reopen p order) owned same = let P : List ℕ → Type 0 = λ q. OwnsKeysUnder q old in subst P (sym same) owned (document_name ZarrJson)
+asks_free old path (reopen p order) owned same = λ none.
+    let P : List ℕ → Type 0 = λ q. OwnsKeysUnder q old in
+    let own = subst P (sym same) owned in (own (document_name ZarrJson), own (document_name ZArray))
 asks_free old path request owned same = tt
 
 -- ---- commands on a path where no array is held

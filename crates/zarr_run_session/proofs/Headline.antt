@@ -13,11 +13,11 @@ use Rattle.zarr_codecs_options.specs.declared.codec_options.CodecOptions.{CodecO
 use Rattle.zarr_codecs_options.specs.declared.subchunk_write_order.SubchunkWriteOrder.{SubchunkWriteOrder}
 use Rattle.zarr_run_meaning.specs.declared.cause.Cause.TheVariants as cause
 use Rattle.zarr_run_meaning.specs.Changes.{Reopens, Opens}
-use Rattle.zarr_run_meaning.specs.Laws.{IsUndamaged}
+use Rattle.zarr_run_meaning.specs.Laws.{IsUndamaged, HasTables}
 use Rattle.zarr_run_meaning.specs.Requests.{Request, create, reopen, compact, rewrite, path_of, Answer, done, cells, compacted, refused}
 use Rattle.zarr_run_meaning.specs.Rewrites.{IsHeldStill, IsCanonHeld, IsCanonAlone, LeavesCells}
 use Rattle.zarr_run_meaning.specs.Runs.{Run}
-use Rattle.zarr_run_meaning.specs.Sound.{IsSoundAt, IsSound, IsSoundAlone, BeginsSound, AsksOwned, AsksLossless, AllAskLossless, ReadsGood}
+use Rattle.zarr_run_meaning.specs.Sound.{IsSoundAt, IsSound, IsSoundAlone, BeginsSound, AsksOwned, AsksFaithful, AllAskFaithful, ReadsGood}
 use Rattle.zarr_run_meaning.specs.Steps.{Step}
 use Rattle.zarr_run_meaning.specs.Tight.{IsTightHeld}
 use Rattle.zarr_run_meaning.specs.Worlds.{Held, World, held_at, with_order, is_row_major, writes_exactly}
@@ -48,12 +48,12 @@ pub All-right : {X : Type 0} (P : X → Type 0) (xs ys : List X) → All P (xs +
 All-right P [] ys all = all
 All-right P (x ∷ xs) ys all = All-right P xs ys (All-tail P x (xs ++ ys) all)
 
-lossless_parts : (reads : ReadsCodecs) (first last : List Request) (firsts lasts : List Answer) → length first ≡ length firsts → AllAskLossless reads (first ++ last) (firsts ++ lasts) → AllAskLossless reads first firsts × AllAskLossless reads last lasts
-lossless_parts reads [] last [] lasts many asks = (tt, asks)
-lossless_parts reads [] last (a ∷ firsts) lasts many asks = absurd (cc)
-lossless_parts reads (r ∷ first) last [] lasts many asks = absurd (cc)
-lossless_parts reads (r ∷ first) last (a ∷ firsts) lasts many asks =
-    let rest = lossless_parts reads first last firsts lasts (cc) asks.1 in
+faithful_parts : (reads : ReadsCodecs) (first last : List Request) (firsts lasts : List Answer) → length first ≡ length firsts → AllAskFaithful reads (first ++ last) (firsts ++ lasts) → AllAskFaithful reads first firsts × AllAskFaithful reads last lasts
+faithful_parts reads [] last [] lasts many asks = (tt, asks)
+faithful_parts reads [] last (a ∷ firsts) lasts many asks = absurd (cc)
+faithful_parts reads (r ∷ first) last [] lasts many asks = absurd (cc)
+faithful_parts reads (r ∷ first) last (a ∷ firsts) lasts many asks =
+    let rest = faithful_parts reads first last firsts lasts (cc) asks.1 in
     ((asks.0, rest.0), rest.1)
 
 -- ---- the order that the last create or reopening asks for
@@ -145,12 +145,12 @@ module _ (reads : ReadsCodecs) (good : ReadsGood reads) where
       compacts_exactly reads old new path chunk options h found tight (subst P same s)
   compacted_afresh old new path h request answer found tight s = tt
 
-  pub begun : (old new : World) (request : Request) (answer : Answer) (h : Held) → held_at (path_of request) old.arrays ≡ None → BeginsSound reads old request answer → Step reads old request answer new
+  pub begun : (old new : World) (request : Request) (answer : Answer) (h : Held) → HasTables reads old → held_at (path_of request) old.arrays ≡ None → BeginsSound reads old request answer → Step reads old request answer new
       → held_at (path_of request) new.arrays ≡ Some h → HasBegun reads h old.store new
-  begun old new request answer h none begins s found =
+  begun old new request answer h tables none begins s found =
       let P : List ℕ → Type 0 = λ p. IsSoundAlone reads new p in
       let at = held_at-path (path_of request) new.arrays h found in
-      let alone = subst P at (begins_alone reads old new request answer (path_of request) h good begins none s found) in
+      let alone = subst P at (begins_alone reads old new request answer (path_of request) h good tables begins none s found) in
       let Q : Held → Type 0 = λ x. IsSoundAt reads new.store x in
       let there = subst Q (same_Some alone.array h (sym alone.found ∙ ap (λ p. held_at p new.arrays) (sym at) ∙ found)) alone.there in (
         alone,
@@ -160,46 +160,48 @@ module _ (reads : ReadsCodecs) (good : ReadsGood reads) where
 
   -- ---- runs
 
-  begins_fill : (old new : World) (request : Request) (answer : Answer) → AsksOwned old request → AsksLossless reads request answer → IsSound reads old → Step reads old request answer new → BeginsFill request answer new
-  begins_fill old new (create path document order) done owned lossless sound s =
+  begins_fill : (old new : World) (request : Request) (answer : Answer) → AsksOwned old request → AsksFaithful reads request answer → IsSound reads old → Step reads old request answer new → BeginsFill request answer new
+  begins_fill old new (create path document order) done owned faithful sound s =
       let c = s.0 in
       let h = created_array reads old new path document order c in
       let found : held_at path new.arrays ≡ Some h = ap (held_at path) c.begins.holds ∙ held_at-new path old.arrays h (free_none path old.arrays c.free) refl in
-      (h, found, creates_fill reads old new path document order h good s found (lossless c.meaning c.opens) (owned_has_no_chunks reads old path c.meaning sound owned c.node c.free))
-  begins_fill old new request answer owned lossless sound s = tt
+      let is = faithful c.meaning c.opens in
+      (h, found, creates_fill reads old new path document order h good s found is.lossless (owned_has_no_chunks reads old path c.meaning sound owned c.node c.free (inl is.ends)))
+  begins_fill old new request answer owned faithful sound s = tt
 
-  pub table_run : (old new : World) (requests : List Request) (answers : List Answer) → All (AsksOwned old) requests → AllAskLossless reads requests answers → IsSound reads old → Run reads old requests answers new → TableRun reads old requests answers new
-  table_run old new [] [] owned lossless sound r = r
-  table_run old new [] (answer ∷ answers) owned lossless sound r = absurd r
-  table_run old new (request ∷ requests) [] owned lossless sound r = absurd r
-  table_run old new (request ∷ requests) (answer ∷ answers) owned lossless sound r =
+  pub table_run : (old new : World) (requests : List Request) (answers : List Answer) → All (AsksOwned old) requests → AllAskFaithful reads requests answers → IsSound reads old → Run reads old requests answers new → TableRun reads old requests answers new
+  table_run old new [] [] owned faithful sound r = r
+  table_run old new [] (answer ∷ answers) owned faithful sound r = absurd r
+  table_run old new (request ∷ requests) [] owned faithful sound r = absurd r
+  table_run old new (request ∷ requests) (answer ∷ answers) owned faithful sound r =
       let own = All-head (AsksOwned old) request requests owned in
-      let begins = owned_begins reads old r.0 request answer good own lossless.0 sound r.1 in
+      let begins = owned_begins reads old r.0 request answer good own faithful.0 sound r.1 in
       let next = steps_sound reads old r.0 request answer good begins sound r.1 in (
         r.0,
         record {
           step = r.1;
           sound = next;
           undamaged = undamaged old r.0 request answer sound begins r.1;
-          fill = begins_fill old r.0 request answer own lossless.0 sound r.1;
+          fill = begins_fill old r.0 request answer own faithful.0 sound r.1;
         },
         table_run r.0 new requests answers
-            (all_still old r.0 (asks_still reads old r.0 request answer r.1) requests (All-tail (AsksOwned old) request requests owned)) lossless.1 next r.2,
+            (all_still old r.0 (asks_still reads old r.0 request answer r.1) requests (All-tail (AsksOwned old) request requests owned)) faithful.1 next r.2,
       )
 
   -- what a command asks is owned still after a run
   owned_later : (old new : World) (requests : List Request) (answers : List Answer) → Run reads old requests answers new → (other : Request) → AsksOwned old other → AsksOwned new other
-  owned_later old new requests answers r (create path document order) owned = λ name. runs_own reads old new requests answers _ r (owned name)
-  owned_later old new requests answers r (reopen path order) owned = runs_own reads old new requests answers _ r owned
-  owned_later old new requests answers r other owned = tt
+  owned_later old new [] [] r other owned = let P : World → Type 0 = λ w. AsksOwned w other in subst P (sym r) owned
+  owned_later old new [] (answer ∷ answers) r other owned = absurd r
+  owned_later old new (request ∷ requests) [] r other owned = absurd r
+  owned_later old new (request ∷ requests) (answer ∷ answers) r other owned = owned_later r.0 new requests answers r.2 other (asks_still reads old r.0 request answer r.1 other owned)
 
   -- what the last rewrite leaves
   module _ (path : List ℕ) (before after : World) (first last : Exchanges) (options : CodecOptions) (unstored : options.store_empty_chunks ≡ false) (many : length first.0 ≡ length first.1)
       (written : (is_row_major_after path first.0 first.1 (is_row_major_at path before) ≡ true) ⊎ IsPlainThere path after) (leaves : All (LeavesCells path) last.0) (sound : IsSound reads before)
-      (owned : All (AsksOwned before) (first.0 ++ rewrite path options ∷ last.0)) (lossless : AllAskLossless reads (first.0 ++ rewrite path options ∷ last.0) (first.1 ++ done ∷ last.1)) where
+      (owned : All (AsksOwned before) (first.0 ++ rewrite path options ∷ last.0)) (faithful : AllAskFaithful reads (first.0 ++ rewrite path options ∷ last.0) (first.1 ++ done ∷ last.1)) where
     end_canon : (mid next : World) → Run reads before first.0 first.1 mid → Step reads mid (rewrite path options) done next → Run reads next last.0 last.1 after → (h : Held) × (held_at path after.arrays ≡ Some h) × IsCanonHeld after.store h
     end_canon mid next start s rest =
-        let asks = lossless_parts reads first.0 (rewrite path options ∷ last.0) first.1 (done ∷ last.1) many lossless in
+        let asks = faithful_parts reads first.0 (rewrite path options ∷ last.0) first.1 (done ∷ last.1) many faithful in
         let sound_mid = owned_runs_sound reads before mid first.0 first.1 good (All-left (AsksOwned before) first.0 (rewrite path options ∷ last.0) owned) asks.0 sound start in
         let h = s.0.held in
         let alone = sound_alone reads mid path h sound_mid s.0.found in
@@ -217,11 +219,11 @@ module _ (reads : ReadsCodecs) (good : ReadsGood reads) where
   pub ends_canon : (before after : World) (es : Exchanges) → IsSound reads before → AsksFresh reads before es → Run reads before es.0 es.1 after → EndsCanon before es after
   ends_canon before after es sound fresh r path k =
       let P : List Request → Type 0 = λ q. All (AsksOwned before) q in
-      let Q : List Request → Type 0 = λ q. AllAskLossless reads q es.1 in
-      let R : List Answer → Type 0 = λ a. AllAskLossless reads (k.first.0 ++ rewrite path k.options ∷ k.last.0) a in
+      let Q : List Request → Type 0 = λ q. AllAskFaithful reads q es.1 in
+      let R : List Answer → Type 0 = λ a. AllAskFaithful reads (k.first.0 ++ rewrite path k.options ∷ k.last.0) a in
       let S : List Request → Type 0 = λ q. Run reads before q es.1 after in
       let T : List Answer → Type 0 = λ a. Run reads before (k.first.0 ++ rewrite path k.options ∷ k.last.0) a after in
       let parts = runs_go_on reads before after k.first.0 (rewrite path k.options ∷ k.last.0) k.first.1 (done ∷ k.last.1) k.many (subst T k.answers (subst S k.requests r)) in
       end_canon path before after k.first k.last k.options k.unstored k.many k.exact k.leaves sound
-      (subst P k.requests fresh.owned) (subst R k.answers (subst Q k.requests fresh.lossless))
+      (subst P k.requests fresh.owned) (subst R k.answers (subst Q k.requests fresh.faithful))
       parts.0 parts.2.0 parts.1 parts.2.1 parts.2.2

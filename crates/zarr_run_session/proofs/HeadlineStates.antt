@@ -41,7 +41,7 @@ module _ (B : Type 0) (codecs : Codecs B) (good : ReadsGood codecs.1) (old new :
         )
 
     begins : BeginsAlone codecs old e new
-    begins before k none sound = let s = steps before k in (s.0, s.1, s.2, λ h found. begun codecs.1 good before s.0 e.0 e.1 h none sound s.1 found)
+    begins before k none sound = let s = steps before k in (s.0, s.1, s.2, λ h found. begun codecs.1 good before s.0 e.0 e.1 h (tables_in B codecs.0 codecs.1 old before k) none sound s.1 found)
 
     pub keeps_alone : KeepsAlone codecs old e new
     keeps_alone = (stays_alone, begins)
@@ -72,13 +72,13 @@ module _ (B : Type 0) (codecs : Codecs B) (good : ReadsGood codecs.1) (old new :
     pub tables_from : TablesFrom codecs old es new
     tables_from before k sound fresh =
         let r = runs before k in
-        (r.0, table_run codecs.1 good before r.0 es.0 es.1 fresh.owned fresh.lossless sound r.1, ends_tables codecs.1 good before r.0 es sound fresh r.1, r.2)
+        (r.0, table_run codecs.1 good before r.0 es.0 es.1 fresh.owned fresh.faithful sound r.1, ends_tables codecs.1 good before r.0 es sound fresh r.1, r.2)
 
     pub alone_from : AloneFrom codecs old es new
     alone_from before path k asks =
         let r = runs before k in
         let tables = tables_in B codecs.0 codecs.1 old before k in
-        (r.0, alone_run codecs.1 path good before r.0 es.0 es.1 tables asks.there asks.lossless asks.apart r.1, ends_alone codecs.1 path good before r.0 es tables asks r.1, r.2)
+        (r.0, alone_run codecs.1 path good before r.0 es.0 es.1 tables asks.there asks.faithful asks.apart r.1, ends_alone codecs.1 path good before r.0 es tables asks r.1, r.2)
 
 -- ---- runs over a store
 
@@ -86,17 +86,17 @@ module _ (reads : ReadsCodecs) (good : ReadsGood reads) (old new : Contents) (es
   fresh : BeginsFresh reads old es → AsksFresh reads (world_over old.0 old.1) es
   fresh begins =
       let P : StoreMap → Type 0 = λ s. All (AsksOwned (world_over s old.1)) es.0 in
-      record { lossless = begins.lossless; owned = ⊎_elim (λ none. subst P (sym none) (all_owned (world_over empty old.1) (empty_owned old.1) es.0)) (λ owned. owned) begins.free }
+      record { faithful = begins.faithful; owned = ⊎_elim (λ none. subst P (sym none) (all_owned (world_over empty old.1) (empty_owned old.1) es.0)) (λ owned. owned) begins.free }
 
   pub tables_over : TablesOver reads old es new
   tables_over begins =
       let asks = fresh begins in
       let sound = no_arrays_sound reads old.0 old.1 in
       let before = world_over old.0 old.1 in
-      (runs.0, table_run reads good before runs.0 es.0 es.1 asks.owned asks.lossless sound runs.1, ends_tables reads good before runs.0 es sound asks runs.1, (runs.2, runs.3))
+      (runs.0, table_run reads good before runs.0 es.0 es.1 asks.owned asks.faithful sound runs.1, ends_tables reads good before runs.0 es sound asks runs.1, (runs.2, runs.3))
 
   pub alone_over : AloneOver reads old es new
   alone_over path asks =
       let before = world_over old.0 old.1 in
       let tables : HasTables reads before = λ p h found. absurd (none-some h found) in
-      (runs.0, alone_run reads path good before runs.0 es.0 es.1 tables asks.there asks.lossless asks.apart runs.1, ends_alone reads path good before runs.0 es tables asks runs.1, (runs.2, runs.3))
+      (runs.0, alone_run reads path good before runs.0 es.0 es.1 tables asks.there asks.faithful asks.apart runs.1, ends_alone reads path good before runs.0 es tables asks runs.1, (runs.2, runs.3))

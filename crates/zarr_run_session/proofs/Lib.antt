@@ -1,5 +1,7 @@
+mod Crossing
 mod Alike
 pub mod CompactSteps
+mod Bounds
 mod Counts
 pub mod EraseSteps
 pub mod Plain

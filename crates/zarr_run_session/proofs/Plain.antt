@@ -10,7 +10,7 @@ use Rattle.zarr_run_meaning.specs.Steps.{Step}
 use Rattle.zarr_run_meaning.specs.Tables.{Table}
 use Rattle.zarr_run_meaning.specs.Worlds.{Held, World, held_at, WithTable}
 use Rattle.zarr_run_meaning.proofs.Arrays.{Stayed, at_path, near, apart, held_at-before, held_at-reordered, held_after}
-use Rattle.zarr_run_meaning.proofs.Effects.{Effect, kept, created, reordered, opened, wrote, erased, stored_anew, step_effect}
+use Rattle.zarr_run_meaning.proofs.Effects.{Effect, kept, left, created, reordered, opened, wrote, erased, stored_anew, step_effect}
 use Rattle.zarr_run_session.specs.Headline.{IsPlainThere}
 
 -- an array is held afterwards with the document that it had
@@ -28,6 +28,7 @@ module _ (reads : ReadsCodecs) (old new : World) (path : List ℕ) (g : Held) (f
 
   still : (request : Request) (answer : Answer) → Effect reads request answer old new → IsHeldWith path g.document new
   still request answer (kept arrays store) = (g, ap (held_at path) arrays ∙ found, refl)
+  still request answer (left l) = (g, ap (held_at path) l.arrays ∙ found, refl)
   still request answer (created p document order begins c) = (g, ap (held_at path) c.begins.holds ∙ held_at-before path old.arrays _ g found, refl)
   still request answer (reordered p order r) =
       let h = held_at-reordered p path order old.arrays g found in

@@ -13,7 +13,7 @@ use Rattle.zarr_run_meaning.specs.Laws.{HasCells, IsUndamaged}
 use Rattle.zarr_run_meaning.specs.Requests.{Request, create, reopen, compact, rewrite, path_of, Answer, done, compacted, refused}
 use Rattle.zarr_run_meaning.specs.Rewrites.{IsHeldStill, IsCanonHeld, IsCanonAlone, AreCanonFirst, LeavesCells, ReopensApart}
 use Rattle.zarr_run_meaning.specs.Runs.{world_over}
-use Rattle.zarr_run_meaning.specs.Sound.{IsSound, IsSoundAlone, BeginsSound, OpensApart, HasNoChunks, AsksOwned, OwnsKeysUnder, AsksLossless, AllAskLossless}
+use Rattle.zarr_run_meaning.specs.Sound.{IsSound, IsSoundAlone, BeginsSound, OpensApart, HasNoChunks, AsksOwned, OwnsKeysUnder, AsksFaithful, AllAskFaithful}
 use Rattle.zarr_run_meaning.specs.Steps.{Step}
 use Rattle.zarr_run_meaning.specs.Tight.{IsTightAlone, IsTightHeld, IsEncodedAt, AllAskRowMajor}
 use Rattle.zarr_run_meaning.specs.Worlds.{Held, World, array_of, held_at, is_row_major, writes_exactly}
@@ -131,16 +131,16 @@ AnswersAsTables reads before es Holds = (after : World) × TableRun reads before
 abbrev pub IsAloneOrFree : ReadsCodecs → List ℕ → World → Type 0
 IsAloneOrFree reads path world = IsSoundAlone reads world path ⊎ ((held_at path world.arrays ≡ None) × OwnsKeysUnder path world)
 
--- each create of a path that is done names a lossless document
-abbrev pub NamesLossless : ReadsCodecs → List ℕ → List Request → List Answer → Type 0
-NamesLossless reads path [] answers = Unit {0}
-NamesLossless reads path (request ∷ requests) [] = Unit {0}
-NamesLossless reads path (request ∷ requests) (answer ∷ answers) = (path_of request ≡ path → AsksLossless reads request answer) × NamesLossless reads path requests answers
+-- each create of a path that is done names a faithful document
+abbrev pub NamesFaithful : ReadsCodecs → List ℕ → List Request → List Answer → Type 0
+NamesFaithful reads path [] answers = Unit {0}
+NamesFaithful reads path (request ∷ requests) [] = Unit {0}
+NamesFaithful reads path (request ∷ requests) (answer ∷ answers) = (path_of request ≡ path → AsksFaithful reads request answer) × NamesFaithful reads path requests answers
 
--- what is asked of a run for the array at a path: it is sound alone, or none is held there and no key under the path is foreign; each create of it that is done names a lossless document, and each reopening names the path or an unrelated one
+-- what is asked of a run for the array at a path: it is sound alone, or none is held there and no key under the path is foreign; each create of it that is done names a faithful document, and each reopening names the path or an unrelated one
 pub record AsksAlone (reads : ReadsCodecs) (path : List ℕ) (before : World) (es : Exchanges) : Type 0 where
   pub there : IsAloneOrFree reads path before
-  pub lossless : NamesLossless reads path es.0 es.1
+  pub faithful : NamesFaithful reads path es.0 es.1
   pub apart : All (ReopensApart path) es.0
 
 -- a step after which the array at a path is sound alone, or the path is free still; where the command names the path, its answer is neither damage nor that a document has changed, and an array that it creates begins as fill
@@ -213,9 +213,9 @@ KeepsTight codecs old e new = (before : World) (path : List ℕ) → IsIn codecs
 
 -- ---- runs of a session
 
--- what is asked of a run: the creates that are done name lossless documents, and no key is foreign of those that the commands may begin an array over
+-- what is asked of a run: the creates that are done name faithful documents, and no key is foreign of those that the commands may begin an array over
 pub record AsksFresh (reads : ReadsCodecs) (before : World) (es : Exchanges) : Type 0 where
-  pub lossless : AllAskLossless reads es.0 es.1
+  pub faithful : AllAskFaithful reads es.0 es.1
   pub owned : All (AsksOwned before) es.0
 
 -- the tables: from each sound world that the old state is in, a run of tables with these answers leads to one that the new state is in
@@ -230,9 +230,9 @@ AloneFrom codecs old es new = (before : World) (path : List ℕ) → IsIn codecs
 
 -- ---- runs over a store
 
--- what is asked of a run over a store: the creates that are done name lossless documents, and the store is empty, or no key has a value of those that the commands may begin an array over
+-- what is asked of a run over a store: the creates that are done name faithful documents, and the store is empty, or no key has a value of those that the commands may begin an array over, `.zattrs` of nodes aside
 pub record BeginsFresh (reads : ReadsCodecs) (old : Contents) (es : Exchanges) : Type 0 where
-  pub lossless : AllAskLossless reads es.0 es.1
+  pub faithful : AllAskFaithful reads es.0 es.1
   pub free : (old.0 ≡ empty) ⊎ All (AsksOwned (world_over old.0 old.1)) es.0
 
 -- a world is over these contents

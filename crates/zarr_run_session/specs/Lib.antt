@@ -1,3 +1,4 @@
+pub mod Commands
 pub mod Finding
 pub mod Headline
 pub mod Replies

@@ -6,6 +6,7 @@ ghost use Rattle.zarr_run_session.specs.Sessions.{RunsFrom, RunsOver, state_of, 
 
 use crate::session::Session;
 use std::alloc::{AllocError, Global};
+use std::thread::Threads;
 use zarr_array_storage::WritableStorageTraits;
 use zarr_codecs_traits::BytesToBytesCodecTraits;
 use zarr_run_commands::{Command, Reply};
@@ -18,10 +19,11 @@ pub struct GiveBack<S, E> {
 }
 
 /// Runs commands in order, and answers each. Over an honest store whose keys are the arrays' own,
-/// each array whose codecs keep every bit answers as a table; and what a rewrite without empty
-/// chunks left, in order C or without shards, stands until its cells are changed. Where room for
-/// all replies is refused, nothing has been run.
-pub fn run_on<S: WritableStorageTraits, B: BytesToBytesCodecTraits>(
+/// each array of a faithful document answers as a table; and what a rewrite without empty chunks
+/// left, in order C or without shards, stands until its cells are changed. Where room for all
+/// replies is refused, nothing has been run.
+pub fn run_on<R: Threads + Sync, S: WritableStorageTraits, B: BytesToBytesCodecTraits + Sync>(
+    rt: &R,
     alloc: Global,
     session: &mut Session<S, B>,
     commands: &[Command],
@@ -44,7 +46,7 @@ pub fn run_on<S: WritableStorageTraits, B: BytesToBytesCodecTraits>(
 {
     let mut replies = Vec::with_capacity(alloc, commands.len())?;
     for command in commands {
-        let reply = session.step(command);
+        let reply = session.step(rt, command);
         enter(&mut replies, reply);
     }
     Ok(replies)
@@ -61,10 +63,11 @@ fn enter(replies: &mut Vec<Reply>, reply: Reply)
 }
 
 /// Runs commands in order over a store, in a session that begins with no array. Over an honest
-/// store, empty or without keys at the arrays' paths, each array whose codecs keep every bit answers
-/// as a table that begins as fill, whatever becomes of the others. Where room for all replies is
+/// store, empty or without keys at the arrays' paths, each array of a faithful document answers as
+/// a table that begins as fill, whatever becomes of the others. Where room for all replies is
 /// refused, the store comes back untouched.
-pub fn run<S: WritableStorageTraits + Drop, B: BytesToBytesCodecTraits>(
+pub fn run<R: Threads + Sync, S: WritableStorageTraits + Drop, B: BytesToBytesCodecTraits + Sync>(
+    rt: &R,
     alloc: Global,
     store: S,
     commands: &[Command],
@@ -86,7 +89,7 @@ pub fn run<S: WritableStorageTraits + Drop, B: BytesToBytesCodecTraits>(
     ensures back { IfErr result (λ refusal. refusal.storage ≡ store) }
 {
     let mut session = Session::<S, B>::new(alloc, store);
-    match run_on(alloc, &mut session, commands) {
+    match run_on(rt, alloc, &mut session, commands) {
         Ok(replies) => Ok((replies, session.close())),
         Err(error) => Err(GiveBack {
             storage: session.close(),

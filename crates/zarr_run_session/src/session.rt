@@ -1,6 +1,7 @@
 //! A session: the arrays that are held, over a store.
 use std::alloc::Global;
 use std::collections::BTreeMap;
+use std::thread::Threads;
 use zarr_array_core::ChunkRooms;
 use zarr_array_storage::WritableStorageTraits;
 use zarr_codecs_traits::BytesToBytesCodecTraits;
@@ -20,13 +21,11 @@ pub struct Session<S, B: BytesToBytesCodecTraits> {
 }
 
 impl<S: WritableStorageTraits, B: BytesToBytesCodecTraits> Session<S, B> {
-    ghost use Rattle.std.specs.Prelude.{◌≡◌, IsTrue, option_copied, option_map};
+    ghost use Rattle.std.specs.Prelude.{◌≡◌, option_copied, option_map};
     ghost use Rattle.zarr_codecs_types.specs.Views.{type_of};
-    ghost use Rattle.zarr_run_commands.specs.Commands.{asked, answered};
     ghost use Rattle.zarr_run_meaning.specs.Runs.{world_over};
-    ghost use Rattle.zarr_run_opening.specs.Sessions.{IsIn, StepsFrom};
-    ghost use Rattle.zarr_run_session.specs.Headline.{KeepsTables, KeepsAlone, RewritesAfresh, KeepsTight};
-    ghost use Rattle.zarr_run_session.specs.Sessions.{refused_with, state_of, store_of, type_at};
+    ghost use Rattle.zarr_run_opening.specs.Sessions.{IsIn};
+    ghost use Rattle.zarr_run_session.specs.Sessions.{state_of, store_of, type_at};
 
     /// A session over a store, whatever it holds. It holds no array yet.
     pub fn new(alloc: Global, store: S) -> Self
@@ -59,45 +58,45 @@ impl<S: WritableStorageTraits, B: BytesToBytesCodecTraits> Session<S, B> {
             None => None,
         }
     }
+}
 
-    /// Runs one command. A refused command changes at most what it says it applied. Over an honest
-    /// store each array whose codecs keep every bit answers as a table, and a rewrite without empty
-    /// chunks, in order C or without shards, leaves what storing its cells afresh leaves. Exactly
-    /// the cause `Store` counts one more refused call.
-    pub fn step(&mut self, command: &Command) -> Reply
-        ensures steps { IsTrue (S.is_honest (store_of self.old)) → StepsFrom B.meaning B.reads
-            (state_of S.held S.refused_calls self.old) (asked command.now) (answered result)
-            (state_of S.held S.refused_calls self.new) }
+impl<S: WritableStorageTraits, B: BytesToBytesCodecTraits + Sync> Session<S, B> {
+    ghost use Rattle.std.specs.Prelude.{◌≡◌};
+    ghost use Rattle.zarr_run_commands.specs.Commands.{asked, answered};
+    ghost use Rattle.zarr_run_session.specs.Commands.{BoundsWrites, OverHonest, Ran, StepsBy};
+    ghost use Rattle.zarr_run_session.specs.Headline.{KeepsTables, KeepsAlone, RewritesAfresh, KeepsTight};
+    ghost use Rattle.zarr_run_session.specs.Sessions.{refused_with, store_of};
+
+    /// Runs one command. A refused one changes at most what it says it applied, or stores a version
+    /// 2 document's attributes. Over an honest store each array whose codecs keep every bit answers
+    /// as a table; a rewrite without empty chunks, in order C or without shards, leaves what
+    /// storing its cells afresh leaves. Exactly `Store` counts a refused call.
+    pub fn step<R: Threads + Sync>(&mut self, rt: &R, command: &Command) -> Reply
+        ensures steps { OverHonest (S.ReadableStorageTraits, B.BytesToBytesCodecTraits) self.old
+            (asked command.now, answered result) self.new StepsBy }
         // all tables and one alone, what rewrites leave, and tight layout
-        ensures tables { IsTrue (S.is_honest (store_of self.old)) → KeepsTables
-            (B.meaning, B.reads) (state_of S.held S.refused_calls self.old)
-            (asked command.now, answered result) (state_of S.held S.refused_calls self.new) }
-        ensures alone { IsTrue (S.is_honest (store_of self.old)) → KeepsAlone
-            (B.meaning, B.reads) (state_of S.held S.refused_calls self.old)
-            (asked command.now, answered result) (state_of S.held S.refused_calls self.new) }
-        ensures canon { IsTrue (S.is_honest (store_of self.old)) → RewritesAfresh
-            (B.meaning, B.reads) (state_of S.held S.refused_calls self.old)
-            (asked command.now, answered result) (state_of S.held S.refused_calls self.new) }
-        ensures tight { IsTrue (S.is_honest (store_of self.old)) → KeepsTight
-            (B.meaning, B.reads) (state_of S.held S.refused_calls self.old)
-            (asked command.now, answered result) (state_of S.held S.refused_calls self.new) }
+        ensures tables { OverHonest (S.ReadableStorageTraits, B.BytesToBytesCodecTraits) self.old
+            (asked command.now, answered result) self.new KeepsTables }
+        ensures alone { OverHonest (S.ReadableStorageTraits, B.BytesToBytesCodecTraits) self.old
+            (asked command.now, answered result) self.new KeepsAlone }
+        ensures canon { OverHonest (S.ReadableStorageTraits, B.BytesToBytesCodecTraits) self.old
+            (asked command.now, answered result) self.new RewritesAfresh }
+        ensures tight { OverHonest (S.ReadableStorageTraits, B.BytesToBytesCodecTraits) self.old
+            (asked command.now, answered result) self.new KeepsTight }
         // the store
+        ensures writes { BoundsWrites (S.ReadableStorageTraits, B.BytesToBytesCodecTraits) self.old
+            (asked command.now, answered result) self.new }
         ensures honest { S.is_honest (store_of self.new) ≡ S.is_honest (store_of self.old) }
-        ensures counts { S.refused_calls (store_of self.new)
+        ensures refused { S.refused_calls (store_of self.new)
             ≡ refused_with (S.refused_calls (store_of self.old)) (answered result) }
     {
-        self.answer(command)
+        self.answer(rt, command)
     }
 
     /// The answer to a command, by the function of its kind.
-    fn answer(&mut self, command: &Command) -> Reply
-        ensures steps { IsTrue (S.is_honest (store_of self.old)) → StepsFrom B.meaning B.reads
-            (state_of S.held S.refused_calls self.old)
-            (asked command.now) (answered result)
-            (state_of S.held S.refused_calls self.new) }
-        ensures honest { S.is_honest (store_of self.new) ≡ S.is_honest (store_of self.old) }
-        ensures counts { S.refused_calls (store_of self.new)
-            ≡ refused_with (S.refused_calls (store_of self.old)) (answered result) }
+    fn answer<R: Threads + Sync>(&mut self, rt: &R, command: &Command) -> Reply
+        ensures { Ran (S.ReadableStorageTraits, B.BytesToBytesCodecTraits) self.old
+            (asked command.now, answered result) self.new }
     {
         match command {
             Command::Create {
@@ -111,30 +110,30 @@ impl<S: WritableStorageTraits, B: BytesToBytesCodecTraits> Session<S, B> {
                 region,
                 cells,
                 options,
-            } => self.write_box(path.as_str(), region, cells, options),
+            } => self.write_box(rt, path.as_str(), region, cells, options),
             Command::WriteChunk {
                 path,
                 chunk,
                 cells,
                 options,
-            } => self.write_chunk(path.as_str(), chunk.as_slice(), cells, options),
+            } => self.write_chunk(rt, path.as_str(), chunk.as_slice(), cells, options),
             Command::ReadBox {
                 path,
                 region,
                 options,
-            } => self.read_box(path.as_str(), region, options),
+            } => self.read_box(rt, path.as_str(), region, options),
             Command::ReadChunk {
                 path,
                 chunk,
                 options,
-            } => self.read_chunk(path.as_str(), chunk.as_slice(), options),
+            } => self.read_chunk(rt, path.as_str(), chunk.as_slice(), options),
             Command::EraseChunks { path, chunks } => self.erase_chunks(path.as_str(), chunks),
             Command::Compact {
                 path,
                 chunk,
                 options,
-            } => self.compact(path.as_str(), chunk.as_slice(), options),
-            Command::Rewrite { path, options } => self.rewrite(path.as_str(), options),
+            } => self.compact(rt, path.as_str(), chunk.as_slice(), options),
+            Command::Rewrite { path, options } => self.rewrite(rt, path.as_str(), options),
         }
     }
 }

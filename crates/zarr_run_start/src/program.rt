@@ -15,6 +15,7 @@ use std::env::Env;
 use std::fs::Files;
 use std::io::{Read, Write};
 use std::process::ExitCode;
+use std::thread::Threads;
 use std::{env, io};
 use zarr_array_folder::FolderStore;
 use zarr_array_storage::{MemoryStore, StorageError, WritableStorageTraits};
@@ -33,12 +34,12 @@ For more information, try '--help'.\n";
 
 /// Runs the program by the words that it was started with. A word that isn't UTF-8 ends it with
 /// status 2; the rest is as `run_words` says.
-pub fn run_program<H: Env + Files + AllocGlobal + Clone + Drop, R: Read + Drop, W: Write, E: Write>(
-    rt: &H,
-    reader: R,
-    writer: &mut W,
-    errors: &mut E,
-) -> ExitCode
+pub fn run_program<
+    H: Env + Files + AllocGlobal + Threads + Clone + Drop + Sync,
+    R: Read + Drop,
+    W: Write,
+    E: Write,
+>(rt: &H, reader: R, writer: &mut W, errors: &mut E) -> ExitCode
     ensures silence { exit_status result ≡ 0 → errors.new ≡ errors.old }
     ensures failure { exit_status result ≢ 0 →
         (exit_status result ≡ 1) ⊎ (exit_status result ≡ 2) }
@@ -68,13 +69,12 @@ fn words_given<H: Env + AllocGlobal>(rt: &H) -> Result<Vec<String>, WordsFault> 
 /// they name, or else a store in memory, and runs the lines of the reader. With status 0 each line
 /// was answered, or help was written. Else `errors` is told why: of wrong words with status 2, of
 /// any other fault with status 1.
-pub fn run_words<H: Files + AllocGlobal + Clone + Drop, R: Read + Drop, W: Write, E: Write>(
-    rt: &H,
-    words: &[String],
-    reader: R,
-    writer: &mut W,
-    errors: &mut E,
-) -> ExitCode
+pub fn run_words<
+    H: Files + AllocGlobal + Threads + Clone + Drop + Sync,
+    R: Read + Drop,
+    W: Write,
+    E: Write,
+>(rt: &H, words: &[String], reader: R, writer: &mut W, errors: &mut E) -> ExitCode
     ensures success { takes program (map string_bytes words.now) ≡ true →
         root_in (map string_bytes words.now) ≡ None → exit_status result ≡ 0 →
         RunsAllFrom reads_reversing (world_over empty 0) (R.remaining reader)
@@ -118,7 +118,7 @@ fn end_by_words<W: Write, E: Write>(fault: WordsFault, writer: &mut W, errors: &
 }
 
 /// Runs lines over the store in a folder, or over one in memory where no folder is named.
-fn run_root<H: Files + AllocGlobal + Clone + Drop, R: Read + Drop, W: Write>(
+fn run_root<H: Files + AllocGlobal + Threads + Clone + Drop + Sync, R: Read + Drop, W: Write>(
     rt: &H,
     root: Option<&str>,
     reader: R,
@@ -130,11 +130,11 @@ fn run_root<H: Files + AllocGlobal + Clone + Drop, R: Read + Drop, W: Write>(
 {
     match root {
         Some(dir) => run_folder(rt, dir, reader, writer),
-        None => run_memory(rt.alloc(), reader, writer),
+        None => run_memory(rt, reader, writer),
     }
 }
 
-fn run_folder<H: Files + AllocGlobal + Clone + Drop, R: Read + Drop, W: Write>(
+fn run_folder<H: Files + AllocGlobal + Threads + Clone + Drop + Sync, R: Read + Drop, W: Write>(
     rt: &H,
     dir: &str,
     reader: R,
@@ -144,26 +144,27 @@ fn run_folder<H: Files + AllocGlobal + Clone + Drop, R: Read + Drop, W: Write>(
         return Err(Fault::Memory);
     };
     match FolderStore::open(handle, dir) {
-        Ok(store) => run_store(rt.alloc(), store, reader, writer),
+        Ok(store) => run_store(rt, rt.alloc(), store, reader, writer),
         Err(StorageError::Memory) => Err(Fault::Memory),
         Err(_) => Err(Fault::Store),
     }
 }
 
-fn run_memory<R: Read + Drop, W: Write>(
-    alloc: Global,
+fn run_memory<H: AllocGlobal + Threads + Sync, R: Read + Drop, W: Write>(
+    rt: &H,
     reader: R,
     writer: &mut W,
 ) -> Result<(), Fault>
     ensures { OnOk result (RunsAllFrom reads_reversing (world_over empty 0) (R.remaining reader)
         (W.contents writer.old) (W.contents writer.new)) }
 {
-    run_store(alloc, MemoryStore::new(alloc), reader, writer)
+    run_store(rt, rt.alloc(), MemoryStore::new(rt.alloc()), reader, writer)
 }
 
 /// Runs the lines of a reader in a session over a store, and writes a line of answer to each. The
 /// session holds no array yet.
-pub fn run_store<S: WritableStorageTraits + Drop, R: Read + Drop, W: Write>(
+pub fn run_store<H: Threads + Sync, S: WritableStorageTraits + Drop, R: Read + Drop, W: Write>(
+    rt: &H,
     alloc: Global,
     store: S,
     reader: R,
@@ -174,5 +175,5 @@ pub fn run_store<S: WritableStorageTraits + Drop, R: Read + Drop, W: Write>(
         (R.remaining reader) (W.contents writer.old) (W.contents writer.new)) }
 {
     let mut session = Session::<S, ReverseCodec>::new(alloc, store);
-    Ok(run_lines(alloc, &mut session, reader, writer)?)
+    Ok(run_lines(rt, alloc, &mut session, reader, writer)?)
 }

@@ -14,5 +14,5 @@ mod refusals;
 mod story;
 
 fn main(rt: HostRuntime) -> anyhow::Result<()> {
-    story::run_story(rt.alloc(), rt.stdin(), &mut rt.stdout())
+    story::run_story(&rt, rt.stdin(), &mut rt.stdout())
 }

@@ -5,6 +5,7 @@ use crate::refusals::{NO_CALL, refused_call};
 use anyhow::{Result, bail};
 use std::alloc::Global;
 use std::io::{BufRead, BufReader, Read, Write};
+use std::thread::Threads;
 use zarr_run::{
     MemoryStore, ReadableStorageTraits, RefusingStore, ReverseCodec, Session, StorageError,
     run_lines,
@@ -43,15 +44,16 @@ fn store_lines(alloc: Global, store: &mut MemoryStore) -> Result<String, Storage
 }
 
 /// Runs the story that a reader tells.
-pub(crate) fn run_story<R: Read + Drop, W: Write>(
-    alloc: Global,
+pub(crate) fn run_story<H: AllocGlobal + Threads + Sync, R: Read + Drop, W: Write>(
+    rt: &H,
     reader: R,
     writer: &mut W,
 ) -> Result<()> {
+    let alloc = rt.alloc();
     let mut reader = BufReader::new(alloc, reader)?;
     let store = read_store(alloc, &mut reader)?;
     let mut session = Session::<RefusingStore<MemoryStore>, ReverseCodec>::new(alloc, store);
-    if let Err(fault) = run_lines(alloc, &mut session, reader, writer) {
+    if let Err(fault) = run_lines(rt, alloc, &mut session, reader, writer) {
         bail!("the commands have not been run to their end: {fault:?}");
     }
     let mut store = session.close().into_inner();

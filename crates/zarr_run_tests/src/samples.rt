@@ -1,6 +1,7 @@
 //! Lines, and the commands and answers of lines.
 
 use std::alloc::{AllocError, Global};
+use std::thread::Threads;
 use zarr_run::{
     BytesToBytesCodecTraits, Command, DataType, MemoryStore, ReadableStorageTraits, Reply,
     ReverseCodec, Session, StoreKey, WritableStorageTraits, push_answer, read_command,
@@ -52,24 +53,23 @@ pub(crate) fn is_answered(
 }
 
 /// Whether a session answers a command by this text.
-pub(crate) fn does<S: WritableStorageTraits, B: BytesToBytesCodecTraits>(
-    alloc: Global,
-    session: &mut Session<S, B>,
-    command: &Command,
-    want: &str,
-) -> Result<bool, AllocError> {
-    let reply = session.step(command);
-    is_answered(alloc, session.data_type_at("/a"), &reply, want)
+pub(crate) fn does<
+    R: AllocGlobal + Threads + Sync,
+    S: WritableStorageTraits,
+    B: BytesToBytesCodecTraits + Sync,
+>(rt: &R, session: &mut Session<S, B>, command: &Command, want: &str) -> Result<bool, AllocError> {
+    let reply = session.step(rt, command);
+    is_answered(rt.alloc(), session.data_type_at("/a"), &reply, want)
 }
 
 /// Whether a session answers each of these lines so.
-pub(crate) fn talks<S: WritableStorageTraits, B: BytesToBytesCodecTraits>(
-    alloc: Global,
-    session: &mut Session<S, B>,
-    talk: &[(&str, &str)],
-) -> Result<bool, AllocError> {
+pub(crate) fn talks<
+    R: AllocGlobal + Threads + Sync,
+    S: WritableStorageTraits,
+    B: BytesToBytesCodecTraits + Sync,
+>(rt: &R, session: &mut Session<S, B>, talk: &[(&str, &str)]) -> Result<bool, AllocError> {
     for (line, want) in talk {
-        if !does(alloc, session, &command(alloc, line)?, want)? {
+        if !does(rt, session, &command(rt.alloc(), line)?, want)? {
             return Ok(false);
         }
     }
@@ -78,15 +78,19 @@ pub(crate) fn talks<S: WritableStorageTraits, B: BytesToBytesCodecTraits>(
 
 /// Whether a session creates at `/a` an array of four cells in chunks of two, of a data type with a
 /// fill value and codecs.
-pub(crate) fn creates<S: WritableStorageTraits, B: BytesToBytesCodecTraits>(
-    alloc: Global,
+pub(crate) fn creates<
+    R: AllocGlobal + Threads + Sync,
+    S: WritableStorageTraits,
+    B: BytesToBytesCodecTraits + Sync,
+>(
+    rt: &R,
     session: &mut Session<S, B>,
     (data_type, fill, codecs): (&str, &str, &str),
 ) -> Result<bool, AllocError> {
-    let line = format!(in alloc;
+    let line = format!(in rt.alloc();
         r#"{{"op":"create","path":"/a","document":{{"zarr_format":3,"node_type":"array","shape":[4],"data_type":"{data_type}","chunk_grid":{{"name":"regular","configuration":{{"chunk_shape":[2]}}}},"chunk_key_encoding":"default","fill_value":{fill},"codecs":{codecs}}}}}"#
     )?;
-    talks(alloc, session, &[(line.as_str(), DONE)])
+    talks(rt, session, &[(line.as_str(), DONE)])
 }
 
 /// Whether a store has this value at a key.

@@ -7,6 +7,7 @@ use crate::samples::{
 };
 use crate::test_store::TestStore;
 use std::alloc::{AllocError, Global};
+use std::thread::Threads;
 use zarr_run::{
     ArrayBytes, ArraySubset, CodecOptions, Command, CommandCells, DataType, MemoryStore,
     ReverseCodec, Session, run_on,
@@ -41,15 +42,15 @@ fn write_first(alloc: Global, cells: &[u8]) -> Result<Command, AllocError> {
 }
 
 /// Whether commands that are run on a session are answered by these texts, where cells are bytes.
-fn does_all(
-    alloc: Global,
+fn does_all<R: AllocGlobal + Threads + Sync>(
+    rt: &R,
     session: &mut MemorySession,
     commands: &[Command],
     wants: &[&str],
 ) -> Result<bool, AllocError> {
-    let replies = run_on(alloc, session, commands)?;
+    let replies = run_on(rt, rt.alloc(), session, commands)?;
     for (reply, want) in replies.iter().zip(wants) {
-        if !is_answered(alloc, Some(&DataType::UInt8), reply, want)? {
+        if !is_answered(rt.alloc(), Some(&DataType::UInt8), reply, want)? {
             return Ok(false);
         }
     }
@@ -57,20 +58,24 @@ fn does_all(
 }
 
 /// Whether a session runs two commands, then another one, and then none.
-fn runs_more(alloc: Global, session: &mut MemorySession) -> Result<bool, AllocError> {
+fn runs_more<R: AllocGlobal + Threads + Sync>(
+    rt: &R,
+    session: &mut MemorySession,
+) -> Result<bool, AllocError> {
+    let alloc = rt.alloc();
     let first = [command(alloc, CREATE)?, write(alloc, &[1, 2, 3, 4])?];
     let second = [command(alloc, READ)?];
     Ok(
-        does_all(alloc, session, &first, &[DONE, DONE])?
-            && does_all(alloc, session, &second, &[READ_ANSWER])?
-            && does_all(alloc, session, &[], &[])?,
+        does_all(rt, session, &first, &[DONE, DONE])?
+            && does_all(rt, session, &second, &[READ_ANSWER])?
+            && does_all(rt, session, &[], &[])?,
     )
 }
 
 #[test]
 fn more_commands_are_run_on_a_session(rt: HostRuntime) {
     let mut session = new_session(rt.alloc());
-    assert!(rt; matches!(runs_more(rt.alloc(), &mut session), Ok(true)));
+    assert!(rt; matches!(runs_more(&rt, &mut session), Ok(true)));
 }
 
 /// Data types of cells with one byte or two, fill values, and bytes that are no two cells of them.
@@ -85,11 +90,17 @@ const NO_CELLS: [(&str, &str, &[u8]); 7] = [
 ];
 
 /// Whether a session refuses bytes as the first chunk of cells of a type with a fill value.
-fn refuses(alloc: Global, data_type: &str, fill: &str, bytes: &[u8]) -> Result<bool, AllocError> {
+fn refuses<R: AllocGlobal + Threads + Sync>(
+    rt: &R,
+    data_type: &str,
+    fill: &str,
+    bytes: &[u8],
+) -> Result<bool, AllocError> {
+    let alloc = rt.alloc();
     let (wrote, mut session) = (write_first(alloc, bytes)?, new_session(alloc));
-    let is_made = creates(alloc, &mut session, (data_type, fill, BIG))?;
+    let is_made = creates(rt, &mut session, (data_type, fill, BIG))?;
     let is_refused = does(
-        alloc,
+        rt,
         &mut session,
         &wrote,
         r#"{"applied":0,"refused":"Data"}"#,
@@ -100,22 +111,23 @@ fn refuses(alloc: Global, data_type: &str, fill: &str, bytes: &[u8]) -> Result<b
 #[test]
 fn bytes_that_are_no_cells_are_refused(rt: HostRuntime) {
     for (data_type, fill, bytes) in NO_CELLS {
-        let refused = refuses(rt.alloc(), data_type, fill, bytes);
+        let refused = refuses(&rt, data_type, fill, bytes);
         assert!(rt; matches!(refused, Ok(true)), "{data_type}");
     }
 }
 
 /// Whether typed cells of 16 bits are stored with the highest byte first.
-fn are_little_endian(alloc: Global) -> Result<bool, AllocError> {
+fn are_little_endian<R: AllocGlobal + Threads + Sync>(rt: &R) -> Result<bool, AllocError> {
+    let alloc = rt.alloc();
     let (wrote, mut session) = (write_first(alloc, &[1, 0, 251, 255])?, new_session(alloc));
-    let is_made = creates(alloc, &mut session, ("int16", "0", BIG))?;
-    let is_written = does(alloc, &mut session, &wrote, DONE)?;
+    let is_made = creates(rt, &mut session, ("int16", "0", BIG))?;
+    let is_written = does(rt, &mut session, &wrote, DONE)?;
     Ok(is_made && is_written && has(alloc, &mut session.close(), "a/c/0", &[0, 1, 255, 251]))
 }
 
 #[test]
 fn typed_cells_are_little_endian(rt: HostRuntime) {
-    assert!(rt; matches!(are_little_endian(rt.alloc()), Ok(true)));
+    assert!(rt; matches!(are_little_endian(&rt), Ok(true)));
 }
 
 /// The codec `bytes`, and one that refuses the bytes 7, 8.
@@ -142,18 +154,19 @@ const CHUNKS_REFUSED: [(&str, &str); 4] = [
 ];
 
 /// Whether the first of two chunks is kept, and no other, where the codec refuses the second.
-fn keeps_the_first(alloc: Global) -> Result<bool, AllocError> {
+fn keeps_the_first<R: AllocGlobal + Threads + Sync>(rt: &R) -> Result<bool, AllocError> {
+    let alloc = rt.alloc();
     let store = MemoryStore::new(alloc);
     let mut session: Session<MemoryStore, RefusingCodec> = Session::new(alloc, store);
-    let is_made = creates(alloc, &mut session, ("uint8", "0", REFUSING))?;
-    let is_refused = talks(alloc, &mut session, &CHUNKS_REFUSED)?;
+    let is_made = creates(rt, &mut session, ("uint8", "0", REFUSING))?;
+    let is_refused = talks(rt, &mut session, &CHUNKS_REFUSED)?;
     let mut store = session.close();
     Ok(is_made && is_refused && has_keys(&mut store, 2) && has(alloc, &mut store, "a/c/0", &[5, 6]))
 }
 
 #[test]
 fn a_codec_that_refuses_a_chunk_keeps_those_before_it(rt: HostRuntime) {
-    assert!(rt; matches!(keeps_the_first(rt.alloc()), Ok(true)));
+    assert!(rt; matches!(keeps_the_first(&rt), Ok(true)));
 }
 
 const CHANGED: &str = r#"{"applied":0,"refused":"DocumentChanged"}"#;
@@ -180,13 +193,16 @@ fn test_session(alloc: Global, calls_before: u64) -> Session<TestStore, ReverseC
 #[test]
 fn a_document_that_changes_is_noticed(rt: HostRuntime) {
     let mut session = test_session(rt.alloc(), 3);
-    assert!(rt; matches!(talks(rt.alloc(), &mut session, &CHANGES), Ok(true)));
+    assert!(rt; matches!(talks(&rt, &mut session, &CHANGES), Ok(true)));
 }
 
 /// Whether there is a type at `/a` once an array is created there, and none before and elsewhere.
-fn tells_types(alloc: Global, session: &mut MemorySession) -> Result<bool, AllocError> {
+fn tells_types<R: AllocGlobal + Threads + Sync>(
+    rt: &R,
+    session: &mut MemorySession,
+) -> Result<bool, AllocError> {
     let none = session.data_type_at("/a").is_none();
-    let is_made = talks(alloc, session, &[(CREATE, DONE)])?;
+    let is_made = talks(rt, session, &[(CREATE, DONE)])?;
     let one = session.data_type_at("/a").is_some() && session.data_type_at("/").is_none();
     Ok(none && is_made && one)
 }
@@ -194,7 +210,7 @@ fn tells_types(alloc: Global, session: &mut MemorySession) -> Result<bool, Alloc
 #[test]
 fn a_session_tells_the_types_of_its_arrays(rt: HostRuntime) {
     let mut session = new_session(rt.alloc());
-    assert!(rt; matches!(tells_types(rt.alloc(), &mut session), Ok(true)));
+    assert!(rt; matches!(tells_types(&rt, &mut session), Ok(true)));
 }
 
 /// The first write finds no values. The second puts parts into three of them unread, and fetches
@@ -217,9 +233,10 @@ fn has_chunks(alloc: Global, store: &mut MemoryStore) -> bool {
 }
 
 /// How many values are fetched, and how many are written in part, where all is answered and stored.
-fn count_calls(alloc: Global) -> Result<Option<(u64, u64)>, AllocError> {
+fn count_calls<R: AllocGlobal + Threads + Sync>(rt: &R) -> Result<Option<(u64, u64)>, AllocError> {
+    let alloc = rt.alloc();
     let mut session = test_session(alloc, u64::MAX);
-    let is_done = talks(alloc, &mut session, &TWO_WRITES)?;
+    let is_done = talks(rt, &mut session, &TWO_WRITES)?;
     let mut store = session.close();
     let is_stored = is_done && has_chunks(alloc, &mut store.inner);
     Ok(is_stored.then_some((store.fetches, store.patches)))
@@ -227,5 +244,5 @@ fn count_calls(alloc: Global) -> Result<Option<(u64, u64)>, AllocError> {
 
 #[test]
 fn parts_are_written_into_values_that_nobody_reads(rt: HostRuntime) {
-    assert!(rt; matches!(count_calls(rt.alloc()), Ok(Some((1, 3)))));
+    assert!(rt; matches!(count_calls(&rt), Ok(Some((1, 3)))));
 }

@@ -1,15 +1,16 @@
 //! Lines of readers that fail or wait, and answers to writers that fail.
 
 use crate::samples::new_session;
-use std::alloc::Global;
 use std::cell::Cell;
 use std::io::{Error, ErrorKind, Read, Result, Write};
+use std::thread::Threads;
 use zarr_run::{LinesFault, run_lines};
 
 /// The answers to an input that is read to its end.
-fn answers(alloc: Global, input: &[u8]) -> Option<Vec<u8>> {
+fn answers<R: AllocGlobal + Threads + Sync>(rt: &R, input: &[u8]) -> Option<Vec<u8>> {
+    let alloc = rt.alloc();
     let (mut session, mut output) = (new_session(alloc), Vec::new(alloc));
-    match run_lines(alloc, &mut session, input, &mut output) {
+    match run_lines(rt, alloc, &mut session, input, &mut output) {
         Ok(()) => Some(output),
         Err(_) => None,
     }
@@ -19,7 +20,7 @@ const TWO_FAULTS: &[u8] = b"{\"fault\":\"line\"}\n{\"fault\":\"line\"}\n";
 
 #[test]
 fn the_last_line_needs_no_line_feed(rt: HostRuntime) {
-    let answers = answers(rt.alloc(), b"\xff\nnull");
+    let answers = answers(&rt, b"\xff\nnull");
     assert!(rt; matches!(&answers, Some(found) if found.as_slice() == TWO_FAULTS));
 }
 
@@ -90,8 +91,8 @@ fn count_lines(text: &[u8]) -> usize {
 
 /// Runs the lines of a text that is read so many times, then fails or ends, with a writer that
 /// fails after some calls. Gives how the run ended, and how many lines were answered.
-fn run(
-    alloc: Global,
+fn run<R: AllocGlobal + Threads + Sync>(
+    rt: &R,
     (text, left, ends): (&[u8], usize, bool),
     calls: u32,
 ) -> (std::result::Result<(), LinesFault>, usize) {
@@ -108,15 +109,16 @@ fn run(
         written: 0,
         answered,
     };
+    let alloc = rt.alloc();
     let mut session = new_session(alloc);
-    let ran = run_lines(alloc, &mut session, reader, &mut writer);
+    let ran = run_lines(rt, alloc, &mut session, reader, &mut writer);
     (ran, answered.get())
 }
 
 #[test]
 fn a_failing_read_is_a_read_fault(rt: HostRuntime) {
     for left in 0..3usize {
-        let (ran, answered) = run(rt.alloc(), (b"\n", left, false), 99);
+        let (ran, answered) = run(&rt, (b"\n", left, false), 99);
         assert!(rt; matches!(ran, Err(LinesFault::Read)));
         assert!(rt; answered == left, "after {left} reads");
     }
@@ -126,7 +128,7 @@ fn a_failing_read_is_a_read_fault(rt: HostRuntime) {
 #[test]
 fn a_failing_write_is_a_write_fault(rt: HostRuntime) {
     for calls in 0..4u32 {
-        let (ran, _) = run(rt.alloc(), (b"\n", 2, false), calls);
+        let (ran, _) = run(&rt, (b"\n", 2, false), calls);
         assert!(rt;
             matches!(ran, Err(LinesFault::Write)),
             "after {calls} calls"
@@ -137,7 +139,7 @@ fn a_failing_write_is_a_write_fault(rt: HostRuntime) {
 /// Each read gives two lines and the start of a third one.
 #[test]
 fn answers_come_before_a_wait(rt: HostRuntime) {
-    let (ran, answered) = run(rt.alloc(), (b"\n\nx", 3, true), 99);
+    let (ran, answered) = run(&rt, (b"\n\nx", 3, true), 99);
     assert!(rt; ran.is_ok());
     assert!(rt; answered == 7);
 }

@@ -4,6 +4,7 @@ use crate::script::{PLAIN, command};
 use crate::stop::{Stop, expect};
 use crate::tables::Tables;
 use std::alloc::{AllocError, Global};
+use std::thread::Threads;
 use zarr_run::{
     Command, LinesFault, MemoryStore, ReadableStorageTraits, Reply, ReverseCodec, Session,
     run_lines,
@@ -61,16 +62,22 @@ fn are_as_stated(answers: &[u8]) -> bool {
 }
 
 /// Runs lines in a new session.
-fn answer_lines(alloc: Global, text: &[u8], answers: &mut Vec<u8>) -> Result<(), LinesFault> {
+fn answer_lines<R: AllocGlobal + Threads + Sync>(
+    rt: &R,
+    text: &[u8],
+    answers: &mut Vec<u8>,
+) -> Result<(), LinesFault> {
+    let alloc = rt.alloc();
     let mut session = Session::<MemoryStore, ReverseCodec>::new(alloc, MemoryStore::new(alloc));
-    run_lines(alloc, &mut session, text, answers)
+    run_lines(rt, alloc, &mut session, text, answers)
 }
 
 /// The lines. The writer takes memory too, so it can fail.
-fn run_text(alloc: Global) -> Result<(), Stop> {
+fn run_text<R: AllocGlobal + Threads + Sync>(rt: &R) -> Result<(), Stop> {
+    let alloc = rt.alloc();
     let text = text(alloc)?;
     let mut answers = Vec::new(alloc);
-    let end = answer_lines(alloc, text.as_slice(), &mut answers);
+    let end = answer_lines(rt, text.as_slice(), &mut answers);
     expect(!matches!(end, Err(LinesFault::Read)) && are_as_stated(answers.as_slice()))
 }
 
@@ -100,12 +107,12 @@ fn answer(tables: &mut Tables, replies: &[Reply]) -> bool {
 }
 
 /// The replies to commands, and the store; or the store alone where memory for the replies ran out.
-fn reply_all(
-    alloc: Global,
+fn reply_all<R: AllocGlobal + Threads + Sync>(
+    rt: &R,
     store: MemoryStore,
     commands: &[Command],
 ) -> Result<(Vec<Reply>, MemoryStore), MemoryStore> {
-    match zarr_run::run::<MemoryStore, ReverseCodec>(alloc, store, commands) {
+    match zarr_run::run::<R, MemoryStore, ReverseCodec>(rt, rt.alloc(), store, commands) {
         Ok(answered) => Ok(answered),
         Err(refusal) => Err(refusal.storage),
     }
@@ -120,13 +127,14 @@ fn expect_replies(replies: &[Reply], store: &mut MemoryStore) -> Result<(), Stop
 
 /// The list. Where memory for the replies runs out, the store comes back empty, and the list is run
 /// once more.
-fn run_list(alloc: Global) -> Result<(), Stop> {
+fn run_list<R: AllocGlobal + Threads + Sync>(rt: &R) -> Result<(), Stop> {
+    let alloc = rt.alloc();
     let commands = commands(alloc)?;
-    match reply_all(alloc, MemoryStore::new(alloc), commands.as_slice()) {
+    match reply_all(rt, MemoryStore::new(alloc), commands.as_slice()) {
         Ok((replies, mut store)) => expect_replies(replies.as_slice(), &mut store),
         Err(mut store) => {
             expect(store.list()?.is_empty())?;
-            match reply_all(alloc, store, commands.as_slice()) {
+            match reply_all(rt, store, commands.as_slice()) {
                 Ok((replies, mut store)) => expect_replies(replies.as_slice(), &mut store),
                 Err(_) => Err(Stop::Other),
             }
@@ -135,7 +143,7 @@ fn run_list(alloc: Global) -> Result<(), Stop> {
 }
 
 /// The lines and the list.
-pub(crate) fn run(alloc: Global) -> Result<(), Stop> {
-    run_text(alloc)?;
-    run_list(alloc)
+pub(crate) fn run<R: AllocGlobal + Threads + Sync>(rt: &R) -> Result<(), Stop> {
+    run_text(rt)?;
+    run_list(rt)
 }

@@ -39,10 +39,12 @@ pub(crate) struct Script {
     pub row: Names,
 }
 
-/// The keys that an array may have.
+/// The keys that an array may have. That of its attributes, which a document of version 2 has, may
+/// be left by a refused create.
 #[derive(Clone, Copy)]
 pub(crate) struct Names {
     pub document: &'static str,
+    pub attributes: Option<&'static str>,
     pub chunks: &'static [&'static str],
 }
 
@@ -54,10 +56,12 @@ pub(crate) const PLAIN: Script = Script {
     read_row: READ_ROW,
     square: Names {
         document: "a/zarr.json",
+        attributes: None,
         chunks: &["a/c/0/0", "a/c/0/1", "a/c/1/0", "a/c/1/1"],
     },
     row: Names {
         document: "b/c/zarr.json",
+        attributes: None,
         chunks: &["b/c/c.0", "b/c/c.1"],
     },
 };

@@ -1,5 +1,5 @@
-//! The commands of a script at two arrays in shards: `/s`, whose chunks are shards, and `/t/n`, whose
-//! chunks are shards of shards.
+//! The commands of a script at two arrays in shards: `/s`, whose chunks are shards, and `/t/n`,
+//! whose chunks are shards of shards.
 
 use crate::script::{Asks, Line, Names, Script};
 use crate::tables::Array;
@@ -12,10 +12,12 @@ pub(crate) const SHARDS: Script = Script {
     read_row: READ_ROW,
     square: Names {
         document: "s/zarr.json",
+        attributes: None,
         chunks: &["s/c/0/0", "s/c/0/1", "s/c/1/0", "s/c/1/1"],
     },
     row: Names {
         document: "t/n/zarr.json",
+        attributes: None,
         chunks: &["t/n/c/0", "t/n/c/1"],
     },
 };
@@ -48,9 +50,9 @@ const REOPEN_ROW: Line = Line {
     asks: Asks::Reopen,
 };
 
-/// Both are written twice in part, which leaves gaps in each chunk, and compacted, of `/s` one chunk
-/// of four. One chunk of `/s` becomes all fill by a part, which takes its key, and is stored without
-/// a slice; the rewrite takes it out. One chunk of `/t/n` is erased.
+/// Both are written twice in part, which leaves gaps in each chunk, and compacted, of `/s` one
+/// chunk of four. One chunk of `/s` becomes all fill by a part, which takes its key, and is stored
+/// without a slice; the rewrite takes it out. One chunk of `/t/n` is erased.
 const LINES: [Line; 19] = [
     Line {
         text: r#"{"op":"create","path":"/s","order":"C","document":{"zarr_format":3,"node_type":"array","shape":[4,4],"data_type":"uint8","chunk_grid":{"name":"regular","configuration":{"chunk_shape":[2,2]}},"chunk_key_encoding":{"name":"default"},"fill_value":0,"codecs":[{"name":"sharding_indexed","configuration":{"chunk_shape":[1,2],"codecs":["bytes"],"index_codecs":[{"name":"bytes","configuration":{"endian":"little"}}]}}]}}"#,

@@ -4,6 +4,7 @@ use crate::script::{Line, Script, command, is_by_store, is_refused_by_chance};
 use crate::stop::{Stop, expect};
 use crate::tables::Tables;
 use std::alloc::Global;
+use std::thread::Threads;
 use zarr_run::{
     BytesToBytesCodecTraits, CallKind, Command, MemoryStore, RefusingStore, Reply, ReverseCodec,
     WritableStorageTraits,
@@ -37,17 +38,18 @@ struct CheckedSession {
 }
 
 /// Runs a command.
-fn reply<S: WritableStorageTraits, B: BytesToBytesCodecTraits>(
+fn reply<R: Threads + Sync, S: WritableStorageTraits, B: BytesToBytesCodecTraits + Sync>(
+    rt: &R,
     session: &mut zarr_run::Session<S, B>,
     command: &Command,
 ) -> Reply {
-    session.step(command)
+    session.step(rt, command)
 }
 
 impl CheckedSession {
     /// Runs a command, and keeps what it was refused for.
-    fn reply_to(&mut self, command: &Command) -> Reply {
-        let reply = reply(&mut self.session, command);
+    fn reply_to<R: Threads + Sync>(&mut self, rt: &R, command: &Command) -> Reply {
+        let reply = reply(rt, &mut self.session, command);
         let by_store = is_by_store(&reply);
         self.refused.by_store = self.refused.by_store || by_store;
         self.refused.by_memory = self.refused.by_memory
@@ -56,19 +58,19 @@ impl CheckedSession {
     }
 
     /// Runs a command, and once more where it was refused by chance.
-    fn reply_at_last(&mut self, command: &Command) -> Reply {
-        let reply = self.reply_to(command);
+    fn reply_at_last<R: Threads + Sync>(&mut self, rt: &R, command: &Command) -> Reply {
+        let reply = self.reply_to(rt, command);
         if is_refused_by_chance(&reply) {
-            self.reply_to(command)
+            self.reply_to(rt, command)
         } else {
             reply
         }
     }
 
     /// Whether both arrays are read as the tables say, where a read may be asked twice.
-    fn are_as_stated(&mut self, plan: &Plan) -> bool {
-        let square = self.reply_at_last(&plan.square);
-        let row = self.reply_at_last(&plan.row);
+    fn are_as_stated<R: Threads + Sync>(&mut self, rt: &R, plan: &Plan) -> bool {
+        let square = self.reply_at_last(rt, &plan.square);
+        let row = self.reply_at_last(rt, &plan.row);
         !is_refused_by_chance(&square)
             && self.tables.answer(plan.script.read_square, &square)
             && !is_refused_by_chance(&row)
@@ -78,17 +80,23 @@ impl CheckedSession {
     /// Runs a command, which is answered as the tables say. Where it is refused by chance, it has
     /// changed just what it says, and it is run once more, unless the session is to be closed then.
     /// Says whether it is.
-    fn step(&mut self, plan: &Plan, line: Line, command: &Command) -> Result<bool, Stop> {
-        let reply = self.reply_to(command);
+    fn step<R: Threads + Sync>(
+        &mut self,
+        rt: &R,
+        plan: &Plan,
+        line: Line,
+        command: &Command,
+    ) -> Result<bool, Stop> {
+        let reply = self.reply_to(rt, command);
         expect(self.tables.answer(line, &reply))?;
         if !is_refused_by_chance(&reply) {
             return Ok(false);
         }
-        expect(self.are_as_stated(plan))?;
+        expect(self.are_as_stated(rt, plan))?;
         if plan.stops {
             return Ok(true);
         }
-        let again = self.reply_to(command);
+        let again = self.reply_to(rt, command);
         expect(!is_refused_by_chance(&again) && self.tables.answer(line, &again))?;
         Ok(false)
     }
@@ -146,45 +154,55 @@ fn made_plan(alloc: Global, script: Script, stops: bool) -> Result<Plan, Stop> {
 }
 
 /// Runs a line. Says whether the session is to be closed then.
-fn run_line(
-    alloc: Global,
+fn run_line<R: AllocGlobal + Threads + Sync>(
+    rt: &R,
     checked: &mut CheckedSession,
     plan: &Plan,
     line: Line,
 ) -> Result<bool, Stop> {
-    let command = command(alloc, line.text)?;
-    checked.step(plan, line, &command)
+    let command = command(rt.alloc(), line.text)?;
+    checked.step(rt, plan, line, &command)
 }
 
 /// Runs these lines, or those before the session is to be closed.
-fn run_lines(
-    alloc: Global,
+fn run_lines<R: AllocGlobal + Threads + Sync>(
+    rt: &R,
     checked: &mut CheckedSession,
     plan: &Plan,
     lines: &[Line],
 ) -> Result<(), Stop> {
     for line in lines {
-        if run_line(alloc, checked, plan, *line)? {
+        if run_line(rt, checked, plan, *line)? {
             return Ok(());
         }
     }
-    expect(checked.are_as_stated(plan))
+    expect(checked.are_as_stated(rt, plan))
 }
 
 /// Runs each command, over a store that refuses the call of this kind with this number, and then
 /// some in another session over that store. Says what was refused.
-fn run_refused(alloc: Global, plan: &Plan, kind: CallKind, number: u64) -> Result<Chances, Stop> {
-    let mut checked = begin(alloc, kind, number);
-    run_lines(alloc, &mut checked, plan, plan.script.lines)?;
-    let mut checked = checked.next(alloc);
-    run_lines(alloc, &mut checked, plan, plan.script.lines_after)?;
+fn run_refused<R: AllocGlobal + Threads + Sync>(
+    rt: &R,
+    plan: &Plan,
+    kind: CallKind,
+    number: u64,
+) -> Result<Chances, Stop> {
+    let mut checked = begin(rt.alloc(), kind, number);
+    run_lines(rt, &mut checked, plan, plan.script.lines)?;
+    let mut checked = checked.next(rt.alloc());
+    run_lines(rt, &mut checked, plan, plan.script.lines_after)?;
     checked.end(plan.script)
 }
 
 /// Each command, over a store that refuses none: once up to a refusal, and once through to the end.
-pub(crate) fn run(alloc: Global, script: Script) -> Result<(), Stop> {
+pub(crate) fn run<R: AllocGlobal + Threads + Sync>(rt: &R, script: Script) -> Result<(), Stop> {
     for stops in [true, false] {
-        let refused = run_refused(alloc, &made_plan(alloc, script, stops)?, CallKind::Read, 0)?;
+        let refused = run_refused(
+            rt,
+            &made_plan(rt.alloc(), script, stops)?,
+            CallKind::Read,
+            0,
+        )?;
         expect(!refused.by_store)?;
     }
     Ok(())
@@ -196,9 +214,13 @@ const MANY_CALLS: u64 = 10_000;
 /// Each command, with each call of the store of this kind refused in turn. As memory is ample then,
 /// no command is refused for want of it: so a refusal of the store that is answered otherwise does
 /// not pass for the end.
-fn run_each_refused(alloc: Global, plan: &Plan, kind: CallKind) -> Result<(), Stop> {
+fn run_each_refused<R: AllocGlobal + Threads + Sync>(
+    rt: &R,
+    plan: &Plan,
+    kind: CallKind,
+) -> Result<(), Stop> {
     for number in 1..MANY_CALLS {
-        let refused = run_refused(alloc, plan, kind, number)?;
+        let refused = run_refused(rt, plan, kind, number)?;
         expect(!refused.by_memory)?;
         if !refused.by_store {
             return expect(number > 1);
@@ -209,11 +231,14 @@ fn run_each_refused(alloc: Global, plan: &Plan, kind: CallKind) -> Result<(), St
 
 /// Each command, with each reading and each writing call of the store refused in turn: once up to
 /// the refusal, and once through to the end.
-pub(crate) fn run_over_refusals(alloc: Global, script: Script) -> Result<(), Stop> {
+pub(crate) fn run_over_refusals<R: AllocGlobal + Threads + Sync>(
+    rt: &R,
+    script: Script,
+) -> Result<(), Stop> {
     for stops in [true, false] {
-        let plan = made_plan(alloc, script, stops)?;
-        run_each_refused(alloc, &plan, CallKind::Read)?;
-        run_each_refused(alloc, &plan, CallKind::Write)?;
+        let plan = made_plan(rt.alloc(), script, stops)?;
+        run_each_refused(rt, &plan, CallKind::Read)?;
+        run_each_refused(rt, &plan, CallKind::Write)?;
     }
     Ok(())
 }

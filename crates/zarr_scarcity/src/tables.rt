@@ -27,8 +27,8 @@ impl Array {
 /// row-major, and the cell.
 pub(crate) type Cells = &'static [(u64, usize, u8)];
 
-/// Chunk keys that come or go: the number of the chunk among those that are met, that of the key, and
-/// whether it is there then.
+/// Chunk keys that come or go: the number of the chunk among those that are met, that of the key,
+/// and whether it is there then.
 pub(crate) type Keys = &'static [(u64, usize, bool)];
 
 /// The cells of all chunks of an array, row-major: the first of them, where there are fewer.
@@ -205,7 +205,17 @@ fn count_keys(found: &[StoreKey], stored: &Option<Stored>, names: Names) -> Opti
     }
 }
 
-/// How many keys there are of an array's document and chunks, if they are just these.
+/// How many keys there are of an array's attributes, if they may be there or not as they are: they
+/// are where its document is.
+fn count_attributes(found: &[StoreKey], is_stored: bool, names: Names) -> Option<usize> {
+    match names.attributes {
+        Some(name) if has_key(found, name) => Some(1),
+        Some(_) if is_stored => None,
+        _ => Some(0),
+    }
+}
+
+/// How many keys there are of an array's documents and chunks, if they are just these.
 fn count_stored(
     found: &[StoreKey],
     is_stored: bool,
@@ -213,7 +223,8 @@ fn count_stored(
     names: Names,
 ) -> Option<usize> {
     let mut are_same = has_key(found, names.document) == is_stored;
-    let mut count: usize = if is_stored { 1 } else { 0 };
+    let mut count = count_attributes(found, is_stored, names)?;
+    count = count.saturating_add(if is_stored { 1 } else { 0 });
     let mut at: usize = 0;
     for name in names.chunks {
         let is_there = match keys.get(at) {

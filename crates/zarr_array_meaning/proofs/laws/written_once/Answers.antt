@@ -1,4 +1,4 @@
-use Rattle.zarr_array_meaning.proofs.WrittenDocuments.{written_document-twice}
+use Rattle.zarr_array_meaning.proofs.WrittenVersions.{written_document-twice}
 use Rattle.zarr_array_meaning.proofs.laws.written_once.Goals as goal
 
 pub returns : goal.returns

@@ -1,5 +1,7 @@
+use Rattle.std.proofs.Common.{refl}
 use Rattle.serde_json.specs.View.{view}
 use Rattle.zarr_run_opening.proofs.CreationLemmas.{none_at, not_prepared, create_steps, preparation_counts}
+use Rattle.zarr_run_opening.proofs.TextLemmas.{calls_created, counts_none, writes_at_most}
 use Rattle.zarr_run_opening.proofs.creating.create.Goals as goal
 
 pub put-requires-clause-free : goal.put-requires-clause-free
@@ -17,8 +19,8 @@ returns-in-Ok-clause-steps g c = λ honest before k.
       is = c.in-Ok.ensures.ok;
       ok = c.put.ensures.ok honest;
       refused = c.put.ensures.refused honest;
+      leaves = c.put.ensures.leaves honest;
       keeps = c.put.ensures.arrays;
-      same = c.put.ensures.store honest;
       calls = c.put.ensures.calls;
     })
     before k
@@ -31,3 +33,20 @@ returns-in-Err-clause-steps g c = λ honest before k.
 pub returns-in-Err-clause-calls : goal.returns-in-Err-clause-calls
 returns-in-Err-clause-calls g c =
     preparation_counts g.B.BytesToBytesCodecTraits.reads c.args.arrays.now c.args.path.now (view c.args.document.now) c.in-Err.cause (g.S.ReadableStorageTraits.refused_calls c.args.store.now) c.in-Err.ensures.refused
+
+pub returns-in-Ok-clause-accepted : goal.returns-in-Ok-clause-accepted
+returns-in-Ok-clause-accepted g c =
+    let count = g.S.ReadableStorageTraits.accepted_writes in
+    calls_created c.args.path.now (view c.args.document.now) c.in-Ok.prepared.texts c.put.result (count c.args.store.now) (count c.put.new.store) c.in-Ok.ensures.ok.texts c.put.ensures.accepted
+
+pub returns-in-Ok-clause-writes : goal.returns-in-Ok-clause-writes
+returns-in-Ok-clause-writes g c = λ honest world.
+    let count = g.S.ReadableStorageTraits.accepted_writes in
+    writes_at_most world c.args.path.now (view c.args.document.now) c.args.order (g.S.ReadableStorageTraits.held c.args.store.now) c.put.result (count c.args.store.now) (count c.put.new.store) (c.put.ensures.refused honest)
+    (calls_created c.args.path.now (view c.args.document.now) c.in-Ok.prepared.texts c.put.result (count c.args.store.now) (count c.put.new.store) c.in-Ok.ensures.ok.texts c.put.ensures.accepted)
+
+pub returns-in-Err-clause-accepted : goal.returns-in-Err-clause-accepted
+returns-in-Err-clause-accepted g c = counts_none _ _ _ refl
+
+pub returns-in-Err-clause-writes : goal.returns-in-Err-clause-writes
+returns-in-Err-clause-writes g c = λ honest world. counts_none _ _ _ refl

@@ -19,7 +19,7 @@ pub returns-in-Ok-clause-tables : goal.returns-in-Ok-clause-tables
 returns-in-Ok-clause-tables g c = λ honest.
     let codec = g.B.BytesToBytesCodecTraits in
     let readable = g.S.ReadableStorageTraits in
-    tables_over codec.reads (lawful_good codec.reads g.met.B.BytesToBytesCodecTraits.reads_lawful)
+    tables_over codec.reads (lawful_good codec.reads (g.met.B.BytesToBytesCodecTraits g.world.𝓛 g.world.𝓜 g.world.𝓡 ((λ s x. x), (λ x. x), (λ x. x), λ x. x)).reads_lawful)
     (readable.held c.args.store, readable.refused_calls c.args.store) (readable.held c.close.result, readable.refused_calls c.close.result)
     (map asked c.args.commands.now, map answered c.in-Ok.replies.items) (returns-in-Ok-clause-runs g c honest)
 
@@ -27,6 +27,6 @@ pub returns-in-Ok-clause-alone : goal.returns-in-Ok-clause-alone
 returns-in-Ok-clause-alone g c = λ honest.
     let codec = g.B.BytesToBytesCodecTraits in
     let readable = g.S.ReadableStorageTraits in
-    alone_over codec.reads (lawful_good codec.reads g.met.B.BytesToBytesCodecTraits.reads_lawful)
+    alone_over codec.reads (lawful_good codec.reads (g.met.B.BytesToBytesCodecTraits g.world.𝓛 g.world.𝓜 g.world.𝓡 ((λ s x. x), (λ x. x), (λ x. x), λ x. x)).reads_lawful)
     (readable.held c.args.store, readable.refused_calls c.args.store) (readable.held c.close.result, readable.refused_calls c.close.result)
     (map asked c.args.commands.now, map answered c.in-Ok.replies.items) (returns-in-Ok-clause-runs g c honest)

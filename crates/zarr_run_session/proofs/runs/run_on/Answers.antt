@@ -41,7 +41,7 @@ pub returns-clause-tables : goal.returns-clause-tables
 returns-clause-tables g c = λ honest.
     let codec = g.B.BytesToBytesCodecTraits in
     let readable = g.S.ReadableStorageTraits in
-    tables_from g.row.B.Denot (codec.meaning, codec.reads) (lawful_good codec.reads g.met.B.BytesToBytesCodecTraits.reads_lawful)
+    tables_from g.row.B.Denot (codec.meaning, codec.reads) (lawful_good codec.reads (g.met.B.BytesToBytesCodecTraits g.world.𝓛 g.world.𝓜 g.world.𝓡 ((λ s x. x), (λ x. x), (λ x. x), λ x. x)).reads_lawful)
     (state_of readable.held readable.refused_calls c.args.session.now) (state_of readable.held readable.refused_calls c.loop-command.session)
     (map asked c.args.commands.now, map answered c.loop-command.replies.items) (returns-clause-runs g c honest)
 
@@ -49,6 +49,6 @@ pub returns-clause-alone : goal.returns-clause-alone
 returns-clause-alone g c = λ honest.
     let codec = g.B.BytesToBytesCodecTraits in
     let readable = g.S.ReadableStorageTraits in
-    alone_from g.row.B.Denot (codec.meaning, codec.reads) (lawful_good codec.reads g.met.B.BytesToBytesCodecTraits.reads_lawful)
+    alone_from g.row.B.Denot (codec.meaning, codec.reads) (lawful_good codec.reads (g.met.B.BytesToBytesCodecTraits g.world.𝓛 g.world.𝓜 g.world.𝓡 ((λ s x. x), (λ x. x), (λ x. x), λ x. x)).reads_lawful)
     (state_of readable.held readable.refused_calls c.args.session.now) (state_of readable.held readable.refused_calls c.loop-command.session)
     (map asked c.args.commands.now, map answered c.loop-command.replies.items) (returns-clause-runs g c honest)

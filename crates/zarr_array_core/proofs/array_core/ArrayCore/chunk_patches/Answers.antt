@@ -11,6 +11,7 @@ use Rattle.zarr_codecs_traits.specs.PartEncoding.{EncodesPart}
 use Rattle.zarr_array_meaning.specs.Chunks.{holds_box}
 use Rattle.zarr_array_core.specs.ChunkValues.{CellsBecome}
 use Rattle.zarr_array_meaning.specs.Writing.{stores_fill}
+use Rattle.zarr_array_core.specs.BoxWrites.{write_of}
 use Rattle.zarr_array_core.specs.Views.{array_cells, document_of}
 use Rattle.zarr_array_elements.proofs.Meeting.{meeting, starts_alike}
 use Rattle.zarr_array_core.proofs.ChunkPayloads.{AreArrayElements}
@@ -29,40 +30,41 @@ whole_cells-requires-clause-small g c = λ large.
     let region : Region = extent_of c.args.write.now.region in
     let box : Region = region_of c.args.own.now in
     let shared : region_of c.in_ok-shared.shared ≡ overlapped region box = shared_is (region_of c.args.write.now.subset.now) region box (region_of c.in_ok-shared.shared) c.args.write.now.same_box c.in_ok-shared.ensures in
-    c.requires.small (large_grows document.elements.type (product (overlapped region box).shape) (product box.shape) (shared_smaller region box c.requires.shares) (subst (λ (r : Region). IsTooLarge document.elements.type (product r.shape)) shared large))
+    c.requires.writes.small (large_grows document.elements.type (product (overlapped region box).shape) (product box.shape) (shared_smaller region box c.requires.writes.shares) (subst (λ (r : Region). IsTooLarge document.elements.type (product r.shape)) shared large))
 
 pub whole_cells-requires-clause-some : goal.whole_cells-requires-clause-some
 whole_cells-requires-clause-some g c =
     let region : Region = extent_of c.args.write.now.region in
     let box : Region = region_of c.args.own.now in
     let shared : region_of c.in_ok-shared.shared ≡ overlapped region box = shared_is (region_of c.args.write.now.subset.now) region box (region_of c.in_ok-shared.shared) c.args.write.now.same_box c.in_ok-shared.ensures in
-    subst (λ (r : Region). 0 < product r.shape) (sym shared) (meeting region box c.requires.shares).some
+    subst (λ (r : Region). 0 < product r.shape) (sym shared) (meeting region box c.requires.writes.shares).some
 
 pub whole_cells-requires-clause-rank : goal.whole_cells-requires-clause-rank
 whole_cells-requires-clause-rank g c =
     let region : Region = extent_of c.args.write.now.region in
     let box : Region = region_of c.args.own.now in
     let shared : region_of c.in_ok-shared.shared ≡ overlapped region box = shared_is (region_of c.args.write.now.subset.now) region box (region_of c.in_ok-shared.shared) c.args.write.now.same_box c.in_ok-shared.ensures in
-    sym (ap (λ (r : Region). length r.start) shared ∙ starts_alike region box c.requires.rank)
+    sym (ap (λ (r : Region). length r.start) shared ∙ starts_alike region box c.requires.writes.rank)
 
 pub whole_cells-requires-clause-holds : goal.whole_cells-requires-clause-holds
 whole_cells-requires-clause-holds g c =
     let region : Region = extent_of c.args.write.now.region in
     let box : Region = region_of c.args.own.now in
     let shared : region_of c.in_ok-shared.shared ≡ overlapped region box = shared_is (region_of c.args.write.now.subset.now) region box (region_of c.in_ok-shared.shared) c.args.write.now.same_box c.in_ok-shared.ensures in
-    subst (λ (r : Region). holds_box region r ≡ true) (sym shared) (shared_held region box c.requires.shares)
+    subst (λ (r : Region). holds_box region r ≡ true) (sym shared) (shared_held region box c.requires.writes.shares)
 
 pub seen_from-part-requires : goal.seen_from-part-requires
 seen_from-part-requires g c =
     let region : Region = extent_of c.args.write.now.region in
     let box : Region = region_of c.args.own.now in
     let shared : region_of c.in_ok-shared.shared ≡ overlapped region box = shared_is (region_of c.args.write.now.subset.now) region box (region_of c.in_ok-shared.shared) c.args.write.now.same_box c.in_ok-shared.ensures in
-    subst (λ (os : List ℕ). IsAtMost os c.in_ok-shared.shared.start.items) (sym c.start.ensures) (subst (λ (r : Region). IsAtMost box.start r.start) (sym shared) (later_start region.start box.start c.requires.rank))
+    subst (λ (os : List ℕ). IsAtMost os c.in_ok-shared.shared.start.items) (sym c.start.ensures) (subst (λ (r : Region). IsAtMost box.start r.start) (sym shared) (later_start region.start box.start c.requires.writes.rank))
 
 pub returns-in-Ok-clause-ok : goal.returns-in-Ok-clause-ok
 returns-in-Ok-clause-ok g c =
     let document = document_of g.C.ArrayToBytesCodecTraits.meaning c.args.self.now in
     let exact = g.C.ArrayToBytesCodecTraits.is_function c.args.self.now.codecs in
+    let write = write_of g.C.ArrayToBytesCodecTraits c.args.self.now c.args.write.now in
     let region : Region = extent_of c.args.write.now.region in
     let box : Region = region_of c.args.own.now in
     let given = array_cells c.args.self.now c.args.write.now.bytes.now in
@@ -75,14 +77,14 @@ returns-in-Ok-clause-ok g c =
     c.seen_from-part.ensures ∙ (ap (λ (r : Region). relative r c.start.result.now) shared ∙ ap (relative (overlapped region box)) c.start.ensures) in
     let becomes : CellsBecome document region given None (overlapped region box) sub = subst (λ (r : Region). CellsBecome document region given None r sub) shared (c.in_ok-bytes.ensures.ok None) in
     let counted : IsCounted document.elements.type payload (product (overlapped region box).shape) sub = subst (λ (r : Region). IsCounted document.elements.type payload (product r.shape) sub) shared c.in_ok-bytes.ensures.counted in
-    let small : ¬ IsTooLarge document.elements.type (product (overlapped region box).shape) = λ large. c.requires.small (large_grows document.elements.type (product (overlapped region box).shape) (product box.shape) (shared_smaller region box c.requires.shares) large) in
+    let small : ¬ IsTooLarge document.elements.type (product (overlapped region box).shape) = λ large. c.requires.writes.small (large_grows document.elements.type (product (overlapped region box).shape) (product box.shape) (shared_smaller region box c.requires.writes.shares) large) in
     let elements : AreArrayElements document.elements (overlapped region box).shape payload sub = record { valid = record { is = counted; values = becomes.values }; small = small } in
     let some : empty ≡ false → is_fill fill sub ≡ false =
     elim c.else-not-empty.branch [
       | else-not-empty-via-then-not-empty+else-is_all_fill w ↦ (λ e. sym w.is_all_fill.ensures ∙ w.if-is_all_fill.false)
       | else-not-empty-via-else-not-empty w ↦ (λ e. absurd (false≢true (sym e ∙ (sym c.in_ok-empty.ensures.ok ∙ w.if-not-empty.false))))
     ] in
-    let are : AreShared document region box given payload sub empty = record { share = c.requires.shares; rank = c.requires.rank; fit = c.requires.fit; fine = c.args.self.now.elements.fills; are = elements; becomes = becomes; some = some } in
+    let are : AreShared document region box given payload sub empty = record { share = c.requires.writes.shares; rank = c.requires.writes.rank; fit = c.requires.fit; fine = c.args.self.now.elements.fills; are = elements; becomes = becomes; some = some } in
     let encodes = subst (λ (s : List ℕ). EncodesPart document.chain exact document.elements s (relative (overlapped region box) box.start) payload (Ok c.in-Ok.patches)) c.shape-2.ensures
     (subst (λ (p : Region). EncodesPart document.chain exact document.elements c.shape-2.result.now p payload (Ok c.in-Ok.patches)) part c.in-Ok.ensures) in
-    found_patches document exact region box given payload sub empty c.in-Ok.patches are encodes
+    found_patches write box payload sub c.in-Ok.patches are encodes

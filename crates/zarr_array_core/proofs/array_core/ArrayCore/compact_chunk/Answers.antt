@@ -53,4 +53,4 @@ returns-clause-ok g c = λ honest.
     let here : CompactsValue array.document box.shape value (Ok (Some c.in-Some-made.made)) =
     subst (λ (s : List ℕ). CompactsValue array.document s value (Ok (Some c.in-Some-made.made))) c.shape.ensures (subst (λ (v : List ℕ). CompactsValue array.document c.shape.result.now v (Ok (Some c.in-Some-made.made))) c.as_slice.ensures.value some) in
     subst (λ (m : StoreMap). CompactsChunk array c.args.chunk.now true store m) (sym is)
-    (compacted_chunk array c.args.chunk.now box value made store (array_known g.C.ArrayToBytesCodecTraits g.met.C.ArrayToBytesCodecTraits.lawful c.args.self.now) c.in_ok-own.ensures stored here.0 here.1)
+    (compacted_chunk array c.args.chunk.now box value made store (array_known g.C.ArrayToBytesCodecTraits (g.met.C.ArrayToBytesCodecTraits g.world.𝓛 g.world.𝓜 g.world.𝓡 ((λ s x. x), (λ x. x), (λ x. x), λ x. x)).lawful c.args.self.now) c.in_ok-own.ensures stored here.0 here.1)

@@ -1,6 +1,7 @@
-use Rattle.std.proofs.Common.{◌≡◌, ◌∙◌, ◌<◌, sym, rules, arith}
+use Rattle.std.proofs.Common.{◌≡◌, ◌∙◌, ◌<◌, ap, sym, rules, arith}
 use Rattle.zarr_grids_boxes.specs.Boxes.{Region, product}
 use Rattle.zarr_grids_boxes.specs.Subsets.{region_of}
+use Rattle.zarr_array_core.specs.Outcomes.{refused_with}
 use Rattle.zarr_array_core.specs.Views.{document_of, path_of}
 use Rattle.zarr_array_core.proofs.Erased.{erased_none, erased_next, erased_all, erased_stops}
 use Rattle.zarr_array_core.proofs.array_core.ArrayCore.erase_region.Goals as goal
@@ -18,7 +19,7 @@ returns-in-Err-clause-err g c = λ honest.
     let chunks : Region = region_of c.args.chunks.now in
     let total : c.unwrap-count.result ≡ product chunks.shape = search rules in
     let below : c.loop-n.n < product chunks.shape = omega (arith, c.loop-n-test.true) in
-    let kept = c.in-Err.ensures.err (rw c.loop-n.invariant.honest honest) in
+    let kept = c.in-Err.ensures.store.1 (rw c.loop-n.invariant.honest honest) in
     erased_stops (path_of c.args.self.now) (document_of g.C.ArrayToBytesCodecTraits.meaning c.args.self.now) chunks c.loop-n.n c.in-Err.error (g.S.ReadableStorageTraits.held c.args.store.now) (g.S.ReadableStorageTraits.held c.loop-n.store)
     (g.S.ReadableStorageTraits.held c.erase_chunk.new.store) (sym c.args.chunks.now.same) below (c.in-Err.ensures.stops (rw c.loop-n.invariant.honest honest)) kept (c.loop-n.invariant.erased honest)
 
@@ -31,9 +32,29 @@ loop-n-preserved g c =
     record {
       erased = λ honest. erased_next (path_of c.args.self.now) (document_of g.C.ArrayToBytesCodecTraits.meaning c.args.self.now) chunks c.loop-n.n c.place_into.new.place (g.S.ReadableStorageTraits.held c.args.store.now)
           (g.S.ReadableStorageTraits.held c.loop-n.store) (g.S.ReadableStorageTraits.held c.erase_chunk.new.store) at_place (step.ok (rw kept.honest honest)) (kept.erased honest);
+      honest = step.store.0.honest ∙ kept.honest;
+      refused = step.store.0.refused ∙ kept.refused;
+      counts = (omega (arith, step.store.0.counts.0, kept.counts.0), omega (arith, step.store.0.counts.1, kept.counts.1));
+    }
+
+pub returns-in-Err-clause-store : goal.returns-in-Err-clause-store
+returns-in-Err-clause-store g c =
+    let kept = c.loop-n.invariant in
+    let step = c.in-Err.ensures.store.0 in
+    record {
       honest = step.honest ∙ kept.honest;
-      refused = step.refused ∙ kept.refused;
+      refused = step.refused ∙ ap (refused_with c.in-Err.error) kept.refused;
       counts = (omega (arith, step.counts.0, kept.counts.0), omega (arith, step.counts.1, kept.counts.1));
+    }
+
+pub returns-clause-store : goal.returns-clause-store
+returns-clause-store g c =
+    let total : c.unwrap-count.result ≡ product c.args.chunks.now.shape.items = search rules in
+    let kept = c.loop-n.invariant in
+    record {
+      honest = kept.honest;
+      refused = kept.refused;
+      counts = (kept.counts.0, omega (arith, kept.counts.1));
     }
 
 pub returns-clause-ok : goal.returns-clause-ok

@@ -2,7 +2,7 @@ use Rattle.std.proofs.Common.{◌≡◌, IsTrue}
 use Rattle.zarr_grids_boxes.specs.Subsets.{region_of}
 use Rattle.zarr_array_meaning.specs.Writing.{ErasedChunks}
 use Rattle.zarr_array_core.specs.Views.{document_of, path_of}
-use Rattle.zarr_array_core.specs.Outcomes.{CountsUpTo}
+use Rattle.zarr_array_meaning.specs.StoreMaps.{CountsUpTo}
 use Rattle.zarr_array_core.proofs.NthChunks.{first_chunks}
 use Rattle.zarr_array_core.proofs.array_core.ArrayCore.erase_region.Given as goal
 

@@ -23,35 +23,35 @@ whole_cells-requires-clause-small g c = λ large.
     let region : Region = extent_of c.args.write.now.region in
     let box : Region = region_of c.args.own.now in
     let shared : region_of c.in_ok-shared.shared ≡ overlapped region box = shared_is (region_of c.args.write.now.subset.now) region box (region_of c.in_ok-shared.shared) c.args.write.now.same_box c.in_ok-shared.ensures in
-    c.requires.small (large_grows document.elements.type (product (overlapped region box).shape) (product box.shape) (shared_smaller region box c.requires.shares) (subst (λ (r : Region). IsTooLarge document.elements.type (product r.shape)) shared large))
+    c.requires.writes.small (large_grows document.elements.type (product (overlapped region box).shape) (product box.shape) (shared_smaller region box c.requires.writes.shares) (subst (λ (r : Region). IsTooLarge document.elements.type (product r.shape)) shared large))
 
 pub whole_cells-requires-clause-some : goal.whole_cells-requires-clause-some
 whole_cells-requires-clause-some g c =
     let region : Region = extent_of c.args.write.now.region in
     let box : Region = region_of c.args.own.now in
     let shared : region_of c.in_ok-shared.shared ≡ overlapped region box = shared_is (region_of c.args.write.now.subset.now) region box (region_of c.in_ok-shared.shared) c.args.write.now.same_box c.in_ok-shared.ensures in
-    subst (λ (r : Region). 0 < product r.shape) (sym shared) (meeting region box c.requires.shares).some
+    subst (λ (r : Region). 0 < product r.shape) (sym shared) (meeting region box c.requires.writes.shares).some
 
 pub whole_cells-requires-clause-rank : goal.whole_cells-requires-clause-rank
 whole_cells-requires-clause-rank g c =
     let region : Region = extent_of c.args.write.now.region in
     let box : Region = region_of c.args.own.now in
     let shared : region_of c.in_ok-shared.shared ≡ overlapped region box = shared_is (region_of c.args.write.now.subset.now) region box (region_of c.in_ok-shared.shared) c.args.write.now.same_box c.in_ok-shared.ensures in
-    sym (ap (λ (r : Region). length r.start) shared ∙ starts_alike region box c.requires.rank)
+    sym (ap (λ (r : Region). length r.start) shared ∙ starts_alike region box c.requires.writes.rank)
 
 pub whole_cells-requires-clause-holds : goal.whole_cells-requires-clause-holds
 whole_cells-requires-clause-holds g c =
     let region : Region = extent_of c.args.write.now.region in
     let box : Region = region_of c.args.own.now in
     let shared : region_of c.in_ok-shared.shared ≡ overlapped region box = shared_is (region_of c.args.write.now.subset.now) region box (region_of c.in_ok-shared.shared) c.args.write.now.same_box c.in_ok-shared.ensures in
-    subst (λ (r : Region). holds_box region r ≡ true) (sym shared) (shared_held region box c.requires.shares)
+    subst (λ (r : Region). holds_box region r ≡ true) (sym shared) (shared_held region box c.requires.writes.shares)
 
 pub seen_from-part-requires : goal.seen_from-part-requires
 seen_from-part-requires g c =
     let region : Region = extent_of c.args.write.now.region in
     let box : Region = region_of c.args.own.now in
     let shared : region_of c.in_ok-shared.shared ≡ overlapped region box = shared_is (region_of c.args.write.now.subset.now) region box (region_of c.in_ok-shared.shared) c.args.write.now.same_box c.in_ok-shared.ensures in
-    subst (λ (os : List ℕ). IsAtMost os c.in_ok-shared.shared.start.items) (sym c.start.ensures) (subst (λ (r : Region). IsAtMost box.start r.start) (sym shared) (later_start region.start box.start c.requires.rank))
+    subst (λ (os : List ℕ). IsAtMost os c.in_ok-shared.shared.start.items) (sym c.start.ensures) (subst (λ (r : Region). IsAtMost box.start r.start) (sym shared) (later_start region.start box.start c.requires.writes.rank))
 
 pub returns-in-Ok-clause-ok : goal.returns-in-Ok-clause-ok
 returns-in-Ok-clause-ok g c =
@@ -64,7 +64,7 @@ returns-in-Ok-clause-ok g c =
     let payload = payload_of c.in_ok-bytes.bytes in
     let sub = array_cells c.args.self.now c.in_ok-bytes.bytes in
     let same : shared ≡ overlapped region box = shared_is (region_of c.args.write.now.subset.now) region box shared c.args.write.now.same_box c.in_ok-shared.ensures in
-    let call : IsPutCall document region box shared part c.shape.result.now c.start.result.now given payload sub = record { same = same; seen = c.seen_from-part.ensures; from = c.start.ensures; whole = c.shape.ensures; share = c.requires.shares; fit = c.requires.fit; small = c.requires.small; becomes = c.in_ok-bytes.ensures.ok None; counted = c.in_ok-bytes.ensures.counted } in
+    let call : IsPutCall document region box shared part c.shape.result.now c.start.result.now given payload sub = record { same = same; seen = c.seen_from-part.ensures; from = c.start.ensures; whole = c.shape.ensures; share = c.requires.writes.shares; fit = c.requires.fit; small = c.requires.writes.small; becomes = c.in_ok-bytes.ensures.ok None; counted = c.in_ok-bytes.ensures.counted } in
     let found = c.in-Ok.ensures.ok in
     was_put document region box shared part c.shape.result.now c.start.result.now given payload sub call (g.C.ArrayToBytesCodecTraits.is_function c.args.self.now.codecs) found.0 (source_contents c.args.source.now) (source_contents c.encode_into.new.source) found.1
 
@@ -79,7 +79,7 @@ of_putting-requires g c =
     let payload = payload_of c.in_ok-bytes.bytes in
     let sub = array_cells c.args.self.now c.in_ok-bytes.bytes in
     let same : shared ≡ overlapped region box = shared_is (region_of c.args.write.now.subset.now) region box shared c.args.write.now.same_box c.in_ok-shared.ensures in
-    let call : IsPutCall document region box shared part c.shape.result.now c.start.result.now given payload sub = record { same = same; seen = c.seen_from-part.ensures; from = c.start.ensures; whole = c.shape.ensures; share = c.requires.shares; fit = c.requires.fit; small = c.requires.small; becomes = c.in_ok-bytes.ensures.ok None; counted = c.in_ok-bytes.ensures.counted } in
+    let call : IsPutCall document region box shared part c.shape.result.now c.start.result.now given payload sub = record { same = same; seen = c.seen_from-part.ensures; from = c.start.ensures; whole = c.shape.ensures; share = c.requires.writes.shares; fit = c.requires.fit; small = c.requires.writes.small; becomes = c.in_ok-bytes.ensures.ok None; counted = c.in_ok-bytes.ensures.counted } in
     (was_refused document region box shared part c.shape.result.now c.start.result.now given payload sub call (source_contents c.args.source.now) c.in-Err.error (parts_of_write document c.args.write.now.options.now region box c.requires.in_part).0 c.in-Err.ensures.cause c.in-Err.ensures.refused).0
 
 pub returns-clause-err : goal.returns-clause-err
@@ -93,6 +93,6 @@ returns-clause-err g c =
     let payload = payload_of c.in_ok-bytes.bytes in
     let sub = array_cells c.args.self.now c.in_ok-bytes.bytes in
     let same : shared ≡ overlapped region box = shared_is (region_of c.args.write.now.subset.now) region box shared c.args.write.now.same_box c.in_ok-shared.ensures in
-    let call : IsPutCall document region box shared part c.shape.result.now c.start.result.now given payload sub = record { same = same; seen = c.seen_from-part.ensures; from = c.start.ensures; whole = c.shape.ensures; share = c.requires.shares; fit = c.requires.fit; small = c.requires.small; becomes = c.in_ok-bytes.ensures.ok None; counted = c.in_ok-bytes.ensures.counted } in
+    let call : IsPutCall document region box shared part c.shape.result.now c.start.result.now given payload sub = record { same = same; seen = c.seen_from-part.ensures; from = c.start.ensures; whole = c.shape.ensures; share = c.requires.writes.shares; fit = c.requires.fit; small = c.requires.writes.small; becomes = c.in_ok-bytes.ensures.ok None; counted = c.in_ok-bytes.ensures.counted } in
     subst (λ (e : ChunkError). PutStops document box (source_contents c.args.source.now) e) (sym c.of_putting.ensures)
     (was_refused document region box shared part c.shape.result.now c.start.result.now given payload sub call (source_contents c.args.source.now) c.in-Err.error (parts_of_write document c.args.write.now.options.now region box c.requires.in_part).0 c.in-Err.ensures.cause c.in-Err.ensures.refused).1

@@ -7,7 +7,8 @@ use Rattle.zarr_grids_overlay.specs.Overlays.{extent_of}
 use Rattle.zarr_codecs_meaning.specs.Types.{IsTooLarge}
 use Rattle.zarr_array_meaning.specs.Chunks.{holds_box}
 use Rattle.zarr_codecs_arrays.specs.Views.{payload_of}
-use Rattle.zarr_array_core.specs.IntoShards.{IntoShardStops, write_of}
+use Rattle.zarr_array_core.specs.IntoShards.{IntoShardStops}
+use Rattle.zarr_array_core.specs.BoxWrites.{write_of}
 use Rattle.zarr_array_core.specs.declared.error.ChunkError.{ChunkError}
 use Rattle.zarr_array_core.specs.Views.{array_cells, document_of}
 use Rattle.zarr_array_elements.proofs.Meeting.{meeting, starts_alike}
@@ -83,4 +84,4 @@ returns-clause-err g c = λ honest.
     let into = shard_write write.array.document write.options region box c.requires.into in
     let stored : Option (List ℕ) = map.get (g.S.ReadableStorageTraits.held c.args.store.now) c.args.key.now in
     subst (λ (e : ChunkError). IntoShardStops write box stored e) (sym c.of_sharding.ensures)
-    (was_not_into write box shared part c.shape.result.now c.start.result.now payload sub (sym c.args.own.now.same) into call stored c.in-Err.error c.unwrap_or.result (c.in-Err.ensures.cause honest))
+    (was_not_into write box shared part c.shape.result.now c.start.result.now payload sub (sym c.args.own.now.same) into call stored c.in-Err.error c.refusal_of.result c.refusal_of.ensures (c.in-Err.ensures.cause honest))

@@ -7,14 +7,15 @@ use Rattle.zarr_array_meaning.specs.StoreMaps.{StoreMap}
 use Rattle.zarr_array_meaning.specs.Writing.{is_in_part}
 use Rattle.zarr_array_storage.specs.Stores.{value_bytes}
 use Rattle.zarr_array_core.specs.ChunkValues.{ChangesValue, PutsCells, PutsPart, with_value}
-use Rattle.zarr_array_core.specs.Views.{array_cells, document_of, is_exact}
+use Rattle.zarr_array_core.specs.BoxWrites.{write_of}
+use Rattle.zarr_array_core.specs.Views.{array_cells, document_of}
 use Rattle.zarr_array_core.proofs.ZeroFills.{on_ok}
 use Rattle.zarr_array_core.proofs.array_core.ArrayCore.put_part.Goals as goal
 
 pub returns-clause-ok : goal.returns-clause-ok
 returns-clause-ok g c = λ honest.
     let document = document_of g.C.ArrayToBytesCodecTraits.meaning c.args.self.now in
-    let exact = is_exact g.C.ArrayToBytesCodecTraits.is_function c.args.self.now in
+    let write = write_of g.C.ArrayToBytesCodecTraits c.args.self.now c.args.write.now in
     let options = c.args.write.now.options.now in
     let region : Region = extent_of c.args.write.now.region in
     let box : Region = region_of c.args.own.now in
@@ -28,7 +29,7 @@ returns-clause-ok g c = λ honest.
     let puts : PutsCells document region given box (get held key) (Some value) =
     subst (λ (o : Option (List ℕ)). PutsCells document region given box o (Some value)) (c.in_ok-stored.ensures.value honest)
     (subst (λ (v : List ℕ). PutsCells document region given box (value_bytes c.in_ok-stored.stored) (Some v)) (sym c.as_slice.ensures.value) c.in_ok-value.ensures.ok) in
-    let part : PutsPart document region given options box (get held key) (Some value) = record { fit = c.requires.fit; in_part = in_part; lost = c.requires.lost honest; some = refl; puts = puts } in
+    let part : PutsPart write box (get held key) (Some value) = record { fit = c.requires.fit; in_part = in_part; lost = c.requires.lost honest; some = refl; puts = puts } in
     on_ok c.set.result (new ≡ insert (g.S.ReadableStorageTraits.held c.get.new.store) key value)
-    ((made : Option (List ℕ)) × ChangesValue document exact region given options box (get held key) made × (new ≡ with_value held key made))
+    ((made : Option (List ℕ)) × ChangesValue write box (get held key) made × (new ≡ with_value held key made))
     (λ set. (Some value, inr part, set ∙ ap (λ (m : StoreMap). insert m key value) c.in_ok-stored.ensures.held)) (c.set.ensures.ok still)

@@ -39,10 +39,10 @@ loop-n-preserved g c =
       shown = step.shown;
       read = λ honest. read_next (path_of c.args.self.now) document (g.S.ReadableStorageTraits.held c.args.store.now) (region_of c.args.read.region.now) chunks c.loop-n.n c.place_into.new.place (cells_shown elements c.loop-n.target)
           (cells_shown elements c.in-Ok.next) found at_place (rw kept.held at (step.ok (rw kept.honest honest))) (kept.read honest);
-      held = step.held ∙ kept.held;
-      honest = step.honest ∙ kept.honest;
-      refused = step.refused ∙ kept.refused;
-      accepted = step.accepted ∙ kept.accepted;
+      held = step.store.held ∙ kept.held;
+      honest = step.store.honest ∙ kept.honest;
+      refused = step.store.refused ∙ kept.refused;
+      accepted = step.store.accepted ∙ kept.accepted;
     }
 
 pub returns-in-Err-clause-err : goal.returns-in-Err-clause-err

@@ -43,7 +43,7 @@ returns-clause-ok g c =
     let cells = array_cells c.args.self.now c.in_ok-bytes.bytes in
     let fit : fits document.chain document.elements.type shape ≡ true = search rules in
     let is : decoded document.chain document.elements shape value ≡ Some cells = c.in_ok-bytes.ensures.ok in
-    IfOk-weaker c.encode_chunk.result (λ made. IsNewValue document array.exact empty shape cells (value_bytes made)) (λ made. IsRewritten array empty shape value (value_bytes made))
+    IfOk-weaker c.encode_chunk.result (λ made. IsNewValue array empty shape cells (value_bytes made)) (λ made. IsRewritten array empty shape value (value_bytes made))
     (λ made new. remade array empty shape value cells (value_bytes made) fit is new) c.encode_chunk.ensures.ok
 
 pub returns-clause-err : goal.returns-clause-err

@@ -1,7 +1,7 @@
 use Rattle.std.proofs.Common.{◌≡◌, ◌≤◌, IsTrue}
 use Rattle.zarr_grids_boxes.specs.Subsets.{region_of}
 use Rattle.zarr_array_core.specs.Arrays.{array_of}
-use Rattle.zarr_array_core.specs.Outcomes.{CountsUpTo}
+use Rattle.zarr_array_meaning.specs.StoreMaps.{CountsUpTo}
 use Rattle.zarr_array_core.proofs.Rewritten.{SoFar}
 use Rattle.zarr_array_core.proofs.array_core.ArrayCore.rewrite.Given as goal
 

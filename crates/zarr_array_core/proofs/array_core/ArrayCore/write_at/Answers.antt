@@ -7,28 +7,34 @@ use Rattle.zarr_grids_keys.specs.Keys.{chunk_key}
 use Rattle.zarr_grids_overlay.specs.Overlays.{extent_of}
 use Rattle.zarr_array_elements.proofs.Meeting.{shares_own}
 use Rattle.zarr_array_core.specs.ChunkValues.{with_value}
-use Rattle.zarr_array_core.specs.IntoShards.{PutsIntoShard, write_of}
+use Rattle.zarr_array_core.specs.IntoShards.{PutsIntoShard}
+use Rattle.zarr_array_core.specs.BoxWrites.{write_of}
 use Rattle.zarr_array_core.specs.Views.{document_of, path_of}
 use Rattle.zarr_array_core.proofs.ShardWritten.{changed_alike, writes_into, writes_whole}
 use Rattle.zarr_array_core.proofs.array_core.ArrayCore.write_at.Goals as goal
 use Rattle.zarr_array_core.proofs.array_core.ArrayCore.write_at.Goals.{then-branch+in_ok-put_into_shard, else-branch+in_ok-patch_chunk+then-not-branch+in_ok-write_chunk, else-branch+in_ok-patch_chunk+else-not-branch}
 
-pub write_chunk-requires-clause-small : goal.write_chunk-requires-clause-small
-write_chunk-requires-clause-small g c =
-    c.requires.small.chunks c.args.chunk.now (region_of c.in_ok-own.own) c.in_ok-own.ensures c.requires.shares
-
-pub write_chunk-requires-clause-rank : goal.write_chunk-requires-clause-rank
-write_chunk-requires-clause-rank g c =
+pub write_chunk-requires : goal.write_chunk-requires
+write_chunk-requires g c =
     let document = document_of g.C.ArrayToBytesCodecTraits.meaning c.args.self.now in
-    c.requires.rank ∙ sym (chunk_box-rank document.grid c.args.chunk.now (region_of c.in_ok-own.own) c.in_ok-own.ensures.has_box).0
+    record {
+      small = c.requires.small.chunks c.args.chunk.now (region_of c.in_ok-own.own) c.in_ok-own.ensures c.requires.shares;
+      shares = shares_own document.grid c.args.chunk.now (extent_of c.args.write.now.region) (region_of c.in_ok-own.own) c.in_ok-own.ensures.has_box c.requires.shares;
+      rank = c.requires.rank ∙ sym (chunk_box-rank document.grid c.args.chunk.now (region_of c.in_ok-own.own) c.in_ok-own.ensures.has_box).0;
+      many = c.requires.many;
+      values = c.requires.values;
+    }
 
-pub patch_chunk-requires-clause-small : goal.patch_chunk-requires-clause-small
-patch_chunk-requires-clause-small g c = c.requires.small.chunks c.args.chunk.now (region_of c.in_ok-own.own) c.in_ok-own.ensures c.requires.shares
-
-pub patch_chunk-requires-clause-rank : goal.patch_chunk-requires-clause-rank
-patch_chunk-requires-clause-rank g c =
+pub patch_chunk-requires : goal.patch_chunk-requires
+patch_chunk-requires g c =
     let document = document_of g.C.ArrayToBytesCodecTraits.meaning c.args.self.now in
-    c.requires.rank ∙ sym (chunk_box-rank document.grid c.args.chunk.now (region_of c.in_ok-own.own) c.in_ok-own.ensures.has_box).0
+    record {
+      small = c.requires.small.chunks c.args.chunk.now (region_of c.in_ok-own.own) c.in_ok-own.ensures c.requires.shares;
+      shares = shares_own document.grid c.args.chunk.now (extent_of c.args.write.now.region) (region_of c.in_ok-own.own) c.in_ok-own.ensures.has_box c.requires.shares;
+      rank = c.requires.rank ∙ sym (chunk_box-rank document.grid c.args.chunk.now (region_of c.in_ok-own.own) c.in_ok-own.ensures.has_box).0;
+      many = c.requires.many;
+      values = c.requires.values;
+    }
 
 pub is_into_shard-requires-clause-rank : goal.is_into_shard-requires-clause-rank
 is_into_shard-requires-clause-rank g c =
@@ -69,7 +75,7 @@ returns-clause-ok g c = λ honest.
           )
       | else-branch+in_ok-patch_chunk+then-not-branch+in_ok-write_chunk w ↦
           let same = w.in_ok-patch_chunk.ensures.undone honest w.if-not-branch.true in
-          let still : IsTrue (g.S.ReadableStorageTraits.is_honest w.patch_chunk.new.store) = subst IsTrue (sym w.in_ok-patch_chunk.ensures.honest) honest in
+          let still : IsTrue (g.S.ReadableStorageTraits.is_honest w.patch_chunk.new.store) = subst IsTrue (sym w.in_ok-patch_chunk.ensures.store.0.honest) honest in
           let done = w.in_ok-write_chunk.ensures.ok still in
           let moved = changed_alike write box (held w.patch_chunk.new.store) old (held w.write_chunk.new.store) c.in_ok-key.key key done.0 same at done.1 done.2 in
           (box, done.0, c.in_ok-own.ensures, writes_whole write box (get old key) done.0 (sym told ∙ w.if-branch.false) moved.0, ap held w.store-is ∙ moved.1)

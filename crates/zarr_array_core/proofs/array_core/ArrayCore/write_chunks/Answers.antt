@@ -1,8 +1,9 @@
-use Rattle.std.proofs.Common.{◌≡◌, ◌∙◌, ◌<◌, IsTrue, refl, sym, rules, arith}
+use Rattle.std.proofs.Common.{◌≡◌, ◌∙◌, ◌<◌, IsTrue, ap, refl, sym, rules, arith}
 use Rattle.zarr_codecs_arrays.specs.Views.{payload_of}
 use Rattle.zarr_grids_boxes.specs.Boxes.{Region, product, place_at}
 use Rattle.zarr_grids_boxes.specs.Subsets.{region_of}
 use Rattle.zarr_grids_overlay.specs.Overlays.{extent_of}
+use Rattle.zarr_array_core.specs.Outcomes.{refused_with}
 use Rattle.zarr_array_core.specs.Views.{array_cells, document_of, is_exact, path_of}
 use Rattle.zarr_array_core.specs.declared.error.ChunkError.TheVariants as error
 use Rattle.zarr_array_core.proofs.BoxWalks.{walk_of}
@@ -63,7 +64,7 @@ returns-in-Err-clause-err g c = λ honest.
     let below : c.loop-n.n < product chunks.shape = omega (arith, c.loop-n-test.true) in
     let still : IsTrue (g.S.ReadableStorageTraits.is_honest c.loop-n.store) = rw c.loop-n.invariant.honest honest in
     let stops = c.in-Err.ensures.err still in
-    write_stops path document exact region chunks (array_cells array bytes) (payload_of bytes) options c.loop-n.n c.place_into.new.place stops.0 c.in-Err.error old mid new walk lists below at_place stops.1 stops.2 (c.in-Err.ensures.kept still) (c.loop-n.invariant.wrote honest)
+    write_stops path document exact region chunks (array_cells array bytes) (payload_of bytes) options c.loop-n.n c.place_into.new.place stops.0 c.in-Err.error old mid new walk lists below at_place stops.1 stops.2 (c.in-Err.ensures.store.1 still) (c.loop-n.invariant.wrote honest)
 
 pub loop-n-preserved : goal.loop-n-preserved
 loop-n-preserved g c =
@@ -88,9 +89,29 @@ loop-n-preserved g c =
       wrote = λ honest.
           let made = step.ok (rw kept.honest honest) in
           wrote_next path document exact region chunks (array_cells array bytes) options c.loop-n.n c.place_into.new.place made.0 made.1 old mid new walk below at_place made.2 made.3 made.4 (kept.wrote honest);
+      honest = step.store.0.honest ∙ kept.honest;
+      refused = step.store.0.refused ∙ kept.refused;
+      counts = (omega (arith, step.store.0.counts.0, kept.counts.0), omega (arith, step.store.0.counts.1, kept.counts.1));
+    }
+
+pub returns-in-Err-clause-store : goal.returns-in-Err-clause-store
+returns-in-Err-clause-store g c =
+    let kept = c.loop-n.invariant in
+    let step = c.in-Err.ensures.store.0 in
+    record {
       honest = step.honest ∙ kept.honest;
-      refused = step.refused ∙ kept.refused;
+      refused = step.refused ∙ ap (refused_with c.in-Err.error) kept.refused;
       counts = (omega (arith, step.counts.0, kept.counts.0), omega (arith, step.counts.1, kept.counts.1));
+    }
+
+pub returns-clause-store : goal.returns-clause-store
+returns-clause-store g c =
+    let total : c.unwrap-count.result ≡ product c.args.chunks.now.shape.items = search rules in
+    let kept = c.loop-n.invariant in
+    record {
+      honest = kept.honest;
+      refused = kept.refused;
+      counts = (kept.counts.0, omega (arith, kept.counts.1));
     }
 
 pub returns-clause-ok : goal.returns-clause-ok

@@ -3,7 +3,7 @@ use Rattle.zarr_grids_boxes.specs.Subsets.{region_of}
 use Rattle.zarr_grids_overlay.specs.Overlays.{extent_of}
 use Rattle.zarr_array_meaning.specs.Writing.{WroteChunks}
 use Rattle.zarr_array_core.specs.Views.{array_cells, document_of, is_exact, path_of}
-use Rattle.zarr_array_core.specs.Outcomes.{CountsUpTo}
+use Rattle.zarr_array_meaning.specs.StoreMaps.{CountsUpTo}
 use Rattle.zarr_array_core.proofs.NthChunks.{first_chunks}
 use Rattle.zarr_array_core.proofs.array_core.ArrayCore.write_chunks.Given as goal
 

@@ -1,9 +1,10 @@
-use Rattle.std.proofs.Common.{◌∙◌, ap, sym, arith}
+use Rattle.std.proofs.Common.{◌∙◌, ℕ, ap, subst, sym}
 use Rattle.zarr_codecs_arrays.specs.Views.{payload_of}
 use Rattle.std.specs.List.{list_all}
 use Rattle.zarr_codecs_meaning.specs.Types.{is_value}
 use Rattle.zarr_grids_boxes.specs.Boxes.{product}
 use Rattle.zarr_grids_boxes.specs.Subsets.{region_of}
+use Rattle.zarr_array_core.specs.Arrays.{CalledMany}
 use Rattle.zarr_array_core.specs.Views.{document_of}
 use Rattle.zarr_array_core.proofs.ChunksWritten.{some_chunk}
 use Rattle.zarr_array_core.proofs.NthChunks.{length-intersecting}
@@ -18,16 +19,16 @@ pub write_chunks-requires-clause-many : goal.write_chunks-requires-clause-many
 write_chunks-requires-clause-many g c =
     let type = (document_of g.C.ArrayToBytesCodecTraits.meaning c.args.self.now).elements.type in
     let valid = c.requires.valid.1 in
-    counted type (payload_of c.args.bytes.now) c.requires.valid.0 _ valid.is.lists (valid.is.many ∙ ap product (sym c.shape-shape.ensures))
+    counted type (payload_of c.args.target.bytes.now) c.requires.valid.0 _ valid.is.lists (valid.is.many ∙ ap product (sym c.shape-shape.ensures))
 
 pub write_chunks-requires-clause-values : goal.write_chunks-requires-clause-values
 write_chunks-requires-clause-values g c =
     let type = (document_of g.C.ArrayToBytesCodecTraits.meaning c.args.self.now).elements.type in
     let valid = c.requires.valid.1 in
-    ap (list_all (is_value type)) (known type (payload_of c.args.bytes.now) c.requires.valid.0 valid.is.lists) ∙ valid.values
+    ap (list_all (is_value type)) (known type (payload_of c.args.target.bytes.now) c.requires.valid.0 valid.is.lists) ∙ valid.values
 
-pub returns-clause-counts : goal.returns-clause-counts
-returns-clause-counts g c =
-    let counts = c.write_chunks.ensures.counts in
-    let all = length-intersecting (document_of g.C.ArrayToBytesCodecTraits.meaning c.args.self.now).grid (region_of c.args.target.region.now) (region_of c.args.target.chunks.now) (sym c.args.target.chunks.now.same) c.requires.intersecting in
-    (counts.0, omega (arith, counts.1, all))
+pub returns-clause-store : goal.returns-clause-store
+returns-clause-store g c =
+    let document = document_of g.C.ArrayToBytesCodecTraits.meaning c.args.self.now in
+    let all = length-intersecting document.grid (region_of c.args.target.region.now) (region_of c.args.target.chunks.now) (sym c.args.target.chunks.now.same) c.requires.intersecting in
+    subst (λ (n : ℕ). CalledMany g.S.ReadableStorageTraits n c.args.store.now c.write_chunks.new.store c.write_chunks.result) (sym all) c.write_chunks.ensures.store

@@ -4,11 +4,14 @@ use Rattle.zarr_run_session.specs.Sessions.{state_of}
 use Rattle.zarr_run_session.proofs.HeadlineStates.{keeps_tables, keeps_alone, rewrites_afresh, keeps_tight}
 use Rattle.zarr_run_session.proofs.session.Session.step.Goals as goal
 
+pub returns-clause-steps : goal.returns-clause-steps
+returns-clause-steps g c = c.answer.ensures.steps
+
 pub returns-clause-tables : goal.returns-clause-tables
 returns-clause-tables g c = λ honest.
     let codec = g.B.BytesToBytesCodecTraits in
     let readable = g.S.ReadableStorageTraits in
-    keeps_tables g.row.B.Denot (codec.meaning, codec.reads) (lawful_good codec.reads g.met.B.BytesToBytesCodecTraits.reads_lawful)
+    keeps_tables g.row.B.Denot (codec.meaning, codec.reads) (lawful_good codec.reads (g.met.B.BytesToBytesCodecTraits g.world.𝓛 g.world.𝓜 g.world.𝓡 ((λ s x. x), (λ x. x), (λ x. x), λ x. x)).reads_lawful)
     (state_of readable.held readable.refused_calls c.args.self.now) (state_of readable.held readable.refused_calls c.answer.new.self)
     (asked c.args.command.now, answered c.answer.result) (c.answer.ensures.steps honest)
 
@@ -16,7 +19,7 @@ pub returns-clause-alone : goal.returns-clause-alone
 returns-clause-alone g c = λ honest.
     let codec = g.B.BytesToBytesCodecTraits in
     let readable = g.S.ReadableStorageTraits in
-    keeps_alone g.row.B.Denot (codec.meaning, codec.reads) (lawful_good codec.reads g.met.B.BytesToBytesCodecTraits.reads_lawful)
+    keeps_alone g.row.B.Denot (codec.meaning, codec.reads) (lawful_good codec.reads (g.met.B.BytesToBytesCodecTraits g.world.𝓛 g.world.𝓜 g.world.𝓡 ((λ s x. x), (λ x. x), (λ x. x), λ x. x)).reads_lawful)
     (state_of readable.held readable.refused_calls c.args.self.now) (state_of readable.held readable.refused_calls c.answer.new.self)
     (asked c.args.command.now, answered c.answer.result) (c.answer.ensures.steps honest)
 
@@ -24,7 +27,7 @@ pub returns-clause-canon : goal.returns-clause-canon
 returns-clause-canon g c = λ honest.
     let codec = g.B.BytesToBytesCodecTraits in
     let readable = g.S.ReadableStorageTraits in
-    rewrites_afresh g.row.B.Denot (codec.meaning, codec.reads) (lawful_good codec.reads g.met.B.BytesToBytesCodecTraits.reads_lawful)
+    rewrites_afresh g.row.B.Denot (codec.meaning, codec.reads) (lawful_good codec.reads (g.met.B.BytesToBytesCodecTraits g.world.𝓛 g.world.𝓜 g.world.𝓡 ((λ s x. x), (λ x. x), (λ x. x), λ x. x)).reads_lawful)
     (state_of readable.held readable.refused_calls c.args.self.now) (state_of readable.held readable.refused_calls c.answer.new.self)
     (asked c.args.command.now, answered c.answer.result) (c.answer.ensures.steps honest)
 
@@ -32,6 +35,15 @@ pub returns-clause-tight : goal.returns-clause-tight
 returns-clause-tight g c = λ honest.
     let codec = g.B.BytesToBytesCodecTraits in
     let readable = g.S.ReadableStorageTraits in
-    keeps_tight g.row.B.Denot (codec.meaning, codec.reads) (lawful_good codec.reads g.met.B.BytesToBytesCodecTraits.reads_lawful)
+    keeps_tight g.row.B.Denot (codec.meaning, codec.reads) (lawful_good codec.reads (g.met.B.BytesToBytesCodecTraits g.world.𝓛 g.world.𝓜 g.world.𝓡 ((λ s x. x), (λ x. x), (λ x. x), λ x. x)).reads_lawful)
     (state_of readable.held readable.refused_calls c.args.self.now) (state_of readable.held readable.refused_calls c.answer.new.self)
     (asked c.args.command.now, answered c.answer.result) (c.answer.ensures.steps honest)
+
+pub returns-clause-writes : goal.returns-clause-writes
+returns-clause-writes g c = c.answer.ensures.writes
+
+pub returns-clause-honest : goal.returns-clause-honest
+returns-clause-honest g c = c.answer.ensures.honest
+
+pub returns-clause-refused : goal.returns-clause-refused
+returns-clause-refused g c = c.answer.ensures.refused
