@@ -8,6 +8,8 @@ before:
 
 > {"op":"create","path":"/a","document":$zeros}
 > {"op":"create","path":"/b","document":$zeros}
+> {"op":"create","path":"/a","document":$version_2}
+> {"op":"create","path":"/b","document":$version_2}
 < {"applied":0,"refused":"PathTaken"}
 > {"op":"read_box","path":"/a","box":[[1,3],[1,3]]}
 > {"op":"read_box","path":"/b","box":[[1,3],[1,3]]}

@@ -1,4 +1,4 @@
-A path is reopened only where its own document of version 3 is stored.
+A path is reopened only where its own document is stored.
 
 before:
   a/.zarray = $zeros
@@ -6,7 +6,7 @@ before:
   a/c/0/0 = 01 02 03 04
   ab/zarr.json = $zeros
 
-# A document of version 2 alone.
+# A document of version 3 under the name of one of version 2.
 > {"op":"reopen","path":"/a"}
 < {"applied":0,"refused":"Document"}
 
