@@ -18,7 +18,7 @@ from check_output import CheckOutput, read_output
 from edit_kept import Kept
 from rattle_sources import Sources
 
-KIT = os.path.dirname(os.path.dirname(os.path.realpath(shutil.which("rt") or "/opt/rattle/bin/rt")))
+KIT = os.path.dirname(os.path.dirname(os.path.realpath(shutil.which("rt") or "rt")))
 PARTS = ("src", "specs", "proofs")
 TICKS = os.sysconf("SC_CLK_TCK")
 # What a check takes of the memory at most, as seen, and with some room.
