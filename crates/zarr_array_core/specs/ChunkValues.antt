@@ -1,9 +1,9 @@
 -- The value of one chunk after a write.
-use Rattle.std.specs.Prelude.{◌≡◌, ◌⊎◌, ℕ, List, [], ◌∷◌, length, Option, Some, None, is_some, Bool, IsTrue, true, false, MatchBool, Result, Ok, Err}
+use Rattle.std.specs.Prelude.{◌≡◌, ◌⊎◌, ℕ, List, length, Option, Some, None, is_some, Bool, IsTrue, true, false, MatchBool, Result, Ok, Err}
 use Rattle.std.specs.FinMap.{insert, remove}
 use Rattle.std.specs.List.{list_all}
 use Rattle.zarr_grids_boxes.specs.Boxes.{Region, product, is_in_box}
-use Rattle.zarr_codecs_meaning.specs.Chunks.{chunk_decoded, chunk_part}
+use Rattle.zarr_codecs_meaning.specs.Chunks.{chunk_decoded}
 use Rattle.zarr_codecs_meaning.specs.Encoding.{encoded}
 use Rattle.zarr_codecs_meaning.specs.Fits.{is_lossless}
 use Rattle.zarr_codecs_meaning.specs.Refusals.{CodecRefuses, PassesIndex}
@@ -12,25 +12,26 @@ use Rattle.zarr_codecs_meaning.specs.Types.{Cell, is_value, is_fill}
 use Rattle.zarr_codecs_arrays.specs.declared.error.CodecError.{CodecError}
 use Rattle.zarr_codecs_arrays.specs.declared.error.CodecError.TheVariants as codec_error
 use Rattle.zarr_array_core.specs.Outcomes.{IsStoreRefusal}
-use Rattle.zarr_array_core.specs.Writes.{Write}
 use Rattle.zarr_array_core.specs.declared.error.ChunkError.{ChunkError}
 use Rattle.zarr_array_core.specs.declared.error.ChunkError.TheVariants as error
 use Rattle.zarr_array_meaning.specs.Arrays.{Array}
 use Rattle.zarr_array_meaning.specs.Boxes.{cell_of_box}
-use Rattle.zarr_array_meaning.specs.Chunks.{fits_box, holds_box, number_in}
+use Rattle.zarr_array_meaning.specs.Chunks.{ReadsCell, decoded_in, fits_box, holds_box, part_at}
 use Rattle.zarr_array_meaning.specs.Documents.{Document}
+use Rattle.zarr_array_meaning.specs.Standing.{IsLossless}
 use Rattle.zarr_array_meaning.specs.StoreMaps.{StoreMap}
-use Rattle.zarr_array_meaning.specs.Writing.{is_in_part, opens_in, stores_fill, takes_cells}
+use Rattle.zarr_array_meaning.specs.Writes.{Write}
+use Rattle.zarr_array_meaning.specs.Writing.{given_cell, is_in_part, keeps_fill, opens_in, takes_cells}
 
 -- the cells of a chunk after a write of a box: values, the given ones in the box, and those that its stored value was decoded to where cells are to stay
-pub record CellsBecome (document : Document) (region : Region) (given : List Cell) (stored : Option (List ℕ)) (box : Region) (cells : List Cell) : Type 0 where
+pub record CellsBecome (write : Write) (box : Region) (stored : Option (List ℕ)) (cells : List Cell) : Type 0 where
   pub many : length cells ≡ product box.shape
-  pub values : list_all (is_value document.elements.type) cells ≡ true
-  pub written : (place : List ℕ) → is_in_box region.start region.shape place ≡ true → is_in_box box.start box.shape place ≡ true
-      → cell_of_box box cells document.elements.fill place ≡ cell_of_box region given document.elements.fill place
-  pub kept : holds_box region box ≡ false → (before : List Cell) × (chunk_decoded document.chain document.elements box.shape stored ≡ Some before)
-      × ((place : List ℕ) → is_in_box region.start region.shape place ≡ false → is_in_box box.start box.shape place ≡ true
-      → cell_of_box box cells document.elements.fill place ≡ cell_of_box box before document.elements.fill place)
+  pub values : list_all (is_value write.array.document.elements.type) cells ≡ true
+  pub written : (place : List ℕ) → is_in_box write.region.start write.region.shape place ≡ true → is_in_box box.start box.shape place ≡ true
+      → cell_of_box box cells write.array.document.elements.fill place ≡ given_cell write place
+  pub kept : holds_box write.region box ≡ false → (before : List Cell) × (decoded_in write.array.document box stored ≡ Some before)
+      × ((place : List ℕ) → is_in_box write.region.start write.region.shape place ≡ false → is_in_box box.start box.shape place ≡ true
+      → cell_of_box box cells write.array.document.elements.fill place ≡ cell_of_box box before write.array.document.elements.fill place)
 
 -- why what is stored for a chunk is not decoded
 abbrev pub DecodeStops : Document → List ℕ → Option (List ℕ) → ChunkError → Type 0
@@ -74,11 +75,11 @@ abbrev pub EncodeStops : Document → Bool → List ℕ → List Cell → ChunkE
 EncodeStops document store_empty shape cells e = HasValue document store_empty cells × EncodeRefuses document shape cells e
 
 -- why the new cells of a chunk are not made
-abbrev pub MergeStops : Document → Region → Region → Option (List ℕ) → ChunkError → Type 0
-MergeStops document region box stored error.Damage = (holds_box region box ≡ false) × (chunk_decoded document.chain document.elements box.shape stored ≡ None)
-MergeStops document region box stored (error.Storage e) = IsStoreRefusal e
-MergeStops document region box stored error.Memory = Unit {0}
-MergeStops document region box stored e = ⊥
+abbrev pub MergeStops : Write → Region → Option (List ℕ) → ChunkError → Type 0
+MergeStops write box stored error.Damage = (holds_box write.region box ≡ false) × (decoded_in write.array.document box stored ≡ None)
+MergeStops write box stored (error.Storage e) = IsStoreRefusal e
+MergeStops write box stored error.Memory = Unit {0}
+MergeStops write box stored e = ⊥
 
 -- what a store holds after a chunk got a value, or lost the one that it had
 abbrev pub with_value : StoreMap → List ℕ → Option (List ℕ) → StoreMap
@@ -89,36 +90,36 @@ with_value store key (Some value) = insert store key value
 pub record MakesValue (write : Write) (box : Region) (stored made : Option (List ℕ)) : Type 0 where
   pub fit : fits_box write.array.document box ≡ true
   pub cells : List Cell
-  pub becomes : CellsBecome write.array.document write.region write.cells stored box cells
-  pub is : IsNewValue write.array (stores_fill write.array.document write.options write.region box) box.shape cells made
+  pub becomes : CellsBecome write box stored cells
+  pub is : IsNewValue write.array (keeps_fill write box) box.shape cells made
 
 -- the cells that a chunk is to get, and that they are not encoded
 pub record NotEncoded (write : Write) (box : Region) (stored : Option (List ℕ)) (error : ChunkError) : Type 0 where
   pub fit : fits_box write.array.document box ≡ true
   pub cells : List Cell
-  pub becomes : CellsBecome write.array.document write.region write.cells stored box cells
-  pub refuses : EncodeStops write.array.document (stores_fill write.array.document write.options write.region box) box.shape cells error
+  pub becomes : CellsBecome write box stored cells
+  pub refuses : EncodeStops write.array.document (keeps_fill write box) box.shape cells error
 
 -- why a chunk gets no new value
 abbrev pub NewValueStops : Write → Region → Option (List ℕ) → ChunkError → Type 0
 NewValueStops write box stored error.Fit = fits_box write.array.document box ≡ false
 NewValueStops write box stored (error.Storage e) = (fits_box write.array.document box ≡ true) × IsStoreRefusal e
-NewValueStops write box stored error.Damage = (fits_box write.array.document box ≡ true) × MergeStops write.array.document write.region box stored error.Damage
+NewValueStops write box stored error.Damage = (fits_box write.array.document box ≡ true) × MergeStops write box stored error.Damage
 NewValueStops write box stored error.Memory = Unit {0}
 NewValueStops write box stored e = NotEncoded write box stored e
 
 -- ---- a part written over what isn't decoded
 
 -- each place of a chunk is read as the given cells in the box, and as before at its other places
-abbrev pub ShowsPart : Document → Region → List Cell → Region → Option (List ℕ) → Option (List ℕ) → Type 0
-ShowsPart document region given box old new = (place : List ℕ) → is_in_box box.start box.shape place ≡ true
-    → let part = λ (stored : Option (List ℕ)). chunk_part document.chain document.elements box.shape stored (number_in box place ∷ []) in
-    MatchBool (is_in_box region.start region.shape place) (part new ≡ Some (cell_of_box region given document.elements.fill place ∷ [])) (part new ≡ part old)
+abbrev pub ShowsPart : Write → Region → Option (List ℕ) → Option (List ℕ) → Type 0
+ShowsPart write box old new = (place : List ℕ) → is_in_box box.start box.shape place ≡ true
+    → MatchBool (is_in_box write.region.start write.region.shape place) (ReadsCell write.array.document box new place (given_cell write place))
+    (part_at write.array.document box new place ≡ part_at write.array.document box old place)
 
 -- new cells were put into what opens: if the chain keeps every bit, this is what is read
-pub record PutsCells (document : Document) (region : Region) (given : List Cell) (box : Region) (old new : Option (List ℕ)) : Type 0 where
-  pub opened : opens_in document box old ≡ true
-  pub shows : is_lossless document.chain document.elements.type ≡ true → ShowsPart document region given box old new
+pub record PutsCells (write : Write) (box : Region) (old new : Option (List ℕ)) : Type 0 where
+  pub opened : opens_in write.array.document box old ≡ true
+  pub shows : IsLossless write.array.document → ShowsPart write box old new
 
 -- why cells are not put into what is stored: it doesn't open, or memory ran out
 abbrev pub PutStops : Document → Region → Option (List ℕ) → ChunkError → Type 0
@@ -141,9 +142,9 @@ put_refusal_of e = error.Memory
 pub record PutsPart (write : Write) (box : Region) (stored made : Option (List ℕ)) : Type 0 where
   pub fit : fits_box write.array.document box ≡ true
   pub in_part : is_in_part write.array.document write.options write.region box ≡ true
-  pub lost : chunk_decoded write.array.document.chain write.array.document.elements box.shape stored ≡ None
+  pub lost : decoded_in write.array.document box stored ≡ None
   pub some : is_some made ≡ true
-  pub puts : PutsCells write.array.document write.region write.cells box stored made
+  pub puts : PutsCells write box stored made
 
 -- what a write makes of a chunk, if it puts no part of it into its shard: the value of its new cells, or one into which these were put
 abbrev pub ChangesValue : Write → Region → Option (List ℕ) → Option (List ℕ) → Type 0

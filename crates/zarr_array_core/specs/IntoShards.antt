@@ -1,13 +1,12 @@
 -- A part of a chunk, put into the chunk's shard.
-use Rattle.std.specs.Prelude.{◌≡◌, ◌⊎◌, ℕ, List, [], ◌∷◌, map, length, Option, Bool, IsTrue, true, false, if◌then◌else◌, None, MatchBool, OnErr, Result}
+use Rattle.std.specs.Prelude.{◌≡◌, ◌⊎◌, ℕ, List, map, Option, Bool, IsTrue, true, false, if◌then◌else◌, None, MatchBool, OnErr, Result}
 use Rattle.std.specs.FinMap.{get}
 use Rattle.zarr_grids_boxes.specs.Boxes.{Region, places, is_in_box}
 use Rattle.zarr_grids_boxes.specs.Subsets.{region_of}
 use Rattle.zarr_grids_boxes.specs.declared.subset.ArraySubset.{ArraySubset}
-use Rattle.zarr_grids_chunks.specs.Grids.{IsInGrid, intersecting}
+use Rattle.zarr_grids_chunks.specs.Grids.{IsInGrid}
 use Rattle.zarr_grids_keys.specs.Keys.{chunk_key}
 use Rattle.zarr_codecs_meaning.specs.Chains.{Chain}
-use Rattle.zarr_codecs_meaning.specs.Chunks.{chunk_decoded, chunk_part}
 use Rattle.zarr_codecs_meaning.specs.Payloads.{Payload}
 use Rattle.zarr_codecs_meaning.specs.Refusals.{CodecRefuses, PassesIndex}
 use Rattle.zarr_codecs_meaning.specs.Standing.{ChunkStands}
@@ -22,16 +21,16 @@ use Rattle.zarr_codecs_traits.specs.Sources.{refused_after}
 use Rattle.zarr_codecs_traits.specs.declared.array_to_bytes.ArrayToBytesCodecTraits as codecs
 use Rattle.zarr_array_meaning.specs.Arrays.{value_at}
 use Rattle.zarr_array_meaning.specs.Boxes.{cell_of_box}
-use Rattle.zarr_array_meaning.specs.Chunks.{fits_box, number_in}
+use Rattle.zarr_array_meaning.specs.Chunks.{decoded_in, fits_box, part_at}
 use Rattle.zarr_array_meaning.specs.Documents.{Document}
 use Rattle.zarr_array_meaning.specs.Standing.{IsLossless}
 use Rattle.zarr_array_meaning.specs.StoreMaps.{StoreMap}
-use Rattle.zarr_array_meaning.specs.Writing.{StopsInto, WroteChunks, is_into_shard}
+use Rattle.zarr_array_meaning.specs.Writes.{Write}
+use Rattle.zarr_array_meaning.specs.Writing.{StopsInto, given_cell, goes_into_shard}
 use Rattle.zarr_array_storage.specs.declared.traits.ReadableStorageTraits as stores
 use Rattle.zarr_array_storage.specs.declared.error.StorageError.{StorageError}
-use Rattle.zarr_array_core.specs.ChunkValues.{CellsBecome, ChangesValue, ChangeStops, MergeStops, PutsCells, with_value}
+use Rattle.zarr_array_core.specs.ChunkValues.{ChangesValue, ChangeStops, PutsCells, with_value}
 use Rattle.zarr_array_core.specs.Outcomes.{IsStoreRefusal}
-use Rattle.zarr_array_core.specs.Writes.{Write}
 use Rattle.zarr_array_core.specs.declared.array_core.ArrayCore.{ArrayCore}
 use Rattle.zarr_array_core.specs.declared.error.ChunkError.{ChunkError}
 use Rattle.zarr_array_core.specs.declared.error.ChunkError.TheVariants as error
@@ -47,21 +46,19 @@ IntoUnknown document box e = ⊥
 -- the cells of a chunk after those of a write were put over them
 abbrev pub cells_over : Write → Region → List Cell → List Cell
 cells_over write box before =
-    let fill = write.array.document.elements.fill in
-    map (λ place. if is_in_box write.region.start write.region.shape place then cell_of_box write.region write.cells fill place else cell_of_box box before fill place) (places box.start box.shape)
+    map (λ place. if is_in_box write.region.start write.region.shape place then given_cell write place else cell_of_box box before write.array.document.elements.fill place) (places box.start box.shape)
 
 -- the cells of a chunk after those of a write were put over what is read of it; where a cell can't be read the fill value stands
 abbrev pub cells_then : Write → Region → Option (List ℕ) → List Cell
 cells_then write box stored =
-    let fill = write.array.document.elements.fill in
-    let read = λ (place : List ℕ). only_cell fill (chunk_part write.array.document.chain write.array.document.elements box.shape stored (number_in box place ∷ [])) in
-    map (λ place. if is_in_box write.region.start write.region.shape place then cell_of_box write.region write.cells fill place else read place) (places box.start box.shape)
+    let read = λ (place : List ℕ). only_cell write.array.document.elements.fill (part_at write.array.document box stored place) in
+    map (λ place. if is_in_box write.region.start write.region.shape place then given_cell write place else read place) (places box.start box.shape)
 
 -- the cells of a write were put into a chunk's shard, which doesn't stop them: each place is read so, what stood for cells stands for them with the new ones, and a shard that is all fill then is taken away
 pub record PutsIntoShard (write : Write) (box : Region) (stored made : Option (List ℕ)) : Type 0 where
   pub fit : fits_box write.array.document box ≡ true
   pub taken : ¬ StopsInto write.array.document write.region box stored
-  pub puts : PutsCells write.array.document write.region write.cells box stored made
+  pub puts : PutsCells write box stored made
   pub stands : IsLossless write.array.document → OnCells write.array.document.elements box.shape (λ before. ChunkStands write.array.document.chain write.array.document.elements box.shape stored before
       → ChunkStands write.array.document.chain write.array.document.elements box.shape made (cells_over write box before))
   pub tight : IsTrue write.array.exact → IsLossless write.array.document → OnCells write.array.document.elements box.shape (λ before. ChunkTight write.array.document.chain write.array.document.elements box.shape stored before
@@ -72,7 +69,7 @@ pub record PutsIntoShard (write : Write) (box : Region) (stored made : Option (L
 -- what is stored for a chunk isn't decoded, and behind it there is no room for the new slices: put there, they would make 2^63 bytes or more. Of a chain that drops bits the last isn't said
 abbrev pub HasNoRoomFor : Write → Region → Option (List ℕ) → Type 0
 HasNoRoomFor write box stored =
-    (chunk_decoded write.array.document.chain write.array.document.elements box.shape stored ≡ None)
+    (decoded_in write.array.document box stored ≡ None)
     × (IsLossless write.array.document → PassesLength write.array.document.chain write.array.document.elements box.shape stored (cells_then write box stored))
 
 -- why the cells of a write are not put into a chunk's shard
@@ -87,31 +84,17 @@ IntoShardStops write box stored error.Memory = Unit {0}
 
 -- ---- what a write does
 
--- the cells that a chunk gets of a write, where this is stored for it
-abbrev pub GetsCells : Write → Region → Option (List ℕ) → List Cell → Type 0
-GetsCells write box stored cells = CellsBecome write.array.document write.region write.cells stored box cells
-
--- why a chunk gets no cells of a write
-abbrev pub GetsNoCells : Write → Region → Option (List ℕ) → ChunkError → Type 0
-GetsNoCells write box stored e = MergeStops write.array.document write.region box stored e
-
--- the cells of a write were put into what is stored for a chunk
-abbrev pub GetsPart : Write → Region → Option (List ℕ) → Option (List ℕ) → Type 0
-GetsPart write box stored made = PutsCells write.array.document write.region write.cells box stored made
-
 -- a key got the value that is made of what it had, or lost it, and no other key changed
 abbrev pub ChangesAt : List ℕ → (Option (List ℕ) → Option (List ℕ) → Type 0) → StoreMap → StoreMap → Type 0
 ChangesAt key makes old new = (made : Option (List ℕ)) × makes (get old key) made × (new ≡ with_value old key made)
 
 -- what a write makes of a chunk: it puts a part of it into its shard, or changes its value otherwise
 abbrev pub WritesChunk : Write → Region → Option (List ℕ) → Option (List ℕ) → Type 0
-WritesChunk write box stored made = MatchBool (is_into_shard write.array.document write.options write.region box) (PutsIntoShard write box stored made)
-    (ChangesValue write box stored made)
+WritesChunk write box stored made = MatchBool (goes_into_shard write box) (PutsIntoShard write box stored made) (ChangesValue write box stored made)
 
 -- why a write doesn't change a chunk that fits
 abbrev pub FittingStops : Write → Region → Option (List ℕ) → ChunkError → Type 0
-FittingStops write box stored e = MatchBool (is_into_shard write.array.document write.options write.region box) ((fits_box write.array.document box ≡ true) × IntoShardStops write box stored e)
-    (ChangeStops write box stored e)
+FittingStops write box stored e = MatchBool (goes_into_shard write box) ((fits_box write.array.document box ≡ true) × IntoShardStops write box stored e) (ChangeStops write box stored e)
 
 -- why a write changes nothing in a chunk
 abbrev pub WritingStops : Write → Region → Option (List ℕ) → ChunkError → Type 0
@@ -127,10 +110,6 @@ WritesAt write chunk old new = (box : Region) × (made : Option (List ℕ)) × I
 -- why a chunk in the grid didn't get what a write makes of it
 abbrev pub StopsAt : Write → List ℕ → ChunkError → StoreMap → Type 0
 StopsAt write chunk e store = (box : Region) × IsInGrid write.array.document.grid chunk box × WritingStops write box (value_at write.array store chunk) e
-
--- the cells of a write were written to each chunk that its box intersects
-abbrev pub WritesMet : Write → StoreMap → StoreMap → Type 0
-WritesMet write old new = WroteChunks write.array.path write.array.document write.array.exact write.region write.cells write.options (intersecting write.array.document.grid write.region) old new
 
 -- ---- a codec's call
 

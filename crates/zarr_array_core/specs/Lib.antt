@@ -1,7 +1,6 @@
 pub mod Views
 pub mod Outcomes
 pub mod Parts
-pub mod Writes
 pub mod BoxWrites
 pub mod ChunkValues
 pub mod Calls

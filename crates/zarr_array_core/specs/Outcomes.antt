@@ -1,14 +1,15 @@
 -- What calls over the chunks of an array answer and leave.
-use Rattle.std.specs.Prelude.{◌≡◌, ◌⊎◌, ℕ, ◌<◌, List, take, length, Some, Result, Ok, Err, Bool, true, false}
+use Rattle.std.specs.Prelude.{◌≡◌, ◌⊎◌, ℕ, ◌<◌, List, take, length, Option, Some, Result, Ok, Err, true, false}
 use Rattle.zarr_grids_boxes.specs.Boxes.{Region, product, places}
 use Rattle.zarr_grids_chunks.specs.Grids.{IsInGrid, intersecting, intersects}
 use Rattle.zarr_codecs_meaning.specs.Payloads.{Payload, cells_in}
 use Rattle.zarr_codecs_meaning.specs.Types.{Cell, IsTooLarge}
-use Rattle.zarr_codecs_options.specs.declared.codec_options.CodecOptions.{CodecOptions}
+use Rattle.zarr_array_meaning.specs.Arrays.{Array, value_at}
 use Rattle.zarr_array_meaning.specs.Boxes.{IsRead, IsDamagedIn, IsUnfitIn}
 use Rattle.zarr_array_meaning.specs.Chunks.{IsNthIntersecting, fits_box}
 use Rattle.zarr_array_meaning.specs.Documents.{Document}
 use Rattle.zarr_array_meaning.specs.StoreMaps.{StoreMap, counted}
+use Rattle.zarr_array_meaning.specs.Writes.{Write}
 use Rattle.zarr_array_meaning.specs.Writing.{IsPartDamaged, LacksRoom, IsCodecRefused, IsOversized, WroteChunks, ErasedChunks}
 use Rattle.zarr_array_storage.specs.Refusals.{is_counted}
 use Rattle.zarr_array_storage.specs.declared.error.StorageError.{StorageError}
@@ -54,30 +55,32 @@ abbrev pub refused_by_many : {A : Type 0} → ℕ → Result A ManyError → ℕ
 refused_by_many count (Ok value) = count
 refused_by_many count (Err e) = refused_with e.error count
 
--- the cells of a box were written
-pub record WritesBox (path : List ℕ) (document : Document) (exact : Bool) (region : Region) (payload : Payload) (options : CodecOptions) (old new : StoreMap) : Type 0 where
-  pub cells : List Cell
-  pub lists : cells_in document.elements.type payload ≡ Some cells
-  pub wrote : WroteChunks path document exact region cells options (intersecting document.grid region) old new
+-- the cells of a write were written to each chunk that its box intersects
+abbrev pub WritesMet : Write → StoreMap → StoreMap → Type 0
+WritesMet write old new = WroteChunks write (intersecting write.array.document.grid write.region) old new
 
--- why a chunk is not written
-abbrev pub ChunkStops : List ℕ → Document → StoreMap → Region → List Cell → CodecOptions → List ℕ → Region → ChunkError → Type 0
-ChunkStops path document store region cells options chunk box error.Fit = fits_box document box ≡ false
-ChunkStops path document store region cells options chunk box (error.Storage e) = (fits_box document box ≡ true) × IsStoreRefusal e
-ChunkStops path document store region cells options chunk box error.Damage = IsPartDamaged path document store region options chunk box ⊎ LacksRoom path document store region cells options chunk box
-ChunkStops path document store region cells options chunk box error.Codec = IsCodecRefused path document store region cells options chunk box
-ChunkStops path document store region cells options chunk box error.Size = IsOversized path document store region cells options chunk box
-ChunkStops path document store region cells options chunk box error.Memory = Unit {0}
+-- a payload is the cells of a write, and these were written
+pub record WritesBox (write : Write) (payload : Payload) (old new : StoreMap) : Type 0 where
+  pub lists : cells_in write.array.document.elements.type payload ≡ Some write.cells
+  pub wrote : WritesMet write old new
 
--- the cells of a box were written to the first of the chunks that it intersects, and why the next one was not written
-pub record WriteStops (path : List ℕ) (document : Document) (exact : Bool) (region : Region) (payload : Payload) (options : CodecOptions) (old new : StoreMap) (stopped : ManyError) : Type 0 where
-  pub cells : List Cell
-  pub lists : cells_in document.elements.type payload ≡ Some cells
+-- why a chunk with this box, for which this is stored, is not written
+abbrev pub ChunkStops : Write → Region → Option (List ℕ) → ChunkError → Type 0
+ChunkStops write box stored error.Fit = fits_box write.array.document box ≡ false
+ChunkStops write box stored (error.Storage e) = (fits_box write.array.document box ≡ true) × IsStoreRefusal e
+ChunkStops write box stored error.Damage = IsPartDamaged write box stored ⊎ LacksRoom write box stored
+ChunkStops write box stored error.Codec = IsCodecRefused write box stored
+ChunkStops write box stored error.Size = IsOversized write box stored
+ChunkStops write box stored error.Memory = Unit {0}
+
+-- a payload is the cells of a write; these were written to the first of the chunks that its box intersects, and why the next one was not written
+pub record WriteStops (write : Write) (payload : Payload) (old new : StoreMap) (stopped : ManyError) : Type 0 where
+  pub lists : cells_in write.array.document.elements.type payload ≡ Some write.cells
   pub chunk : List ℕ
   pub box : Region
-  pub nth : IsNthIntersecting document.grid region stopped.applied chunk box
-  pub stops : ChunkStops path document old region cells options chunk box stopped.error
-  pub wrote : WroteChunks path document exact region cells options (take stopped.applied (intersecting document.grid region)) old new
+  pub nth : IsNthIntersecting write.array.document.grid write.region stopped.applied chunk box
+  pub stops : ChunkStops write box (value_at write.array old chunk) stopped.error
+  pub wrote : WroteChunks write (take stopped.applied (intersecting write.array.document.grid write.region)) old new
 
 -- how many chunks a box intersects
 abbrev pub chunks_met : Document → Region → ℕ
@@ -89,8 +92,8 @@ IsErasureStop (error.Storage e) = IsStoreRefusal e
 IsErasureStop error.Memory = Unit {0}
 IsErasureStop e = ⊥
 
--- the first of the chunks were erased, and why the next one was not
-pub record EraseStops (path : List ℕ) (document : Document) (chunks : Region) (old new : StoreMap) (stopped : ManyError) : Type 0 where
+-- the first of the chunks of an array were erased, and why the next one was not
+pub record EraseStops (array : Array) (chunks : Region) (old new : StoreMap) (stopped : ManyError) : Type 0 where
   pub fewer : stopped.applied < product chunks.shape
   pub stops : IsErasureStop stopped.error
-  pub erased : ErasedChunks path document (take stopped.applied (places chunks.start chunks.shape)) old new
+  pub erased : ErasedChunks array.path array.document (take stopped.applied (places chunks.start chunks.shape)) old new

@@ -6,8 +6,8 @@ use Rattle.zarr_codecs_meaning.specs.Types.{Cell}
 use Rattle.zarr_codecs_traits.specs.declared.bytes_representation.BytesRepresentation.{BytesRepresentation}
 use Rattle.zarr_codecs_traits.specs.declared.bytes_representation.BytesRepresentation.TheVariants.{FixedSize, BoundedSize, UnboundedSize}
 use Rattle.zarr_codecs_traits.specs.Patches.{Patch, any_too_far, patched}
+use Rattle.zarr_array_meaning.specs.Writes.{Write}
 use Rattle.zarr_array_core.specs.ChunkValues.{MakesValue}
-use Rattle.zarr_array_core.specs.Writes.{Write}
 
 -- whether a size is told, and not a bound or nothing
 abbrev pub tells_size : BytesRepresentation → Bool

@@ -1,5 +1,5 @@
 -- What reading one chunk of a box does.
-use Rattle.std.specs.Prelude.{◌≡◌, ◌⊎◌, ℕ, List, [], ◌∷◌, Option, Some, None, true, false, is_some, Result, Ok, Err}
+use Rattle.std.specs.Prelude.{◌≡◌, ◌⊎◌, ℕ, List, Option, Some, None, true, false, is_some, Result, Ok, Err}
 use Rattle.zarr_grids_boxes.specs.Boxes.{Region, is_in_box}
 use Rattle.zarr_grids_boxes.specs.Cuts.{overlapped, relative}
 use Rattle.zarr_grids_boxes.specs.Subsets.{region_of}
@@ -15,7 +15,7 @@ use Rattle.zarr_codecs_traits.specs.Outcomes.{IsPart}
 use Rattle.zarr_array_elements.specs.Boxes.{AreOfBox}
 use Rattle.zarr_array_meaning.specs.Arrays.{Array, value_at}
 use Rattle.zarr_array_meaning.specs.Boxes.{cell_of_box}
-use Rattle.zarr_array_meaning.specs.Chunks.{number_in, stored_at, fits_box}
+use Rattle.zarr_array_meaning.specs.Chunks.{ReadsCell, fits_box, part_at}
 use Rattle.zarr_array_meaning.specs.Documents.{Document}
 use Rattle.zarr_array_meaning.specs.StoreMaps.{StoreMap}
 use Rattle.zarr_array_core.specs.Outcomes.{IsStoreRefusal}
@@ -51,40 +51,54 @@ abbrev pub FindsAt : Array → StoreMap → List ℕ → Option ChunkPart → Ty
 FindsAt array store chunk None = value_at array store chunk ≡ None
 FindsAt array store chunk (Some part) = (box : Region) → IsInGrid array.document.grid chunk box → IsChunkPart array.document box (value_at array store chunk) (region_of part.shared) (payload_of part.bytes)
 
+-- ---- a chunk that a box meets
+
+-- a chunk of an array, of which a box meets places, and what is stored for it
+pub record MetChunk : Type 0 where
+  pub document : Document
+  pub region : Region
+  pub box : Region
+  pub stored : Option (List ℕ)
+
+-- a chunk with this box that a region meets, as a store holds it
+abbrev pub met_in : Array → StoreMap → Region → List ℕ → Region → MetChunk
+met_in array store region chunk box = record { document = array.document; region = region; box = box; stored = value_at array store chunk }
+
 -- the cells of what is stored for a chunk were put over those of a box: each place of both shows the chunk's cell, and the other places of the box show what they did
-pub record IsPlaced (document : Document) (region box : Region) (stored : Option (List ℕ)) (old new : List Cell) : Type 0 where
-  pub fit : fits_box document box ≡ true
-  pub shown : (place : List ℕ) → is_in_box region.start region.shape place ≡ true → is_in_box box.start box.shape place ≡ true
-      → chunk_part document.chain document.elements box.shape stored (number_in box place ∷ []) ≡ Some (cell_of_box region new document.elements.fill place ∷ [])
-  pub kept : (place : List ℕ) → is_in_box region.start region.shape place ≡ true → is_in_box box.start box.shape place ≡ false → cell_of_box region new document.elements.fill place ≡ cell_of_box region old document.elements.fill place
+pub record IsPlaced (met : MetChunk) (old new : List Cell) : Type 0 where
+  pub fit : fits_box met.document met.box ≡ true
+  pub shown : (place : List ℕ) → is_in_box met.region.start met.region.shape place ≡ true → is_in_box met.box.start met.box.shape place ≡ true
+      → ReadsCell met.document met.box met.stored place (cell_of_box met.region new met.document.elements.fill place)
+  pub kept : (place : List ℕ) → is_in_box met.region.start met.region.shape place ≡ true → is_in_box met.box.start met.box.shape place ≡ false
+      → cell_of_box met.region new met.document.elements.fill place ≡ cell_of_box met.region old met.document.elements.fill place
 
 -- what is stored for a chunk was put over the cells of a box; where nothing is stored they may also stay
-abbrev pub GivesChunk : List ℕ → Document → StoreMap → Region → List ℕ → Region → List Cell → List Cell → Type 0
-GivesChunk path document store region chunk box old new = ((stored_at path document store chunk ≡ None) × (new ≡ old)) ⊎ IsPlaced document region box (stored_at path document store chunk) old new
+abbrev pub GivesChunk : MetChunk → List Cell → List Cell → Type 0
+GivesChunk met old new = ((met.stored ≡ None) × (new ≡ old)) ⊎ IsPlaced met old new
 
 -- a place of a box and a chunk cannot be decoded of what is stored for the chunk
-pub record IsLost (document : Document) (region box : Region) (stored : Option (List ℕ)) : Type 0 where
-  pub fit : fits_box document box ≡ true
+pub record IsLost (met : MetChunk) : Type 0 where
+  pub fit : fits_box met.document met.box ≡ true
   pub place : List ℕ
-  pub of_region : is_in_box region.start region.shape place ≡ true
-  pub of_chunk : is_in_box box.start box.shape place ≡ true
-  pub lost : chunk_part document.chain document.elements box.shape stored (number_in box place ∷ []) ≡ None
+  pub of_region : is_in_box met.region.start met.region.shape place ≡ true
+  pub of_chunk : is_in_box met.box.start met.box.shape place ≡ true
+  pub lost : part_at met.document met.box met.stored place ≡ None
 
 -- why the cells of what is stored for a chunk are not put over those of a box
-abbrev pub ValueStops : Document → Region → Region → Option (List ℕ) → ChunkError → Type 0
-ValueStops document region box stored error.Damage = IsLost document region box stored
-ValueStops document region box stored (error.Storage e) = IsStoreRefusal e
-ValueStops document region box stored error.Memory = Unit {0}
-ValueStops document region box stored e = ⊥
+abbrev pub ValueStops : MetChunk → ChunkError → Type 0
+ValueStops met error.Damage = IsLost met
+ValueStops met (error.Storage e) = IsStoreRefusal e
+ValueStops met error.Memory = Unit {0}
+ValueStops met e = ⊥
 
 -- why the part of a chunk that lies in a box is not read: the chunk has a value and does not fit, or a place of both is damaged
-abbrev pub PartStops : List ℕ → Document → StoreMap → Region → List ℕ → Region → ChunkError → Type 0
-PartStops path document store region chunk box error.Fit = (is_some (stored_at path document store chunk) ≡ true) × (fits_box document box ≡ false)
-PartStops path document store region chunk box error.Damage = IsLost document region box (stored_at path document store chunk)
-PartStops path document store region chunk box (error.Storage e) = IsStoreRefusal e
-PartStops path document store region chunk box error.Memory = Unit {0}
-PartStops path document store region chunk box e = ⊥
+abbrev pub PartStops : MetChunk → ChunkError → Type 0
+PartStops met error.Fit = (is_some met.stored ≡ true) × (fits_box met.document met.box ≡ false)
+PartStops met error.Damage = IsLost met
+PartStops met (error.Storage e) = IsStoreRefusal e
+PartStops met error.Memory = Unit {0}
+PartStops met e = ⊥
 
 -- why the part of a chunk in the grid that lies in a box is not read
 abbrev pub PartNotRead : Array → StoreMap → Region → List ℕ → ChunkError → Type 0
-PartNotRead array store region chunk e = (box : Region) × IsInGrid array.document.grid chunk box × PartStops array.path array.document store region chunk box e
+PartNotRead array store region chunk e = (box : Region) × IsInGrid array.document.grid chunk box × PartStops (met_in array store region chunk box) e

@@ -1,5 +1,5 @@
 -- Why the chunks of an array are not stored anew.
-use Rattle.std.specs.Prelude.{◌≡◌, ◌⊎◌, ℕ, ◌+◌, ◌≤◌, List, [], ◌∷◌, take, length, slice_get, Some, None, is_some, Bool, true, false, if◌then◌else◌}
+use Rattle.std.specs.Prelude.{◌≡◌, ◌⊎◌, ℕ, ◌+◌, ◌≤◌, List, take, length, slice_get, Some, None, is_some, Bool, true, false, if◌then◌else◌}
 use Rattle.zarr_grids_boxes.specs.Boxes.{Region, product}
 use Rattle.zarr_grids_chunks.specs.Grids.{IsInGrid}
 use Rattle.zarr_codecs_meaning.specs.Decoding.{decoded}
@@ -49,10 +49,9 @@ abbrev pub RemakingStops : Document → Bool → List ℕ → List ℕ → Chunk
 RemakingStops document store_empty shape value error.Memory = Unit {0}
 RemakingStops document store_empty shape value e = RewritingStops document store_empty shape value e
 
--- a chunk that has a key is stored anew, and for one that has none nothing changes
-abbrev pub RewritesChunk : Array → Bool → List ℕ → Bool → StoreMap → StoreMap → Type 0
-RewritesChunk array store_empty chunk true old new = RewroteChunks array store_empty (chunk ∷ []) old new
-RewritesChunk array store_empty chunk false old new = (value_at array old chunk ≡ None) × (new ≡ old)
+-- a chunk has no key, and nothing changes
+abbrev pub IsAbsentAt : Array → List ℕ → StoreMap → StoreMap → Type 0
+IsAbsentAt array chunk old new = (value_at array old chunk ≡ None) × (new ≡ old)
 
 -- how many chunks were stored anew, after one more was looked at
 abbrev pub counted_chunk : ℕ → Bool → ℕ
