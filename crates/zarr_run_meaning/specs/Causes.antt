@@ -15,7 +15,6 @@ use Rattle.zarr_codecs_meaning.specs.Types.{Cell, is_fill, IsTooLarge}
 use Rattle.zarr_sharding_changes.specs.Compactions.{compaction, damaged}
 use Rattle.zarr_sharding_changes.specs.Refusals.{CompactionRefused, CompactionTooLong}
 use Rattle.zarr_codecs_metadata.specs.Chains.{ReadsCodecs}
-use Rattle.zarr_codecs_options.specs.declared.codec_options.CodecOptions.{CodecOptions}
 use Rattle.zarr_codecs_types.specs.Given.{GivenCells, given_in}
 use Rattle.zarr_array_v2.specs.Versions.{is_version_2}
 use Rattle.zarr_array_meaning.specs.Arrays.{Array, value_at}
@@ -25,6 +24,7 @@ use Rattle.zarr_array_meaning.specs.Documents.{Document, read_document}
 use Rattle.zarr_array_meaning.specs.Rewriting.{HasTooLargeKeyed, keyed_chunks}
 use Rattle.zarr_array_meaning.specs.StoreMaps.{StoreMap}
 use Rattle.zarr_array_meaning.specs.Texts.{HasDocument, version_key}
+use Rattle.zarr_array_meaning.specs.Writes.{Write}
 use Rattle.zarr_array_meaning.specs.Writing.{IsPartDamaged, LacksRoom, IsCodecRefused, IsOversized}
 use Rattle.zarr_run_meaning.specs.declared.cause.Cause.{Cause}
 use Rattle.zarr_run_meaning.specs.declared.cause.Cause.TheVariants as cause
@@ -135,21 +135,21 @@ WriteRefuses document target given cause.Size = (box : Region) × (values : List
 WriteRefuses document target given c = ⊥
 
 -- a write, at a chunk that the box intersects
-abbrev pub ChunkRefuses : List ℕ → Document → StoreMap → Region → List Cell → CodecOptions → List ℕ → Region → Cause → Type 0
-ChunkRefuses path document store region values options chunk box cause.Fit = fits_box document box ≡ false
-ChunkRefuses path document store region values options chunk box cause.Store = fits_box document box ≡ true
-ChunkRefuses path document store region values options chunk box cause.Damage = IsPartDamaged path document store region options chunk box ⊎ LacksRoom path document store region values options chunk box
-ChunkRefuses path document store region values options chunk box cause.Codec = IsCodecRefused path document store region values options chunk box
-ChunkRefuses path document store region values options chunk box cause.Size = IsOversized path document store region values options chunk box
-ChunkRefuses path document store region values options chunk box cause.Memory = Unit {0}
-ChunkRefuses path document store region values options chunk box c = ⊥
+abbrev pub ChunkRefuses : Write → Region → Option (List ℕ) → Cause → Type 0
+ChunkRefuses write box stored cause.Fit = fits_box write.array.document box ≡ false
+ChunkRefuses write box stored cause.Store = fits_box write.array.document box ≡ true
+ChunkRefuses write box stored cause.Damage = IsPartDamaged write box stored ⊎ LacksRoom write box stored
+ChunkRefuses write box stored cause.Codec = IsCodecRefused write box stored
+ChunkRefuses write box stored cause.Size = IsOversized write box stored
+ChunkRefuses write box stored cause.Memory = Unit {0}
+ChunkRefuses write box stored c = ⊥
 
 -- a write stops at the chunk at this place among those that the box intersects
-pub record StopsAt (path : List ℕ) (document : Document) (store : StoreMap) (region : Region) (values : List Cell) (options : CodecOptions) (n : ℕ) (c : Cause) : Type 0 where
+pub record StopsAt (write : Write) (store : StoreMap) (n : ℕ) (c : Cause) : Type 0 where
   pub chunk : List ℕ
   pub box : Region
-  pub nth : IsNthIntersecting document.grid region n chunk box
-  pub refuses : ChunkRefuses path document store region values options chunk box c
+  pub nth : IsNthIntersecting write.array.document.grid write.region n chunk box
+  pub refuses : ChunkRefuses write box (value_at write.array store chunk) c
 
 -- a read; one of an empty box calls no store
 abbrev pub ReadRefuses : List ℕ → Document → StoreMap → Target → Cause → Type 0

@@ -10,36 +10,36 @@ use Rattle.zarr_codecs_meaning.specs.Payloads.{Payload, cells_in}
 use Rattle.zarr_codecs_metadata.specs.Chains.{ReadsCodecs}
 use Rattle.zarr_codecs_options.specs.declared.codec_options.CodecOptions.{CodecOptions}
 use Rattle.zarr_codecs_options.specs.declared.subchunk_write_order.SubchunkWriteOrder.{SubchunkWriteOrder}
-use Rattle.zarr_codecs_types.specs.Given.{GivenCells}
 use Rattle.zarr_array_meaning.specs.Boxes.{IsRead}
 use Rattle.zarr_array_meaning.specs.Compacting.{CompactsChunk}
 use Rattle.zarr_array_meaning.specs.Documents.{Document, read_document}
 use Rattle.zarr_array_meaning.specs.Rewriting.{RewroteChunks, HasTooLargeKeyed, keyed_chunks}
 use Rattle.zarr_array_meaning.specs.Standing.{IsLossless}
 use Rattle.zarr_array_meaning.specs.Texts.{HasDocument, HasNoDocument, StoresDocument}
+use Rattle.zarr_array_meaning.specs.Writes.{Write, write_to}
 use Rattle.zarr_array_meaning.specs.Writing.{WroteChunks, ErasedChunks}
 use Rattle.zarr_array_meaning.specs.Written.{written_document}
 use Rattle.zarr_run_meaning.specs.Causes.{IsTarget, AreTargets, IsGiven, HasTooLarge, HasTooLargeChunk, IsTooLargeChunk, IsFoundIn}
-use Rattle.zarr_run_meaning.specs.Requests.{Target}
+use Rattle.zarr_run_meaning.specs.Requests.{Target, WriteAsked, Creation}
 use Rattle.zarr_run_meaning.specs.Tables.{Table, cell, updated, changes, changes_in, fills}
-use Rattle.zarr_run_meaning.specs.Worlds.{Held, World, array_of, held_at, is_taken, with_order, writes_exactly, IsTableAt, WithTable}
+use Rattle.zarr_run_meaning.specs.Worlds.{Held, World, array_of, held_at, is_taken, with_order, IsTableAt, WithTable}
 
 -- an array begins to be held: its table has the cells that its stored chunks show
-pub record Begins (path : List ℕ) (tree : Data) (document : Document) (order : SubchunkWriteOrder) (old new : World) : Type 0 where
-  pub free : held_at path old.arrays ≡ None
-  pub table : Table
-  pub shows : IsTableAt path document old.store table
-  pub holds : new.arrays ≡ old.arrays ++ record { path = path; tree = tree; document = document; order = order; table = table } ∷ []
+pub record Begins (h : Held) (old new : World) : Type 0 where
+  pub free : held_at h.path old.arrays ≡ None
+  pub shows : IsTableAt h.path h.document old.store h.table
+  pub holds : new.arrays ≡ old.arrays ++ h ∷ []
 
 -- a create that is done: the path was free, and the document is written, of version 2 in its two parts; no other key changed
-pub record Creates (reads : ReadsCodecs) (path : List ℕ) (document : Data) (order : SubchunkWriteOrder) (old new : World) : Type 0 where
-  pub node : is_node_path path ≡ true
-  pub free : is_taken path old.arrays ≡ false
-  pub fresh : HasNoDocument path old.store
+pub record Creates (reads : ReadsCodecs) (given : Creation) (old new : World) : Type 0 where
+  pub node : is_node_path given.path ≡ true
+  pub free : is_taken given.path old.arrays ≡ false
+  pub fresh : HasNoDocument given.path old.store
   pub meaning : Document
-  pub opens : read_document reads document ≡ Ok meaning
-  pub begins : Begins path (written_document document) meaning order old new
-  pub stores : StoresDocument path (written_document document) old.store new.store
+  pub opens : read_document reads given.document ≡ Ok meaning
+  pub table : Table
+  pub begins : Begins (record { path = given.path; tree = written_document given.document; document = meaning; order = given.order; table = table }) old new
+  pub stores : StoresDocument given.path (written_document given.document) old.store new.store
 
 -- an array that is held gets a write order: the tree that is stored is the one that was written or opened
 pub record Reopens (path : List ℕ) (order : SubchunkWriteOrder) (old new : World) : Type 0 where
@@ -59,26 +59,27 @@ pub record Opens (reads : ReadsCodecs) (path : List ℕ) (order : SubchunkWriteO
   pub found : IsFoundIn old.arrays path tree old.store
   pub meaning : Document
   pub opens : read_document reads tree ≡ Ok meaning
-  pub begins : Begins path tree meaning order old new
+  pub table : Table
+  pub begins : Begins (record { path = path; tree = tree; document = meaning; order = order; table = table }) old new
   pub stores : new.store ≡ old.store
 
 -- the cells of a box are given to some of the chunks that it intersects: the table has them, and the store; where values depend on cells alone, that of each of these chunks is what encoding makes of its new cells, if the box holds the whole chunk or the chunk was decoded before
-pub record WritesChunks (h : Held) (region : Region) (values : List Cell) (options : CodecOptions) (chunks : List (List ℕ)) (old new : World) : Type 0 where
+pub record WritesChunks (h : Held) (write : Write) (chunks : List (List ℕ)) (old new : World) : Type 0 where
   pub table : Table
-  pub is : table ≡ updated h.document.elements.fill h.table (changes_in h.document.grid chunks (changes region values))
+  pub is : table ≡ updated h.document.elements.fill h.table (changes_in h.document.grid chunks (changes write.region write.cells))
   pub updates : WithTable h.path table new.store old.arrays new.arrays
-  pub stores : WroteChunks h.path h.document (writes_exactly h) region values options chunks old.store new.store
+  pub stores : WroteChunks write chunks old.store new.store
 
 -- a write that is done
-pub record Writes (path : List ℕ) (target : Target) (given : GivenCells) (options : CodecOptions) (old new : World) : Type 0 where
+pub record Writes (path : List ℕ) (asked : WriteAsked) (old new : World) : Type 0 where
   pub node : is_node_path path ≡ true
   pub held : Held
   pub found : held_at path old.arrays ≡ Some held
   pub box : Region
   pub values : List Cell
-  pub is : IsGiven held.document target given box values
+  pub is : IsGiven held.document asked.target asked.cells box values
   pub small : ¬ HasTooLarge held.document box
-  pub writes : WritesChunks held box values options (intersecting held.document.grid box) old new
+  pub writes : WritesChunks held (write_to (array_of held) box values asked.options) (intersecting held.document.grid box) old new
 
 -- a payload is the cells of a box: those that are read from the store, which are the table's where the chain keeps every bit
 pub record Reads (path : List ℕ) (target : Target) (payload : Payload) (old : World) : Type 0 where

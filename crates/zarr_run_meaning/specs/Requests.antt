@@ -13,6 +13,30 @@ pub data Target : Type 0 where
   in_box : (region : Region) → Target
   in_chunk : (chunk : List ℕ) → Target
 
+-- the cells that a write gives for a target, and how they are stored
+pub record WriteAsked : Type 0 where
+  pub target : Target
+  pub cells : GivenCells
+  pub options : CodecOptions
+
+-- the document that a creation gives for a path, and in which order subchunks are written there
+pub record Creation : Type 0 where
+  pub path : List ℕ
+  pub document : Data
+  pub order : SubchunkWriteOrder
+
+-- why a command is refused, and of how many chunks it has made its change before
+pub data Refusal : Type 0 where
+  refusal : (cause : Cause) (applied : ℕ) → Refusal
+
+-- why it is refused
+abbrev pub cause_in : Refusal → Cause
+cause_in (refusal c n) = c
+
+-- of how many chunks it has made its change before
+abbrev pub applied_in : Refusal → ℕ
+applied_in (refusal c n) = n
+
 -- a command, without the memory that holds it
 pub data Request : Type 0 where
   create : (path : List ℕ) (document : Data) (order : SubchunkWriteOrder) → Request

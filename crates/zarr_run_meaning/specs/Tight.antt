@@ -8,6 +8,7 @@ use Rattle.zarr_codecs_meaning.specs.Types.{Cell}
 use Rattle.zarr_codecs_metadata.specs.Chains.{ReadsCodecs}
 use Rattle.zarr_codecs_options.specs.declared.codec_options.CodecOptions.{CodecOptions}
 use Rattle.zarr_array_meaning.specs.Arrays.{value_at}
+use Rattle.zarr_array_meaning.specs.Chunks.{stored_at}
 use Rattle.zarr_array_meaning.specs.Documents.{Document}
 use Rattle.zarr_array_meaning.specs.Standing.{ChunkTightAt}
 use Rattle.zarr_array_meaning.specs.StoreMaps.{StoreMap}
@@ -22,7 +23,7 @@ use Rattle.zarr_run_meaning.specs.Worlds.{Held, World, array_of, held_at, is_row
 
 -- what is stored for each chunk in the grid is tight: each slice of a shard is what encoding writes for the subchunk's cells, and a value without shards is what it writes for the chunk's
 abbrev pub StoreTight : List ℕ → Document → StoreMap → (List ℕ → Cell) → Type 0
-StoreTight path document store cells = (chunk : List ℕ) (box : Region) → IsInGrid document.grid chunk box → ChunkTightAt path document store chunk box cells
+StoreTight path document store cells = (chunk : List ℕ) (box : Region) → IsInGrid document.grid chunk box → ChunkTightAt document box (stored_at path document store chunk) cells
 
 -- what is stored for an array is tight, with the cells of its table
 abbrev pub IsTightHeld : StoreMap → Held → Type 0
