@@ -12,12 +12,13 @@ use Rattle.zarr_grids_cover.proofs.ChunkBoxes.{chunk_box-rank}
 use Rattle.zarr_codecs_meaning.specs.Encoding.{encoded}
 use Rattle.zarr_codecs_meaning.specs.Types.{Cell, is_fill}
 use Rattle.zarr_codecs_meaning.proofs.Lists.{some_same}
-use Rattle.zarr_codecs_options.specs.declared.codec_options.CodecOptions.{CodecOptions}
+use Rattle.zarr_array_meaning.specs.Arrays.{value_at}
 use Rattle.zarr_array_meaning.specs.Boxes.{cell_of_box, IsDamagedIn, IsUnfitIn, ReadsOneWay}
-use Rattle.zarr_array_meaning.specs.Chunks.{stored_at, fits_box, holds_box, IsNthIntersecting}
+use Rattle.zarr_array_meaning.specs.Chunks.{fits_box, holds_box, IsNthIntersecting}
 use Rattle.zarr_array_meaning.specs.Documents.{Document}
 use Rattle.zarr_array_meaning.specs.StoreMaps.{StoreMap}
-use Rattle.zarr_array_meaning.specs.Writing.{cell_read, ChunkBecomes, DecodesAlikeOutside, is_into_shard, stores_fill, Takes, WrittenUndamaged, WrittenKeysAlike, RewrittenAlike}
+use Rattle.zarr_array_meaning.specs.Writes.{Write}
+use Rattle.zarr_array_meaning.specs.Writing.{cell_read, goes_into_shard, keeps_fill, ChunkBecomes, DecodesAlikeOutside, Takes, WrittenUndamaged, WrittenKeysAlike, RewrittenAlike}
 use Rattle.zarr_array_meaning.proofs.HeldBoxes.{not_held}
 use Rattle.zarr_array_meaning.proofs.TakenParts.{read_of_decoded}
 
@@ -32,17 +33,17 @@ nth_once grid region n m chunk other box over a b e =
 damaged_or_unfit : (path : List ℕ) (document : Document) (store : StoreMap) (region : Region) → IsDamagedIn path document store region → IsUnfitIn path document store region → ⊥
 damaged_or_unfit path document store region d u = ⊎_elim
     (λ e.
-    let same = nth_once document.grid region d.first.number u.first.number d.chunk u.chunk d.box u.box d.first.nth u.first.nth e in
+    let same = nth_once document.grid region d.number u.number d.chunk u.chunk d.box u.box d.nth u.nth e in
     false≢true (sym u.fit ∙ (ap (fits_box document) (sym same) ∙ d.fit)))
     (λ apart. ⊎_elim
     (λ less.
-    let read = u.first.each d.first.number d.chunk d.box less d.first.nth in
+    let read = u.first d.number d.chunk d.box less d.nth in
     false≢true (sym (ap is_some d.lost) ∙ read.whole d.place d.is.of_region d.is.of_chunk))
     (λ more.
-    let read = d.first.each u.first.number u.chunk u.box more u.first.nth in
+    let read = d.first u.number u.chunk u.box more u.nth in
     false≢true (sym u.fit ∙ read.fit u.stored))
     apart)
-    (cases_order d.first.number u.first.number)
+    (cases_order d.number u.number)
 
 -- a box is read, or a chunk is damaged first, or one doesn't fit first
 pub reads_one_way : ReadsOneWay
@@ -56,51 +57,52 @@ reads_one_way path document store region cells = (
 
 -- what was written was not damaged
 pub written_undamaged : WrittenUndamaged
-written_undamaged path document exact region values options chunks old new chunk box wrote below listed damaged = go (is_into_shard document options region box) refl where
-  taken : Takes document options region box (stored_at path document old chunk)
+written_undamaged write chunks old new chunk box wrote below listed damaged = go (goes_into_shard write box) refl where
+  taken : Takes write.array.document write.options write.region box (value_at write.array old chunk)
   taken = wrote.undamaged chunk box below listed damaged.part
 
-  go : (b : Bool) → is_into_shard document options region box ≡ b → ⊥
+  go : (b : Bool) → goes_into_shard write box ≡ b → ⊥
   go true e = MatchBool-at_true _ _ e taken (MatchBool-at_true _ _ e damaged.lost)
   go false e = false≢true (sym (MatchBool-at_false _ _ e damaged.lost) ∙ MatchBool-at_false _ _ e taken)
 
--- where a part of a chunk is to stay, the same cells are read of two stores
-abbrev SameRead : List ℕ → Document → Region → List ℕ → Region → StoreMap → StoreMap → Type 0
-SameRead path document region chunk box old before = holds_box region box ≡ false → (place : List ℕ) → is_in_box region.start region.shape place ≡ false → is_in_box box.start box.shape place ≡ true
-    → cell_read path document old chunk box place ≡ cell_read path document before chunk box place
+-- where a part of a chunk is to stay, the same cells are read of two values of it, or none
+abbrev SameRead : Document → Region → Region → Option (List ℕ) → Option (List ℕ) → Type 0
+SameRead document region box stored other = holds_box region box ≡ false → (place : List ℕ) → is_in_box region.start region.shape place ≡ false → is_in_box box.start box.shape place ≡ true
+    → cell_read document box stored place ≡ cell_read document box other place
 
 -- a write gives a chunk's place one cell
-one_cell : (path : List ℕ) (document : Document) (old before : StoreMap) (region : Region) (values : List Cell) (options : CodecOptions) (chunk : List ℕ) (box : Region) (a b : List Cell) (place : List ℕ) (t : Bool)
-    → length region.start ≡ length region.shape → length box.start ≡ length box.shape → length region.start ≡ length box.start → SameRead path document region chunk box old before
-    → ChunkBecomes path document old region values options chunk box a → ChunkBecomes path document before region values options chunk box b → is_in_box box.start box.shape place ≡ true → is_in_box region.start region.shape place ≡ t
-    → cell_of_box box a document.elements.fill place ≡ cell_of_box box b document.elements.fill place
-one_cell path document old before region values options chunk box a b place true r l s alike one other inside e = one.written place e inside ∙ sym (other.written place e inside)
-one_cell path document old before region values options chunk box a b place false r l s alike one other inside e =
-    let part = not_held region box place (holds_box region box) refl r l s inside e in
-    one.kept part place e inside ∙ (alike part place e inside ∙ sym (other.kept part place e inside))
+one_cell : (write : Write) (box : Region) (stored other : Option (List ℕ)) (a b : List Cell) (place : List ℕ) (t : Bool)
+    → length write.region.start ≡ length write.region.shape → length box.start ≡ length box.shape → length write.region.start ≡ length box.start → SameRead write.array.document write.region box stored other
+    → ChunkBecomes write box stored a → ChunkBecomes write box other b → is_in_box box.start box.shape place ≡ true → is_in_box write.region.start write.region.shape place ≡ t
+    → cell_of_box box a write.array.document.elements.fill place ≡ cell_of_box box b write.array.document.elements.fill place
+one_cell write box stored other a b place true r l s alike one two inside e = one.written place e inside ∙ sym (two.written place e inside)
+one_cell write box stored other a b place false r l s alike one two inside e =
+    let part = not_held write.region box place (holds_box write.region box) refl r l s inside e in
+    one.kept part place e inside ∙ (alike part place e inside ∙ sym (two.kept part place e inside))
 
 -- so it gives a chunk one list of cells
-one_list : (path : List ℕ) (document : Document) (old before : StoreMap) (region : Region) (values : List Cell) (options : CodecOptions) (chunk : List ℕ) (box : Region) (a b : List Cell)
-    → length region.start ≡ length region.shape → length box.start ≡ length box.shape → length region.start ≡ length box.start → SameRead path document region chunk box old before
-    → ChunkBecomes path document old region values options chunk box a → ChunkBecomes path document before region values options chunk box b → a ≡ b
-one_list path document old before region values options chunk box a b r l s alike one other =
-    let fill = document.elements.fill in
-    ext_get_or fill a b (one.many ∙ sym other.many) (λ i below.
+one_list : (write : Write) (box : Region) (stored other : Option (List ℕ)) (a b : List Cell)
+    → length write.region.start ≡ length write.region.shape → length box.start ≡ length box.shape → length write.region.start ≡ length box.start → SameRead write.array.document write.region box stored other
+    → ChunkBecomes write box stored a → ChunkBecomes write box other b → a ≡ b
+one_list write box stored other a b r l s alike one two =
+    let fill = write.array.document.elements.fill in
+    ext_get_or fill a b (one.many ∙ sym two.many) (λ i below.
     let low : i < product box.shape = omega (arith, below, one.many) in
     let place = place_at box.start box.shape i in
     let number = ravel-place_at box.start box.shape i l low in
     let inside = in_box-place_at box.start box.shape i l low in
     ap (λ n. get_or a n fill) (sym number)
-    ∙ (one_cell path document old before region values options chunk box a b place (is_in_box region.start region.shape place) r l s alike one other inside refl ∙ ap (λ n. get_or b n fill) number))
+    ∙ (one_cell write box stored other a b place (is_in_box write.region.start write.region.shape place) r l s alike one two inside refl ∙ ap (λ n. get_or b n fill) number))
 
 -- two writes of the same cells leave keys to the same chunks
 pub written_keys_alike : WrittenKeysAlike
-written_keys_alike path document exact region values options chunks old new other chunk box first second below listed whole region_rank grid_rank =
-    let rank = chunk_box-rank document.grid chunk box below.has_box in
+written_keys_alike write chunks old new other chunk box first second below listed whole region_rank grid_rank =
+    let stored = value_at write.array old chunk in
+    let rank = chunk_box-rank write.array.document.grid chunk box below.has_box in
     let one = first.keyed chunk box below listed in
     let two = second.keyed chunk box below listed in
-    let same = one_list path document old old region values options chunk box one.cells two.cells region_rank (rank.0 ∙ sym rank.1) (grid_rank ∙ sym rank.0) (λ part place out inside. refl) one.becomes two.becomes in
-    one.key whole ∙ (ap (λ (cells : List Cell). stores_fill document options region box || not (is_fill document.elements.fill cells)) same ∙ sym (two.key whole))
+    let same = one_list write box stored stored one.cells two.cells region_rank (rank.0 ∙ sym rank.1) (grid_rank ∙ sym rank.0) (λ part place out inside. refl) one.becomes two.becomes in
+    one.key whole ∙ (ap (λ (cells : List Cell). keeps_fill write box || not (is_fill write.array.document.elements.fill cells)) same ∙ sym (two.key whole))
 
 -- no value and no value, or a value and the same value
 one_stored : (a b : Option (List ℕ)) → is_some a ≡ is_some b → ((x y : List ℕ) → a ≡ Some x → b ≡ Some y → x ≡ y) → a ≡ b
@@ -110,23 +112,25 @@ one_stored (Some x) None both same = absurd (false≢true (sym both))
 one_stored (Some x) (Some y) both same = ap Some (same x y refl refl)
 
 -- what is decoded alike is read alike
-read_alike : (path : List ℕ) (document : Document) (region : Region) (chunk : List ℕ) (box : Region) (old before : StoreMap) → fits_box document box ≡ true → (holds_box region box ≡ false → DecodesAlikeOutside path document region old before chunk box)
-    → SameRead path document region chunk box old before
-read_alike path document region chunk box old before fit alike part place out inside =
+read_alike : (document : Document) (region box : Region) (stored other : Option (List ℕ)) → fits_box document box ≡ true → (holds_box region box ≡ false → DecodesAlikeOutside document region box stored other)
+    → SameRead document region box stored other
+read_alike document region box stored other fit alike part place out inside =
     let is = alike part in
     let low = number_in_grid box.start box.shape place inside in
-    read_of_decoded path document old chunk box place is.0 fit low is.2
-    ∙ (is.4 place out inside ∙ sym (read_of_decoded path document before chunk box place is.1 fit low is.3))
+    read_of_decoded document box stored place is.0 fit low is.2
+    ∙ (is.4 place out inside ∙ sym (read_of_decoded document box other place is.1 fit low is.3))
 
 -- two writes of the same cells leave the same values
 pub rewritten_alike : RewrittenAlike
-rewritten_alike path document region values options chunks others old new before after chunk box first second below listed other_listed whole region_rank grid_rank alike =
-    let rank = chunk_box-rank document.grid chunk box below.has_box in
+rewritten_alike write chunks others old new before after chunk box exact first second below listed other_listed whole region_rank grid_rank alike =
+    let stored = value_at write.array old chunk in
+    let other = value_at write.array before chunk in
+    let rank = chunk_box-rank write.array.document.grid chunk box below.has_box in
     let one = first.keyed chunk box below listed in
     let two = second.keyed chunk box below other_listed in
-    let read = read_alike path document region chunk box old before (first.fit chunk box below listed) alike in
-    let same = one_list path document old before region values options chunk box one.cells two.cells region_rank (rank.0 ∙ sym rank.1) (grid_rank ∙ sym rank.0) read one.becomes two.becomes in
-    one_stored (stored_at path document new chunk) (stored_at path document after chunk)
-    (one.key whole ∙ (ap (λ (cells : List Cell). stores_fill document options region box || not (is_fill document.elements.fill cells)) same ∙ sym (two.key whole)))
-    (λ x y is other.
-    some_same (sym (one.encodes refl whole (λ part. ap is_some (alike part).2) x is) ∙ (ap (encoded document.chain document.elements box.shape) same ∙ two.encodes refl whole (λ part. ap is_some (alike part).3) y other)))
+    let read = read_alike write.array.document write.region box stored other (first.fit chunk box below listed) alike in
+    let same = one_list write box stored other one.cells two.cells region_rank (rank.0 ∙ sym rank.1) (grid_rank ∙ sym rank.0) read one.becomes two.becomes in
+    one_stored (value_at write.array new chunk) (value_at write.array after chunk)
+    (one.key whole ∙ (ap (λ (cells : List Cell). keeps_fill write box || not (is_fill write.array.document.elements.fill cells)) same ∙ sym (two.key whole)))
+    (λ x y is also.
+    some_same (sym (one.encodes exact whole (λ part. ap is_some (alike part).2) x is) ∙ (ap (encoded write.array.document.chain write.array.document.elements box.shape) same ∙ two.encodes exact whole (λ part. ap is_some (alike part).3) y also)))

@@ -84,7 +84,7 @@ nothing_stored_shows path document store none chunk box place cell below inside 
 
 -- what is read at a place of a chunk
 abbrev pub part_here : List ℕ → Document → StoreMap → List ℕ → List ℕ → Option (List Cell)
-part_here path document store place chunk = option_and_then (λ box. part_at path document store chunk box place) (chunk_box document.grid chunk)
+part_here path document store place chunk = option_and_then (λ box. part_at document box (stored_at path document store chunk) place) (chunk_box document.grid chunk)
 
 -- the cell at a place: what is read of the first of these chunks that it lies in, or else the fill value
 abbrev pub shown_by : (List ℕ → Option (List Cell)) → (List ℕ → Bool) → Cell → List (List ℕ) → Cell
@@ -114,13 +114,13 @@ listed_chunk grid chunk box below =
     any_places (replicate (length grid) 0) (grid_shape grid) chunk (length-replicate (length grid) 0 ∙ sym (length-map grid chunk_count)) below.below
 
 pub shown_shows : (path : List ℕ) (document : Document) (store : StoreMap) (chunk : List ℕ) (box : Region) (place : List ℕ) → IsInGrid document.grid chunk box → is_in_box box.start box.shape place ≡ true
-    → shown path document store place ≡ first_cell document.elements.fill (part_at path document store chunk box place)
+    → shown path document store place ≡ first_cell document.elements.fill (part_at document box (stored_at path document store chunk) place)
 shown_shows path document store chunk box place below inside =
     let fill = document.elements.fill in
     let here : lies_in_chunk document.grid place chunk ≡ true = lies_here document.grid chunk place box below.has_box ∙ inside in
     shown_of (part_here path document store place) (lies_in_chunk document.grid place) fill chunk (chunk_indices document.grid)
     (λ other lies. chunks_apart document.grid other chunk place lies here) here (listed_chunk document.grid chunk box below)
-    ∙ ap (λ found. first_cell fill (option_and_then (λ (b : Region). part_at path document store chunk b place) found)) below.has_box
+    ∙ ap (λ found. first_cell fill (option_and_then (λ (b : Region). part_at document b (stored_at path document store chunk) place) found)) below.has_box
 
 -- it shows no other
 pub shown_only : (path : List ℕ) (document : Document) (store : StoreMap) → ShowsOnly path document store (shown path document store)

@@ -12,9 +12,8 @@ use Rattle.zarr_codecs_meaning.specs.Types.{Cell, Elements}
 use Rattle.zarr_codecs_meaning.proofs.Lists.{if_some, some_same}
 use Rattle.zarr_codecs_meaning.proofs.PartReading.{part_read}
 use Rattle.zarr_codecs_options.specs.declared.codec_options.CodecOptions.{CodecOptions}
-use Rattle.zarr_array_meaning.specs.Chunks.{number_in, stored_at, fits_box, decoded_at}
+use Rattle.zarr_array_meaning.specs.Chunks.{number_in, fits_box, decoded_in}
 use Rattle.zarr_array_meaning.specs.Documents.{Document}
-use Rattle.zarr_array_meaning.specs.StoreMaps.{StoreMap}
 use Rattle.zarr_array_meaning.specs.Writing.{cell_read, is_in_part, opens_in, takes_cells}
 
 -- of a value that is decoded whole, each place is read as its cell
@@ -24,10 +23,10 @@ part_of_decoded chain elements shape None cells n fit below h = ap (λ c. Some (
 part_of_decoded chain elements shape (Some value) cells n fit below h = part_read chain elements shape value cells (n ∷ []) fit h (ap (λ (b : Bool). b && true) (lt-ltb n (product shape) below))
 
 -- so that is the cell that is read there
-pub read_of_decoded : (path : List ℕ) (document : Document) (store : StoreMap) (chunk : List ℕ) (box : Region) (place : List ℕ) (cells : List Cell) → fits_box document box ≡ true → number_in box place < product box.shape
-    → decoded_at path document store chunk box ≡ Some cells → cell_read path document store chunk box place ≡ get_or cells (number_in box place) document.elements.fill
-read_of_decoded path document store chunk box place cells fit below h =
-    ap (λ (read : Option (List Cell)). get_or (unwrap_or read []) 0 document.elements.fill) (part_of_decoded document.chain document.elements box.shape (stored_at path document store chunk) cells (number_in box place) fit below h)
+pub read_of_decoded : (document : Document) (box : Region) (stored : Option (List ℕ)) (place : List ℕ) (cells : List Cell) → fits_box document box ≡ true → number_in box place < product box.shape
+    → decoded_in document box stored ≡ Some cells → cell_read document box stored place ≡ get_or cells (number_in box place) document.elements.fill
+read_of_decoded document box stored place cells fit below h =
+    ap (λ (read : Option (List Cell)). get_or (unwrap_or read []) 0 document.elements.fill) (part_of_decoded document.chain document.elements box.shape stored cells (number_in box place) fit below h)
 
 pub opens_decoded : (document : Document) (box : Region) (stored : Option (List ℕ)) (cells : List Cell) → fits_box document box ≡ true → chunk_decoded document.chain document.elements box.shape stored ≡ Some cells → opens_in document box stored ≡ true
 opens_decoded document box None cells fit h = refl

@@ -1,5 +1,5 @@
 -- Boxes of cells read from a store, whatever is stored.
-use Rattle.std.specs.Prelude.{◌≡◌, ℕ, ◌<◌, List, length, slice_index_or, None, true, false, is_some, ◌&&◌, if◌then◌else◌}
+use Rattle.std.specs.Prelude.{◌≡◌, ℕ, ◌<◌, List, length, slice_index_or, Option, None, Bool, true, false, is_some, ◌&&◌, if◌then◌else◌}
 use Rattle.std.specs.List.{list_any}
 use Rattle.zarr_grids_boxes.specs.Boxes.{Region, product, is_in_box}
 use Rattle.zarr_grids_chunks.specs.Grids.{Grid, IsInGrid, intersects, lies_in_chunk}
@@ -12,9 +12,13 @@ use Rattle.zarr_array_meaning.specs.StoreMaps.{StoreMap}
 abbrev pub cell_of_box : Region → List Cell → Cell → List ℕ → Cell
 cell_of_box region cells other place = slice_index_or cells (number_in region place) other
 
--- the cells after those of a box that lie in one of these chunks were replaced by new ones
-abbrev pub with_chunks : Grid → Region → List (List ℕ) → (List ℕ → Cell) → (List ℕ → Cell) → List ℕ → Cell
-with_chunks grid region chunks new old place = if is_in_box region.start region.shape place && list_any (lies_in_chunk grid place) chunks then new place else old place
+-- whether a place lies in one of these chunks
+abbrev pub lies_in_any : Grid → List (List ℕ) → List ℕ → Bool
+lies_in_any grid chunks place = list_any (lies_in_chunk grid place) chunks
+
+-- the cells after those of a box at some places were replaced by new ones
+abbrev pub replaced_in : Region → (List ℕ → Bool) → (List ℕ → Cell) → (List ℕ → Cell) → List ℕ → Cell
+replaced_in region is_among new old place = if is_in_box region.start region.shape place && is_among place then new place else old place
 
 -- a place of a box that lies in a chunk in the grid
 pub record IsPlaceOf (document : Document) (region : Region) (chunk : List ℕ) (box : Region) (place : List ℕ) : Type 0 where
@@ -25,19 +29,18 @@ pub record IsPlaceOf (document : Document) (region : Region) (chunk : List ℕ) 
 -- cells are those of a box as they are read: each is what its chunk's value is decoded to at its place, and the fill value where nothing is stored
 pub record IsRead (path : List ℕ) (document : Document) (store : StoreMap) (region : Region) (cells : List Cell) : Type 0 where
   pub many : length cells ≡ product region.shape
-  pub each : (chunk : List ℕ) (box : Region) (place : List ℕ) → IsPlaceOf document region chunk box place → ReadsCell path document store chunk box place (cell_of_box region cells document.elements.fill place)
+  pub each : (chunk : List ℕ) (box : Region) (place : List ℕ) → IsPlaceOf document region chunk box place → ReadsCell document box (stored_at path document store chunk) place (cell_of_box region cells document.elements.fill place)
   pub fit : (chunk : List ℕ) (box : Region) → IsInGrid document.grid chunk box → intersects document.grid region chunk ≡ true → is_some (stored_at path document store chunk) ≡ true → fits_box document box ≡ true
 
 -- the part of a chunk that lies in a box is read: the chunk fits the chain or has no value, and no place of both is damaged
-pub record IsPartRead (path : List ℕ) (document : Document) (store : StoreMap) (region : Region) (chunk : List ℕ) (box : Region) : Type 0 where
-  pub fit : is_some (stored_at path document store chunk) ≡ true → fits_box document box ≡ true
-  pub whole : (place : List ℕ) → is_in_box region.start region.shape place ≡ true → is_in_box box.start box.shape place ≡ true → is_some (part_at path document store chunk box place) ≡ true
+pub record IsPartRead (document : Document) (region box : Region) (stored : Option (List ℕ)) : Type 0 where
+  pub fit : is_some stored ≡ true → fits_box document box ≡ true
+  pub whole : (place : List ℕ) → is_in_box region.start region.shape place ≡ true → is_in_box box.start box.shape place ≡ true → is_some (part_at document box stored place) ≡ true
 
--- a chunk is one that a box intersects, and each one before it is read: those are taken row-major
-pub record AreReadBefore (path : List ℕ) (document : Document) (store : StoreMap) (region : Region) (chunk : List ℕ) (box : Region) : Type 0 where
-  pub number : ℕ
-  pub nth : IsNthIntersecting document.grid region number chunk box
-  pub each : (n : ℕ) (earlier : List ℕ) (other : Region) → n < number → IsNthIntersecting document.grid region n earlier other → IsPartRead path document store region earlier other
+-- of the chunks that a box intersects, taken row-major, each before the one at this number is read
+abbrev pub AreReadBefore : List ℕ → Document → StoreMap → Region → ℕ → Type 0
+AreReadBefore path document store region number = (n : ℕ) (chunk : List ℕ) (box : Region) → n < number → IsNthIntersecting document.grid region n chunk box
+    → IsPartRead document region box (stored_at path document store chunk)
 
 -- the first chunk that a box intersects and that isn't read fits the chain, and a place of both is damaged
 pub record IsDamagedIn (path : List ℕ) (document : Document) (store : StoreMap) (region : Region) : Type 0 where
@@ -46,8 +49,10 @@ pub record IsDamagedIn (path : List ℕ) (document : Document) (store : StoreMap
   pub place : List ℕ
   pub is : IsPlaceOf document region chunk box place
   pub fit : fits_box document box ≡ true
-  pub lost : part_at path document store chunk box place ≡ None
-  pub first : AreReadBefore path document store region chunk box
+  pub lost : part_at document box (stored_at path document store chunk) place ≡ None
+  pub number : ℕ
+  pub nth : IsNthIntersecting document.grid region number chunk box
+  pub first : AreReadBefore path document store region number
 
 -- the first chunk that a box intersects and that isn't read does not fit the chain, and has a value
 pub record IsUnfitIn (path : List ℕ) (document : Document) (store : StoreMap) (region : Region) : Type 0 where
@@ -57,7 +62,9 @@ pub record IsUnfitIn (path : List ℕ) (document : Document) (store : StoreMap) 
   pub shares : intersects document.grid region chunk ≡ true
   pub stored : is_some (stored_at path document store chunk) ≡ true
   pub fit : fits_box document box ≡ false
-  pub first : AreReadBefore path document store region chunk box
+  pub number : ℕ
+  pub nth : IsNthIntersecting document.grid region number chunk box
+  pub first : AreReadBefore path document store region number
 
 -- a box is read, or a chunk of it is damaged first, or one doesn't fit first: never two of these
 abbrev pub ReadsOneWay : Type 0

@@ -23,17 +23,17 @@ stored_at path document store chunk = get store (chunk_key path document.keys ch
 abbrev pub fits_box : Document → Region → Bool
 fits_box document box = fits document.chain document.elements.type box.shape
 
--- the cells that what is stored for a chunk is decoded to, row-major
-abbrev pub decoded_at : List ℕ → Document → StoreMap → List ℕ → Region → Option (List Cell)
-decoded_at path document store chunk box = chunk_decoded document.chain document.elements box.shape (stored_at path document store chunk)
+-- the cells that what is stored for a chunk with this box is decoded to, row-major
+abbrev pub decoded_in : Document → Region → Option (List ℕ) → Option (List Cell)
+decoded_in document box stored = chunk_decoded document.chain document.elements box.shape stored
 
--- what is read at one place of a chunk: nothing where that part is damaged, else one cell
-abbrev pub part_at : List ℕ → Document → StoreMap → List ℕ → Region → List ℕ → Option (List Cell)
-part_at path document store chunk box place = chunk_part document.chain document.elements box.shape (stored_at path document store chunk) (number_in box place ∷ [])
+-- what is read at one place of a chunk of what is stored for it: nothing where that part is damaged, else one cell
+abbrev pub part_at : Document → Region → Option (List ℕ) → List ℕ → Option (List Cell)
+part_at document box stored place = chunk_part document.chain document.elements box.shape stored (number_in box place ∷ [])
 
 -- a place of a chunk is read as this cell
-abbrev pub ReadsCell : List ℕ → Document → StoreMap → List ℕ → Region → List ℕ → Cell → Type 0
-ReadsCell path document store chunk box place cell = part_at path document store chunk box place ≡ Some (cell ∷ [])
+abbrev pub ReadsCell : Document → Region → Option (List ℕ) → List ℕ → Cell → Type 0
+ReadsCell document box stored place cell = part_at document box stored place ≡ Some (cell ∷ [])
 
 -- the chunk at a place among those that a box intersects, and its box
 pub record IsNthIntersecting (grid : Grid) (region : Region) (n : ℕ) (chunk : List ℕ) (box : Region) : Type 0 where

@@ -23,5 +23,5 @@ pub record CompactsChunk (array : Array) (chunk : List ℕ) (changed : Bool) (ol
   pub below : IsInGrid array.document.grid chunk box
   pub is : IsCompacted array.document box.shape changed (value_at array old chunk) (value_at array new chunk)
   pub shows : IsLossless array.document → (place : List ℕ) → is_in_box box.start box.shape place ≡ true
-      → part_at array.path array.document new chunk box place ≡ part_at array.path array.document old chunk box place
+      → part_at array.document box (value_at array new chunk) place ≡ part_at array.document box (value_at array old chunk) place
   pub others : KeepsOtherKeys array.path array.document (chunk ∷ []) old new

@@ -7,8 +7,9 @@ pub mod Laws
 pub mod Chunks
 pub mod Boxes
 pub mod Standing
-pub mod Writing
 pub mod Arrays
+pub mod Writes
+pub mod Writing
 pub mod Compacting
 pub mod Rewriting
 pub mod Versions

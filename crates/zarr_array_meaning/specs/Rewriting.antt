@@ -32,7 +32,7 @@ pub record RewroteChunks (array : Array) (store_empty : Bool) (chunks : List (Li
   pub each : (chunk : List ℕ) (box : Region) → IsInGrid array.document.grid chunk box → is_listed chunks chunk ≡ true
       → (value : List ℕ) × (value_at array old chunk ≡ Some value) × IsRewritten array store_empty box.shape value (value_at array new chunk)
   pub shows : IsLossless array.document → (chunk : List ℕ) (box : Region) (place : List ℕ) → IsInGrid array.document.grid chunk box → is_listed chunks chunk ≡ true → is_in_box box.start box.shape place ≡ true
-      → part_at array.path array.document new chunk box place ≡ part_at array.path array.document old chunk box place
+      → part_at array.document box (value_at array new chunk) place ≡ part_at array.document box (value_at array old chunk) place
   pub others : KeepsOtherKeys array.path array.document chunks old new
 
 -- a chunk that has a key has 2^63 cells or bytes or more

@@ -1,5 +1,5 @@
 -- Which cells a store stands for. Cells are given as a function of their places.
-use Rattle.std.specs.Prelude.{◌≡◌, ℕ, List, map, None, true, is_some}
+use Rattle.std.specs.Prelude.{◌≡◌, ℕ, List, map, Option, None, true, is_some}
 use Rattle.zarr_grids_boxes.specs.Boxes.{Region, places, is_in_box}
 use Rattle.zarr_grids_chunks.specs.Grids.{IsInGrid}
 use Rattle.zarr_codecs_meaning.specs.Types.{Cell, is_value}
@@ -12,21 +12,21 @@ use Rattle.zarr_array_meaning.specs.Documents.{Document}
 use Rattle.zarr_array_meaning.specs.StoreMaps.{StoreMap}
 
 -- what is stored for a chunk stands for its cells
-abbrev pub ChunkStandsAt : List ℕ → Document → StoreMap → List ℕ → Region → (List ℕ → Cell) → Type 0
-ChunkStandsAt path document store chunk box cells = IsStored document.chain document.elements box.shape (stored_at path document store chunk) (map cells (places box.start box.shape))
+abbrev pub ChunkStandsAt : Document → Region → Option (List ℕ) → (List ℕ → Cell) → Type 0
+ChunkStandsAt document box stored cells = IsStored document.chain document.elements box.shape stored (map cells (places box.start box.shape))
 
 -- the same, and each slice of a shard in it is what encoding writes
-abbrev pub ChunkTightAt : List ℕ → Document → StoreMap → List ℕ → Region → (List ℕ → Cell) → Type 0
-ChunkTightAt path document store chunk box cells = ChunkTight document.chain document.elements box.shape (stored_at path document store chunk) (map cells (places box.start box.shape))
+abbrev pub ChunkTightAt : Document → Region → Option (List ℕ) → (List ℕ → Cell) → Type 0
+ChunkTightAt document box stored cells = ChunkTight document.chain document.elements box.shape stored (map cells (places box.start box.shape))
 
 -- what is stored for each chunk in the grid stands for its cells
 abbrev pub StoreStands : List ℕ → Document → StoreMap → (List ℕ → Cell) → Type 0
-StoreStands path document store cells = (chunk : List ℕ) (box : Region) → IsInGrid document.grid chunk box → ChunkStandsAt path document store chunk box cells
+StoreStands path document store cells = (chunk : List ℕ) (box : Region) → IsInGrid document.grid chunk box → ChunkStandsAt document box (stored_at path document store chunk) cells
 
 -- whatever cell is read at a place of a chunk is the function's; where a place is damaged this says nothing
 abbrev pub ShowsOnly : List ℕ → Document → StoreMap → (List ℕ → Cell) → Type 0
 ShowsOnly path document store cells = (chunk : List ℕ) (box : Region) (place : List ℕ) (cell : Cell) → IsInGrid document.grid chunk box → is_in_box box.start box.shape place ≡ true
-    → ReadsCell path document store chunk box place cell → cell ≡ cells place
+    → ReadsCell document box (stored_at path document store chunk) place cell → cell ≡ cells place
 
 -- the chain of a document keeps every bit of its cells
 abbrev pub IsLossless : Document → Type 0
@@ -62,4 +62,4 @@ ShowingSomething = (path : List ℕ) (document : Document) (store : StoreMap) �
 -- a cell that is read of a chunk that fits is a value of the type
 abbrev pub ReadsValues : Type 0
 ReadsValues = (path : List ℕ) (document : Document) (store : StoreMap) (chunk : List ℕ) (box : Region) (place : List ℕ) (cell : Cell) → IsGood document → fits_box document box ≡ true
-    → ReadsCell path document store chunk box place cell → is_value document.elements.type cell ≡ true
+    → ReadsCell document box (stored_at path document store chunk) place cell → is_value document.elements.type cell ≡ true

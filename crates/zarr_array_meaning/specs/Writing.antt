@@ -15,11 +15,13 @@ use Rattle.zarr_codecs_meaning.specs.Laws.{AreCells}
 use Rattle.zarr_codecs_meaning.specs.Standing.{Stands, ChunkStands}
 use Rattle.zarr_codecs_traits.specs.Indexers.{numbers_of}
 use Rattle.zarr_codecs_traits.specs.PartWriting.{PassesLength, StopsPart}
-use Rattle.zarr_array_meaning.specs.Boxes.{cell_of_box, with_chunks}
-use Rattle.zarr_array_meaning.specs.Chunks.{stored_at, fits_box, decoded_at, part_at, ReadsCell, holds_box, is_listed, KeepsOtherKeys}
+use Rattle.zarr_array_meaning.specs.Arrays.{value_at}
+use Rattle.zarr_array_meaning.specs.Boxes.{cell_of_box, lies_in_any, replaced_in}
+use Rattle.zarr_array_meaning.specs.Chunks.{stored_at, fits_box, decoded_in, part_at, ReadsCell, holds_box, is_listed, KeepsOtherKeys}
 use Rattle.zarr_array_meaning.specs.Documents.{Document}
 use Rattle.zarr_array_meaning.specs.Standing.{ChunkStandsAt, ChunkTightAt, IsLossless, AreValues}
 use Rattle.zarr_array_meaning.specs.StoreMaps.{StoreMap}
+use Rattle.zarr_array_meaning.specs.Writes.{Write}
 
 -- whether a write may encode a chunk in part: the option says so, a part of the chunk is to stay, and the chain can
 abbrev pub may_be_in_part : Document → CodecOptions → Region → Region → Bool
@@ -64,88 +66,110 @@ Loses document options region box stored =
     MatchBool (is_into_shard document options region box) (StopsInto document region box stored) (takes_cells document options region box stored ≡ false)
 
 -- the cell that is read at a place of a chunk, and the fill value where none can be
-abbrev pub cell_read : List ℕ → Document → StoreMap → List ℕ → Region → List ℕ → Cell
-cell_read path document store chunk box place = get_or (unwrap_or (part_at path document store chunk box place) []) 0 document.elements.fill
+abbrev pub cell_read : Document → Region → Option (List ℕ) → List ℕ → Cell
+cell_read document box stored place = get_or (unwrap_or (part_at document box stored place) []) 0 document.elements.fill
+
+-- the cell that a write gives at a place of its box
+abbrev pub given_cell : Write → List ℕ → Cell
+given_cell write place = cell_of_box write.region write.cells write.array.document.elements.fill place
+
+-- whether a write puts a part of a chunk into the chunk's shard
+abbrev pub goes_into_shard : Write → Region → Bool
+goes_into_shard write box = is_into_shard write.array.document write.options write.region box
+
+-- whether a write gives a chunk a key even if all its cells are fill
+abbrev pub keeps_fill : Write → Region → Bool
+keeps_fill write box = stores_fill write.array.document write.options write.region box
 
 -- the cells of a chunk after a write of a box: the given ones in the box, and those that are read where cells are to stay, or the fill value where none can be. What is stored takes them; where a part is put into a shard, only that of a write that is done is known to
-pub record ChunkBecomes (path : List ℕ) (document : Document) (store : StoreMap) (region : Region) (values : List Cell) (options : CodecOptions) (chunk : List ℕ) (box : Region) (cells : List Cell) : Type 0 where
+pub record ChunkBecomes (write : Write) (box : Region) (stored : Option (List ℕ)) (cells : List Cell) : Type 0 where
   pub many : length cells ≡ product box.shape
-  pub written : (place : List ℕ) → is_in_box region.start region.shape place ≡ true → is_in_box box.start box.shape place ≡ true
-      → cell_of_box box cells document.elements.fill place ≡ cell_of_box region values document.elements.fill place
-  pub takes : is_into_shard document options region box ≡ false → holds_box region box ≡ false → takes_cells document options region box (stored_at path document store chunk) ≡ true
-  pub kept : holds_box region box ≡ false → (place : List ℕ) → is_in_box region.start region.shape place ≡ false → is_in_box box.start box.shape place ≡ true
-      → cell_of_box box cells document.elements.fill place ≡ cell_read path document store chunk box place
+  pub written : (place : List ℕ) → is_in_box write.region.start write.region.shape place ≡ true → is_in_box box.start box.shape place ≡ true
+      → cell_of_box box cells write.array.document.elements.fill place ≡ given_cell write place
+  pub takes : goes_into_shard write box ≡ false → holds_box write.region box ≡ false → takes_cells write.array.document write.options write.region box stored ≡ true
+  pub kept : holds_box write.region box ≡ false → (place : List ℕ) → is_in_box write.region.start write.region.shape place ≡ false → is_in_box box.start box.shape place ≡ true
+      → cell_of_box box cells write.array.document.elements.fill place ≡ cell_read write.array.document box stored place
 
 -- a chunk of which a part is to stay is damaged
-pub record IsPartDamaged (path : List ℕ) (document : Document) (store : StoreMap) (region : Region) (options : CodecOptions) (chunk : List ℕ) (box : Region) : Type 0 where
-  pub fit : fits_box document box ≡ true
-  pub part : holds_box region box ≡ false
-  pub lost : Loses document options region box (stored_at path document store chunk)
+pub record IsPartDamaged (write : Write) (box : Region) (stored : Option (List ℕ)) : Type 0 where
+  pub fit : fits_box write.array.document box ≡ true
+  pub part : holds_box write.region box ≡ false
+  pub lost : Loses write.array.document write.options write.region box stored
 
 -- a shard isn't decoded, and there is no room behind it for the new slices: put there, they would make 2^63 bytes or more. Of a chain that drops bits the last isn't said
-pub record LacksRoom (path : List ℕ) (document : Document) (store : StoreMap) (region : Region) (values : List Cell) (options : CodecOptions) (chunk : List ℕ) (box : Region) : Type 0 where
-  pub fit : fits_box document box ≡ true
-  pub into : is_into_shard document options region box ≡ true
-  pub undecoded : chunk_decoded document.chain document.elements box.shape (stored_at path document store chunk) ≡ None
-  pub passes : IsLossless document → (cells : List Cell) × ChunkBecomes path document store region values options chunk box cells
-      × PassesLength document.chain document.elements box.shape (stored_at path document store chunk) cells
+pub record LacksRoom (write : Write) (box : Region) (stored : Option (List ℕ)) : Type 0 where
+  pub fit : fits_box write.array.document box ≡ true
+  pub into : goes_into_shard write box ≡ true
+  pub undecoded : decoded_in write.array.document box stored ≡ None
+  pub passes : IsLossless write.array.document → (cells : List Cell) × ChunkBecomes write box stored cells
+      × PassesLength write.array.document.chain write.array.document.elements box.shape stored cells
 
--- the caller's codec refuses bytes that encoding the chunk's new cells calls for; cells that are all fill are encoded only where such a chunk is stored
-pub record IsCodecRefused (path : List ℕ) (document : Document) (store : StoreMap) (region : Region) (values : List Cell) (options : CodecOptions) (chunk : List ℕ) (box : Region) : Type 0 where
-  pub fit : fits_box document box ≡ true
+-- the chunk's new cells are encoded: cells that are all fill only where such a chunk is stored
+abbrev pub IsEncodedFor : Write → Region → List Cell → Type 0
+IsEncodedFor write box cells = goes_into_shard write box ≡ false → keeps_fill write box ≡ false → is_fill write.array.document.elements.fill cells ≡ false
+
+-- the caller's codec refuses bytes that encoding the chunk's new cells calls for
+pub record IsCodecRefused (write : Write) (box : Region) (stored : Option (List ℕ)) : Type 0 where
+  pub fit : fits_box write.array.document box ≡ true
   pub cells : List Cell
-  pub becomes : ChunkBecomes path document store region values options chunk box cells
-  pub called : is_into_shard document options region box ≡ false → stores_fill document options region box ≡ false → is_fill document.elements.fill cells ≡ false
-  pub refuses : CodecRefuses document.chain document.elements box.shape cells
+  pub becomes : ChunkBecomes write box stored cells
+  pub called : IsEncodedFor write box cells
+  pub refuses : CodecRefuses write.array.document.chain write.array.document.elements box.shape cells
 
 -- an offset or a length passes where it is written, or the chunk's value has 2^63 bytes or more; new slices put behind a shard may make it so long
-pub record IsOversized (path : List ℕ) (document : Document) (store : StoreMap) (region : Region) (values : List Cell) (options : CodecOptions) (chunk : List ℕ) (box : Region) : Type 0 where
-  pub fit : fits_box document box ≡ true
+pub record IsOversized (write : Write) (box : Region) (stored : Option (List ℕ)) : Type 0 where
+  pub fit : fits_box write.array.document box ≡ true
   pub cells : List Cell
-  pub becomes : ChunkBecomes path document store region values options chunk box cells
-  pub called : is_into_shard document options region box ≡ false → stores_fill document options region box ≡ false → is_fill document.elements.fill cells ≡ false
-  pub passes : PassesIndex document.chain document.elements box.shape cells ⊎ ((value : List ℕ) × (encoded document.chain document.elements box.shape cells ≡ Some value) × (2 ^ 63 ≤ length value))
-      ⊎ ((is_into_shard document options region box ≡ true) × PassesLength document.chain document.elements box.shape (stored_at path document store chunk) cells)
+  pub becomes : ChunkBecomes write box stored cells
+  pub called : IsEncodedFor write box cells
+  pub passes : PassesIndex write.array.document.chain write.array.document.elements box.shape cells
+      ⊎ ((value : List ℕ) × (encoded write.array.document.chain write.array.document.elements box.shape cells ≡ Some value) × (2 ^ 63 ≤ length value))
+      ⊎ ((goes_into_shard write box ≡ true) × PassesLength write.array.document.chain write.array.document.elements box.shape stored cells)
 
 -- a chunk that was written has its new cells, and a key exactly where these are not all fill or such a chunk is stored, whatever the chain keeps of them; its value is what encoding makes of these cells, where that depends on them alone (`exact`), as without shards, and the box holds the whole chunk or the chunk was decoded before. Where a part was put into its shard, it has a key exactly where its cells aren't all fill, if what was stored stood for cells
-pub record IsKeyed (path : List ℕ) (document : Document) (exact : Bool) (region : Region) (values : List Cell) (options : CodecOptions) (old new : StoreMap) (chunk : List ℕ) (box : Region) : Type 0 where
+pub record IsKeyed (write : Write) (box : Region) (old new : Option (List ℕ)) : Type 0 where
   pub cells : List Cell
-  pub becomes : ChunkBecomes path document old region values options chunk box cells
-  pub key : is_into_shard document options region box ≡ false → is_some (stored_at path document new chunk) ≡ (stores_fill document options region box || not (is_fill document.elements.fill cells))
-  pub taken : is_into_shard document options region box ≡ true → IsLossless document → (before : List Cell) → AreCells document.elements box.shape before
-      → ChunkStands document.chain document.elements box.shape (stored_at path document old chunk) before → is_some (stored_at path document new chunk) ≡ not (is_fill document.elements.fill cells)
-  pub encodes : IsTrue exact → is_into_shard document options region box ≡ false → (holds_box region box ≡ false → is_some (decoded_at path document old chunk box) ≡ true)
-      → (value : List ℕ) → stored_at path document new chunk ≡ Some value → encoded document.chain document.elements box.shape cells ≡ Some value
+  pub becomes : ChunkBecomes write box old cells
+  pub key : goes_into_shard write box ≡ false → is_some new ≡ (keeps_fill write box || not (is_fill write.array.document.elements.fill cells))
+  pub taken : goes_into_shard write box ≡ true → IsLossless write.array.document → (before : List Cell) → AreCells write.array.document.elements box.shape before
+      → ChunkStands write.array.document.chain write.array.document.elements box.shape old before → is_some new ≡ not (is_fill write.array.document.elements.fill cells)
+  pub encodes : IsTrue write.array.exact → goes_into_shard write box ≡ false → (holds_box write.region box ≡ false → is_some (decoded_in write.array.document box old) ≡ true)
+      → (value : List ℕ) → new ≡ Some value → encoded write.array.document.chain write.array.document.elements box.shape cells ≡ Some value
 
 -- of these chunks each that is stored even if all its cells are fill has a key; no other has a value that stands for the fill value alone
-pub record HasKeys (path : List ℕ) (document : Document) (region : Region) (options : CodecOptions) (chunks : List (List ℕ)) (store : StoreMap) : Type 0 where
-  pub stored : (chunk : List ℕ) (box : Region) → IsInGrid document.grid chunk box → stores_fill document options region box ≡ true → is_listed chunks chunk ≡ true
-      → is_some (stored_at path document store chunk) ≡ true
-  pub erased : IsLossless document → (chunk : List ℕ) (box : Region) → IsInGrid document.grid chunk box → is_into_shard document options region box ≡ false → stores_fill document options region box ≡ false → is_listed chunks chunk ≡ true
-      → (value : List ℕ) → stored_at path document store chunk ≡ Some value → ¬ Stands document.chain document.elements box.shape value (replicate (product box.shape) document.elements.fill)
+pub record HasKeys (write : Write) (chunks : List (List ℕ)) (store : StoreMap) : Type 0 where
+  pub stored : (chunk : List ℕ) (box : Region) → IsInGrid write.array.document.grid chunk box → keeps_fill write box ≡ true → is_listed chunks chunk ≡ true
+      → is_some (value_at write.array store chunk) ≡ true
+  pub erased : IsLossless write.array.document → (chunk : List ℕ) (box : Region) → IsInGrid write.array.document.grid chunk box → goes_into_shard write box ≡ false → keeps_fill write box ≡ false → is_listed chunks chunk ≡ true
+      → (value : List ℕ) → value_at write.array store chunk ≡ Some value
+      → ¬ Stands write.array.document.chain write.array.document.elements box.shape value (replicate (product box.shape) write.array.document.elements.fill)
 
 -- whatever was stored, each of these chunks is read as the given cells at the places of the box, and as before at its other places
-abbrev pub ShowsWritten : List ℕ → Document → Region → List Cell → List (List ℕ) → StoreMap → StoreMap → Type 0
-ShowsWritten path document region values chunks old new = (chunk : List ℕ) (box : Region) (place : List ℕ) → IsInGrid document.grid chunk box → is_listed chunks chunk ≡ true → is_in_box box.start box.shape place ≡ true
-    → MatchBool (is_in_box region.start region.shape place) (ReadsCell path document new chunk box place (cell_of_box region values document.elements.fill place))
-    (part_at path document new chunk box place ≡ part_at path document old chunk box place)
+abbrev pub ShowsWritten : Write → List (List ℕ) → StoreMap → StoreMap → Type 0
+ShowsWritten write chunks old new = (chunk : List ℕ) (box : Region) (place : List ℕ) → IsInGrid write.array.document.grid chunk box → is_listed chunks chunk ≡ true → is_in_box box.start box.shape place ≡ true
+    → MatchBool (is_in_box write.region.start write.region.shape place) (ReadsCell write.array.document box (value_at write.array new chunk) place (given_cell write place))
+    (part_at write.array.document box (value_at write.array new chunk) place ≡ part_at write.array.document box (value_at write.array old chunk) place)
+
+-- the cells of an array after those of a write were written to some of the chunks that its box intersects
+abbrev pub written_over : Write → List (List ℕ) → (List ℕ → Cell) → List ℕ → Cell
+written_over write chunks cells = replaced_in write.region (lies_in_any write.array.document.grid chunks) (given_cell write) cells
 
 -- the cells of a box are given to some of the chunks that it intersects. Where the chain keeps every bit, each chunk is read so afterwards; one that stood for its cells stands for its new ones, and one whose slices are what encoding writes keeps such slices, where encoding depends on the cells alone (`exact`);
 -- and one that lies in the box stands for the given cells, whatever was stored. Whatever the chain keeps, each chunk fits, one of which a part is to stay was not damaged, each has a key exactly where its new cells call for one, and only those chunks' keys changed; and where what encoding makes of cells depends on these alone (`exact`), each value is the encoding of its chunk's new cells, if the box holds the whole chunk or the chunk was decoded before
-pub record WroteChunks (path : List ℕ) (document : Document) (exact : Bool) (region : Region) (values : List Cell) (options : CodecOptions) (chunks : List (List ℕ)) (old new : StoreMap) : Type 0 where
-  pub fit : (chunk : List ℕ) (box : Region) → IsInGrid document.grid chunk box → is_listed chunks chunk ≡ true → fits_box document box ≡ true
-  pub undamaged : (chunk : List ℕ) (box : Region) → IsInGrid document.grid chunk box → is_listed chunks chunk ≡ true → holds_box region box ≡ false
-      → Takes document options region box (stored_at path document old chunk)
-  pub shows : IsLossless document → ShowsWritten path document region values chunks old new
-  pub keeps : IsLossless document → (cells : List ℕ → Cell) → AreValues document cells → (chunk : List ℕ) (box : Region) → IsInGrid document.grid chunk box → ChunkStandsAt path document old chunk box cells
-      → ChunkStandsAt path document new chunk box (with_chunks document.grid region chunks (cell_of_box region values document.elements.fill) cells)
-  pub tight : IsTrue exact → IsLossless document → (cells : List ℕ → Cell) → AreValues document cells → (chunk : List ℕ) (box : Region) → IsInGrid document.grid chunk box → ChunkTightAt path document old chunk box cells
-      → ChunkTightAt path document new chunk box (with_chunks document.grid region chunks (cell_of_box region values document.elements.fill) cells)
-  pub makes : IsLossless document → (chunk : List ℕ) (box : Region) → IsInGrid document.grid chunk box → is_listed chunks chunk ≡ true → holds_box region box ≡ true
-      → ChunkStandsAt path document new chunk box (cell_of_box region values document.elements.fill)
-  pub others : KeepsOtherKeys path document chunks old new
-  pub keys : HasKeys path document region options chunks new
-  pub keyed : (chunk : List ℕ) (box : Region) → IsInGrid document.grid chunk box → is_listed chunks chunk ≡ true → IsKeyed path document exact region values options old new chunk box
+pub record WroteChunks (write : Write) (chunks : List (List ℕ)) (old new : StoreMap) : Type 0 where
+  pub fit : (chunk : List ℕ) (box : Region) → IsInGrid write.array.document.grid chunk box → is_listed chunks chunk ≡ true → fits_box write.array.document box ≡ true
+  pub undamaged : (chunk : List ℕ) (box : Region) → IsInGrid write.array.document.grid chunk box → is_listed chunks chunk ≡ true → holds_box write.region box ≡ false
+      → Takes write.array.document write.options write.region box (value_at write.array old chunk)
+  pub shows : IsLossless write.array.document → ShowsWritten write chunks old new
+  pub keeps : IsLossless write.array.document → (cells : List ℕ → Cell) → AreValues write.array.document cells → (chunk : List ℕ) (box : Region) → IsInGrid write.array.document.grid chunk box
+      → ChunkStandsAt write.array.document box (value_at write.array old chunk) cells → ChunkStandsAt write.array.document box (value_at write.array new chunk) (written_over write chunks cells)
+  pub tight : IsTrue write.array.exact → IsLossless write.array.document → (cells : List ℕ → Cell) → AreValues write.array.document cells → (chunk : List ℕ) (box : Region) → IsInGrid write.array.document.grid chunk box
+      → ChunkTightAt write.array.document box (value_at write.array old chunk) cells → ChunkTightAt write.array.document box (value_at write.array new chunk) (written_over write chunks cells)
+  pub makes : IsLossless write.array.document → (chunk : List ℕ) (box : Region) → IsInGrid write.array.document.grid chunk box → is_listed chunks chunk ≡ true → holds_box write.region box ≡ true
+      → ChunkStandsAt write.array.document box (value_at write.array new chunk) (given_cell write)
+  pub others : KeepsOtherKeys write.array.path write.array.document chunks old new
+  pub keys : HasKeys write chunks new
+  pub keyed : (chunk : List ℕ) (box : Region) → IsInGrid write.array.document.grid chunk box → is_listed chunks chunk ≡ true → IsKeyed write box (value_at write.array old chunk) (value_at write.array new chunk)
 
 -- some chunks are erased: they have no key, and no other key changed
 pub record ErasedChunks (path : List ℕ) (document : Document) (chunks : List (List ℕ)) (old new : StoreMap) : Type 0 where
@@ -156,24 +180,27 @@ pub record ErasedChunks (path : List ℕ) (document : Document) (chunks : List (
 
 -- no chunk that was written was damaged where a part of it is to stay; where the part is put into a shard, the subchunks that it doesn't meet don't matter
 abbrev pub WrittenUndamaged : Type 0
-WrittenUndamaged = (path : List ℕ) (document : Document) (exact : Bool) (region : Region) (values : List Cell) (options : CodecOptions) (chunks : List (List ℕ)) (old new : StoreMap) (chunk : List ℕ) (box : Region)
-    → WroteChunks path document exact region values options chunks old new → IsInGrid document.grid chunk box → is_listed chunks chunk ≡ true → IsPartDamaged path document old region options chunk box → ⊥
+WrittenUndamaged = (write : Write) (chunks : List (List ℕ)) (old new : StoreMap) (chunk : List ℕ) (box : Region)
+    → WroteChunks write chunks old new → IsInGrid write.array.document.grid chunk box → is_listed chunks chunk ≡ true → IsPartDamaged write box (value_at write.array old chunk) → ⊥
 
 -- two writes of the same cells over the same store leave keys to the same chunks of those that they wrote, whatever the chain keeps
 abbrev pub WrittenKeysAlike : Type 0
-WrittenKeysAlike = (path : List ℕ) (document : Document) (exact : Bool) (region : Region) (values : List Cell) (options : CodecOptions) (chunks : List (List ℕ)) (old new other : StoreMap) (chunk : List ℕ) (box : Region)
-    → WroteChunks path document exact region values options chunks old new → WroteChunks path document exact region values options chunks old other → IsInGrid document.grid chunk box → is_listed chunks chunk ≡ true → is_into_shard document options region box ≡ false
-    → length region.start ≡ length region.shape → length region.start ≡ length document.grid → is_some (stored_at path document new chunk) ≡ is_some (stored_at path document other chunk)
+WrittenKeysAlike = (write : Write) (chunks : List (List ℕ)) (old new other : StoreMap) (chunk : List ℕ) (box : Region)
+    → WroteChunks write chunks old new → WroteChunks write chunks old other → IsInGrid write.array.document.grid chunk box → is_listed chunks chunk ≡ true → goes_into_shard write box ≡ false
+    → length write.region.start ≡ length write.region.shape → length write.region.start ≡ length write.array.document.grid
+    → is_some (value_at write.array new chunk) ≡ is_some (value_at write.array other chunk)
 
--- two stores are decoded, to the same cells at the places of a chunk that lie outside a box
-abbrev pub DecodesAlikeOutside : List ℕ → Document → Region → StoreMap → StoreMap → List ℕ → Region → Type 0
-DecodesAlikeOutside path document region old before chunk box = (a : List Cell) × (b : List Cell) × (decoded_at path document old chunk box ≡ Some a) × (decoded_at path document before chunk box ≡ Some b)
+-- two values of a chunk, or none, are decoded, to the same cells at the places that lie outside a box
+abbrev pub DecodesAlikeOutside : Document → Region → Region → Option (List ℕ) → Option (List ℕ) → Type 0
+DecodesAlikeOutside document region box stored other = (a : List Cell) × (b : List Cell) × (decoded_in document box stored ≡ Some a) × (decoded_in document box other ≡ Some b)
     × ((place : List ℕ) → is_in_box region.start region.shape place ≡ false → is_in_box box.start box.shape place ≡ true
     → cell_of_box box a document.elements.fill place ≡ cell_of_box box b document.elements.fill place)
 
 -- two writes of the same cells with the same options leave the same value of a chunk, or none, whatever was stored before: where a part of the chunk is to stay, the chunk has to be decoded before both, and that part alike. So a second write leaves the value of a first one, where the chunk is decoded before both, and what stays alike
 abbrev pub RewrittenAlike : Type 0
-RewrittenAlike = (path : List ℕ) (document : Document) (region : Region) (values : List Cell) (options : CodecOptions) (chunks others : List (List ℕ)) (old new before after : StoreMap) (chunk : List ℕ) (box : Region)
-    → WroteChunks path document true region values options chunks old new → WroteChunks path document true region values options others before after
-    → IsInGrid document.grid chunk box → is_listed chunks chunk ≡ true → is_listed others chunk ≡ true → is_into_shard document options region box ≡ false → length region.start ≡ length region.shape → length region.start ≡ length document.grid
-    → (holds_box region box ≡ false → DecodesAlikeOutside path document region old before chunk box) → stored_at path document new chunk ≡ stored_at path document after chunk
+RewrittenAlike = (write : Write) (chunks others : List (List ℕ)) (old new before after : StoreMap) (chunk : List ℕ) (box : Region)
+    → IsTrue write.array.exact → WroteChunks write chunks old new → WroteChunks write others before after
+    → IsInGrid write.array.document.grid chunk box → is_listed chunks chunk ≡ true → is_listed others chunk ≡ true → goes_into_shard write box ≡ false
+    → length write.region.start ≡ length write.region.shape → length write.region.start ≡ length write.array.document.grid
+    → (holds_box write.region box ≡ false → DecodesAlikeOutside write.array.document write.region box (value_at write.array old chunk) (value_at write.array before chunk))
+    → value_at write.array new chunk ≡ value_at write.array after chunk
