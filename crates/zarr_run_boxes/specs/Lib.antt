@@ -1,4 +1,5 @@
 pub mod Outcomes
+pub mod Asked
 pub mod Calls
 pub mod Compacting
 pub mod Rewriting

@@ -1,5 +1,5 @@
 -- What commands over the cells of one array answer and leave.
-use Rattle.std.specs.Prelude.{◌≡◌, ◌⊎◌, ℕ, ◌<◌, Bool, List, length, take, Some, None, Result, Ok, Err}
+use Rattle.std.specs.Prelude.{◌≡◌, ◌⊎◌, ℕ, ◌<◌, List, length, take, Some, None, Result, Ok, Err}
 use Rattle.serde_json.specs.Data.{Data}
 use Rattle.zarr_grids_boxes.specs.Boxes.{Region, product, places}
 use Rattle.zarr_grids_chunks.specs.Grids.{IsInGrid, intersecting}
@@ -9,14 +9,16 @@ use Rattle.zarr_codecs_options.specs.declared.codec_options.CodecOptions.{CodecO
 use Rattle.zarr_codecs_types.specs.Given.{GivenCells, given_in, given_json}
 use Rattle.zarr_array_core.specs.declared.error.ChunkError.{ChunkError}
 use Rattle.zarr_array_core.specs.declared.error.ChunkError.TheVariants as error
+use Rattle.zarr_array_meaning.specs.Arrays.{Array}
 use Rattle.zarr_array_meaning.specs.Boxes.{IsRead, IsDamagedIn, IsUnfitIn}
 use Rattle.zarr_array_meaning.specs.Documents.{Document}
 use Rattle.zarr_array_meaning.specs.StoreMaps.{StoreMap}
+use Rattle.zarr_array_meaning.specs.Writes.{write_to}
 use Rattle.zarr_array_meaning.specs.Writing.{WroteChunks, ErasedChunks}
 use Rattle.zarr_run_meaning.specs.declared.cause.Cause.{Cause}
 use Rattle.zarr_run_meaning.specs.declared.cause.Cause.TheVariants as cause
 use Rattle.zarr_run_meaning.specs.Causes.{IsTarget, AreTargets, Gives, IsGiven, HasTooLarge, HasTooLargeChunk, WriteRefuses, StopsAt, ReadRefuses, EraseRefuses, EraseStops}
-use Rattle.zarr_run_meaning.specs.Requests.{Target}
+use Rattle.zarr_run_meaning.specs.Requests.{Target, WriteAsked}
 use Rattle.zarr_run_meaning.specs.Steps.{refused_after}
 use Rattle.zarr_run_boxes.specs.declared.refusal.Refusal.{Refusal}
 
@@ -51,41 +53,47 @@ ReadRefused path document store target c = ReadRefuses path document store targe
 -- ---- writes
 
 -- the cells that a write gives were written to each chunk that its box intersects
-pub record WritesTarget (path : List ℕ) (document : Document) (exact : Bool) (target : Target) (given : GivenCells) (options : CodecOptions) (old new : StoreMap) : Type 0 where
+pub record WritesTarget (array : Array) (asked : WriteAsked) (old new : StoreMap) : Type 0 where
   pub box : Region
   pub values : List Cell
-  pub is : IsGiven document target given box values
-  pub small : ¬ HasTooLarge document box
-  pub wrote : WroteChunks path document exact box values options (intersecting document.grid box) old new
+  pub is : IsGiven array.document asked.target asked.cells box values
+  pub small : ¬ HasTooLarge array.document box
+  pub wrote : WroteChunks (write_to array box values asked.options) (intersecting array.document.grid box) old new
 
 -- a write stopped at a chunk: of the chunks that its box intersects exactly those before it are written
-pub record WroteFirst (path : List ℕ) (document : Document) (exact : Bool) (target : Target) (given : GivenCells) (options : CodecOptions) (old new : StoreMap) (refusal : Refusal) : Type 0 where
+pub record WroteFirst (array : Array) (asked : WriteAsked) (refusal : Refusal) (old new : StoreMap) : Type 0 where
   pub box : Region
   pub values : List Cell
-  pub is : IsGiven document target given box values
-  pub small : ¬ HasTooLarge document box
-  pub stops : StopsAt path document old box values options refusal.applied refusal.cause
-  pub wrote : WroteChunks path document exact box values options (take refusal.applied (intersecting document.grid box)) old new
+  pub is : IsGiven array.document asked.target asked.cells box values
+  pub small : ¬ HasTooLarge array.document box
+  pub stops : StopsAt (write_to array box values asked.options) old refusal.applied refusal.cause
+  pub wrote : WroteChunks (write_to array box values asked.options) (take refusal.applied (intersecting array.document.grid box)) old new
 
 -- a write was refused: as a whole, for want of memory before a chunk was touched, or at a chunk
-abbrev pub WriteRefused : List ℕ → Document → Bool → Target → GivenCells → CodecOptions → StoreMap → StoreMap → Refusal → Type 0
-WriteRefused path document exact target given options old new refusal =
-    (IsUntouched refusal old new × (WriteRefuses document target given refusal.cause ⊎ (refusal.cause ≡ cause.Memory))) ⊎ WroteFirst path document exact target given options old new refusal
+abbrev pub WriteRefused : Array → WriteAsked → Refusal → StoreMap → StoreMap → Type 0
+WriteRefused array asked refusal old new =
+    (IsUntouched refusal old new × (WriteRefuses array.document asked.target asked.cells refusal.cause ⊎ (refusal.cause ≡ cause.Memory))) ⊎ WroteFirst array asked refusal old new
+
+-- cells that are given for a covered box, and how they are stored
+pub record BoxAsked : Type 0 where
+  pub region : Region
+  pub cells : GivenCells
+  pub options : CodecOptions
 
 -- the cells that are given for a covered box were written
-pub record WritesCovered (path : List ℕ) (document : Document) (exact : Bool) (region : Region) (given : GivenCells) (options : CodecOptions) (old new : StoreMap) : Type 0 where
+pub record WritesCovered (array : Array) (asked : BoxAsked) (old new : StoreMap) : Type 0 where
   pub values : List Cell
-  pub gives : Gives document region given values
-  pub small : ¬ HasTooLarge document region
-  pub wrote : WroteChunks path document exact region values options (intersecting document.grid region) old new
+  pub gives : Gives array.document asked.region asked.cells values
+  pub small : ¬ HasTooLarge array.document asked.region
+  pub wrote : WroteChunks (write_to array asked.region values asked.options) (intersecting array.document.grid asked.region) old new
 
 -- the cells that are given for a covered box were written to the first of the chunks that it intersects, and why the next one was not written
-pub record WroteFirstCovered (path : List ℕ) (document : Document) (exact : Bool) (region : Region) (given : GivenCells) (options : CodecOptions) (old new : StoreMap) (refusal : Refusal) : Type 0 where
+pub record WroteFirstCovered (array : Array) (asked : BoxAsked) (refusal : Refusal) (old new : StoreMap) : Type 0 where
   pub values : List Cell
-  pub gives : Gives document region given values
-  pub small : ¬ HasTooLarge document region
-  pub stops : StopsAt path document old region values options refusal.applied refusal.cause
-  pub wrote : WroteChunks path document exact region values options (take refusal.applied (intersecting document.grid region)) old new
+  pub gives : Gives array.document asked.region asked.cells values
+  pub small : ¬ HasTooLarge array.document asked.region
+  pub stops : StopsAt (write_to array asked.region values asked.options) old refusal.applied refusal.cause
+  pub wrote : WroteChunks (write_to array asked.region values asked.options) (take refusal.applied (intersecting array.document.grid asked.region)) old new
 
 -- why the cells that are given for a covered box are not written, before a chunk is touched
 abbrev pub CoveredWriteRefuses : Document → Region → GivenCells → Cause → Type 0
@@ -95,9 +103,9 @@ CoveredWriteRefuses document region given cause.Memory = Unit {0}
 CoveredWriteRefuses document region given c = ⊥
 
 -- a write of a covered box was refused: before a chunk was touched, or at a chunk
-abbrev pub CoveredWriteRefused : List ℕ → Document → Bool → Region → GivenCells → CodecOptions → StoreMap → StoreMap → Refusal → Type 0
-CoveredWriteRefused path document exact region given options old new refusal =
-    (IsUntouched refusal old new × CoveredWriteRefuses document region given refusal.cause) ⊎ WroteFirstCovered path document exact region given options old new refusal
+abbrev pub CoveredWriteRefused : Array → BoxAsked → Refusal → StoreMap → StoreMap → Type 0
+CoveredWriteRefused array asked refusal old new =
+    (IsUntouched refusal old new × CoveredWriteRefuses array.document asked.region asked.cells refusal.cause) ⊎ WroteFirstCovered array asked refusal old new
 
 -- a payload is as many values of the type as a box has places
 pub record AreValuesOf (document : Document) (region : Region) (payload : Payload) (values : List Cell) : Type 0 where
@@ -117,23 +125,23 @@ JsonRefused type d c = ⊥
 -- ---- erasures
 
 -- the chunks that an erasure names were erased
-pub record ErasesTarget (path : List ℕ) (document : Document) (chunks : Region) (old new : StoreMap) : Type 0 where
-  pub below : AreTargets document.grid chunks
-  pub small : ¬ HasTooLargeChunk document chunks
-  pub erased : ErasedChunks path document (places chunks.start chunks.shape) old new
+pub record ErasesTarget (array : Array) (chunks : Region) (old new : StoreMap) : Type 0 where
+  pub below : AreTargets array.document.grid chunks
+  pub small : ¬ HasTooLargeChunk array.document chunks
+  pub erased : ErasedChunks array.path array.document (places chunks.start chunks.shape) old new
 
 -- an erasure stopped at a chunk: exactly the chunks before it are erased
-pub record ErasedFirst (path : List ℕ) (document : Document) (chunks : Region) (old new : StoreMap) (refusal : Refusal) : Type 0 where
-  pub below : AreTargets document.grid chunks
-  pub small : ¬ HasTooLargeChunk document chunks
+pub record ErasedFirst (array : Array) (chunks : Region) (refusal : Refusal) (old new : StoreMap) : Type 0 where
+  pub below : AreTargets array.document.grid chunks
+  pub small : ¬ HasTooLargeChunk array.document chunks
   pub stops : EraseStops refusal.cause
   pub fewer : refusal.applied < product chunks.shape
-  pub erased : ErasedChunks path document (take refusal.applied (places chunks.start chunks.shape)) old new
+  pub erased : ErasedChunks array.path array.document (take refusal.applied (places chunks.start chunks.shape)) old new
 
 -- an erasure was refused: as a whole, at a chunk, or for want of memory before a chunk was touched
-abbrev pub EraseRefused : List ℕ → Document → Region → StoreMap → StoreMap → Refusal → Type 0
-EraseRefused path document chunks old new refusal =
-    (IsUntouched refusal old new × (EraseRefuses document chunks refusal.cause ⊎ (refusal.cause ≡ cause.Memory))) ⊎ ErasedFirst path document chunks old new refusal
+abbrev pub EraseRefused : Array → Region → Refusal → StoreMap → StoreMap → Type 0
+EraseRefused array chunks refusal old new =
+    (IsUntouched refusal old new × (EraseRefuses array.document chunks refusal.cause ⊎ (refusal.cause ≡ cause.Memory))) ⊎ ErasedFirst array chunks refusal old new
 
 -- the cause that an error over a chunk becomes
 abbrev pub cause_of : ChunkError → Cause
