@@ -52,9 +52,9 @@ impl<C: ArrayToBytesCodecTraits> ArrayCore<C> {
     ghost use Rattle.zarr_array_elements.specs.Views.{AreShown, cells_shown};
     ghost use Rattle.zarr_array_core.specs.Arrays.{array_of};
     ghost use Rattle.zarr_array_core.specs.Calls.{Reads};
-    ghost use Rattle.zarr_array_core.specs.Views.{document_of, path_of};
+    ghost use Rattle.zarr_array_core.specs.Views.{document_of};
     ghost use Rattle.zarr_array_core.specs.Outcomes.{IsSmall, refused_after};
-    ghost use Rattle.zarr_array_core.specs.Parts.{AreShared, DecodesElements, FindsAt, FindsPart, GivesChunk, PartNotRead, ValueStops};
+    ghost use Rattle.zarr_array_core.specs.Parts.{AreShared, DecodesElements, FindsAt, FindsPart, GivesChunk, PartNotRead, ValueStops, met_in};
 
     /// The elements of a box after those of a chunk that lie in it were put over them, where
     /// nothing is stored for the chunk fill values. They stay where nothing is stored for it and it
@@ -78,8 +78,8 @@ impl<C: ArrayToBytesCodecTraits> ArrayCore<C> {
             (region_of read.entry.region.now)) }
         ensures ok { IsTrue (S.is_honest store.old) → IfOk result (λ made. (box : Region)
             → IsInGrid (document_of C.meaning self.now).grid chunk.now box
-            → GivesChunk (path_of self.now) (document_of C.meaning self.now)
-            (S.held store.old) (region_of read.entry.region.now) chunk.now box
+            → GivesChunk (met_in (array_of C.ArrayToBytesCodecTraits self.now)
+            (S.held store.old) (region_of read.entry.region.now) chunk.now box)
             (cells_shown (document_of C.meaning self.now).elements shown)
             (cells_shown (document_of C.meaning self.now).elements made)) }
         ensures err { IsTrue (S.is_honest store.old) → IfErr result (PartNotRead
@@ -165,9 +165,12 @@ impl<C: ArrayToBytesCodecTraits> ArrayCore<C> {
         ensures found { IsTrue (S.is_honest store.old) → IfOk result (FindsPart
             (document_of C.meaning self.now) (region_of own.now)
             (map.get (S.held store.old) key.now)) }
-        ensures err { IsTrue (S.is_honest store.old) → IfErr result
-            (ValueStops (document_of C.meaning self.now) (region_of read.entry.region.now)
-            (region_of own.now) (map.get (S.held store.old) key.now)) }
+        ensures err { IsTrue (S.is_honest store.old) → IfErr result (ValueStops record {
+          document = document_of C.meaning self.now;
+          region = region_of read.entry.region.now;
+          box = region_of own.now;
+          stored = map.get (S.held store.old) key.now;
+        }) }
         ensures store { Reads S.ReadableStorageTraits store.old store.new
             (refused_after (S.refused_calls store.old) result) }
     {

@@ -57,6 +57,7 @@ impl<C: ArrayToBytesCodecTraits> ArrayCore<C> {
     ghost use Rattle.std.specs.Prelude.{◌≡◌, ◌*◌, ◌<◌, ℕ, List, Option, true, length, replicate, IfOk, IfErr, IsTrue, Some};
     ghost use Rattle.std.specs.List.{list_all};
     ghost use Rattle.zarr_array_core.specs.Arrays.{array_of};
+    ghost use Rattle.zarr_array_core.specs.BoxWrites.{write_of};
     ghost use Rattle.zarr_array_core.specs.ChunkValues.{CellsBecome, DecodeStops, EncodeRefuses, EncodeStops, IsNewValue};
     ghost use Rattle.zarr_array_core.specs.IntoShards.{IntoUnknown};
     ghost use Rattle.zarr_array_core.specs.Views.{array_cells, AreSoMany, document_of, is_exact};
@@ -145,10 +146,9 @@ impl<C: ArrayToBytesCodecTraits> ArrayCore<C> {
         requires values { list_all (is_value (document_of C.meaning self.now).elements.type)
             (array_cells self.now write.now.bytes.now) ≡ true }
         requires holds { holds_box (extent_of write.now.region) (region_of own.now) ≡ true }
-        ensures ok { IfOk result (λ bytes. (stored : Option (List ℕ)) →
-            CellsBecome (document_of C.meaning self.now) (extent_of write.now.region)
-            (array_cells self.now write.now.bytes.now) stored
-            (region_of own.now) (array_cells self.now bytes)) }
+        ensures ok { IfOk result (λ bytes. (stored : Option (List ℕ)) → CellsBecome
+            (write_of C.ArrayToBytesCodecTraits self.now write.now) (region_of own.now) stored
+            (array_cells self.now bytes)) }
         ensures counted { IfOk result
             (λ bytes. AreSoMany self.now bytes (product own.now.shape.items)) }
         ensures err { IfErr result (λ e. e ≡ Memory) }
@@ -174,10 +174,9 @@ impl<C: ArrayToBytesCodecTraits> ArrayCore<C> {
             (product write.now.region.shape.now) }
         requires values { list_all (is_value (document_of C.meaning self.now).elements.type)
             (array_cells self.now write.now.bytes.now) ≡ true }
-        ensures ok { IfOk result (λ bytes.
-            CellsBecome (document_of C.meaning self.now) (extent_of write.now.region)
-            (array_cells self.now write.now.bytes.now) (value_bytes stored)
-            (region_of own.now) (array_cells self.now bytes)) }
+        ensures ok { IfOk result (λ bytes. CellsBecome
+            (write_of C.ArrayToBytesCodecTraits self.now write.now) (region_of own.now)
+            (value_bytes stored) (array_cells self.now bytes)) }
         ensures counted { IfOk result
             (λ bytes. AreSoMany self.now bytes (product own.now.shape.items)) }
         ensures err { IfErr result (DecodeStops (document_of C.meaning self.now)

@@ -40,8 +40,8 @@ impl<C: ArrayToBytesCodecTraits> ArrayCore<C> {
     ghost use Rattle.std.specs.Prelude.{◌≡◌, ℕ, List, Option, true, IsTrue, IfOk};
     ghost use Rattle.std.specs.FinMap as map;
     ghost use Rattle.zarr_array_core.specs.Arrays.{array_of, Called, IfHonestErr, OnHonestOk};
-    ghost use Rattle.zarr_array_core.specs.ChunkValues.{ChangeStops, ChangesValue, MakesValue, NewValueStops, OnDamage};
-    ghost use Rattle.zarr_array_core.specs.IntoShards.{ChangesAt, GetsCells, GetsNoCells};
+    ghost use Rattle.zarr_array_core.specs.ChunkValues.{CellsBecome, ChangeStops, ChangesValue, MakesValue, MergeStops, NewValueStops, OnDamage};
+    ghost use Rattle.zarr_array_core.specs.IntoShards.{ChangesAt};
     ghost use Rattle.zarr_array_core.specs.BoxWrites.{write_of, WritesTo};
     ghost use Rattle.zarr_array_core.specs.Outcomes.{refused_after};
     ghost use Rattle.zarr_array_core.specs.Views.{array_cells, AreSoMany};
@@ -62,12 +62,12 @@ impl<C: ArrayToBytesCodecTraits> ArrayCore<C> {
             (region_of own.now) ≡ true }
         ensures ok { IfOk result (λ bytes. (stored : Option (List ℕ))
             × (IsTrue (S.is_honest store.old) → stored ≡ map.get (S.held store.old) key.now)
-            × GetsCells (write_of C.ArrayToBytesCodecTraits self.now write.now)
+            × CellsBecome (write_of C.ArrayToBytesCodecTraits self.now write.now)
             (region_of own.now) stored (array_cells self.now bytes)) }
         ensures counted { IfOk result
             (λ bytes. AreSoMany self.now bytes (product own.now.shape.items)) }
         ensures err { IfHonestErr S.ReadableStorageTraits store.old store.new result
-            (λ e before _. GetsNoCells (write_of C.ArrayToBytesCodecTraits self.now write.now)
+            (λ e before _. MergeStops (write_of C.ArrayToBytesCodecTraits self.now write.now)
             (region_of own.now) (map.get before key.now) e) }
         ensures held { S.held store.new ≡ S.held store.old }
         ensures honest { S.is_honest store.new ≡ S.is_honest store.old }

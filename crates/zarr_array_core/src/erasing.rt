@@ -16,7 +16,7 @@ impl<C: ArrayToBytesCodecTraits> ArrayCore<C> {
     ghost use Rattle.zarr_grids_chunks.specs.Grids.{AreInGrid};
     ghost use Rattle.zarr_grids_keys.specs.Keys.{chunk_key};
     ghost use Rattle.zarr_array_meaning.specs.Writing.{ErasedChunks};
-    ghost use Rattle.zarr_array_core.specs.Arrays.{Called, CalledMany, IfHonestErr, OnHonestOk};
+    ghost use Rattle.zarr_array_core.specs.Arrays.{array_of, Called, CalledMany, IfHonestErr, OnHonestOk};
     ghost use Rattle.zarr_array_core.specs.Views.{document_of, path_of};
     ghost use Rattle.zarr_array_core.specs.Outcomes.{EraseStops, IsErasureStop};
 
@@ -34,7 +34,7 @@ impl<C: ArrayToBytesCodecTraits> ArrayCore<C> {
             (ErasedChunks (path_of self.now) (document_of C.meaning self.now)
             (places chunks.now.start.items chunks.now.shape.items)) }
         ensures err { IfHonestErr S.ReadableStorageTraits store.old store.new result
-            (λ stopped before after. EraseStops (path_of self.now) (document_of C.meaning self.now)
+            (λ stopped before after. EraseStops (array_of C.ArrayToBytesCodecTraits self.now)
             (region_of chunks.now) before after stopped) }
         // By at most one writing call for each chunk that is erased.
         ensures store { CalledMany S.ReadableStorageTraits (product chunks.now.shape.items)

@@ -31,8 +31,8 @@ impl<C: ArrayToBytesCodecTraits> ArrayCore<C> {
     ghost use Rattle.std.specs.Prelude.{◌≡◌, List, Some, None, true, false, IsTrue, IfOk, OnOk, IfErr};
     ghost use Rattle.std.specs.FinMap as map;
     ghost use Rattle.zarr_array_core.specs.Arrays.{array_of, Called, IfHonestErr, OnHonestOk};
-    ghost use Rattle.zarr_array_core.specs.ChunkValues.{ChangeStops, ChangesValue, PutStops};
-    ghost use Rattle.zarr_array_core.specs.IntoShards.{ChangesAt, GetsPart};
+    ghost use Rattle.zarr_array_core.specs.ChunkValues.{ChangeStops, ChangesValue, PutsCells, PutStops};
+    ghost use Rattle.zarr_array_core.specs.IntoShards.{ChangesAt};
     ghost use Rattle.zarr_array_core.specs.BoxWrites.{write_of, WritesTo};
     ghost use Rattle.zarr_array_core.specs.Views.{document_of};
     ghost use Rattle.zarr_array_meaning.specs.Chunks.{fits_box, holds_box};
@@ -92,7 +92,7 @@ impl<C: ArrayToBytesCodecTraits> ArrayCore<C> {
         requires in_part { is_in_part (array_of C.ArrayToBytesCodecTraits self.now).document
             write.now.options.now (write_of C.ArrayToBytesCodecTraits self.now write.now).region
             (region_of own.now) ≡ true }
-        ensures ok { OnOk result (GetsPart
+        ensures ok { OnOk result (PutsCells
             (write_of C.ArrayToBytesCodecTraits self.now write.now) (region_of own.now)
             (source_contents source.old) (source_contents source.new)) }
         ensures err { IfErr result (PutStops (document_of C.meaning self.now)
@@ -122,7 +122,7 @@ impl<C: ArrayToBytesCodecTraits> ArrayCore<C> {
         requires in_part { is_in_part (array_of C.ArrayToBytesCodecTraits self.now).document
             write.now.options.now (write_of C.ArrayToBytesCodecTraits self.now write.now).region
             (region_of own.now) ≡ true }
-        ensures ok { IfOk result (λ value. GetsPart
+        ensures ok { IfOk result (λ value. PutsCells
             (write_of C.ArrayToBytesCodecTraits self.now write.now) (region_of own.now)
             (value_bytes stored) (Some value.items)) }
         ensures err { IfErr result (PutStops (document_of C.meaning self.now)

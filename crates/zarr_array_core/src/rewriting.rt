@@ -89,17 +89,17 @@ impl<C: ArrayToBytesCodecTraits + Sync> ArrayCore<C> {
 }
 
 impl<C: ArrayToBytesCodecTraits> ArrayCore<C> {
-    ghost use Rattle.std.specs.Prelude.{◌≡◌, ◌↔◌, ◌<◌, ◌^◌, IsTrue, IfOk, IfErr};
+    ghost use Rattle.std.specs.Prelude.{◌≡◌, ◌↔◌, ◌<◌, ◌^◌, [], ◌∷◌, IsTrue, IfOk, IfErr, MatchBool};
     ghost use Rattle.zarr_grids_boxes.specs.Boxes.{Region, product};
     ghost use Rattle.zarr_grids_boxes.specs.Subsets.{region_of};
     ghost use Rattle.zarr_grids_chunks.specs.Grids.{IsInGrid};
     ghost use Rattle.zarr_grids_cover.specs.Boxed.{AreBoxed};
-    ghost use Rattle.zarr_array_meaning.specs.Rewriting.{IsLargeKeyed, IsRewritten};
+    ghost use Rattle.zarr_array_meaning.specs.Rewriting.{IsLargeKeyed, IsRewritten, RewroteChunks};
     ghost use Rattle.zarr_array_storage.specs.Stores.{value_bytes};
     ghost use Rattle.zarr_array_core.specs.Arrays.{array_of, Called, IfHonestErr};
     ghost use Rattle.zarr_array_core.specs.Calls.{calls_of};
     ghost use Rattle.zarr_array_core.specs.Outcomes.{IsErasureStop, refused_after};
-    ghost use Rattle.zarr_array_core.specs.Rewriting.{ChunkRewriteStops, IsLargeKeyedAt, RemakingStops, RewritesChunk};
+    ghost use Rattle.zarr_array_core.specs.Rewriting.{ChunkRewriteStops, IsAbsentAt, IsLargeKeyedAt, RemakingStops};
     ghost use Rattle.zarr_array_core.specs.Views.{document_of};
 
     /// Whether a chunk that has a key has 2^63 cells or bytes or more. `chunks` are all chunks in
@@ -178,9 +178,11 @@ impl<C: ArrayToBytesCodecTraits> ArrayCore<C> {
     ) -> Result<bool, ChunkError>
         requires below { (box : Region)
             × IsInGrid (array_of C.ArrayToBytesCodecTraits self.now).document.grid chunk.now box }
-        ensures ok { IsTrue (S.is_honest store.old) → IfOk result (λ had. RewritesChunk
-            (array_of C.ArrayToBytesCodecTraits self.now) options.now.store_empty_chunks
-            chunk.now had (S.held store.old) (S.held store.new)) }
+        ensures ok { IsTrue (S.is_honest store.old) → IfOk result (λ had. MatchBool had
+            (RewroteChunks (array_of C.ArrayToBytesCodecTraits self.now)
+            options.now.store_empty_chunks (chunk.now ∷ []) (S.held store.old) (S.held store.new))
+            (IsAbsentAt (array_of C.ArrayToBytesCodecTraits self.now) chunk.now
+            (S.held store.old) (S.held store.new))) }
         ensures err { IfHonestErr S.ReadableStorageTraits store.old store.new result
             (λ e before _. ChunkRewriteStops (array_of C.ArrayToBytesCodecTraits self.now)
             options.now.store_empty_chunks chunk.now e before) }

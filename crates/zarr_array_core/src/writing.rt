@@ -22,7 +22,8 @@ impl<C: ArrayToBytesCodecTraits + Sync> ArrayCore<C> {
     ghost use Rattle.zarr_codecs_arrays.specs.Outcomes.{IsValid};
     ghost use Rattle.zarr_codecs_arrays.specs.Views.{payload_of};
     ghost use Rattle.zarr_array_core.specs.Arrays.{CalledMany, IfHonestErr, OnHonestOk};
-    ghost use Rattle.zarr_array_core.specs.Views.{document_of, is_exact, path_of};
+    ghost use Rattle.zarr_array_core.specs.BoxWrites.{region_write};
+    ghost use Rattle.zarr_array_core.specs.Views.{document_of};
     ghost use Rattle.zarr_array_core.specs.Outcomes.{WritesBox, WriteStops, chunks_met, IsSmall};
 
     /// Writes the elements of a region that is not empty, row-major, chunk by chunk: `bytes` are as
@@ -55,13 +56,12 @@ impl<C: ArrayToBytesCodecTraits + Sync> ArrayCore<C> {
             × IsValid (document_of C.meaning self.now).elements.type
             (payload_of target.bytes.now) (product target.region.now.shape.items) cells }
         ensures ok { OnHonestOk S.ReadableStorageTraits store.old store.new result
-            (WritesBox (path_of self.now) (document_of C.meaning self.now)
-            (is_exact C.is_function self.now) (region_of target.entry.region.now)
-            (payload_of target.entry.bytes.now) options.now) }
+            (WritesBox (region_write C.ArrayToBytesCodecTraits self.now target.entry options.now)
+            (payload_of target.entry.bytes.now)) }
         ensures err { IfHonestErr S.ReadableStorageTraits store.old store.new result
-            (λ stopped before after. WriteStops (path_of self.now) (document_of C.meaning self.now)
-            (is_exact C.is_function self.now) (region_of target.entry.region.now)
-            (payload_of target.entry.bytes.now) options.now before after stopped) }
+            (λ stopped before after. WriteStops
+            (region_write C.ArrayToBytesCodecTraits self.now target.entry options.now)
+            (payload_of target.entry.bytes.now) before after stopped) }
         ensures store { CalledMany S.ReadableStorageTraits (chunks_met (document_of C.meaning
             self.now) (region_of target.entry.region.now)) store.old store.new result }
     {
@@ -89,10 +89,10 @@ impl<C: ArrayToBytesCodecTraits> ArrayCore<C> {
     ghost use Rattle.zarr_codecs_meaning.specs.Types.{is_value};
     ghost use Rattle.zarr_codecs_arrays.specs.Views.{payload_of};
     ghost use Rattle.zarr_array_core.specs.Arrays.{Called, CalledMany, IfHonestErr, OnHonestOk};
-    ghost use Rattle.zarr_array_core.specs.IntoShards.{StopsAt, WritesAt, WritesMet};
+    ghost use Rattle.zarr_array_core.specs.IntoShards.{StopsAt, WritesAt};
     ghost use Rattle.zarr_array_core.specs.BoxWrites.{write_of};
-    ghost use Rattle.zarr_array_core.specs.Outcomes.{WriteStops, IsSmall};
-    ghost use Rattle.zarr_array_core.specs.Views.{array_cells, AreSoMany, document_of, is_exact, path_of};
+    ghost use Rattle.zarr_array_core.specs.Outcomes.{WritesMet, WriteStops, IsSmall};
+    ghost use Rattle.zarr_array_core.specs.Views.{array_cells, AreSoMany, document_of};
 
     /// Writes the elements of a box to each chunk that it intersects.
     fn write_chunks<S: WritableStorageTraits>(
@@ -115,9 +115,9 @@ impl<C: ArrayToBytesCodecTraits> ArrayCore<C> {
         ensures ok { OnHonestOk S.ReadableStorageTraits store.old store.new result
             (WritesMet (write_of C.ArrayToBytesCodecTraits self.now write.now)) }
         ensures err { IfHonestErr S.ReadableStorageTraits store.old store.new result
-            (λ stopped before after. WriteStops (path_of self.now) (document_of C.meaning self.now)
-            (is_exact C.is_function self.now) (extent_of write.now.region)
-            (payload_of write.now.bytes.now) write.now.options.now before after stopped) }
+            (λ stopped before after. WriteStops
+            (write_of C.ArrayToBytesCodecTraits self.now write.now)
+            (payload_of write.now.bytes.now) before after stopped) }
         ensures store { CalledMany S.ReadableStorageTraits (product chunks.now.shape.items)
             store.old store.new result }
     {
