@@ -21,14 +21,16 @@ use Rattle.zarr_array_core.specs.Outcomes.{IsSmall, ChunkStops, WriteStops}
 use Rattle.zarr_array_core.specs.declared.error.ChunkError.{ChunkError}
 use Rattle.zarr_array_core.specs.declared.error.ChunkError.TheVariants as error
 use Rattle.zarr_array_core.specs.declared.error.ManyError.{ManyError}
+use Rattle.zarr_array_meaning.specs.Arrays.{Array, value_at}
 use Rattle.zarr_array_meaning.specs.Documents.{Document}
 use Rattle.zarr_array_meaning.specs.StoreMaps.{StoreMap}
+use Rattle.zarr_array_meaning.specs.Writes.{Write, write_to}
 use Rattle.zarr_array_meaning.specs.Writing.{WroteChunks}
 use Rattle.zarr_run_meaning.specs.Causes.{IsTarget, Gives, WriteRefuses, ChunkRefuses}
-use Rattle.zarr_run_meaning.specs.Requests.{Target}
+use Rattle.zarr_run_meaning.specs.Requests.{Target, WriteAsked}
 use Rattle.zarr_run_meaning.specs.declared.cause.Cause.{Cause}
 use Rattle.zarr_run_meaning.specs.declared.cause.Cause.TheVariants as cause
-use Rattle.zarr_run_boxes.specs.Outcomes.{AreValuesOf, CoveredWriteRefuses, CoveredWriteRefused, WriteRefused, WritesCovered, cause_of}
+use Rattle.zarr_run_boxes.specs.Outcomes.{AreValuesOf, BoxAsked, CoveredWriteRefuses, CoveredWriteRefused, WriteRefused, WritesCovered, cause_of}
 use Rattle.zarr_run_boxes.specs.declared.refusal.Refusal.{Refusal}
 use Rattle.zarr_run_boxes.proofs.Boxes.{shares_none, small_fits, fits_empty}
 
@@ -104,41 +106,46 @@ none_intersecting grid region z = none_kept (intersects grid region) (chunk_indi
   at_box None = refl
   at_box (Some box) = no_true (share_place box.start box.shape region.start region.shape) (shares_none region box z)
 
-pub writes_empty : (path : List ℕ) (document : Document) (exact : Bool) (region : Region) (payload : Payload) (options : CodecOptions) (store : StoreMap) (values : List Cell) → product region.shape ≡ 0 → AreValuesOf document region payload values
-    → WritesCovered path document exact region (given_bytes payload) options store store
-writes_empty path document exact region payload options store values z are = record {
-  values = values;
-  gives = (are.lists, are.many);
-  small = fits_empty document region z;
-  wrote = subst (λ (chunks : List (List ℕ)). WroteChunks path document exact region values options chunks store store) (sym (none_intersecting document.grid region z)) (wrote_none path document exact region values options store);
-}
+pub writes_empty : (array : Array) (region : Region) (payload : Payload) (options : CodecOptions) (store : StoreMap) (values : List Cell) → product region.shape ≡ 0 → AreValuesOf array.document region payload values
+    → WritesCovered array (record { region = region; cells = given_bytes payload; options = options }) store store
+writes_empty array region payload options store values z are =
+    let write = write_to array region values options in
+    record {
+      values = values;
+      gives = (are.lists, are.many);
+      small = fits_empty array.document region z;
+      wrote = subst (λ (chunks : List (List ℕ)). WroteChunks write chunks store store) (sym (none_intersecting array.document.grid region z)) (wrote_none write store);
+    }
 
 -- ---- writes that stop at a chunk
 
-chunk_refuses : (path : List ℕ) (document : Document) (store : StoreMap) (region : Region) (values : List Cell) (options : CodecOptions) (chunk : List ℕ) (box : Region) (e : ChunkError)
-    → ChunkStops path document store region values options chunk box e → ChunkRefuses path document store region values options chunk box (cause_of e)
-chunk_refuses path document store region values options chunk box error.Fit stops = stops
-chunk_refuses path document store region values options chunk box (error.Storage e) stops = stops.0
-chunk_refuses path document store region values options chunk box error.Damage stops = stops
-chunk_refuses path document store region values options chunk box error.Codec stops = stops
-chunk_refuses path document store region values options chunk box error.Size stops = stops
-chunk_refuses path document store region values options chunk box error.Memory stops = stops
+chunk_refuses : (write : Write) (box : Region) (stored : Option (List ℕ)) (e : ChunkError) → ChunkStops write box stored e → ChunkRefuses write box stored (cause_of e)
+chunk_refuses write box stored error.Fit stops = stops
+chunk_refuses write box stored (error.Storage e) stops = stops.0
+chunk_refuses write box stored error.Damage stops = stops
+chunk_refuses write box stored error.Codec stops = stops
+chunk_refuses write box stored error.Size stops = stops
+chunk_refuses write box stored error.Memory stops = stops
 
-pub stopped_covered : (path : List ℕ) (document : Document) (exact : Bool) (region : Region) (payload : Payload) (options : CodecOptions) (old new : StoreMap) (stopped : ManyError) (refusal : Refusal) (values : List Cell)
-    → AreValuesOf document region payload values → IsSmall document region → WriteStops path document exact region payload options old new stopped → refusal ≡ record { cause = cause_of stopped.error; applied = stopped.applied }
-    → CoveredWriteRefused path document exact region (given_bytes payload) options old new refusal
-stopped_covered path document exact region payload options old new stopped refusal values are small stops is =
-    let same : values ≡ stops.cells = some_same (sym (cells_of_values document.elements.type payload values are.lists) ∙ stops.lists) in
-    let here = subst (λ (vs : List Cell). AreValuesOf document region payload vs) same are in
-    subst (λ (r : Refusal). CoveredWriteRefused path document exact region (given_bytes payload) options old new r) (sym is) (inr (record {
-      values = stops.cells;
+-- the values that a payload is are the cells that it lists
+same_values : (document : Document) (region : Region) (payload : Payload) (values cells : List Cell) → AreValuesOf document region payload values → cells_in document.elements.type payload ≡ Some cells → AreValuesOf document region payload cells
+same_values document region payload values cells are lists =
+    subst (λ (vs : List Cell). AreValuesOf document region payload vs) (some_same (sym (cells_of_values document.elements.type payload values are.lists) ∙ lists)) are
+
+pub stopped_covered : (array : Array) (region : Region) (payload : Payload) (options : CodecOptions) (values cells : List Cell) (old new : StoreMap) (stopped : ManyError) (refusal : Refusal)
+    → AreValuesOf array.document region payload values → IsSmall array.document region → WriteStops (write_to array region cells options) payload old new stopped → refusal ≡ record { cause = cause_of stopped.error; applied = stopped.applied }
+    → CoveredWriteRefused array (record { region = region; cells = given_bytes payload; options = options }) refusal old new
+stopped_covered array region payload options values cells old new stopped refusal are small stops is =
+    let here = same_values array.document region payload values cells are stops.lists in
+    subst (λ (r : Refusal). CoveredWriteRefused array (record { region = region; cells = given_bytes payload; options = options }) r old new) (sym is) (inr (record {
+      values = cells;
       gives = (here.lists, here.many);
-      small = λ large. small_fits document region small large;
+      small = λ large. small_fits array.document region small large;
       stops = record {
         chunk = stops.chunk;
         box = stops.box;
         nth = stops.nth;
-        refuses = chunk_refuses path document old region stops.cells options stops.chunk stops.box stopped.error stops.stops;
+        refuses = chunk_refuses (write_to array region cells options) stops.box (value_at array old stops.chunk) stopped.error stops.stops;
       };
       wrote = stops.wrote;
     }))
@@ -154,16 +161,16 @@ refuses_same document region a b cause.Size same why = (why.0, gives_same docume
 refuses_same document region a b cause.Memory same why = why
 refuses_same document region a b _ same why = why
 
-covered_same : (path : List ℕ) (document : Document) (exact : Bool) (region : Region) (a b : GivenCells) (options : CodecOptions) (old new : StoreMap) (refusal : Refusal) → given_in document.elements.type a ≡ given_in document.elements.type b
-    → CoveredWriteRefused path document exact region a options old new refusal → CoveredWriteRefused path document exact region b options old new refusal
-covered_same path document exact region a b options old new refusal same (inl (untouched, why)) = inl (untouched, refuses_same document region a b refusal.cause same why)
-covered_same path document exact region a b options old new refusal same (inr first) =
-    inr (record { values = first.values; gives = gives_same document region a b first.values same first.gives; small = first.small; stops = first.stops; wrote = first.wrote })
+covered_same : (array : Array) (asked : BoxAsked) (b : GivenCells) (old new : StoreMap) (refusal : Refusal) → given_in array.document.elements.type asked.cells ≡ given_in array.document.elements.type b
+    → CoveredWriteRefused array asked refusal old new → CoveredWriteRefused array (record asked { cells = b }) refusal old new
+covered_same array asked b old new refusal same (inl (untouched, why)) = inl (untouched, refuses_same array.document asked.region asked.cells b refusal.cause same why)
+covered_same array asked b old new refusal same (inr first) =
+    inr (record { values = first.values; gives = gives_same array.document asked.region asked.cells b first.values same first.gives; small = first.small; stops = first.stops; wrote = first.wrote })
 
-pub refused_same : {A : Type 0} (path : List ℕ) (document : Document) (exact : Bool) (region : Region) (a b : GivenCells) (options : CodecOptions) (old new : StoreMap) (result : Result A Refusal) → given_in document.elements.type a ≡ given_in document.elements.type b
-    → IfErr result (CoveredWriteRefused path document exact region a options old new) → IfErr result (CoveredWriteRefused path document exact region b options old new)
-refused_same path document exact region a b options old new (Ok value) same why = tt
-refused_same path document exact region a b options old new (Err refusal) same why = covered_same path document exact region a b options old new refusal same why
+pub refused_same : {A : Type 0} (array : Array) (asked : BoxAsked) (b : GivenCells) (old new : StoreMap) (result : Result A Refusal) → given_in array.document.elements.type asked.cells ≡ given_in array.document.elements.type b
+    → IfErr result (λ refusal. CoveredWriteRefused array asked refusal old new) → IfErr result (λ refusal. CoveredWriteRefused array (record asked { cells = b }) refusal old new)
+refused_same array asked b old new (Ok value) same why = tt
+refused_same array asked b old new (Err refusal) same why = covered_same array asked b old new refusal same why
 
 -- ---- targets
 
@@ -173,14 +180,14 @@ refuses_target document target box given cause.Size is why = inl (box, why.0, re
 refuses_target document target box given cause.Memory is why = inr refl
 refuses_target document target box given _ is why = absurd why
 
-target_refused : (path : List ℕ) (document : Document) (exact : Bool) (target : Target) (box : Region) (given : GivenCells) (options : CodecOptions) (old new : StoreMap) (refusal : Refusal) → IsTarget document.grid target box
-    → CoveredWriteRefused path document exact box given options old new refusal → WriteRefused path document exact target given options old new refusal
-target_refused path document exact target box given options old new refusal is (inl (untouched, why)) = inl (untouched, refuses_target document target box given refusal.cause is why)
-target_refused path document exact target box given options old new refusal is (inr first) =
+target_refused : (array : Array) (asked : WriteAsked) (box : Region) (old new : StoreMap) (refusal : Refusal) → IsTarget array.document.grid asked.target box
+    → CoveredWriteRefused array (record { region = box; cells = asked.cells; options = asked.options }) refusal old new → WriteRefused array asked refusal old new
+target_refused array asked box old new refusal is (inl (untouched, why)) = inl (untouched, refuses_target array.document asked.target box asked.cells refusal.cause is why)
+target_refused array asked box old new refusal is (inr first) =
     inr (record { box = box; values = first.values; is = record { is = is; gives = first.gives }; small = first.small; stops = first.stops; wrote = first.wrote })
 
 -- why a covered box is not written is why the target with that box is not
-pub refused_target : {A : Type 0} (path : List ℕ) (document : Document) (exact : Bool) (target : Target) (box : Region) (given : GivenCells) (options : CodecOptions) (old new : StoreMap) (result : Result A Refusal) → IsTarget document.grid target box
-    → IfErr result (CoveredWriteRefused path document exact box given options old new) → IfErr result (WriteRefused path document exact target given options old new)
-refused_target path document exact target box given options old new (Ok value) is why = tt
-refused_target path document exact target box given options old new (Err refusal) is why = target_refused path document exact target box given options old new refusal is why
+pub refused_target : {A : Type 0} (array : Array) (asked : WriteAsked) (box : Region) (old new : StoreMap) (result : Result A Refusal) → IsTarget array.document.grid asked.target box
+    → IfErr result (λ refusal. CoveredWriteRefused array (record { region = box; cells = asked.cells; options = asked.options }) refusal old new) → IfErr result (λ refusal. WriteRefused array asked refusal old new)
+refused_target array asked box old new (Ok value) is why = tt
+refused_target array asked box old new (Err refusal) is why = target_refused array asked box old new refusal is why

@@ -1,5 +1,5 @@
 //! Covered boxes that are written.
-ghost use Rattle.std.specs.Prelude.{◌≡◌, List, IsTrue, IfOk, OnOk, IfErr};
+ghost use Rattle.std.specs.Prelude.{◌≡◌, List, IfOk, OnOk, IfErr};
 ghost use Rattle.serde_json.specs.View.{view};
 ghost use Rattle.zarr_grids_boxes.specs.Boxes.{product};
 ghost use Rattle.zarr_grids_boxes.specs.Subsets.{region_of};
@@ -7,12 +7,13 @@ ghost use Rattle.zarr_grids_chunks.specs.Grids.{IsCovered};
 ghost use Rattle.zarr_codecs_arrays.specs.Views.{payload_of};
 ghost use Rattle.zarr_codecs_meaning.specs.Payloads.{values_in};
 ghost use Rattle.zarr_codecs_meaning.specs.Types.{Cell};
-ghost use Rattle.zarr_codecs_types.specs.Given.{given_bytes, given_in, given_json};
+ghost use Rattle.zarr_codecs_types.specs.Given.{given_in, given_json};
+ghost use Rattle.zarr_array_core.specs.Arrays.{array_of, IfHonestErr, OnHonestOk};
 ghost use Rattle.zarr_array_core.specs.Outcomes.{chunks_met};
-ghost use Rattle.zarr_array_core.specs.Views.{document_of, is_exact, path_of};
+ghost use Rattle.zarr_array_core.specs.Views.{document_of};
+ghost use Rattle.zarr_run_boxes.specs.Asked.{box_asked, elements_asked};
 ghost use Rattle.zarr_run_boxes.specs.Calls.{CalledMany};
 ghost use Rattle.zarr_run_boxes.specs.Outcomes.{AreValuesOf, CoveredWriteRefused, ElementsRefused, JsonRefused, WritesCovered};
-ghost use Rattle.zarr_run_commands.specs.Commands.{given};
 ghost use Rattle.zarr_run_commands.specs.LineCells.{number_list};
 
 use crate::cell_write::{CellWrite, ElementWrite};
@@ -45,16 +46,12 @@ pub(crate) fn write_covered<
     write: CellWrite,
 ) -> Result<(), Refusal>
     requires covered { IsCovered (document_of C.meaning array.now).grid (region_of region.now) }
-    ensures ok { IsTrue (S.is_honest store.old) → OnOk result
-        (WritesCovered (path_of array.now) (document_of C.meaning array.now)
-        (is_exact C.is_function array.now)
-        (region_of region.now) (given write.entry.cells.now) write.entry.options.now
-        (S.held store.old) (S.held store.new)) }
-    ensures err { IsTrue (S.is_honest store.old) → IfErr result
-        (CoveredWriteRefused (path_of array.now) (document_of C.meaning array.now)
-        (is_exact C.is_function array.now)
-        (region_of region.now) (given write.entry.cells.now) write.entry.options.now
-        (S.held store.old) (S.held store.new)) }
+    ensures ok { OnHonestOk S.ReadableStorageTraits store.old store.new result
+        (WritesCovered (array_of C.ArrayToBytesCodecTraits array.now)
+        (box_asked (region_of region.now) write.entry)) }
+    ensures err { IfHonestErr S.ReadableStorageTraits store.old store.new result
+        (CoveredWriteRefused (array_of C.ArrayToBytesCodecTraits array.now)
+        (box_asked (region_of region.now) write.entry)) }
     ensures store { CalledMany S.ReadableStorageTraits (chunks_met
         (document_of C.meaning array.now) (region_of region.now)) store.old store.new result }
 {
@@ -163,18 +160,12 @@ fn write_elements<R: Threads + Sync, C: ArrayToBytesCodecTraits + Sync, S: Writa
     write: ElementWrite,
 ) -> Result<(), Refusal>
     requires covered { IsCovered (document_of C.meaning array.now).grid (region_of region.now) }
-    ensures ok { IsTrue (S.is_honest store.old) → OnOk result
-        (WritesCovered (path_of array.now) (document_of C.meaning array.now)
-        (is_exact C.is_function array.now)
-        (region_of region.now) (given_bytes (payload_of write.entry.elements.now))
-        write.entry.options.now
-        (S.held store.old) (S.held store.new)) }
-    ensures err { IsTrue (S.is_honest store.old) → IfErr result
-        (CoveredWriteRefused (path_of array.now) (document_of C.meaning array.now)
-        (is_exact C.is_function array.now)
-        (region_of region.now) (given_bytes (payload_of write.entry.elements.now))
-        write.entry.options.now
-        (S.held store.old) (S.held store.new)) }
+    ensures ok { OnHonestOk S.ReadableStorageTraits store.old store.new result
+        (WritesCovered (array_of C.ArrayToBytesCodecTraits array.now)
+        (elements_asked (region_of region.now) write.entry)) }
+    ensures err { IfHonestErr S.ReadableStorageTraits store.old store.new result
+        (CoveredWriteRefused (array_of C.ArrayToBytesCodecTraits array.now)
+        (elements_asked (region_of region.now) write.entry)) }
     ensures store { CalledMany S.ReadableStorageTraits (chunks_met
         (document_of C.meaning array.now) (region_of region.now)) store.old store.new result }
 {

@@ -1,8 +1,7 @@
 //! Chunks that commands erase.
-ghost use Rattle.std.specs.Prelude.{IsTrue, OnOk, IfErr};
 ghost use Rattle.zarr_grids_boxes.specs.Boxes.{product};
 ghost use Rattle.zarr_grids_boxes.specs.Subsets.{region_of};
-ghost use Rattle.zarr_array_core.specs.Views.{document_of, path_of};
+ghost use Rattle.zarr_array_core.specs.Arrays.{array_of, IfHonestErr, OnHonestOk};
 ghost use Rattle.zarr_run_boxes.specs.Calls.{CalledMany};
 ghost use Rattle.zarr_run_boxes.specs.Outcomes.{ErasesTarget, EraseRefused};
 
@@ -26,12 +25,10 @@ pub fn erase_chunks<C: ArrayToBytesCodecTraits, S: WritableStorageTraits>(
     store: &mut S,
     chunks: &ArraySubset,
 ) -> Result<(), Refusal>
-    ensures ok { IsTrue (S.is_honest store.old) → OnOk result
-        (ErasesTarget (path_of array.now) (document_of C.meaning array.now)
-        (region_of chunks.now) (S.held store.old) (S.held store.new)) }
-    ensures err { IsTrue (S.is_honest store.old) → IfErr result
-        (EraseRefused (path_of array.now) (document_of C.meaning array.now)
-        (region_of chunks.now) (S.held store.old) (S.held store.new)) }
+    ensures ok { OnHonestOk S.ReadableStorageTraits store.old store.new result
+        (ErasesTarget (array_of C.ArrayToBytesCodecTraits array.now) (region_of chunks.now)) }
+    ensures err { IfHonestErr S.ReadableStorageTraits store.old store.new result
+        (EraseRefused (array_of C.ArrayToBytesCodecTraits array.now) (region_of chunks.now)) }
     // By at most one writing call for each chunk that is erased.
     ensures store { CalledMany S.ReadableStorageTraits (product chunks.now.shape.items)
         store.old store.new result }

@@ -1,12 +1,12 @@
 //! Boxes and chunks that commands write.
-ghost use Rattle.std.specs.Prelude.{IsTrue, OnOk, IfErr};
 ghost use Rattle.zarr_grids_boxes.specs.Subsets.{region_of};
 ghost use Rattle.zarr_run_meaning.specs.Requests.{in_box, in_chunk};
+ghost use Rattle.zarr_array_core.specs.Arrays.{array_of, IfHonestErr, OnHonestOk};
 ghost use Rattle.zarr_array_core.specs.Outcomes.{chunks_met};
-ghost use Rattle.zarr_array_core.specs.Views.{document_of, is_exact, path_of};
+ghost use Rattle.zarr_array_core.specs.Views.{document_of};
+ghost use Rattle.zarr_run_boxes.specs.Asked.{asked_of};
 ghost use Rattle.zarr_run_boxes.specs.Calls.{CalledMany};
 ghost use Rattle.zarr_run_boxes.specs.Outcomes.{WritesTarget, WriteRefused};
-ghost use Rattle.zarr_run_commands.specs.Commands.{given};
 
 use crate::cell_write::CellWrite;
 use crate::covered_writing::write_covered;
@@ -34,16 +34,12 @@ pub fn write_box<R: Threads + Sync, C: ArrayToBytesCodecTraits + Sync, S: Writab
     region: &ArraySubset,
     write: CellWrite,
 ) -> Result<(), Refusal>
-    ensures ok { IsTrue (S.is_honest store.old) → OnOk result
-        (WritesTarget (path_of array.now) (document_of C.meaning array.now)
-        (is_exact C.is_function array.now)
-        (in_box (region_of region.now)) (given write.entry.cells.now) write.entry.options.now
-        (S.held store.old) (S.held store.new)) }
-    ensures err { IsTrue (S.is_honest store.old) → IfErr result
-        (WriteRefused (path_of array.now) (document_of C.meaning array.now)
-        (is_exact C.is_function array.now)
-        (in_box (region_of region.now)) (given write.entry.cells.now) write.entry.options.now
-        (S.held store.old) (S.held store.new)) }
+    ensures ok { OnHonestOk S.ReadableStorageTraits store.old store.new result
+        (WritesTarget (array_of C.ArrayToBytesCodecTraits array.now)
+        (asked_of (in_box (region_of region.now)) write.entry)) }
+    ensures err { IfHonestErr S.ReadableStorageTraits store.old store.new result
+        (WriteRefused (array_of C.ArrayToBytesCodecTraits array.now)
+        (asked_of (in_box (region_of region.now)) write.entry)) }
     // By at most one writing call for each chunk that is written.
     ensures store { CalledMany S.ReadableStorageTraits (chunks_met
         (document_of C.meaning array.now) (region_of region.now)) store.old store.new result }
@@ -64,16 +60,12 @@ pub fn write_chunk<R: Threads + Sync, C: ArrayToBytesCodecTraits + Sync, S: Writ
     chunk: &[u64],
     write: CellWrite,
 ) -> Result<(), Refusal>
-    ensures ok { IsTrue (S.is_honest store.old) → OnOk result
-        (WritesTarget (path_of array.now) (document_of C.meaning array.now)
-        (is_exact C.is_function array.now)
-        (in_chunk chunk.now) (given write.entry.cells.now) write.entry.options.now
-        (S.held store.old) (S.held store.new)) }
-    ensures err { IsTrue (S.is_honest store.old) → IfErr result
-        (WriteRefused (path_of array.now) (document_of C.meaning array.now)
-        (is_exact C.is_function array.now)
-        (in_chunk chunk.now) (given write.entry.cells.now) write.entry.options.now
-        (S.held store.old) (S.held store.new)) }
+    ensures ok { OnHonestOk S.ReadableStorageTraits store.old store.new result
+        (WritesTarget (array_of C.ArrayToBytesCodecTraits array.now)
+        (asked_of (in_chunk chunk.now) write.entry)) }
+    ensures err { IfHonestErr S.ReadableStorageTraits store.old store.new result
+        (WriteRefused (array_of C.ArrayToBytesCodecTraits array.now)
+        (asked_of (in_chunk chunk.now) write.entry)) }
     ensures store { CalledMany S.ReadableStorageTraits 1 store.old store.new result }
 {
     match chunk_region(rooms.alloc(), array, chunk) {

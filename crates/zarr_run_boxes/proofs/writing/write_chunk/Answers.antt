@@ -1,7 +1,8 @@
 use Rattle.zarr_grids_boxes.specs.Subsets.{region_of}
-use Rattle.zarr_array_core.specs.Views.{document_of, is_exact, path_of}
-use Rattle.zarr_run_commands.specs.Commands.{given}
+use Rattle.zarr_array_core.specs.Arrays.{array_of}
+use Rattle.zarr_array_core.specs.Views.{document_of}
 use Rattle.zarr_run_meaning.specs.Requests.{in_chunk}
+use Rattle.zarr_run_boxes.specs.Asked.{asked_of}
 use Rattle.zarr_run_boxes.proofs.Boxes.{chunk_covered}
 use Rattle.zarr_run_boxes.proofs.Calls.{chunk_called}
 use Rattle.zarr_run_boxes.proofs.Writes.{refused_target}
@@ -12,7 +13,7 @@ write_covered-requires-clause-covered g c κs within = chunk_covered (document_o
 
 pub returns-in-Ok-clause-err : goal.returns-in-Ok-clause-err
 returns-in-Ok-clause-err g c =
-    λ honest. refused_target (path_of c.args.array.now) (document_of g.C.ArrayToBytesCodecTraits.meaning c.args.array.now) (is_exact g.C.ArrayToBytesCodecTraits.is_function c.args.array.now) (in_chunk c.args.chunk.now) (region_of c.in-Ok.region) (given c.args.write.cells.now) c.args.write.options.now
+    λ honest. refused_target (array_of g.C.ArrayToBytesCodecTraits c.args.array.now) (asked_of (in_chunk c.args.chunk.now) c.args.write) (region_of c.in-Ok.region)
     (g.S.ReadableStorageTraits.held c.args.store.now) (g.S.ReadableStorageTraits.held c.write_covered.new.store) c.write_covered.result
     c.in-Ok.ensures.ok (c.write_covered.ensures.err honest)
 
