@@ -14,7 +14,7 @@ use Rattle.zarr_run_opening.specs.Sessions.{Agrees, State, IsIn, array_at, docum
 use Rattle.zarr_run_opening.specs.declared.held.HeldArray.{HeldArray}
 use Rattle.zarr_run_lines.specs.declared.lines.LinesFault.{LinesFault}
 use Rattle.zarr_run_lines.specs.declared.lines.LinesFault.TheVariants.{Read}
-use Rattle.zarr_run_lines.specs.Lines.{lines_of, type_at, LineStep, Answers, Leaves, StandsAfterSome}
+use Rattle.zarr_run_lines.specs.Lines.{lines_of, type_at, LineStep, Answers, Leaves, StandsAfterSome, output}
 use Rattle.zarr_run_lines.specs.Sessions.{LeadsTo}
 
 -- an array and what the world holds have the same data type
@@ -42,7 +42,7 @@ left-alone meaning reads state line old is = (old, is, inl refl)
 
 -- a fault line
 pub no-command : {B T E : Type 0} (meaning : B → ByteCodec) (reads : ReadsCodecs) (r : Result T E) (state : State B) (line pending pending' : List ℕ) → Says line None
-    → pending' ≡ (if is_ok r then pending ++ (codes "{\"fault\":\"line\"}" ++ 10 ∷ []) else pending) → OnOk r (LeadsTo meaning reads state state (λ old new. Answers reads old line new pending pending'))
+    → pending' ≡ (if is_ok r then pending ++ (codes "{\"fault\":\"line\"}" ++ 10 ∷ []) else pending) → OnOk r (LeadsTo meaning reads state state (Answers reads line (output (Some pending) (Some pending'))))
 no-command meaning reads (Ok x) state line pending pending' says grew = λ old is. (old, is, (codes "{\"fault\":\"line\"}", (None, says, (refl, refl)), grew))
 no-command meaning reads (Err e) state line pending pending' says grew = tt
 

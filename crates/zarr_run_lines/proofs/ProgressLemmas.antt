@@ -4,25 +4,28 @@ use Rattle.std.specs.Io.BufRead.{drop_through}
 use Rattle.std.specs.Io.KnownBytes.{Appends, Keeps, append_known}
 use Rattle.zarr_codecs_metadata.specs.Chains.{ReadsCodecs}
 use Rattle.zarr_run_meaning.specs.Worlds.{World}
-use Rattle.zarr_run_lines.specs.Lines.{lines_of, Answers, Leaves, StandsAfterSome, RunsSome, RunsAll, IsWithinLimits}
-use Rattle.zarr_run_lines.specs.Reading.{IsLeft, TakesLine, HasRead, HasRun}
+use Rattle.zarr_run_lines.specs.Lines.{lines_of, output, Answers, Leaves, StandsAfterSome, RunsSome, RunsAll, IsWithinLimits}
+use Rattle.zarr_run_lines.specs.Reading.{Reader, up_to, IsLeft, TakesLine, HasRead, HasRun}
 use Rattle.zarr_run_lines.proofs.LinesLemmas.{lines_of-first, runs-more}
 
 -- ---- the reading
 
 -- a reader gives this line, whatever is left
-abbrev pub Takes : Option (List ℕ) → ℕ → Option (List ℕ) → ℕ → List ℕ → Type 0
-Takes left bytes left' bytes' line = (rest : List ℕ) → IsLeft left bytes rest → TakesLine left bytes left' bytes' line rest
+abbrev pub Takes : Reader → Reader → List ℕ → Type 0
+Takes left later line = (rest : List ℕ) → IsLeft left rest → TakesLine left later line rest
 
 -- nothing is left
-abbrev pub Ends : Option (List ℕ) → ℕ → Type 0
-Ends left bytes = (rest : List ℕ) → IsLeft left bytes rest → rest ≡ []
+abbrev pub Ends : Reader → Type 0
+Ends left = (rest : List ℕ) → IsLeft left rest → rest ≡ []
 
-pub read-start : (input left : Option (List ℕ)) (bytes lines : ℕ) → bytes ≡ 4294967296 → lines ≡ 1048576
-    → ((text : List ℕ) → input ≡ Some text → IsLeft left 4294967296 text) → HasRead input left bytes lines []
-read-start input left bytes lines b l start = record {
+all-left : (bytes text : ℕ) → bytes ≡ 4294967296 → text + bytes ≤ 4294967296 + text
+all-left bytes text b = omega (arith, b)
+
+pub read-start : (input known : Option (List ℕ)) (bytes lines : ℕ) → bytes ≡ 4294967296 → lines ≡ 1048576
+    → ((text : List ℕ) → input ≡ Some text → IsLeft (up_to known 4294967296) text) → HasRead input (up_to known bytes) lines []
+read-start input known bytes lines b l start = record {
   number = omega (arith, l);
-  first = λ text e. (text, rw b (start text e), refl, omega (arith, b));
+  first = λ text e. (text, subst (λ n. IsLeft (up_to known n) text) (sym b) (start text e), refl, all-left bytes (length text) b);
 }
 
 -- the next line goes from what is left to what was taken
@@ -30,8 +33,8 @@ moved : (text rest line : List ℕ) (done : List (List ℕ)) → lines_of text �
     → lines_of text ≡ (done ++ line ∷ []) ++ lines_of (drop_through 10 rest)
 moved text rest line done split first = split ∙ ap (λ ls. done ++ ls) first ∙ sym (append_assoc done (line ∷ []) (lines_of (drop_through 10 rest)))
 
-next : (left left' : Option (List ℕ)) (bytes bytes' : ℕ) (line rest : List ℕ) → TakesLine left bytes left' bytes' line rest → lines_of rest ≡ line ∷ lines_of (drop_through 10 rest)
-next left left' bytes bytes' line rest takes = lines_of-first rest takes.some ∙ ap (λ l. l ∷ lines_of (drop_through 10 rest)) (sym takes.first)
+next : (left later : Reader) (line rest : List ℕ) → TakesLine left later line rest → lines_of rest ≡ line ∷ lines_of (drop_through 10 rest)
+next left later line rest takes = lines_of-first rest takes.some ∙ ap (λ l. l ∷ lines_of (drop_through 10 rest)) (sym takes.first)
 
 one-more : (n lines lines' : ℕ) (done : List (List ℕ)) (line : List ℕ) → n ≡ length (done ++ line ∷ []) → lines' + 1 ≡ lines → length done + lines ≤ 1048576 → n + lines' ≤ 1048576
 one-more n lines lines' done line e one h = omega (arith, e ∙ length-append done (line ∷ []), one, h)
@@ -39,30 +42,30 @@ one-more n lines lines' done line e one h = omega (arith, e ∙ length-append do
 fewer : (text rest after bytes bytes' : ℕ) → text + bytes ≤ 4294967296 + rest → rest + bytes' ≡ after + bytes → text + bytes' ≤ 4294967296 + after
 fewer text rest after bytes bytes' h e = omega (arith, h, e)
 
-pub read-line : (input left left' : Option (List ℕ)) (bytes bytes' lines lines' : ℕ) (done : List (List ℕ)) (line : List ℕ)
-    → HasRead input left bytes lines done → Takes left bytes left' bytes' line → lines' + 1 ≡ lines → HasRead input left' bytes' lines' (done ++ line ∷ [])
-read-line input left left' bytes bytes' lines lines' done line p takes one = record {
+pub read-line : (input : Option (List ℕ)) (left later : Reader) (lines lines' : ℕ) (done : List (List ℕ)) (line : List ℕ)
+    → HasRead input left lines done → Takes left later line → lines' + 1 ≡ lines → HasRead input later lines' (done ++ line ∷ [])
+read-line input left later lines lines' done line p takes one = record {
   number = one-more _ lines lines' done line refl one p.number;
   first = λ whole e.
       let now = p.first whole e in
       let took = takes now.0 now.1 in
-      (drop_through 10 now.0, took.left, moved whole now.0 line done now.2 (next left left' bytes bytes' line now.0 took), fewer (length whole) (length now.0) (length (drop_through 10 now.0)) bytes bytes' now.3 took.count);
+      (drop_through 10 now.0, took.left, moved whole now.0 line done now.2 (next left later line now.0 took), fewer (length whole) (length now.0) (length (drop_through 10 now.0)) left.limit later.limit now.3 took.count);
 }
 
 -- the lines are the first of the input
 abbrev AreFirst : Option (List ℕ) → List (List ℕ) → Type 0
 AreFirst input done = IfSome input (λ text. (rest : List (List ℕ)) × (lines_of text ≡ done ++ rest))
 
-taken-first : (input left : Option (List ℕ)) (bytes lines : ℕ) (done : List (List ℕ)) → HasRead input left bytes lines done → AreFirst input done
-taken-first None left bytes lines done p = tt
-taken-first (Some text) left bytes lines done p = let now = p.first text refl in (lines_of now.0, now.2)
+taken-first : (input : Option (List ℕ)) (left : Reader) (lines : ℕ) (done : List (List ℕ)) → HasRead input left lines done → AreFirst input done
+taken-first None left lines done p = tt
+taken-first (Some text) left lines done p = let now = p.first text refl in (lines_of now.0, now.2)
 
 all-taken : (text rest : List ℕ) (done : List (List ℕ)) → lines_of text ≡ done ++ lines_of rest → rest ≡ [] → lines_of text ≡ done
 all-taken text rest done split none = split ∙ ap (λ r. done ++ lines_of r) none ∙ append-nil done
 
-taken-all : (input left : Option (List ℕ)) (bytes lines : ℕ) (done : List (List ℕ)) → HasRead input left bytes lines done → Ends left bytes → IfSome input (λ text. lines_of text ≡ done)
-taken-all None left bytes lines done p ends = tt
-taken-all (Some text) left bytes lines done p ends = let now = p.first text refl in all-taken text now.0 done now.2 (ends now.0 now.1)
+taken-all : (input : Option (List ℕ)) (left : Reader) (lines : ℕ) (done : List (List ℕ)) → HasRead input left lines done → Ends left → IfSome input (λ text. lines_of text ≡ done)
+taken-all None left lines done p ends = tt
+taken-all (Some text) left lines done p ends = let now = p.first text refl in all-taken text now.0 done now.2 (ends now.0 now.1)
 
 few-bytes : (text rest : List ℕ) (bytes : ℕ) → length text + bytes ≤ 4294967296 + length rest → rest ≡ [] → length text ≤ 2 ^ 32
 few-bytes text rest bytes h e = omega (arith, h, ap length e)
@@ -70,12 +73,12 @@ few-bytes text rest bytes h e = omega (arith, h, ap length e)
 few-lines : (text : List ℕ) (done : List (List ℕ)) (lines : ℕ) → lines_of text ≡ done → length done + lines ≤ 1048576 → length (lines_of text) ≤ 2 ^ 20
 few-lines text done lines e h = omega (arith, ap length e, h)
 
-pub read-limits : (input left : Option (List ℕ)) (bytes lines : ℕ) (done : List (List ℕ)) → HasRead input left bytes lines done → Ends left bytes → IfSome input IsWithinLimits
-read-limits None left bytes lines done p ends = tt
-read-limits (Some text) left bytes lines done p ends =
+pub read-limits : (input : Option (List ℕ)) (left : Reader) (lines : ℕ) (done : List (List ℕ)) → HasRead input left lines done → Ends left → IfSome input IsWithinLimits
+read-limits None left lines done p ends = tt
+read-limits (Some text) left lines done p ends =
     let now = p.first text refl in
     let none = ends now.0 now.1 in
-    (few-bytes text now.0 bytes now.3 none, few-lines text done lines (all-taken text now.0 done now.2 none) p.number)
+    (few-bytes text now.0 left.limit now.3 none, few-lines text done lines (all-taken text now.0 done now.2 none) p.number)
 
 -- ---- the runs in a world
 
@@ -83,7 +86,7 @@ none-yet : (before : Option (List ℕ)) (pending : List ℕ) → pending ≡ [] 
 none-yet None pending e = tt
 none-yet (Some held) pending e = ap (λ p. held ++ p) e
 
-pub run-start : (reads : ReadsCodecs) (before : Option (List ℕ)) (pending : List ℕ) (old : World) → pending ≡ [] → HasRun reads [] before before pending old old
+pub run-start : (reads : ReadsCodecs) (before : Option (List ℕ)) (pending : List ℕ) (old : World) → pending ≡ [] → HasRun reads [] (output before (append_known before pending)) old old
 run-start reads before pending old none = record { out = []; ran = (refl, refl); answers = none-yet before pending none }
 
 more-answers : (before after after' : Option (List ℕ)) (pending pending' pending'' out more : List ℕ) → Appends before (append_known after pending) out → pending' ≡ pending ++ more
@@ -95,8 +98,8 @@ more-answers (Some xs) (Some ys) (Some zs) pending pending' pending'' out more g
     kept ∙ ap (λ p. ys ++ p) is ∙ sym (append_assoc ys pending more) ∙ ap (λ l. l ++ more) grew ∙ append_assoc xs out more
 
 pub run-line : (reads : ReadsCodecs) (done : List (List ℕ)) (before after after' : Option (List ℕ)) (pending pending' pending'' line : List ℕ) (old mid new : World)
-    → HasRun reads done before after pending old mid → Answers reads mid line new pending pending' → Keeps (append_known after pending') (append_known after' pending'')
-    → HasRun reads (done ++ line ∷ []) before after' pending'' old new
+    → HasRun reads done (output before (append_known after pending)) old mid → Answers reads line (output (Some pending) (Some pending')) mid new → Keeps (append_known after pending') (append_known after' pending'')
+    → HasRun reads (done ++ line ∷ []) (output before (append_known after' pending'')) old new
 run-line reads done before after after' pending pending' pending'' line old mid new p (text, step, is) kept = record {
   out = p.out ++ (text ++ 10 ∷ []);
   ran = runs-more reads done old mid new p.out line text p.ran step;
@@ -106,35 +109,35 @@ run-line reads done before after after' pending pending' pending'' line old mid 
 -- ---- both
 
 -- a line that was answered has run
-pub answers-leave : (reads : ReadsCodecs) (line before after : List ℕ) (old new : World) → Answers reads old line new before after → Leaves reads old line new
+pub answers-leave : (reads : ReadsCodecs) (line before after : List ℕ) (old new : World) → Answers reads line (output (Some before) (Some after)) old new → Leaves reads old line new
 answers-leave reads line before after old new (text, step, is) = inr (text, step)
 
 -- after a fault before a line
-pub stands-before : (reads : ReadsCodecs) (input left before after : Option (List ℕ)) (bytes lines : ℕ) (done : List (List ℕ)) (pending : List ℕ) (old new : World)
-    → HasRead input left bytes lines done → HasRun reads done before after pending old new → StandsAfterSome reads input old new
-stands-before reads input left before after bytes lines done pending old new read run = (done, run.out, run.ran, taken-first input left bytes lines done read)
+pub stands-before : (reads : ReadsCodecs) (input : Option (List ℕ)) (left : Reader) (before after : Option (List ℕ)) (lines : ℕ) (done : List (List ℕ)) (old new : World)
+    → HasRead input left lines done → HasRun reads done (output before after) old new → StandsAfterSome reads input old new
+stands-before reads input left before after lines done old new read run = (done, run.out, run.ran, taken-first input left lines done read)
 
 -- after a fault in a line
-pub stands-in : (reads : ReadsCodecs) (input left left' before after : Option (List ℕ)) (bytes bytes' lines lines' : ℕ) (done : List (List ℕ)) (pending line : List ℕ) (old mid new : World)
-    → HasRead input left bytes lines done → Takes left bytes left' bytes' line → lines' + 1 ≡ lines → HasRun reads done before after pending old mid → Leaves reads mid line new → StandsAfterSome reads input old new
-stands-in reads input left left' before after bytes bytes' lines lines' done pending line old mid new read takes one run (inl same) =
-    subst (λ w. StandsAfterSome reads input old w) (sym same) (stands-before reads input left before after bytes lines done pending old mid read run)
-stands-in reads input left left' before after bytes bytes' lines lines' done pending line old mid new read takes one run (inr (text, step)) = (
+pub stands-in : (reads : ReadsCodecs) (input : Option (List ℕ)) (left later : Reader) (before after : Option (List ℕ)) (lines lines' : ℕ) (done : List (List ℕ)) (line : List ℕ) (old mid new : World)
+    → HasRead input left lines done → Takes left later line → lines' + 1 ≡ lines → HasRun reads done (output before after) old mid → Leaves reads mid line new → StandsAfterSome reads input old new
+stands-in reads input left later before after lines lines' done line old mid new read takes one run (inl same) =
+    subst (λ w. StandsAfterSome reads input old w) (sym same) (stands-before reads input left before after lines done old mid read run)
+stands-in reads input left later before after lines lines' done line old mid new read takes one run (inr (text, step)) = (
   done ++ line ∷ [],
   run.out ++ (text ++ 10 ∷ []),
   runs-more reads done old mid new run.out line text run.ran step,
-  taken-first input left' bytes' lines' (done ++ line ∷ []) (read-line input left left' bytes bytes' lines lines' done line read takes one),
+  taken-first input later lines' (done ++ line ∷ []) (read-line input left later lines lines' done line read takes one),
 )
 
 -- with all answers
-pub runs-some : (reads : ReadsCodecs) (input left before after : Option (List ℕ)) (bytes lines : ℕ) (done : List (List ℕ)) (pending : List ℕ) (old new : World)
-    → HasRead input left bytes lines done → HasRun reads done before after pending old new → RunsSome reads input before (append_known after pending) old new
-runs-some reads input left before after bytes lines done pending old new read run = (done, run.out, run.ran, run.answers, taken-first input left bytes lines done read)
+pub runs-some : (reads : ReadsCodecs) (input : Option (List ℕ)) (left : Reader) (before after : Option (List ℕ)) (lines : ℕ) (done : List (List ℕ)) (old new : World)
+    → HasRead input left lines done → HasRun reads done (output before after) old new → RunsSome reads input (output before after) old new
+runs-some reads input left before after lines done old new read run = (done, run.out, run.ran, run.answers, taken-first input left lines done read)
 
 -- at the end of the input
-pub runs-all : (reads : ReadsCodecs) (input left before after : Option (List ℕ)) (bytes lines : ℕ) (done : List (List ℕ)) (pending : List ℕ) (old new : World)
-    → HasRead input left bytes lines done → Ends left bytes → HasRun reads done before after pending old new → RunsAll reads input before (append_known after pending) old new
-runs-all reads input left before after bytes lines done pending old new read ends run = (done, run.out, run.ran, run.answers, taken-all input left bytes lines done read ends)
+pub runs-all : (reads : ReadsCodecs) (input : Option (List ℕ)) (left : Reader) (before after : Option (List ℕ)) (lines : ℕ) (done : List (List ℕ)) (old new : World)
+    → HasRead input left lines done → Ends left → HasRun reads done (output before after) old new → RunsAll reads input (output before after) old new
+runs-all reads input left before after lines done old new read ends run = (done, run.out, run.ran, run.answers, taken-all input left lines done read ends)
 
 -- ---- after the answers that were pending were written
 
@@ -144,15 +147,15 @@ flushed (Some xs) None after' pending pending' out grew kept none = absurd grew
 flushed (Some xs) (Some ys) None pending pending' out grew kept none = absurd kept
 flushed (Some xs) (Some ys) (Some zs) pending pending' out grew kept none = sym (append-nil zs) ∙ sym (ap (λ p. zs ++ p) none) ∙ kept ∙ grew
 
-pub all-written : (reads : ReadsCodecs) (input before after after' : Option (List ℕ)) (pending pending' : List ℕ) (old new : World) → RunsAll reads input before (append_known after pending) old new
-    → Keeps (append_known after pending) (append_known after' pending') → pending' ≡ [] → RunsAll reads input before after' old new
+pub all-written : (reads : ReadsCodecs) (input before after after' : Option (List ℕ)) (pending pending' : List ℕ) (old new : World) → RunsAll reads input (output before (append_known after pending)) old new
+    → Keeps (append_known after pending) (append_known after' pending') → pending' ≡ [] → RunsAll reads input (output before after') old new
 all-written reads input before after after' pending pending' old new ran kept none = (ran.0, ran.1, ran.2, flushed before after after' pending pending' ran.1 ran.3 kept none, ran.4)
 
-pub some-written : (reads : ReadsCodecs) (input before after after' : Option (List ℕ)) (pending pending' : List ℕ) (old new : World) → RunsSome reads input before (append_known after pending) old new
-    → Keeps (append_known after pending) (append_known after' pending') → pending' ≡ [] → RunsSome reads input before after' old new
+pub some-written : (reads : ReadsCodecs) (input before after after' : Option (List ℕ)) (pending pending' : List ℕ) (old new : World) → RunsSome reads input (output before (append_known after pending)) old new
+    → Keeps (append_known after pending) (append_known after' pending') → pending' ≡ [] → RunsSome reads input (output before after') old new
 some-written reads input before after after' pending pending' old new ran kept none = (ran.0, ran.1, ran.2, flushed before after after' pending pending' ran.1 ran.3 kept none, ran.4)
 
-pub stands-all : (reads : ReadsCodecs) (input before after : Option (List ℕ)) (old new : World) → RunsAll reads input before after old new → StandsAfterSome reads input old new
+pub stands-all : (reads : ReadsCodecs) (input before after : Option (List ℕ)) (old new : World) → RunsAll reads input (output before after) old new → StandsAfterSome reads input old new
 stands-all reads None before after old new ran = (ran.0, ran.1, ran.2, tt)
 stands-all reads (Some text) before after old new ran = (ran.0, ran.1, ran.2, ([], ran.4 ∙ sym (append-nil ran.0)))
 

@@ -1,7 +1,7 @@
 -- A reader that has a part of the bytes that are left.
 use Rattle.std.proofs.Common.{◌≡◌, ◌≢◌, ℕ, zero, suc, ◌+◌, ◌-◌, ◌==◌, ◌<◌, ◌≤◌, List, [], ◌∷◌, length, take, Bool, true, false, cond, Option, Some, IfSome, refl, sym, ap, ◌∙◌, subst, arith}
 use Rattle.std.specs.Io.BufRead.{take_through, drop_through, strip_last, DropsThrough}
-use Rattle.zarr_run_lines.specs.Reading.{IsLeft, TakesLine}
+use Rattle.zarr_run_lines.specs.Reading.{IsLeft, TakesLine, up_to}
 
 length-at : (b : Bool) (x : ℕ) (xs : List ℕ) → length xs ≡ length (take_through 10 xs) + length (drop_through 10 xs)
     → length (x ∷ xs) ≡ length (cond b (x ∷ []) (x ∷ take_through 10 xs)) + length (cond b xs (drop_through 10 xs))
@@ -55,7 +55,7 @@ count-left limit n all after h e = omega (arith, h, e)
 -- a piece within the limit is a line
 pub takes-line : (old new : Option (List ℕ)) (limit n : ℕ) (piece line : List ℕ) → length piece ≡ n → n ≢ 0 → n ≤ limit
     → IfSome old (λ xs. piece ≡ take_through 10 xs) → DropsThrough old new 10 → line ≡ strip_last 10 piece
-    → (rest : List ℕ) → IsLeft old limit rest → TakesLine old limit new (limit - n) line rest
+    → (rest : List ℕ) → IsLeft (up_to old limit) rest → TakesLine (up_to old limit) (up_to new (limit - n)) line rest
 takes-line old new limit n piece line count some within is drops strips rest known =
     let k : ℕ = limit + 1 in
     let piece-is : piece ≡ take_through 10 (take k rest) = known-at old (λ xs. piece ≡ take_through 10 xs) (take k rest) known is in
@@ -64,9 +64,11 @@ takes-line old new limit n piece line count some within is drops strips rest kno
     let through = through-take k rest below in
     let dropped : new ≡ Some (drop_through 10 (take k rest)) = known-at old (λ xs. new ≡ Some (drop_through 10 xs)) (take k rest) known drops in
     let whole : piece ≡ take_through 10 rest = piece-is ∙ through.taken in
+    let after : new ≡ Some (take (limit - n + 1) (drop_through 10 rest)) =
+        dropped ∙ ap Some (through.left ∙ ap (λ m. take (k - m) (drop_through 10 rest)) long ∙ ap (λ m. take m (drop_through 10 rest)) (same-limit limit n within)) in
     record {
       some = λ e. some (sym long ∙ none-through k rest e);
       first = strips ∙ ap (strip_last 10) whole;
-      left = dropped ∙ ap Some (through.left ∙ ap (λ m. take (k - m) (drop_through 10 rest)) long ∙ ap (λ m. take m (drop_through 10 rest)) (same-limit limit n within));
+      left = after;
       count = count-left limit n (length rest) (length (drop_through 10 rest)) within (through-length rest ∙ ap (λ m. m + length (drop_through 10 rest)) (ap length (sym whole) ∙ count));
     }

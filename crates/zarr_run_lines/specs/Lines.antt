@@ -33,9 +33,18 @@ LineDoes reads old (Some request) text new = (answer : Answer) × Step reads old
 abbrev pub LineStep : ReadsCodecs → World → List ℕ → List ℕ → World → Type 0
 LineStep reads old line text new = (said : Option Request) × Says line said × LineDoes reads old said text new
 
+-- the bytes that an output has before and after, if they are known
+pub record Output : Type 0 where
+  pub before : Option (List ℕ)
+  pub after : Option (List ℕ)
+
+-- an output that has the first bytes before and the others after
+abbrev pub output : Option (List ℕ) → Option (List ℕ) → Output
+output before after = record { before = before; after = after }
+
 -- from old, a line may lead to new and have the answer whose line was appended to what was there before
-abbrev pub Answers : ReadsCodecs → World → List ℕ → World → List ℕ → List ℕ → Type 0
-Answers reads old line new before after = (text : List ℕ) × LineStep reads old line text new × (after ≡ before ++ (text ++ 10 ∷ []))
+abbrev pub Answers : ReadsCodecs → List ℕ → Output → World → World → Type 0
+Answers reads line written old new = (text : List ℕ) × LineStep reads old line text new × Appends written.before written.after (text ++ 10 ∷ [])
 
 -- a line that was not answered left the world alone or has run
 abbrev pub Leaves : ReadsCodecs → World → List ℕ → World → Type 0
@@ -52,13 +61,13 @@ StandsAfterSome reads input old new = (done : List (List ℕ)) × (out : List �
     × IfSome input (λ text. (left : List (List ℕ)) × (lines_of text ≡ done ++ left))
 
 -- some lines were run and all their answers written after what there was; where the input is known, they are the first of its lines
-abbrev pub RunsSome : ReadsCodecs → Option (List ℕ) → Option (List ℕ) → Option (List ℕ) → World → World → Type 0
-RunsSome reads input before after old new = (done : List (List ℕ)) × (out : List ℕ) × RunsLines reads done old new out × Appends before after out
+abbrev pub RunsSome : ReadsCodecs → Option (List ℕ) → Output → World → World → Type 0
+RunsSome reads input written old new = (done : List (List ℕ)) × (out : List ℕ) × RunsLines reads done old new out × Appends written.before written.after out
     × IfSome input (λ text. (left : List (List ℕ)) × (lines_of text ≡ done ++ left))
 
 -- lines were run and their answers written after what there was; where the input is known, they are all its lines
-abbrev pub RunsAll : ReadsCodecs → Option (List ℕ) → Option (List ℕ) → Option (List ℕ) → World → World → Type 0
-RunsAll reads input before after old new = (done : List (List ℕ)) × (out : List ℕ) × RunsLines reads done old new out × Appends before after out
+abbrev pub RunsAll : ReadsCodecs → Option (List ℕ) → Output → World → World → Type 0
+RunsAll reads input written old new = (done : List (List ℕ)) × (out : List ℕ) × RunsLines reads done old new out × Appends written.before written.after out
     × IfSome input (λ text. lines_of text ≡ done)
 
 -- at most 2^32 bytes and 2^20 lines

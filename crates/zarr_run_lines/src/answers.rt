@@ -1,5 +1,5 @@
 //! Answers that wait to be written.
-ghost use Rattle.std.specs.Prelude.{◌≡◌, [], ◌∷◌, ◌++◌, IsTrue, IfOk, IfErr, OnOk, OnErr, option_copied, option_map};
+ghost use Rattle.std.specs.Prelude.{◌≡◌, [], ◌∷◌, ◌++◌, IsTrue, Some, IfOk, IfErr, OnOk, OnErr, option_copied, option_map};
 ghost use Rattle.std.specs.Io.KnownBytes.{Keeps, append_known};
 ghost use Rattle.serde_json.specs.Written.{compact_text};
 ghost use Rattle.zarr_codecs_types.specs.Views.{type_of};
@@ -7,7 +7,7 @@ ghost use Rattle.zarr_run_commands.specs.Answers.{answer_json};
 ghost use Rattle.zarr_run_commands.specs.Commands.{answered, asked};
 ghost use Rattle.zarr_run_commands.specs.Lines.{Says};
 ghost use Rattle.zarr_run_session.specs.Sessions.{state_of, store_of};
-ghost use Rattle.zarr_run_lines.specs.Lines.{Answers, Leaves};
+ghost use Rattle.zarr_run_lines.specs.Lines.{Answers, Leaves, output};
 ghost use Rattle.zarr_run_lines.specs.Sessions.{LeadsTo};
 
 use crate::lines::LinesFault;
@@ -70,7 +70,8 @@ fn run_command<H: Threads + Sync, S: WritableStorageTraits, B: BytesToBytesCodec
     ensures ok { IsTrue (S.is_honest (store_of session.old)) → OnOk result
         (LeadsTo B.meaning B.reads (state_of S.held S.refused_calls session.old)
         (state_of S.held S.refused_calls session.new)
-        (λ old new. Answers B.reads old line.old.items new pending.old.items pending.new.items)) }
+        (Answers B.reads line.old.items
+        (output (Some pending.old.items) (Some pending.new.items)))) }
     ensures err { IsTrue (S.is_honest (store_of session.old)) → OnErr result
         (LeadsTo B.meaning B.reads (state_of S.held S.refused_calls session.old)
         (state_of S.held S.refused_calls session.new)
@@ -105,7 +106,8 @@ pub(crate) fn answer_line<
     ensures ok { IsTrue (S.is_honest (store_of session.old)) → OnOk result
         (LeadsTo B.meaning B.reads (state_of S.held S.refused_calls session.old)
         (state_of S.held S.refused_calls session.new)
-        (λ old new. Answers B.reads old line.old.items new pending.old.items pending.new.items)) }
+        (Answers B.reads line.old.items
+        (output (Some pending.old.items) (Some pending.new.items)))) }
     ensures err { IsTrue (S.is_honest (store_of session.old)) → OnErr result
         (LeadsTo B.meaning B.reads (state_of S.held S.refused_calls session.old)
         (state_of S.held S.refused_calls session.new)

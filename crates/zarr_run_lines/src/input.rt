@@ -4,7 +4,7 @@ ghost use Rattle.std.specs.Io.BufRead.{take_through, strip_last, DropsThrough};
 ghost use Rattle.std.specs.Io.KnownBytes.{Consumes, IsAtEnd};
 ghost use Rattle.std.specs.Io.Buffered.{reader_remaining};
 ghost use Rattle.std.specs.Io.Take.{take_remaining};
-ghost use Rattle.zarr_run_lines.specs.Reading.{IsLeft, TakesLine};
+ghost use Rattle.zarr_run_lines.specs.Reading.{IsLeft, TakesLine, up_to};
 
 use crate::lines::LinesFault;
 use memchr::memchr;
@@ -48,7 +48,8 @@ pub(crate) fn limited<R: Read + Drop>(
     reader: R,
 ) -> Result<BufReader<Take<R>>, LinesFault>
     ensures ok { IfOk result (λ buffered. (text : List ℕ) → R.remaining reader ≡ Some text
-        → IsLeft (reader_remaining (take_remaining R.remaining) buffered) 4294967296 text) }
+        → IsLeft (up_to (reader_remaining (take_remaining R.remaining) buffered) 4294967296)
+        text) }
     ensures err { IfErr result (λ fault. fault ≡ LinesFault.Memory) }
 {
     match BufReader::with_capacity(alloc, BUFFER_BYTES, reader.take(MAX_BYTES + 1)) {
@@ -144,12 +145,12 @@ pub(crate) fn next_line<B: BufRead>(
     line: &mut Vec<u8>,
 ) -> Result<bool, LinesFault>
     ensures line { IfOk result (λ more. IsTrue more → (rest : List ℕ)
-        → IsLeft (B.remaining reader.old) limits.old.bytes rest
-        → TakesLine (B.remaining reader.old) limits.old.bytes
-        (B.remaining reader.new) limits.new.bytes line.new.items rest) }
+        → IsLeft (up_to (B.remaining reader.old) limits.old.bytes) rest
+        → TakesLine (up_to (B.remaining reader.old) limits.old.bytes)
+        (up_to (B.remaining reader.new) limits.new.bytes) line.new.items rest) }
     ensures lines { IfOk result (λ more. IsTrue more → limits.new.lines + 1 ≡ limits.old.lines) }
     ensures end { IfOk result (λ more. more ≡ false → (rest : List ℕ)
-        → IsLeft (B.remaining reader.old) limits.old.bytes rest → rest ≡ []) }
+        → IsLeft (up_to (B.remaining reader.old) limits.old.bytes) rest → rest ≡ []) }
 {
     let count = read_piece(reader, line)?;
     if count == 0 {

@@ -2,7 +2,7 @@
 ghost use Rattle.std.specs.Prelude.{◌≡◌, [], IsTrue, OnOk, OnErr, IfErr, IfSome};
 ghost use Rattle.std.specs.Io.KnownBytes.{append_known};
 ghost use Rattle.zarr_run_session.specs.Sessions.{state_of, store_of};
-ghost use Rattle.zarr_run_lines.specs.Lines.{RunsAll, RunsSome, StandsAfterSome, IsWithinLimits};
+ghost use Rattle.zarr_run_lines.specs.Lines.{RunsAll, RunsSome, StandsAfterSome, IsWithinLimits, output};
 ghost use Rattle.zarr_run_lines.specs.Sessions.{LeadsTo};
 
 use crate::answers::{answer_line, write_before_wait, write_pending};
@@ -52,7 +52,8 @@ pub fn run_lines<
     ensures ok { IsTrue (S.is_honest (store_of session.old)) → OnOk result
         (LeadsTo B.meaning B.reads (state_of S.held S.refused_calls session.old)
         (state_of S.held S.refused_calls session.new)
-        (RunsAll B.reads (R.remaining reader) (W.contents writer.old) (W.contents writer.new))) }
+        (RunsAll B.reads (R.remaining reader)
+        (output (W.contents writer.old) (W.contents writer.new)))) }
     ensures limits { OnOk result (IfSome (R.remaining reader) IsWithinLimits) }
     ensures err { IsTrue (S.is_honest (store_of session.old)) → OnErr result
         (LeadsTo B.meaning B.reads (state_of S.held S.refused_calls session.old)
@@ -62,7 +63,8 @@ pub fn run_lines<
         (λ fault. fault ≡ LinesFault.Read →
         LeadsTo B.meaning B.reads (state_of S.held S.refused_calls session.old)
         (state_of S.held S.refused_calls session.new)
-        (RunsSome B.reads (R.remaining reader) (W.contents writer.old) (W.contents writer.new))) }
+        (RunsSome B.reads (R.remaining reader)
+        (output (W.contents writer.old) (W.contents writer.new)))) }
     ensures honest { S.is_honest (store_of session.new) ≡ S.is_honest (store_of session.old) }
 {
     let mut pending = Vec::new(alloc);
@@ -95,8 +97,8 @@ fn answer_lines<
     ensures ok { IsTrue (S.is_honest (store_of session.old)) → OnOk result
         (LeadsTo B.meaning B.reads (state_of S.held S.refused_calls session.old)
         (state_of S.held S.refused_calls session.new)
-        (RunsAll B.reads (R.remaining reader) (W.contents writer.old)
-        (append_known (W.contents writer.new) pending.new.items))) }
+        (RunsAll B.reads (R.remaining reader) (output (W.contents writer.old)
+        (append_known (W.contents writer.new) pending.new.items)))) }
     ensures limits { OnOk result (IfSome (R.remaining reader) IsWithinLimits) }
     ensures err { IsTrue (S.is_honest (store_of session.old)) → OnErr result
         (LeadsTo B.meaning B.reads (state_of S.held S.refused_calls session.old)
@@ -106,8 +108,8 @@ fn answer_lines<
         (λ fault. fault ≡ LinesFault.Read →
         LeadsTo B.meaning B.reads (state_of S.held S.refused_calls session.old)
         (state_of S.held S.refused_calls session.new)
-        (RunsSome B.reads (R.remaining reader) (W.contents writer.old)
-        (append_known (W.contents writer.new) pending.new.items))) }
+        (RunsSome B.reads (R.remaining reader) (output (W.contents writer.old)
+        (append_known (W.contents writer.new) pending.new.items)))) }
     ensures honest { S.is_honest (store_of session.new) ≡ S.is_honest (store_of session.old) }
 {
     let mut reader = limited(alloc, reader)?;

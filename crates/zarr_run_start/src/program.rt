@@ -4,6 +4,7 @@ ghost use Rattle.std.specs.Prelude.{◌≡◌, ◌≢◌, ◌⊎◌, true, false
 ghost use Rattle.std.specs.Process.{exit_status};
 ghost use Rattle.clap.specs.Words.{takes};
 ghost use Rattle.zarr_codecs_reverse.specs.Reversing.{reads_reversing};
+ghost use Rattle.zarr_run_lines.specs.Lines.{output};
 ghost use Rattle.zarr_run_meaning.specs.Runs.{world_over};
 ghost use Rattle.zarr_run_start.specs.Programs.{RunsAllFrom};
 ghost use Rattle.zarr_run_words.specs.CommandLines.{program, root_in};
@@ -78,7 +79,7 @@ pub fn run_words<
     ensures success { takes program (map string_bytes words.now) ≡ true →
         root_in (map string_bytes words.now) ≡ None → exit_status result ≡ 0 →
         RunsAllFrom reads_reversing (world_over empty 0) (R.remaining reader)
-        (W.contents writer.old) (W.contents writer.new) }
+        (output (W.contents writer.old) (W.contents writer.new)) }
     ensures silence { exit_status result ≡ 0 → errors.new ≡ errors.old }
     ensures failure { exit_status result ≢ 0 →
         (exit_status result ≡ 1) ⊎ (exit_status result ≡ 2) }
@@ -126,7 +127,7 @@ fn run_root<H: Files + AllocGlobal + Threads + Clone + Drop + Sync, R: Read + Dr
 ) -> Result<(), Fault>
     ensures { root.entry ≡ None → OnOk result
         (RunsAllFrom reads_reversing (world_over empty 0) (R.remaining reader)
-        (W.contents writer.old) (W.contents writer.new)) }
+        (output (W.contents writer.old) (W.contents writer.new))) }
 {
     match root {
         Some(dir) => run_folder(rt, dir, reader, writer),
@@ -156,7 +157,7 @@ fn run_memory<H: AllocGlobal + Threads + Sync, R: Read + Drop, W: Write>(
     writer: &mut W,
 ) -> Result<(), Fault>
     ensures { OnOk result (RunsAllFrom reads_reversing (world_over empty 0) (R.remaining reader)
-        (W.contents writer.old) (W.contents writer.new)) }
+        (output (W.contents writer.old) (W.contents writer.new))) }
 {
     run_store(rt, rt.alloc(), MemoryStore::new(rt.alloc()), reader, writer)
 }
@@ -172,7 +173,7 @@ pub fn run_store<H: Threads + Sync, S: WritableStorageTraits + Drop, R: Read + D
 ) -> Result<(), Fault>
     ensures { IsTrue (S.is_honest store) → OnOk result
         (RunsAllFrom reads_reversing (world_over (S.held store) (S.refused_calls store))
-        (R.remaining reader) (W.contents writer.old) (W.contents writer.new)) }
+        (R.remaining reader) (output (W.contents writer.old) (W.contents writer.new))) }
 {
     let mut session = Session::<S, ReverseCodec>::new(alloc, store);
     Ok(run_lines(rt, alloc, &mut session, reader, writer)?)
