@@ -17,7 +17,7 @@ use Rattle.zarr_run_meaning.specs.declared.cause.Cause.TheVariants as cause
 use Rattle.zarr_run_meaning.specs.Causes.{ReopenRefuses, IsChunkKeyIn}
 use Rattle.zarr_run_meaning.specs.Changes.{Reopens, Opens}
 use Rattle.zarr_run_meaning.specs.Laws.{IsReopenedAs, IsAgain, AreReopened, AsksAgain, IsAnsweredAgain, RunsReopen, RunsGoOn}
-use Rattle.zarr_run_meaning.specs.Requests.{Request, reopen, Answer, done, cells, compacted, refused}
+use Rattle.zarr_run_meaning.specs.Requests.{refusal, Request, reopen, Answer, done, cells, compacted, refused}
 use Rattle.zarr_run_meaning.specs.Runs.{Run, world_over}
 use Rattle.zarr_run_meaning.specs.Sound.{AreApart, IsSound, ReadsGood}
 use Rattle.zarr_run_meaning.specs.Steps.{Stays, RefusesAt, Step}
@@ -89,7 +89,7 @@ module _ (reads : ReadsCodecs) (closed old new : World) (path : List ℕ) (h : H
     each = λ q x e. ⊎_elim (λ is. fresh q x e is) (again.each q x) (held_at-more q old.arrays begun x o.begins.free (sym (ap (held_at q) o.begins.holds) ∙ e));
   } where
     begun : Held
-    begun = record { path = path; tree = o.tree; document = o.meaning; order = order; table = o.begins.table }
+    begun = record { path = path; tree = o.tree; document = o.meaning; order = order; table = o.table }
 
     fresh : (q : List ℕ) (x : Held) → held_at q new.arrays ≡ Some x → x ≡ begun → WasHeld closed q x
     fresh q x e is =
@@ -100,13 +100,13 @@ module _ (reads : ReadsCodecs) (closed old new : World) (path : List ℕ) (h : H
 
   -- ---- it is refused
 
-  refused_same : (c : Cause) (n : ℕ) → RefusesAt reads path (reopen path order) c n old new → (new.arrays ≡ old.arrays) × (new.store ≡ old.store)
+  refused_same : (c : Cause) (n : ℕ) → RefusesAt reads (reopen path order) (refusal c n) old new → (new.arrays ≡ old.arrays) × (new.store ≡ old.store)
   refused_same c n s =
       let P : Type 0 = (new.arrays ≡ old.arrays) × (new.store ≡ old.store) in
       let stays : Stays c n old new → P = λ k. (ap (λ (w : World). w.arrays) k.is, ap (λ (w : World). w.store) k.is) in
-      at_cases reads path (reopen path order) c n old new P s stays (λ k. stays k.1)
+      at_cases reads (reopen path order) c n old new P s stays (λ k. stays k.1)
 
-  held_refused : (c : Cause) (n : ℕ) (g : Held) → held_at path old.arrays ≡ Some g → RefusesAt reads path (reopen path order) c n old new → IsAnsweredAgain (refused c n)
+  held_refused : (c : Cause) (n : ℕ) (g : Held) → held_at path old.arrays ≡ Some g → RefusesAt reads (reopen path order) (refusal c n) old new → IsAnsweredAgain (refused c n)
   held_refused cause.Path n g at s = absurd (false≢true (sym s.0 ∙ node))
   held_refused cause.Memory n g at s = inr (inl (ap (refused cause.Memory) (⊎_elim (λ (k : Stays cause.Memory n old new). k.applied) (λ k. k.1.1.applied) s)))
   held_refused cause.Store n g at s = inr (inr (ap (refused cause.Store) s.1.1.applied))

@@ -58,7 +58,7 @@ module _ (reads : ReadsCodecs) (old new : World) (path : List ℕ) (good : Reads
         (held_at-more other old.arrays b h none (sym (ap (held_at other) arrays) ∙ e));
   }
 
-  created_alone : (p : List ℕ) (document : Data) (order : SubchunkWriteOrder) → Creates reads p document order old new → IsSoundAlone reads new path
+  created_alone : (p : List ℕ) (document : Data) (order : SubchunkWriteOrder) → Creates reads (record { path = p; document = document; order = order }) old new → IsSoundAlone reads new path
   created_alone p document order c =
       let away = free_of p path old.arrays sound.array c.free sound.found in
       more_alone (created_array reads old new p document order c) new.store (free_none p old.arrays c.free)

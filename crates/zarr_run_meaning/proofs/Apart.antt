@@ -10,10 +10,13 @@ use Rattle.zarr_grids_cover.proofs.ChunkBoxes.{chunk_box-rank}
 use Rattle.zarr_codecs_meaning.specs.Payloads.{Payload, cells_in}
 use Rattle.zarr_codecs_meaning.specs.Types.{Cell}
 use Rattle.zarr_codecs_meaning.proofs.Lists.{some_same}
+use Rattle.zarr_codecs_options.specs.declared.codec_options.CodecOptions.{CodecOptions}
+use Rattle.zarr_array_meaning.specs.Arrays.{Array, value_at}
 use Rattle.zarr_array_meaning.specs.Boxes.{cell_of_box, IsPlaceOf, IsRead, IsDamagedIn, IsUnfitIn}
 use Rattle.zarr_array_meaning.specs.Chunks.{IsNthIntersecting}
 use Rattle.zarr_array_meaning.specs.Documents.{Document}
 use Rattle.zarr_array_meaning.specs.StoreMaps.{StoreMap}
+use Rattle.zarr_array_meaning.specs.Writes.{write_to}
 use Rattle.zarr_array_meaning.specs.Writing.{IsPartDamaged, LacksRoom, is_into_shard}
 use Rattle.zarr_array_meaning.proofs.OneAnswer.{reads_one_way, written_undamaged}
 use Rattle.zarr_run_meaning.specs.declared.cause.Cause.TheVariants as cause
@@ -21,9 +24,9 @@ use Rattle.zarr_run_meaning.specs.Causes.{IsTarget}
 use Rattle.zarr_run_meaning.specs.Changes.{Reads}
 use Rattle.zarr_run_meaning.specs.Laws.{ReadsApart, ReadsAlike, WritesApart}
 use Rattle.zarr_run_meaning.specs.Printing.{IsFormed}
-use Rattle.zarr_run_meaning.specs.Requests.{Target, in_box, in_chunk, read, cells as gives, refused}
+use Rattle.zarr_run_meaning.specs.Requests.{Target, in_box, in_chunk, refusal, read, cells as gives, refused}
 use Rattle.zarr_run_meaning.specs.Steps.{RefusesHeld, RefusesWrite, RefusesRead, WritesFirst, Step}
-use Rattle.zarr_run_meaning.specs.Worlds.{Held, held_at, writes_exactly}
+use Rattle.zarr_run_meaning.specs.Worlds.{Held, array_of, held_at}
 use Rattle.zarr_run_meaning.proofs.Frames.{read_once}
 use Rattle.zarr_run_meaning.proofs.Keys.{number_listed, listed_below}
 
@@ -34,7 +37,7 @@ target_once grid (in_chunk chunk) a b is other = some_same (sym is.has_box ∙ o
 
 pub reads_apart : ReadsApart
 reads_apart reads old new other path target options more payload n m = (whole_damaged, whole_unfit, λ s t. both (held_at path old.arrays) s.1 t.1) where
-  both : (o : Option Held) → RefusesHeld o (RefusesRead target) cause.Damage n old new → RefusesHeld o (RefusesRead target) cause.Fit m old other → ⊥
+  both : (o : Option Held) → RefusesHeld o (RefusesRead target) (refusal cause.Damage n) old new → RefusesHeld o (RefusesRead target) (refusal cause.Fit m) old other → ⊥
   both (Some h) s t =
       let same = target_once h.document.grid target s.0.0 t.0.0 s.0.1 t.0.1 in
       (reads_one_way h.path h.document old.store t.0.0 []).0 (subst (λ (box : Region). IsDamagedIn h.path h.document old.store box) same s.0.3) t.0.3
@@ -44,7 +47,7 @@ reads_apart reads old new other path target options more payload n m = (whole_da
   whole_damaged s t =
       let is = s.0 in
       let h = is.held in
-      let r = subst (λ (o : Option Held). RefusesHeld o (RefusesRead target) cause.Damage n old other) is.found t.1 in
+      let r = subst (λ (o : Option Held). RefusesHeld o (RefusesRead target) (refusal cause.Damage n) old other) is.found t.1 in
       let same = target_once h.document.grid target r.0.0 is.box r.0.1 is.is in
       (reads_one_way h.path h.document old.store is.box is.values).1 is.read (subst (λ (box : Region). IsDamagedIn h.path h.document old.store box) same r.0.3)
 
@@ -52,18 +55,22 @@ reads_apart reads old new other path target options more payload n m = (whole_da
   whole_unfit s t =
       let is = s.0 in
       let h = is.held in
-      let r = subst (λ (o : Option Held). RefusesHeld o (RefusesRead target) cause.Fit n old other) is.found t.1 in
+      let r = subst (λ (o : Option Held). RefusesHeld o (RefusesRead target) (refusal cause.Fit n) old other) is.found t.1 in
       let same = target_once h.document.grid target r.0.0 is.box r.0.1 is.is in
       (reads_one_way h.path h.document old.store is.box is.values).2 is.read (subst (λ (box : Region). IsUnfitIn h.path h.document old.store box) same r.0.3)
+
+-- whether a part that is to stay is damaged doesn't depend on the cells that are written
+damaged_alike : (array : Array) (region : Region) (values others : List Cell) (options : CodecOptions) (box : Region) (stored : Option (List ℕ)) → IsPartDamaged (write_to array region values options) box stored → IsPartDamaged (write_to array region others options) box stored
+damaged_alike array region values others options box stored damaged = record { fit = damaged.fit; part = damaged.part; lost = damaged.lost }
 
 pub writes_apart : WritesApart
 writes_apart reads old new other path target given options n puts s t =
     let is = s.0 in
     let h = is.held in
-    let r = subst (λ (o : Option Held). RefusesHeld o (RefusesWrite target given options) cause.Damage n old other) is.found t.1 in
+    let r = subst (λ (o : Option Held). RefusesHeld o (RefusesWrite (record { target = target; cells = given; options = options })) (refusal cause.Damage n) old other) is.found t.1 in
     ⊎_elim
     (λ whole. whole.0)
-    (λ (first : WritesFirst h target given options cause.Damage n old other).
+    (λ (first : WritesFirst h (record { target = target; cells = given; options = options }) (refusal cause.Damage n) old other).
     let same = target_once h.document.grid target first.box is.box first.is.is is.is.is in
     let nth = subst (λ (box : Region). IsNthIntersecting h.document.grid box n first.stops.chunk first.stops.box) same first.stops.nth in
     let listed = number_listed _ n first.stops.chunk nth.listed in
@@ -71,9 +78,10 @@ writes_apart reads old new other path target given options n puts s t =
     let below : IsInGrid h.document.grid first.stops.chunk first.stops.box = record { below = among.1.below; has_box = nth.has_box } in
     ⊎_elim
     (λ part.
-    let damaged = subst (λ (box : Region). IsPartDamaged h.path h.document old.store box options first.stops.chunk first.stops.box) same part in
-    written_undamaged h.path h.document (writes_exactly h) is.box is.values options _ old.store new.store first.stops.chunk first.stops.box is.writes.stores below listed damaged)
-    (λ (no : LacksRoom h.path h.document old.store first.box first.values options first.stops.chunk first.stops.box).
+    let stored = value_at (array_of h) old.store first.stops.chunk in
+    let damaged = subst (λ (box : Region). IsPartDamaged (write_to (array_of h) box is.values options) first.stops.box stored) same (damaged_alike (array_of h) first.box first.values is.values options first.stops.box stored part) in
+    written_undamaged (write_to (array_of h) is.box is.values options) _ old.store new.store first.stops.chunk first.stops.box is.writes.stores below listed damaged)
+    (λ (no : LacksRoom (write_to (array_of h) first.box first.values options) first.stops.box (value_at (array_of h) old.store first.stops.chunk)).
     let into = ap (λ (box : Region). is_into_shard h.document options box first.stops.box) (sym same) ∙ no.into in
     false≢true (sym (puts h is.box first.stops.chunk first.stops.box is.found is.is.is below) ∙ into))
     first.stops.refuses)

@@ -16,7 +16,7 @@ no_arrays_sound reads store count = record { apart = tt; each = λ path h e. abs
 -- ---- nothing stored
 
 -- where nothing is stored for a chunk, the fill value is read
-pub fill_read : (path : List ℕ) (document : Document) (store : StoreMap) (chunk : List ℕ) (box : Region) (place : List ℕ) → stored_at path document store chunk ≡ None → ReadsCell path document store chunk box place document.elements.fill
+pub fill_read : (path : List ℕ) (document : Document) (store : StoreMap) (chunk : List ℕ) (box : Region) (place : List ℕ) → stored_at path document store chunk ≡ None → ReadsCell document box (stored_at path document store chunk) place document.elements.fill
 fill_read path document store chunk box place none = ap (λ o. chunk_part document.chain document.elements box.shape o (number_in box place ∷ [])) none
 
 pub begins_as_fill : BeginsAsFill

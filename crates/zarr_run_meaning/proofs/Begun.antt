@@ -67,9 +67,9 @@ no_chunks_are_fill path document store good lossless none = record {
 
 -- ---- what begins has these cells
 
-module _ (reads : ReadsCodecs) (old new : World) (path : List ℕ) (document : Data) (order : SubchunkWriteOrder) (c : Creates reads path document order old new) where
+module _ (reads : ReadsCodecs) (old new : World) (path : List ℕ) (document : Data) (order : SubchunkWriteOrder) (c : Creates reads (record { path = path; document = document; order = order }) old new) where
   abbrev pub created_array : Held
-  created_array = record { path = path; tree = written_document document; document = c.meaning; order = order; table = c.begins.table }
+  created_array = record { path = path; tree = written_document document; document = c.meaning; order = order; table = c.table }
 
   -- the array that is held afterwards at the path is the new one
   pub created_held : (h : Held) → held_at path new.arrays ≡ Some h → h ≡ created_array
@@ -86,11 +86,11 @@ module _ (reads : ReadsCodecs) (old new : World) (path : List ℕ) (document : D
       (stored_reads_back path document old.store new.store c.stores)
       (λ older. json_stays path (written_document document) old.store new.store c.stores older ∙ c.fresh.zarr_json)
       (stored_same path c.meaning old.store new.store begins.0 (put_chunk path c.meaning old.store new.store created_put) begins.1)
-      (stored_cells path c.meaning old.store c.begins.table begins.0 (good document c.meaning c.opens) begins.1 c.begins.shows)
+      (stored_cells path c.meaning old.store c.table begins.0 (good document c.meaning c.opens) begins.1 c.begins.shows)
 
 module _ (reads : ReadsCodecs) (old new : World) (path : List ℕ) (order : SubchunkWriteOrder) (o : Opens reads path order old new) where
   abbrev pub opened_array : Held
-  opened_array = record { path = path; tree = o.tree; document = o.meaning; order = order; table = o.begins.table }
+  opened_array = record { path = path; tree = o.tree; document = o.meaning; order = order; table = o.table }
 
   pub opened_held : (h : Held) → held_at path new.arrays ≡ Some h → h ≡ opened_array
   opened_held h e = same_Some h opened_array (sym e ∙ ap (held_at path) o.begins.holds ∙ held_at-new path old.arrays opened_array o.begins.free refl)
@@ -106,13 +106,13 @@ module _ (reads : ReadsCodecs) (old new : World) (path : List ℕ) (order : Subc
   pub opened_there : ReadsGood reads → AreNodes old.arrays → is_taken path old.arrays ≡ false → (cells : List ℕ → Cell) × IsStoredAs path o.meaning old.store cells → IsSoundAt reads old.store opened_array
   opened_there good nodes free begins =
       begun_sound reads old.store opened_array begins.0 o.node o.opens o.found.stored (opened_first o.node nodes free) begins.1
-      (stored_cells path o.meaning old.store o.begins.table begins.0 (good o.tree o.meaning o.opens) begins.1 o.begins.shows)
+      (stored_cells path o.meaning old.store o.table begins.0 (good o.tree o.meaning o.opens) begins.1 o.begins.shows)
 
 pub creates_cells : CreatesCells
 creates_cells reads old new path document order h cells good s e =
     let c = s.0 in
     let P : Held → Type 0 = λ x. IsStoredAs path x.document old.store cells → HasCells x cells in
-    subst P (sym (created_held reads old new path document order c h e)) (λ stored. stored_cells path c.meaning old.store c.begins.table cells (good document c.meaning c.opens) stored c.begins.shows)
+    subst P (sym (created_held reads old new path document order c h e)) (λ stored. stored_cells path c.meaning old.store c.table cells (good document c.meaning c.opens) stored c.begins.shows)
 
 pub creates_fill : CreatesFill
 creates_fill reads old new path document order h good s e lossless none =
@@ -128,5 +128,5 @@ opens_cells reads old new path order h cells good none s e = ⊎_elim
     (λ (o : Opens reads path order old new).
     let P : Held → Type 0 = λ x. IsStoredAs path x.document old.store cells → HasDocument path x.tree old.store × (read_document reads x.tree ≡ Ok x.document) × HasCells x cells in
     subst P (sym (opened_held reads old new path order o h e))
-    (λ stored. (o.found.stored, o.opens, stored_cells path o.meaning old.store o.begins.table cells (good o.tree o.meaning o.opens) stored o.begins.shows)))
+    (λ stored. (o.found.stored, o.opens, stored_cells path o.meaning old.store o.table cells (good o.tree o.meaning o.opens) stored o.begins.shows)))
     s.0

@@ -135,7 +135,7 @@ writes_commute reads old new last path one two given other options more again ot
 -- ---- arrays at unrelated paths
 
 -- a write leaves the array at an unrelated path
-left_alone : (path away : List ℕ) (target : Target) (given : GivenCells) (options : CodecOptions) (old new : World) (h : Held) → held_at away old.arrays ≡ Some h → is_related path away ≡ false → Writes path target given options old new → held_at away new.arrays ≡ Some h
+left_alone : (path away : List ℕ) (target : Target) (given : GivenCells) (options : CodecOptions) (old new : World) (h : Held) → held_at away old.arrays ≡ Some h → is_related path away ≡ false → Writes path (record { target = target; cells = given; options = options }) old new → held_at away new.arrays ≡ Some h
 left_alone path away target given options old new h found unrelated w =
     let after = held_after w.held.path w.writes.table new.store old.arrays new.arrays w.writes.updates away h found in
     after.1 ∙ ap (λ (x : Held). Some x) (go after.0 after.2) where

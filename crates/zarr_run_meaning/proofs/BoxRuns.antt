@@ -39,7 +39,7 @@ accepted_read reads path target options (compacted changed) old new a s = absurd
 accepted_read reads path target options (refused c n) old new a s = absurd a
 
 accepted_write : (reads : ReadsCodecs) (path : List ℕ) (target : Target) (given : GivenCells) (options : CodecOptions) (answer : Answer) (old new : World) → IsAccepted answer → Step reads old (write path target given options) answer new
-    → (answer ≡ done) × Writes path target given options old new
+    → (answer ≡ done) × Writes path (record { target = target; cells = given; options = options }) old new
 accepted_write reads path target given options done old new a s = (refl, s.0)
 accepted_write reads path target given options (gives payload) old new a s = absurd s
 accepted_write reads path target given options (compacted changed) old new a s = absurd s

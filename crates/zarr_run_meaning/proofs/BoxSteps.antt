@@ -22,19 +22,20 @@ use Rattle.zarr_codecs_metadata.specs.Chains.{ReadsCodecs}
 use Rattle.zarr_codecs_options.specs.declared.codec_options.CodecOptions.{CodecOptions}
 use Rattle.zarr_codecs_types.specs.Given.{GivenCells}
 use Rattle.zarr_array_meaning.specs.Boxes.{cell_of_box, IsRead, IsDamagedIn, IsUnfitIn}
-use Rattle.zarr_array_meaning.specs.Chunks.{number_in, part_at, is_listed}
+use Rattle.zarr_array_meaning.specs.Chunks.{number_in, stored_at, part_at, is_listed}
 use Rattle.zarr_array_meaning.specs.Standing.{IsLossless}
 use Rattle.zarr_array_meaning.specs.StoreMaps.{StoreMap}
+use Rattle.zarr_array_meaning.specs.Writes.{write_to}
 use Rattle.zarr_array_meaning.proofs.Showing.{listed_at, each_inside}
 use Rattle.zarr_run_meaning.specs.declared.cause.Cause.{Cause}
 use Rattle.zarr_run_meaning.specs.declared.cause.Cause.TheVariants as cause
 use Rattle.zarr_run_meaning.specs.BoxLaws.{BoxCells, MayRead, ReadsAgree, ReadsOfParts, LiesInSome, PartsReadWhole, lies_in_some, cell_among, IsHeldWithCells, StoresBack}
 use Rattle.zarr_run_meaning.specs.Causes.{IsTarget, IsGiven}
 use Rattle.zarr_run_meaning.specs.Changes.{Reads, Writes, WritesChunks}
-use Rattle.zarr_run_meaning.specs.Requests.{Target, in_box, in_chunk, write, Answer, done, cells as gives, compacted, refused}
+use Rattle.zarr_run_meaning.specs.Requests.{Target, in_box, in_chunk, refusal, write, Answer, done, cells as gives, compacted, refused}
 use Rattle.zarr_run_meaning.specs.Steps.{Stays, RefusesHeld, RefusesWrite, RefusesRead, RefusesAt, WritesFirst, Step}
 use Rattle.zarr_run_meaning.specs.Tables.{Table, cell, updated, changes, changes_in}
-use Rattle.zarr_run_meaning.specs.Worlds.{Held, World, held_at, WithTable}
+use Rattle.zarr_run_meaning.specs.Worlds.{Held, World, array_of, held_at, WithTable}
 use Rattle.zarr_run_meaning.proofs.Arrays.{Stayed, at_path, near, apart, held_after}
 use Rattle.zarr_run_meaning.proofs.Keys.{listed_take}
 use Rattle.zarr_run_meaning.proofs.TableLemmas.{cells_of_box}
@@ -88,7 +89,7 @@ pub data BoxWritten (h : Held) (target : Target) (given : GivenCells) (new : Opt
   no_chunks : new ≡ Some h → BoxWritten h target given new
 
 -- the table after some chunks were given cells
-pub chunks_given : (path : List ℕ) (h : Held) (box : Region) (values : List Cell) (options : CodecOptions) (chunks : List (List ℕ)) (old new : World) → held_at path old.arrays ≡ Some h → WritesChunks h box values options chunks old new
+pub chunks_given : (path : List ℕ) (h : Held) (box : Region) (values : List Cell) (options : CodecOptions) (chunks : List (List ℕ)) (old new : World) → held_at path old.arrays ≡ Some h → WritesChunks h (write_to (array_of h) box values options) chunks old new
     → held_at path new.arrays ≡ Some (record h { table = updated h.document.elements.fill h.table (changes_in h.document.grid chunks (changes box values)) })
 chunks_given path h box values options chunks old new found w = table_at path h w.table new.store old.arrays new.arrays found w.updates ∙ ap (λ (t : Table). Some (record h { table = t })) w.is
 
@@ -99,7 +100,7 @@ pub record IsBoxWritten (h : Held) (target : Target) (given : GivenCells) (new :
   pub is : IsGiven h.document target given box values
   pub held : new ≡ Some (record h { table = updated h.document.elements.fill h.table (changes_in h.document.grid (intersecting h.document.grid box) (changes box values)) })
 
-pub box_written : (path : List ℕ) (target : Target) (given : GivenCells) (options : CodecOptions) (old new : World) (h : Held) → held_at path old.arrays ≡ Some h → Writes path target given options old new → IsBoxWritten h target given (held_at path new.arrays)
+pub box_written : (path : List ℕ) (target : Target) (given : GivenCells) (options : CodecOptions) (old new : World) (h : Held) → held_at path old.arrays ≡ Some h → Writes path (record { target = target; cells = given; options = options }) old new → IsBoxWritten h target given (held_at path new.arrays)
 box_written path target given options old new h found w =
     let P : Held → Type 0 = λ x. IsBoxWritten x target given (held_at path new.arrays) in
     subst P (same_Some w.held h (sym w.found ∙ found)) (record { box = w.box; values = w.values; is = w.is; held = chunks_given path w.held w.box w.values options (intersecting w.held.document.grid w.box) old new w.found w.writes })
@@ -119,22 +120,22 @@ module _ (reads : ReadsCodecs) (path : List ℕ) (target : Target) (given : Give
   stayed : (c : Cause) (n : ℕ) → Stays c n old new → BoxWritten h target given (held_at path new.arrays)
   stayed c n s = no_chunks (ap (λ (w : World). held_at path w.arrays) s.is ∙ found)
 
-  by_held : (o : Option Held) (c : Cause) (n : ℕ) → held_at path old.arrays ≡ o → RefusesHeld o (RefusesWrite target given options) c n old new → BoxWritten h target given (held_at path new.arrays)
+  by_held : (o : Option Held) (c : Cause) (n : ℕ) → held_at path old.arrays ≡ o → RefusesHeld o (RefusesWrite (record { target = target; cells = given; options = options })) (refusal c n) old new → BoxWritten h target given (held_at path new.arrays)
   by_held None cause.NoArray n e r = stayed cause.NoArray n r
   by_held None c n e r = absurd r
   by_held (Some g) c n e r =
       let P : Held → Type 0 = λ x. BoxWritten x target given (held_at path new.arrays) in
       ⊎_elim (λ whole. stayed c n whole.1)
-      (λ (first : WritesFirst g target given options c n old new).
+      (λ (first : WritesFirst g (record { target = target; cells = given; options = options }) (refusal c n) old new).
       subst P (same_Some g h (sym e ∙ found))
       (some_chunks first.box first.values (take n (intersecting g.document.grid first.box)) first.is (λ d l. listed_take n (intersecting g.document.grid first.box) d l)
       (chunks_given path g first.box first.values options (take n (intersecting g.document.grid first.box)) old new e first.writes)))
       r
 
-  refusal : (c : Cause) (n : ℕ) → RefusesAt reads path (write path target given options) c n old new → BoxWritten h target given (held_at path new.arrays)
-  refusal cause.Path n r = stayed cause.Path n r.1
-  refusal cause.Memory n r = ⊎_elim (stayed cause.Memory n) (λ s. by_held (held_at path old.arrays) cause.Memory n refl s.1) r
-  refusal c n r = by_held (held_at path old.arrays) c n refl r.1
+  by_cause : (c : Cause) (n : ℕ) → RefusesAt reads (write path target given options) (refusal c n) old new → BoxWritten h target given (held_at path new.arrays)
+  by_cause cause.Path n r = stayed cause.Path n r.1
+  by_cause cause.Memory n r = ⊎_elim (stayed cause.Memory n) (λ s. by_held (held_at path old.arrays) cause.Memory n refl s.1) r
+  by_cause c n r = by_held (held_at path old.arrays) c n refl r.1
 
   pub write_answered : (answer : Answer) → Step reads old (write path target given options) answer new → BoxWritten h target given (held_at path new.arrays)
   write_answered done s =
@@ -142,7 +143,7 @@ module _ (reads : ReadsCodecs) (path : List ℕ) (target : Target) (given : Give
       some_chunks w.box w.values (intersecting h.document.grid w.box) w.is (λ c l. l) w.held
   write_answered (gives payload) s = absurd s
   write_answered (compacted changed) s = absurd s
-  write_answered (refused c n) s = refusal c n s
+  write_answered (refused c n) s = by_cause c n s
 
 -- ---- the cells of a read, written again
 
@@ -201,7 +202,7 @@ reads_agree reads world path one two place other a b in_one in_two =
     let fill = a.held.document.elements.fill in
     let c = first.1.covered place in_one in
     any_default one.region one.cells place other fill first.0.many in_one
-    ∙ same_cell (part_at a.held.path a.held.document world.store c.0 c.1 place) _ _
+    ∙ same_cell (part_at a.held.document c.1 (stored_at a.held.path a.held.document world.store c.0) place) _ _
     (first.0.each c.0 c.1 place (record { below = c.2; of_region = in_one; of_chunk = c.3 }))
     (second.0.each c.0 c.1 place (record { below = c.2; of_region = in_two; of_chunk = c.3 }))
     ∙ any_default two.region two.cells place fill other second.0.many in_two where
@@ -258,10 +259,10 @@ module _ (reads : ReadsCodecs) (world after : World) (path : List ℕ) (region :
 
 pub parts_read_whole : PartsReadWhole
 parts_read_whole reads world after path region parts options n all cover = (λ s. damage (held_at path world.arrays) refl s.1, λ s. fit (held_at path world.arrays) refl s.1) where
-  damage : (o : Option Held) → held_at path world.arrays ≡ o → RefusesHeld o (RefusesRead (in_box region)) cause.Damage n world after → ⊥
+  damage : (o : Option Held) → held_at path world.arrays ≡ o → RefusesHeld o (RefusesRead (in_box region)) (refusal cause.Damage n) world after → ⊥
   damage None e r = r
   damage (Some h) e r = undamaged reads world after path region parts all cover h e (subst (λ (b : Region). IsDamagedIn h.path h.document world.store b) r.0.1.0 r.0.3)
 
-  fit : (o : Option Held) → held_at path world.arrays ≡ o → RefusesHeld o (RefusesRead (in_box region)) cause.Fit n world after → ⊥
+  fit : (o : Option Held) → held_at path world.arrays ≡ o → RefusesHeld o (RefusesRead (in_box region)) (refusal cause.Fit n) world after → ⊥
   fit None e r = r
   fit (Some h) e r = all_fit reads world after path region parts all cover h e (subst (λ (b : Region). IsUnfitIn h.path h.document world.store b) r.0.1.0 r.0.3)

@@ -22,7 +22,7 @@ use Rattle.zarr_array_meaning.specs.StoreMaps.{StoreMap}
 use Rattle.zarr_array_meaning.proofs.Showing.{are_cells, listed_chunk}
 use Rattle.zarr_run_meaning.specs.declared.cause.Cause.{Cause}
 use Rattle.zarr_run_meaning.specs.Changes.{Rewrites, RewritesChunks}
-use Rattle.zarr_run_meaning.specs.Requests.{rewrite, Answer, done, cells, compacted, refused}
+use Rattle.zarr_run_meaning.specs.Requests.{refusal, rewrite, Answer, done, cells, compacted, refused}
 use Rattle.zarr_run_meaning.specs.Rewrites.{IsCanonHeld, AreCanonFirst, RewritesCanon, SameValues, CanonStays}
 use Rattle.zarr_run_meaning.specs.Sound.{IsSoundAt, IsSoundAlone}
 use Rattle.zarr_run_meaning.specs.Steps.{Stays, RewritesFirst, RefusesRewrite, Step}
@@ -108,9 +108,9 @@ module _ (reads : ReadsCodecs) (old new : World) (path : List ℕ) (options : Co
 
   -- how a rewrite of the array is refused
   refused_cases : (c : Cause) (n : ℕ) (P : Type 0) → Step reads old (rewrite path options) (refused c n) new → (Stays c n old new → P) → (RewritesChunks h options (take n (keyed_chunks (array_of h) old.store)) old new → P) → P
-  refused_cases c n P s stays rewrites = at_cases reads path (rewrite path options) c n old new P s stays (λ r.
+  refused_cases c n P s stays rewrites = at_cases reads (rewrite path options) c n old new P s stays (λ r.
       held_cases (held_at path old.arrays) (RefusesRewrite options) c n old new P r stays (λ g at.
-      ⊎_elim (λ whole. stays whole.1) (λ (first : RewritesFirst g options c n old new).
+      ⊎_elim (λ whole. stays whole.1) (λ (first : RewritesFirst g options (refusal c n) old new).
       let Q : Held → Type 0 = λ x. RewritesChunks x options (take n (keyed_chunks (array_of x) old.store)) old new in
       rewrites (subst Q (same_Some g h (sym at ∙ found)) first.rewrites))))
 

@@ -13,7 +13,7 @@ use Rattle.zarr_array_meaning.specs.Chunks.{KeepsOtherKeys}
 use Rattle.zarr_run_meaning.specs.declared.cause.Cause.{Cause}
 use Rattle.zarr_run_meaning.specs.declared.cause.Cause.TheVariants as cause
 use Rattle.zarr_run_meaning.specs.Changes.{Reopens, Opens}
-use Rattle.zarr_run_meaning.specs.Requests.{Request, create, reopen, write, read, erase, compact, rewrite, path_of, Answer, done, cells, compacted, refused}
+use Rattle.zarr_run_meaning.specs.Requests.{Refusal, refusal, Request, create, reopen, write, read, erase, compact, rewrite, path_of, Answer, done, cells, compacted, refused}
 use Rattle.zarr_run_meaning.specs.Rewrites.{StepsLeaveUnrelated, GivesNoCells, IsHeldStill, ChangesNoCell}
 use Rattle.zarr_run_meaning.specs.Steps.{Stays, WritesFirst, ErasesFirst, RewritesFirst, RefusesHeld, RefusesWrite, RefusesRead, RefusesErase, RefusesCompact, RefusesRewrite, Refuses, RefusesAt, Step}
 use Rattle.zarr_run_meaning.specs.Tables.{Table}
@@ -47,16 +47,16 @@ module _ (reads : ReadsCodecs) (old new : World) where
   stayed path c n s = unchanged (ap (λ (w : World). w.arrays) s.is) (ap (λ (w : World). w.store) s.is)
 
   -- a refusal
-  whole : (path : List ℕ) (request : Request) (c : Cause) (n : ℕ) → RefusesAt reads path request c n old new → (is_node_path path ≡ true → Refuses reads request c n old new → Change path old new) → Change path old new
-  whole path request cause.Path n s refuses = stayed path cause.Path n s.1
-  whole path request cause.Memory n s refuses = ⊎_elim (stayed path cause.Memory n) (λ r. refuses r.0 r.1) s
-  whole path request c n s refuses = refuses s.0 s.1
+  whole : (request : Request) (c : Cause) (n : ℕ) → RefusesAt reads request (refusal c n) old new → (is_node_path (path_of request) ≡ true → Refuses reads request (refusal c n) old new → Change (path_of request) old new) → Change (path_of request) old new
+  whole request cause.Path n s refuses = stayed (path_of request) cause.Path n s.1
+  whole request cause.Memory n s refuses = ⊎_elim (stayed (path_of request) cause.Memory n) (λ r. refuses r.0 r.1) s
+  whole request c n s refuses = refuses s.0 s.1
 
   -- a refusal by the array that is held at the path
-  refusing : (path : List ℕ) (request : Request) (refuses : Held → Cause → ℕ → World → World → Type 0) (c : Cause) (n : ℕ) → RefusesAt reads path request c n old new
-      → (Refuses reads request c n old new → RefusesHeld (held_at path old.arrays) refuses c n old new)
-      → (is_node_path path ≡ true → (h : Held) → held_at path old.arrays ≡ Some h → refuses h c n old new → Change path old new) → Change path old new
-  refusing path request refuses c n s by held = whole path request c n s (λ node r. held_cases (held_at path old.arrays) refuses c n old new (Change path old new) (by r) (stayed path c n) (held node))
+  refusing : (request : Request) (refuses : Held → Refusal → World → World → Type 0) (c : Cause) (n : ℕ) → RefusesAt reads request (refusal c n) old new
+      → (Refuses reads request (refusal c n) old new → RefusesHeld (held_at (path_of request) old.arrays) refuses (refusal c n) old new)
+      → (is_node_path (path_of request) ≡ true → (h : Held) → held_at (path_of request) old.arrays ≡ Some h → refuses h (refusal c n) old new → Change (path_of request) old new) → Change (path_of request) old new
+  refusing request refuses c n s by held = whole request c n s (λ node r. held_cases (held_at (path_of request) old.arrays) refuses c n old new (Change (path_of request) old new) (by r) (stayed (path_of request) c n) (held node))
 
   pub step_change : (request : Request) (answer : Answer) → Step reads old request answer new → Change (path_of request) old new
   step_change (create path document order) done s = let c = s.0 in put c.node _ c.begins.holds (created_put reads old new path document order c)
@@ -68,30 +68,30 @@ module _ (reads : ReadsCodecs) (old new : World) where
   step_change (reopen path order) done s = ⊎_elim (λ (r : Reopens path order old new). ordered order r.updates r.stores) (λ (o : Opens reads path order old new). more _ o.begins.holds o.stores) s.0
   step_change (reopen path order) (cells payload) s = absurd s
   step_change (reopen path order) (compacted changed) s = absurd s
-  step_change (reopen path order) (refused c n) s = whole path (reopen path order) c n s (λ node r. stayed path c n r.1)
+  step_change (reopen path order) (refused c n) s = whole (reopen path order) c n s (λ node r. stayed path c n r.1)
   step_change (write path target given options) done s = let w = s.0 in chunked w.node w.held w.found _ w.writes.table w.writes.updates w.writes.stores.others
   step_change (write path target given options) (cells payload) s = absurd s
   step_change (write path target given options) (compacted changed) s = absurd s
-  step_change (write path target given options) (refused c n) s = refusing path (write path target given options) (RefusesWrite target given options) c n s (λ r. r) (λ node h found.
-      ⊎_elim (λ first. stayed path c n first.1) (λ (first : WritesFirst h target given options c n old new). chunked node h found _ first.writes.table first.writes.updates first.writes.stores.others))
+  step_change (write path target given options) (refused c n) s = refusing (write path target given options) (RefusesWrite (record { target = target; cells = given; options = options })) c n s (λ r. r) (λ node h found.
+      ⊎_elim (λ first. stayed path c n first.1) (λ (first : WritesFirst h (record { target = target; cells = given; options = options }) (refusal c n) old new). chunked node h found _ first.writes.table first.writes.updates first.writes.stores.others))
   step_change (read path target options) done s = absurd s
   step_change (read path target options) (cells payload) s = unchanged (ap (λ (w : World). w.arrays) s.1) (ap (λ (w : World). w.store) s.1)
   step_change (read path target options) (compacted changed) s = absurd s
-  step_change (read path target options) (refused c n) s = refusing path (read path target options) (RefusesRead target) c n s (λ r. r) (λ node h found q. stayed path c n q.1)
+  step_change (read path target options) (refused c n) s = refusing (read path target options) (RefusesRead target) c n s (λ r. r) (λ node h found q. stayed path c n q.1)
   step_change (erase path chunks) done s = let e = s.0 in chunked e.node e.held e.found _ e.erases.table e.erases.updates e.erases.stores.others
   step_change (erase path chunks) (cells payload) s = absurd s
   step_change (erase path chunks) (compacted changed) s = absurd s
-  step_change (erase path chunks) (refused c n) s = refusing path (erase path chunks) (RefusesErase chunks) c n s (λ r. r) (λ node h found.
-      ⊎_elim (λ first. stayed path c n first.1) (λ (first : ErasesFirst h chunks c n old new). chunked node h found _ first.erases.table first.erases.updates first.erases.stores.others))
+  step_change (erase path chunks) (refused c n) s = refusing (erase path chunks) (RefusesErase chunks) c n s (λ r. r) (λ node h found.
+      ⊎_elim (λ first. stayed path c n first.1) (λ (first : ErasesFirst h chunks (refusal c n) old new). chunked node h found _ first.erases.table first.erases.updates first.erases.stores.others))
   step_change (compact path chunk options) done s = absurd s
   step_change (compact path chunk options) (cells payload) s = absurd s
   step_change (compact path chunk options) (compacted changed) s = let c = s.0 in chunked c.node c.held c.found (chunk ∷ []) c.held.table c.updates c.stores.others
-  step_change (compact path chunk options) (refused c n) s = refusing path (compact path chunk options) (RefusesCompact chunk) c n s (λ r. r) (λ node h found q. stayed path c n q.1)
+  step_change (compact path chunk options) (refused c n) s = refusing (compact path chunk options) (RefusesCompact chunk) c n s (λ r. r) (λ node h found q. stayed path c n q.1)
   step_change (rewrite path options) done s = let r = s.0 in chunked r.node r.held r.found _ r.held.table r.rewrites.updates r.rewrites.stores.others
   step_change (rewrite path options) (cells payload) s = absurd s
   step_change (rewrite path options) (compacted changed) s = absurd s
-  step_change (rewrite path options) (refused c n) s = refusing path (rewrite path options) (RefusesRewrite options) c n s (λ r. r) (λ node h found.
-      ⊎_elim (λ first. stayed path c n first.1) (λ (first : RewritesFirst h options c n old new). chunked node h found _ h.table first.rewrites.updates first.rewrites.stores.others))
+  step_change (rewrite path options) (refused c n) s = refusing (rewrite path options) (RefusesRewrite options) c n s (λ r. r) (λ node h found.
+      ⊎_elim (λ first. stayed path c n first.1) (λ (first : RewritesFirst h options (refusal c n) old new). chunked node h found _ h.table first.rewrites.updates first.rewrites.stores.others))
 
 -- ---- what is left alone
 
@@ -175,18 +175,18 @@ module _ (reads : ReadsCodecs) (old new : World) (h : Held) where
       s.0
   own_cells (reopen path order) (cells payload) asks found s = absurd s
   own_cells (reopen path order) (compacted changed) asks found s = absurd s
-  own_cells (reopen path order) (refused c n) asks found s = at_cases reads path (reopen path order) c n old new (IsHeldStill path h new) s (still path c n found) (λ r. still path c n found r.1)
+  own_cells (reopen path order) (refused c n) asks found s = at_cases reads (reopen path order) c n old new (IsHeldStill path h new) s (still path c n found) (λ r. still path c n found r.1)
   own_cells (compact path chunk options) done asks found s = absurd s
   own_cells (compact path chunk options) (cells payload) asks found s = absurd s
   own_cells (compact path chunk options) (compacted changed) asks found s = let c = s.0 in with_its_table path c.held found c.found c.updates
-  own_cells (compact path chunk options) (refused c n) asks found s = at_cases reads path (compact path chunk options) c n old new (IsHeldStill path h new) s (still path c n found) (λ r.
+  own_cells (compact path chunk options) (refused c n) asks found s = at_cases reads (compact path chunk options) c n old new (IsHeldStill path h new) s (still path c n found) (λ r.
       held_cases (held_at path old.arrays) (RefusesCompact chunk) c n old new (IsHeldStill path h new) r (still path c n found) (λ g at q. still path c n found q.1))
   own_cells (rewrite path options) done asks found s = let r = s.0 in with_its_table path r.held found r.found r.rewrites.updates
   own_cells (rewrite path options) (cells payload) asks found s = absurd s
   own_cells (rewrite path options) (compacted changed) asks found s = absurd s
-  own_cells (rewrite path options) (refused c n) asks found s = at_cases reads path (rewrite path options) c n old new (IsHeldStill path h new) s (still path c n found) (λ r.
+  own_cells (rewrite path options) (refused c n) asks found s = at_cases reads (rewrite path options) c n old new (IsHeldStill path h new) s (still path c n found) (λ r.
       held_cases (held_at path old.arrays) (RefusesRewrite options) c n old new (IsHeldStill path h new) r (still path c n found) (λ g at.
-      ⊎_elim (λ first. still path c n found first.1) (λ (first : RewritesFirst g options c n old new). with_its_table path g found at first.rewrites.updates)))
+      ⊎_elim (λ first. still path c n found first.1) (λ (first : RewritesFirst g options (refusal c n) old new). with_its_table path g found at first.rewrites.updates)))
 
 pub changes_no_cell : ChangesNoCell
 changes_no_cell reads old new request answer path h asks found beside s = ⊎_elim

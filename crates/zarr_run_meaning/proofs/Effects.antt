@@ -21,12 +21,13 @@ use Rattle.zarr_array_meaning.specs.Chunks.{is_listed}
 use Rattle.zarr_array_meaning.specs.Rewriting.{keyed_chunks}
 use Rattle.zarr_array_meaning.specs.StoreMaps.{StoreMap}
 use Rattle.zarr_array_meaning.specs.Texts.{StoresTree}
+use Rattle.zarr_array_meaning.specs.Writes.{write_to}
 use Rattle.zarr_array_meaning.specs.Written.{written_document}
 use Rattle.zarr_run_meaning.specs.declared.cause.Cause.{Cause}
 use Rattle.zarr_run_meaning.specs.declared.cause.Cause.TheVariants as cause
 use Rattle.zarr_run_meaning.specs.Causes.{AreTargets, CreateRefuses}
 use Rattle.zarr_run_meaning.specs.Changes.{Creates, Reopens, Opens, WritesChunks, ErasesChunks, Compacts, RewritesChunks}
-use Rattle.zarr_run_meaning.specs.Requests.{Request, create, reopen, write, read, erase, compact, rewrite, Answer, done, cells, compacted, refused}
+use Rattle.zarr_run_meaning.specs.Requests.{Refusal, refusal, Request, create, reopen, write, read, erase, compact, rewrite, path_of, Answer, done, cells, compacted, refused}
 use Rattle.zarr_run_meaning.specs.Sound.{OpensApart, BeginsSound}
 use Rattle.zarr_run_meaning.specs.Steps.{Stays, LeavesAttributes, WritesFirst, ErasesFirst, RewritesFirst, RefusesHeld, RefusesWrite, RefusesRead, RefusesErase, RefusesCompact, RefusesRewrite, Refuses, RefusesAt, Step}
 use Rattle.zarr_run_meaning.specs.Worlds.{Held, World, array_of, held_at, is_taken}
@@ -57,7 +58,7 @@ pub record Wrote (old new : World) : Type 0 where
   pub few : (chunk : List ℕ) → is_listed chunks chunk ≡ true → is_listed (intersecting held.document.grid box) chunk ≡ true
   pub many : length values ≡ product box.shape
   pub are : list_all (is_value held.document.elements.type) values ≡ true
-  pub writes : WritesChunks held box values options chunks old new
+  pub writes : WritesChunks held (write_to (array_of held) box values options) chunks old new
 
 -- some chunks in the grid were erased
 pub record Erased (old new : World) : Type 0 where
@@ -85,7 +86,7 @@ left_put old new l = attributes_put l.path l.tree old.store new.store l.stores
 pub data Effect (reads : ReadsCodecs) (request : Request) (answer : Answer) (old new : World) : Type 0 where
   kept : new.arrays ≡ old.arrays → new.store ≡ old.store → Effect reads request answer old new
   left : LeftAttributes old new → Effect reads request answer old new
-  created : (path : List ℕ) (document : Data) (order : SubchunkWriteOrder) → (BeginsSound reads old request answer → BeginsSound reads old (create path document order) done) → Creates reads path document order old new → Effect reads request answer old new
+  created : (path : List ℕ) (document : Data) (order : SubchunkWriteOrder) → (BeginsSound reads old request answer → BeginsSound reads old (create path document order) done) → Creates reads (record { path = path; document = document; order = order }) old new → Effect reads request answer old new
   reordered : (path : List ℕ) (order : SubchunkWriteOrder) → Reopens path order old new → Effect reads request answer old new
   opened : (path : List ℕ) (order : SubchunkWriteOrder) → (BeginsSound reads old request answer → BeginsSound reads old (reopen path order) done) → ((other : List ℕ) → OpensApart other old request answer → OpensApart other old (reopen path order) done) → Opens reads path order old new → Effect reads request answer old new
   wrote : Wrote old new → Effect reads request answer old new
@@ -95,14 +96,14 @@ pub data Effect (reads : ReadsCodecs) (request : Request) (answer : Answer) (old
 -- ---- refusals
 
 -- how a command with a path is refused, by what came first
-pub node_cases : (reads : ReadsCodecs) (path : List ℕ) (request : Request) (c : Cause) (n : ℕ) (old new : World) (P : Type 0) → RefusesAt reads path request c n old new → (Stays c n old new → P)
-    → (is_node_path path ≡ true → Refuses reads request c n old new → P) → P
-node_cases reads path request cause.Path n old new P h stays refuses = stays h.1
-node_cases reads path request cause.Memory n old new P h stays refuses = ⊎_elim stays (λ r. refuses r.0 r.1) h
-node_cases reads path request c n old new P h stays refuses = refuses h.0 h.1
+pub node_cases : (reads : ReadsCodecs) (request : Request) (c : Cause) (n : ℕ) (old new : World) (P : Type 0) → RefusesAt reads request (refusal c n) old new → (Stays c n old new → P)
+    → (is_node_path (path_of request) ≡ true → Refuses reads request (refusal c n) old new → P) → P
+node_cases reads request cause.Path n old new P h stays refuses = stays h.1
+node_cases reads request cause.Memory n old new P h stays refuses = ⊎_elim stays (λ r. refuses r.0 r.1) h
+node_cases reads request c n old new P h stays refuses = refuses h.0 h.1
 
-pub at_cases : (reads : ReadsCodecs) (path : List ℕ) (request : Request) (c : Cause) (n : ℕ) (old new : World) (P : Type 0) → RefusesAt reads path request c n old new → (Stays c n old new → P) → (Refuses reads request c n old new → P) → P
-at_cases reads path request c n old new P h stays refuses = node_cases reads path request c n old new P h stays (λ node. refuses)
+pub at_cases : (reads : ReadsCodecs) (request : Request) (c : Cause) (n : ℕ) (old new : World) (P : Type 0) → RefusesAt reads request (refusal c n) old new → (Stays c n old new → P) → (Refuses reads request (refusal c n) old new → P) → P
+at_cases reads request c n old new P h stays refuses = node_cases reads request c n old new P h stays (λ node. refuses)
 
 -- a create is refused where its path is free, if it leaves attributes
 left_free : (reads : ReadsCodecs) (old new : World) (path : List ℕ) (document tree : Data) (c : Cause) → CreateRefuses reads old path document c → LeavesAttributes path tree c old new → is_taken path old.arrays ≡ false
@@ -110,9 +111,9 @@ left_free reads old new path document tree c r l =
     let P : Cause → Type 0 = λ x. CreateRefuses reads old path document x in
     ⊎_elim (λ is. let s : P cause.Store = subst P is r in s.0) (λ is. let m : P cause.Memory = subst P is r in m.0) l.by
 
-pub create_cases : (reads : ReadsCodecs) (path : List ℕ) (document : Data) (order : SubchunkWriteOrder) (c : Cause) (n : ℕ) (old new : World) (P : Type 0) → RefusesAt reads path (create path document order) c n old new
+pub create_cases : (reads : ReadsCodecs) (path : List ℕ) (document : Data) (order : SubchunkWriteOrder) (c : Cause) (n : ℕ) (old new : World) (P : Type 0) → RefusesAt reads (create path document order) (refusal c n) old new
     → (Stays c n old new → P) → ((l : LeftAttributes old new) → l.path ≡ path → P) → P
-create_cases reads path document order c n old new P h stays left_some = node_cases reads path (create path document order) c n old new P h stays (λ node r.
+create_cases reads path document order c n old new P h stays left_some = node_cases reads (create path document order) c n old new P h stays (λ node r.
     ⊎_elim stays
     (λ l. left_some (record {
       path = path;
@@ -125,7 +126,7 @@ create_cases reads path document order c n old new P h stays left_some = node_ca
     r.1)
 
 -- how a command on a held array is refused
-pub held_cases : (o : Option Held) (refuses : Held → Cause → ℕ → World → World → Type 0) (c : Cause) (n : ℕ) (old new : World) (P : Type 0) → RefusesHeld o refuses c n old new → (Stays c n old new → P) → ((h : Held) → o ≡ Some h → refuses h c n old new → P) → P
+pub held_cases : (o : Option Held) (refuses : Held → Refusal → World → World → Type 0) (c : Cause) (n : ℕ) (old new : World) (P : Type 0) → RefusesHeld o refuses (refusal c n) old new → (Stays c n old new → P) → ((h : Held) → o ≡ Some h → refuses h (refusal c n) old new → P) → P
 held_cases None refuses cause.NoArray n old new P r stays held = stays r
 held_cases None refuses c n old new P r stays held = absurd r
 held_cases (Some h) refuses c n old new P r stays held = held h refl r
@@ -138,7 +139,7 @@ module _ (reads : ReadsCodecs) (request : Request) (c : Cause) (n : ℕ) (old ne
 
 wrote_some : (path : List ℕ) (h : Held) (options : CodecOptions) (box : Region) (values : List Cell) (chunks : List (List ℕ)) (old new : World) → held_at path old.arrays ≡ Some h
     → ((chunk : List ℕ) → is_listed chunks chunk ≡ true → is_listed (intersecting h.document.grid box) chunk ≡ true)
-    → list_all (is_value h.document.elements.type) values ≡ true → length values ≡ product box.shape → WritesChunks h box values options chunks old new → Wrote old new
+    → list_all (is_value h.document.elements.type) values ≡ true → length values ≡ product box.shape → WritesChunks h (write_to (array_of h) box values options) chunks old new → Wrote old new
 wrote_some path h options box values chunks old new found few are many writes =
     record { path = path; held = h; found = found; box = box; values = values; options = options; chunks = chunks; few = few; many = many; are = are; writes = writes }
 
@@ -175,7 +176,7 @@ step_effect reads old new (reopen path order) (cells payload) s = absurd s
 step_effect reads old new (reopen path order) (compacted changed) s = absurd s
 step_effect reads old new (reopen path order) (refused c n) s =
     let r : Request = reopen path order in
-    at_cases reads path r c n old new (Effect reads r (refused c n) old new) s (stayed reads r c n old new) (λ h. stayed reads r c n old new h.1)
+    at_cases reads r c n old new (Effect reads r (refused c n) old new) s (stayed reads r c n old new) (λ h. stayed reads r c n old new h.1)
 step_effect reads old new (write path target given options) done s =
     let w = s.0 in
     wrote (wrote_some path w.held options w.box w.values (intersecting w.held.document.grid w.box) old new w.found (λ c l. l) (given_values w.held.document.elements.type given w.values w.is.gives.0) w.is.gives.1 w.writes)
@@ -183,16 +184,16 @@ step_effect reads old new (write path target given options) (cells payload) s = 
 step_effect reads old new (write path target given options) (compacted changed) s = absurd s
 step_effect reads old new (write path target given options) (refused c n) s =
     let r : Request = write path target given options in
-    at_cases reads path r c n old new (Effect reads r (refused c n) old new) s (stayed reads r c n old new) (λ h.
-    held_cases (held_at path old.arrays) (RefusesWrite target given options) c n old new (Effect reads r (refused c n) old new) h (stayed reads r c n old new) (λ g found.
-    ⊎_elim (λ whole. stayed reads r c n old new whole.1) (λ (first : WritesFirst g target given options c n old new).
+    at_cases reads r c n old new (Effect reads r (refused c n) old new) s (stayed reads r c n old new) (λ h.
+    held_cases (held_at path old.arrays) (RefusesWrite (record { target = target; cells = given; options = options })) c n old new (Effect reads r (refused c n) old new) h (stayed reads r c n old new) (λ g found.
+    ⊎_elim (λ whole. stayed reads r c n old new whole.1) (λ (first : WritesFirst g (record { target = target; cells = given; options = options }) (refusal c n) old new).
     wrote (wrote_some path g options first.box first.values (take n (intersecting g.document.grid first.box)) old new found (λ d l. listed_take n (intersecting g.document.grid first.box) d l) (given_values g.document.elements.type given first.values first.is.gives.0) first.is.gives.1 first.writes))))
 step_effect reads old new (read path target options) done s = absurd s
 step_effect reads old new (read path target options) (compacted changed) s = absurd s
 step_effect reads old new (read path target options) (cells payload) s = kept (ap (λ (w : World). w.arrays) s.1) (ap (λ (w : World). w.store) s.1)
 step_effect reads old new (read path target options) (refused c n) s =
     let r : Request = read path target options in
-    at_cases reads path r c n old new (Effect reads r (refused c n) old new) s (stayed reads r c n old new) (λ h.
+    at_cases reads r c n old new (Effect reads r (refused c n) old new) s (stayed reads r c n old new) (λ h.
     held_cases (held_at path old.arrays) (RefusesRead target) c n old new (Effect reads r (refused c n) old new) h (stayed reads r c n old new) (λ g found q. stayed reads r c n old new q.1))
 step_effect reads old new (erase path chunks) done s =
     let e = s.0 in
@@ -201,9 +202,9 @@ step_effect reads old new (erase path chunks) (cells payload) s = absurd s
 step_effect reads old new (erase path chunks) (compacted changed) s = absurd s
 step_effect reads old new (erase path chunks) (refused c n) s =
     let r : Request = erase path chunks in
-    at_cases reads path r c n old new (Effect reads r (refused c n) old new) s (stayed reads r c n old new) (λ h.
+    at_cases reads r c n old new (Effect reads r (refused c n) old new) s (stayed reads r c n old new) (λ h.
     held_cases (held_at path old.arrays) (RefusesErase chunks) c n old new (Effect reads r (refused c n) old new) h (stayed reads r c n old new) (λ g found.
-    ⊎_elim (λ whole. stayed reads r c n old new whole.1) (λ (first : ErasesFirst g chunks c n old new).
+    ⊎_elim (λ whole. stayed reads r c n old new whole.1) (λ (first : ErasesFirst g chunks (refusal c n) old new).
     erased (record {
       path = path;
       held = g;
@@ -217,7 +218,7 @@ step_effect reads old new (compact path chunk options) (cells payload) s = absur
 step_effect reads old new (compact path chunk options) (compacted changed) s = stored_anew (compacted_one path chunk changed old new s.0)
 step_effect reads old new (compact path chunk options) (refused c n) s =
     let r : Request = compact path chunk options in
-    at_cases reads path r c n old new (Effect reads r (refused c n) old new) s (stayed reads r c n old new) (λ h.
+    at_cases reads r c n old new (Effect reads r (refused c n) old new) s (stayed reads r c n old new) (λ h.
     held_cases (held_at path old.arrays) (RefusesCompact chunk) c n old new (Effect reads r (refused c n) old new) h (stayed reads r c n old new) (λ g found q. stayed reads r c n old new q.1))
 step_effect reads old new (rewrite path options) done s =
     let r = s.0 in
@@ -226,9 +227,9 @@ step_effect reads old new (rewrite path options) (cells payload) s = absurd s
 step_effect reads old new (rewrite path options) (compacted changed) s = absurd s
 step_effect reads old new (rewrite path options) (refused c n) s =
     let r : Request = rewrite path options in
-    at_cases reads path r c n old new (Effect reads r (refused c n) old new) s (stayed reads r c n old new) (λ h.
+    at_cases reads r c n old new (Effect reads r (refused c n) old new) s (stayed reads r c n old new) (λ h.
     held_cases (held_at path old.arrays) (RefusesRewrite options) c n old new (Effect reads r (refused c n) old new) h (stayed reads r c n old new) (λ g found.
-    ⊎_elim (λ whole. stayed reads r c n old new whole.1) (λ (first : RewritesFirst g options c n old new).
+    ⊎_elim (λ whole. stayed reads r c n old new whole.1) (λ (first : RewritesFirst g options (refusal c n) old new).
     let keyed = keyed_chunks (array_of g) old.store in
     stored_anew (rewrote_some path g options (take n keyed) old new found (first_below g.document.grid n keyed (keyed_below (array_of g) old.store)) first.rewrites))))
 

@@ -14,10 +14,11 @@ use Rattle.zarr_codecs_meaning.specs.Chunks.{chunk_part}
 use Rattle.zarr_codecs_metadata.specs.Chains.{ReadsCodecs}
 use Rattle.zarr_codecs_options.specs.declared.codec_options.CodecOptions.{CodecOptions}
 use Rattle.zarr_codecs_options.specs.declared.subchunk_write_order.SubchunkWriteOrder.{SubchunkWriteOrder}
-use Rattle.zarr_array_meaning.specs.Boxes.{cell_of_box, with_chunks}
+use Rattle.zarr_array_meaning.specs.Boxes.{cell_of_box, lies_in_any, replaced_in}
 use Rattle.zarr_array_meaning.specs.Chunks.{number_in, stored_at, part_at, ReadsCell, is_listed, KeepsOtherKeys}
 use Rattle.zarr_array_meaning.specs.Documents.{Document, read_document}
 use Rattle.zarr_array_meaning.specs.StoreMaps.{StoreMap}
+use Rattle.zarr_array_meaning.specs.Writes.{write_to}
 use Rattle.zarr_array_meaning.specs.Writing.{WroteChunks, ErasedChunks}
 use Rattle.zarr_array_meaning.specs.Written.{written_document}
 use Rattle.zarr_array_meaning.proofs.ReadsBack.{read_document-written_document}
@@ -25,7 +26,7 @@ use Rattle.zarr_run_meaning.specs.Changes.{Creates, Reopens, Opens}
 use Rattle.zarr_run_meaning.specs.Laws.{HasTables, StepsShow}
 use Rattle.zarr_run_meaning.specs.Requests.{Request, Answer}
 use Rattle.zarr_run_meaning.specs.Tables.{Table, cell, updated, changes, changes_in, fills}
-use Rattle.zarr_run_meaning.specs.Worlds.{Held, World, held_at, writes_exactly, IsTableAt, WithTable}
+use Rattle.zarr_run_meaning.specs.Worlds.{Held, World, array_of, held_at, IsTableAt, WithTable}
 use Rattle.zarr_run_meaning.proofs.Arrays.{Stayed, at_path, near, apart, held_at-path, held_once, held_at-more, held_at-ordered, held_before, free_of, free_none}
 use Rattle.zarr_run_meaning.proofs.Beginning.{fill_read}
 use Rattle.zarr_run_meaning.proofs.Documents.{IsFormed, formed}
@@ -53,11 +54,11 @@ if_not_second false b x y f = refl
 -- ---- what is read where the same is stored
 
 pub read_same : (path : List ℕ) (document : Document) (old new : StoreMap) (chunk : List ℕ) (box : Region) (place : List ℕ) → stored_at path document new chunk ≡ stored_at path document old chunk
-    → part_at path document new chunk box place ≡ part_at path document old chunk box place
+    → part_at document box (stored_at path document new chunk) place ≡ part_at document box (stored_at path document old chunk) place
 read_same path document old new chunk box place same = ap (λ o. chunk_part document.chain document.elements box.shape o (number_in box place ∷ [])) same
 
-pub read_once : (path : List ℕ) (document : Document) (store : StoreMap) (chunk : List ℕ) (box : Region) (place : List ℕ) (c d : Cell) → ReadsCell path document store chunk box place c → ReadsCell path document store chunk box place d → c ≡ d
-read_once path document store chunk box place c d r s = go (part_at path document store chunk box place) r s where
+pub read_once : (path : List ℕ) (document : Document) (store : StoreMap) (chunk : List ℕ) (box : Region) (place : List ℕ) (c d : Cell) → ReadsCell document box (stored_at path document store chunk) place c → ReadsCell document box (stored_at path document store chunk) place d → c ≡ d
+read_once path document store chunk box place c d r s = go (part_at document box (stored_at path document store chunk) place) r s where
   go : (o : Option (List Cell)) → o ≡ Some (c ∷ []) → o ≡ Some (d ∷ []) → c ≡ d
   go o e f = cc
 
@@ -74,19 +75,19 @@ module _ (h : Held) (old new : StoreMap) (region : Region) (values : List Cell) 
 
   -- the table's cells, as a function of places
   pub written_cell : IsWritten → ((chunk : List ℕ) → is_listed chunks chunk ≡ true → is_listed (intersecting h.document.grid region) chunk ≡ true) → length values ≡ product region.shape → (place : List ℕ)
-      → cell h.document.elements.fill table place ≡ with_chunks h.document.grid region chunks (cell_of_box region values h.document.elements.fill) (cell h.document.elements.fill h.table) place
+      → cell h.document.elements.fill table place ≡ replaced_in region (lies_in_any h.document.grid chunks) (cell_of_box region values h.document.elements.fill) (cell h.document.elements.fill h.table) place
   written_cell is few many place =
       let fill = h.document.elements.fill in
       ap (λ t. cell fill t place) is ∙ cell-written fill h.table h.document.grid region values chunks fill place few many
 
   pub written_table : IsFormed h.document → IsWritten → ((chunk : List ℕ) → is_listed chunks chunk ≡ true → is_listed (intersecting h.document.grid region) chunk ≡ true) → length values ≡ product region.shape
-      → WroteChunks h.path h.document (writes_exactly h) region values options chunks old new → IsTableAt h.path h.document old h.table → IsTableAt h.path h.document new table
+      → WroteChunks (write_to (array_of h) region values options) chunks old new → IsTableAt h.path h.document old h.table → IsTableAt h.path h.document new table
   written_table f is few many w shows lossless chunk box place c below inside reads =
       ⊎_elim listed unlisted (told (is_listed chunks chunk)) ∙ sym (written_cell is few many place) where
         here : lies_in_chunk h.document.grid place chunk ≡ true
         here = lies_here h.document.grid chunk place box below.has_box ∙ inside
 
-        listed : is_listed chunks chunk ≡ true → c ≡ with_chunks h.document.grid region chunks (cell_of_box region values h.document.elements.fill) (cell h.document.elements.fill h.table) place
+        listed : is_listed chunks chunk ≡ true → c ≡ replaced_in region (lies_in_any h.document.grid chunks) (cell_of_box region values h.document.elements.fill) (cell h.document.elements.fill h.table) place
         listed l =
             let any = any_at (lies_in_chunk h.document.grid place) chunk chunks l here in
             let shown = w.shows lossless chunk box place below l inside in
@@ -95,7 +96,7 @@ module _ (h : Held) (old new : StoreMap) (region : Region) (values : List Cell) 
             (λ t. shows lossless chunk box place c below inside (sym (MatchBool-at_false _ _ t shown) ∙ reads) ∙ sym (if_not_first _ _ _ _ t))
             (told (is_in_box region.start region.shape place))
 
-        unlisted : is_listed chunks chunk ≡ false → c ≡ with_chunks h.document.grid region chunks (cell_of_box region values h.document.elements.fill) (cell h.document.elements.fill h.table) place
+        unlisted : is_listed chunks chunk ≡ false → c ≡ replaced_in region (lies_in_any h.document.grid chunks) (cell_of_box region values h.document.elements.fill) (cell h.document.elements.fill h.table) place
         unlisted u =
             let same = chunk_kept h.path h.document chunks old new chunk box f (record { below = λ d l. listed_below h.document.grid region d (few d l) }) w.others below u in
             shows lossless chunk box place c below inside (sym (read_same h.path h.document old new chunk box place same) ∙ reads)
@@ -154,10 +155,10 @@ module _ (reads : ReadsCodecs) (old new : World) (tables : HasTables reads old) 
       let P : StoreMap → Type 0 = λ s. IsShown reads s h in
       subst P (sym store) (tables path h (sym (ap (held_at path) arrays) ∙ e))
 
-  created_tables : (path : List ℕ) (document : Data) (order : SubchunkWriteOrder) → Creates reads path document order old new → HasTables reads new
+  created_tables : (path : List ℕ) (document : Data) (order : SubchunkWriteOrder) → Creates reads (record { path = path; document = document; order = order }) old new → HasTables reads new
   created_tables path document order c q h e = ⊎_elim here before (held_at-more q old.arrays b h (free_none path old.arrays c.free) (sym (ap (held_at q) c.begins.holds) ∙ e)) where
     b : Held
-    b = record { path = path; tree = written_document document; document = c.meaning; order = order; table = c.begins.table }
+    b = record { path = path; tree = written_document document; document = c.meaning; order = order; table = c.table }
 
     put : PutsDocuments path old.store new.store
     put = document_put path (written_document document) old.store new.store c.stores
@@ -165,7 +166,7 @@ module _ (reads : ReadsCodecs) (old new : World) (tables : HasTables reads old) 
     here : h ≡ b → IsShown reads new.store h
     here is =
         let P : Held → Type 0 = λ x. IsShown reads new.store x in
-        subst P (sym is) (c.node, read_document-written_document reads document c.meaning c.opens, table_kept path c.meaning old.store new.store c.begins.table (put_chunk path c.meaning old.store new.store put) c.begins.shows)
+        subst P (sym is) (c.node, read_document-written_document reads document c.meaning c.opens, table_kept path c.meaning old.store new.store c.table (put_chunk path c.meaning old.store new.store put) c.begins.shows)
 
     before : held_at q old.arrays ≡ Some h → IsShown reads new.store h
     before at =
@@ -183,7 +184,7 @@ module _ (reads : ReadsCodecs) (old new : World) (tables : HasTables reads old) 
       let P : StoreMap → Type 0 = λ s. IsShown reads s h in
       subst P (sym o.stores) (⊎_elim here (tables q h) (held_at-more q old.arrays b h o.begins.free (sym (ap (held_at q) o.begins.holds) ∙ e))) where
         b : Held
-        b = record { path = path; tree = o.tree; document = o.meaning; order = order; table = o.begins.table }
+        b = record { path = path; tree = o.tree; document = o.meaning; order = order; table = o.table }
 
         here : h ≡ b → IsShown reads old.store h
         here is = let P : Held → Type 0 = λ x. IsShown reads old.store x in subst P (sym is) (o.node, o.opens, o.begins.shows)

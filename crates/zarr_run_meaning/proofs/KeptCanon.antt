@@ -31,7 +31,7 @@ use Rattle.zarr_array_meaning.proofs.Showing.{are_cells, standing_shows}
 use Rattle.zarr_run_meaning.specs.declared.cause.Cause.{Cause}
 use Rattle.zarr_run_meaning.specs.Changes.{Reopens, Opens, Compacts}
 use Rattle.zarr_run_meaning.specs.Laws.{HasTables}
-use Rattle.zarr_run_meaning.specs.Requests.{Target, Request, create, reopen, write, read, erase, compact, rewrite, path_of, Answer, done, cells, compacted, refused}
+use Rattle.zarr_run_meaning.specs.Requests.{Target, Refusal, refusal, Request, create, reopen, write, read, erase, compact, rewrite, path_of, Answer, done, cells, compacted, refused}
 use Rattle.zarr_run_meaning.specs.Rewrites.{IsHeldStill, IsCanonHeld, IsCanonAlone, LeavesCells, ReopensApart, KeepsCanon, RunsKeepCanon, SoundRunsKeepCanon, RunsLeaveCanon, RewrittenTwice}
 use Rattle.zarr_run_meaning.specs.Runs.{world_over}
 use Rattle.zarr_run_meaning.specs.Sound.{IsSoundAt, IsSound, IsSoundAlone, OpensApart, OwnsAllKeys, AsksOwned, ReadsGood}
@@ -134,7 +134,7 @@ module _ (reads : ReadsCodecs) (old new : World) (path : List ℕ) (good : Reads
   after_read p target options done s = absurd s
   after_read p target options (cells payload) s = unmoved (ap (λ (w : World). w.arrays) s.1) (ap (λ (w : World). w.store) s.1)
   after_read p target options (compacted changed) s = absurd s
-  after_read p target options (refused c n) s = at_cases reads p (read p target options) c n old new Same s (stayed c n) (λ r.
+  after_read p target options (refused c n) s = at_cases reads (read p target options) c n old new Same s (stayed c n) (λ r.
       held_cases (held_at p old.arrays) (RefusesRead target) c n old new Same r (stayed c n) (λ g found q. stayed c n q.1))
 
   -- a compaction of the array changes nothing
@@ -157,7 +157,7 @@ module _ (reads : ReadsCodecs) (old new : World) (path : List ℕ) (good : Reads
       (λ t. compacted_here p chunk changed c ((bytes_eq-Decides p path).0 t))
       (λ f. beside (compact p chunk options) (compacted changed) (is_related-comm p path ∙ k.sound.alone p c.held c.found (λ same. false≢true (sym f ∙ (bytes_eq-Decides p path).1 same))) s)
       (told (bytes_eq p path))
-  after_compaction p chunk options (refused c n) s = at_cases reads p (compact p chunk options) c n old new Same s (stayed c n) (λ r.
+  after_compaction p chunk options (refused c n) s = at_cases reads (compact p chunk options) c n old new Same s (stayed c n) (λ r.
       held_cases (held_at p old.arrays) (RefusesCompact chunk) c n old new Same r (stayed c n) (λ g found q. stayed c n q.1))
 
   -- an array that is held at another path is at an unrelated one
@@ -165,9 +165,9 @@ module _ (reads : ReadsCodecs) (old new : World) (path : List ℕ) (good : Reads
   named_apart p g differs found = is_related-comm p path ∙ k.sound.alone p g found differs
 
   -- a refusal by what is held at another path
-  refused_there : (request : Request) (c : Cause) (n : ℕ) (refuses : Held → Cause → ℕ → World → World → Type 0) → path_of request ≢ path → Step reads old request (refused c n) new → RefusesAt reads (path_of request) request c n old new
-      → (Refuses reads request c n old new → RefusesHeld (held_at (path_of request) old.arrays) refuses c n old new) → Same
-  refused_there request c n refuses differs s r by = at_cases reads (path_of request) request c n old new Same r (stayed c n) (λ q.
+  refused_there : (request : Request) (c : Cause) (n : ℕ) (refuses : Held → Refusal → World → World → Type 0) → path_of request ≢ path → Step reads old request (refused c n) new → RefusesAt reads request (refusal c n) old new
+      → (Refuses reads request (refusal c n) old new → RefusesHeld (held_at (path_of request) old.arrays) refuses (refusal c n) old new) → Same
+  refused_there request c n refuses differs s r by = at_cases reads request c n old new Same r (stayed c n) (λ q.
       held_cases (held_at (path_of request) old.arrays) refuses c n old new Same (by q) (stayed c n) (λ g found x. beside request (refused c n) (named_apart (path_of request) g differs found) s))
 
   after : (request : Request) (answer : Answer) → LeavesCells path request → OpensApart path old request answer → Step reads old request answer new → Same
@@ -182,11 +182,11 @@ module _ (reads : ReadsCodecs) (old new : World) (path : List ℕ) (good : Reads
       s.0
   after (reopen p order) (cells payload) differs away s = absurd s
   after (reopen p order) (compacted changed) differs away s = absurd s
-  after (reopen p order) (refused c n) differs away s = at_cases reads p (reopen p order) c n old new Same s (stayed c n) (λ r. stayed c n r.1)
+  after (reopen p order) (refused c n) differs away s = at_cases reads (reopen p order) c n old new Same s (stayed c n) (λ r. stayed c n r.1)
   after (write p target given options) done differs away s = let w = s.0 in beside (write p target given options) done (named_apart p w.held differs w.found) s
   after (write p target given options) (cells payload) differs away s = absurd s
   after (write p target given options) (compacted changed) differs away s = absurd s
-  after (write p target given options) (refused c n) differs away s = refused_there (write p target given options) c n (RefusesWrite target given options) differs s s (λ q. q)
+  after (write p target given options) (refused c n) differs away s = refused_there (write p target given options) c n (RefusesWrite (record { target = target; cells = given; options = options })) differs s s (λ q. q)
   after (read p target options) answer differs away s = after_read p target options answer s
   after (erase p chunks) done differs away s = let e = s.0 in beside (erase p chunks) done (named_apart p e.held differs e.found) s
   after (erase p chunks) (cells payload) differs away s = absurd s

@@ -63,7 +63,7 @@ module _ (reads : ReadsCodecs) (old new : World) (path : List ℕ) (good : Reads
   more_tight : (b : Held) (store : StoreMap) → IsTightHeld store h → new.arrays ≡ old.arrays ++ b ∷ [] → new.store ≡ store → HeldTight new path
   more_tight b store tight arrays is = (h, ap (held_at path) arrays ∙ held_at-before path old.arrays b h t.sound.found, stored_in h store is tight)
 
-  created_kept : (p : List ℕ) (document : Data) (order : SubchunkWriteOrder) → Creates reads p document order old new → HeldTight new path
+  created_kept : (p : List ℕ) (document : Data) (order : SubchunkWriteOrder) → Creates reads (record { path = p; document = document; order = order }) old new → HeldTight new path
   created_kept p document order c =
       let away = free_of p path old.arrays h c.free t.sound.found in
       more_tight (created_array reads old new p document order c) new.store
@@ -170,7 +170,7 @@ module _ (reads : ReadsCodecs) (old new : World) (path : List ℕ) (h : Held) (c
       let at = held_at-path path new.arrays h found in
       let P : List ℕ → Type 0 = λ p. IsStoredAs p h.document old.store cells in
       let Q : List ℕ → Type 0 = λ p. StoreTight p h.document old.store cells in
-      let R : StoreMap → Type 0 = λ s. ChunkTightAt h.path h.document s chunk box (cell h.document.elements.fill h.table) in
+      let R : StoreMap → Type 0 = λ s. ChunkTightAt h.document box (value_at (array_of h) s chunk) (cell h.document.elements.fill h.table) in
       let same = stored_cells h.path h.document old.store h.table cells b.good (subst P at stored) b.shows in
       subst R (sym is) (tight_same h.path h.document old.store store chunk box (cell h.document.elements.fill h.table) (b.chunks chunk)
       (tight_alike h.path h.document old.store chunk box cells (cell h.document.elements.fill h.table) below (λ place inside. sym (same chunk box place below inside)) (subst Q at tight chunk box below)))
@@ -182,7 +182,7 @@ module _ (reads : ReadsCodecs) (old new : World) (path : List ℕ) (h : Held) (c
       (λ before. absurd (none-some h (sym none ∙ before)))
       (held_at-more path old.arrays b h free (sym (ap (held_at path) arrays) ∙ found))
 
-  created_tight : (p : List ℕ) (document : Data) (order : SubchunkWriteOrder) → Creates reads p document order old new → IsTightHeld new.store h
+  created_tight : (p : List ℕ) (document : Data) (order : SubchunkWriteOrder) → Creates reads (record { path = p; document = document; order = order }) old new → IsTightHeld new.store h
   created_tight p document order c = new_tight (created_array reads old new p document order c) new.store (free_none p old.arrays c.free) c.begins.holds
       (record { good = good document c.meaning c.opens; shows = c.begins.shows; chunks = put_chunk p c.meaning old.store new.store (created_put reads old new p document order c) }) refl
 
@@ -237,7 +237,7 @@ begun_empty reads old new request answer path h sound owned faithful none s foun
   there : IsEmptyIn old.store h → IsLossless h.document × HasNoChunks path h.document old.store
   there e = let P : List ℕ → Type 0 = λ p. HasNoChunks p h.document old.store in (e.0, subst P (sym (held_at-path path new.arrays h found)) e.1)
 
-  created_empty : (p : List ℕ) (document : Data) (order : SubchunkWriteOrder) → AsksOwned old (create p document order) → AsksFaithful reads (create p document order) done → Creates reads p document order old new → IsEmptyIn old.store h
+  created_empty : (p : List ℕ) (document : Data) (order : SubchunkWriteOrder) → AsksOwned old (create p document order) → AsksFaithful reads (create p document order) done → Creates reads (record { path = p; document = document; order = order }) old new → IsEmptyIn old.store h
   created_empty p document order own keeps c =
       let faithful = keeps c.meaning c.opens in
       let P : Held → Type 0 = λ x. IsEmptyIn old.store x in

@@ -18,7 +18,7 @@ use Rattle.zarr_run_meaning.specs.declared.cause.Cause.TheVariants as cause
 use Rattle.zarr_run_meaning.specs.Causes.{ReopenRefuses, IsChunkKeyIn}
 use Rattle.zarr_run_meaning.specs.Changes.{Creates, Reopens, Opens}
 use Rattle.zarr_run_meaning.specs.Laws.{HasTables, HasCells, IsReopenedAs, IsAgain, IsAnsweredAgain, AsksBeside, IsHeldAgain, RunsReopenOne}
-use Rattle.zarr_run_meaning.specs.Requests.{Request, create, reopen, write, read, erase, compact, rewrite, path_of, Answer, done, cells, compacted, refused}
+use Rattle.zarr_run_meaning.specs.Requests.{refusal, Request, create, reopen, write, read, erase, compact, rewrite, path_of, Answer, done, cells, compacted, refused}
 use Rattle.zarr_run_meaning.specs.Runs.{Run, world_over}
 use Rattle.zarr_run_meaning.specs.Sound.{IsSoundAt, IsSoundAlone, ReadsGood}
 use Rattle.zarr_run_meaning.specs.Steps.{Stays, WritesFirst, ErasesFirst, RewritesFirst, RefusesWrite, RefusesRead, RefusesErase, RefusesCompact, RefusesRewrite, Refuses, RefusesAt, Step}
@@ -86,7 +86,7 @@ module _ (reads : ReadsCodecs) (old new : World) (h : Held) (good : ReadsGood re
   other : (p : List ℕ) → is_related h.path p ≡ false → p ≡ h.path → ⊥
   other p away same = false≢true (sym away ∙ ap (is_related h.path) same ∙ is_related-refl h.path)
 
-  created_beside : (p : List ℕ) (document : Data) (order : SubchunkWriteOrder) → is_related h.path p ≡ false → Creates reads p document order old new → Keeps reads h new
+  created_beside : (p : List ℕ) (document : Data) (order : SubchunkWriteOrder) → is_related h.path p ≡ false → Creates reads (record { path = p; document = document; order = order }) old new → Keeps reads h new
   created_beside p document order away c =
       more (created_array reads old new p document order c) (free_none p old.arrays c.free) c.begins.holds
       (sound_under reads old.store new.store h (put_kept p h.path old.store new.store (created_put reads old new p document order c) c.node k.there.node (is_related-comm p h.path ∙ away)) k.there)
@@ -134,8 +134,8 @@ module _ (reads : ReadsCodecs) (old new : World) (h : Held) (good : ReadsGood re
     go g b e (apart unrelated is) = let P : Held → Type 0 = λ x. IsAgain h x in subst P (sym is) (k.same b e)
 
   -- a command at an unrelated path
-  whole : (p : List ℕ) (request : Request) (c : Cause) (n : ℕ) → RefusesAt reads p request c n old new → (Refuses reads request c n old new → Keeps reads h new) → Keeps reads h new
-  whole p request c n s refuses = at_cases reads p request c n old new (Keeps reads h new) s (stayed c n) refuses
+  whole : (request : Request) (c : Cause) (n : ℕ) → RefusesAt reads request (refusal c n) old new → (Refuses reads request (refusal c n) old new → Keeps reads h new) → Keeps reads h new
+  whole request c n s refuses = at_cases reads request c n old new (Keeps reads h new) s (stayed c n) refuses
 
   beside : (request : Request) (answer : Answer) → is_related h.path (path_of request) ≡ false → Step reads old request answer new → Keeps reads h new
   beside (create p document order) done away s = created_beside p document order away s.0
@@ -145,35 +145,35 @@ module _ (reads : ReadsCodecs) (old new : World) (h : Held) (good : ReadsGood re
   beside (reopen p order) done away s = ⊎_elim (with_order_again p order) (opened_beside p order away) s.0
   beside (reopen p order) (cells payload) away s = absurd s
   beside (reopen p order) (compacted changed) away s = absurd s
-  beside (reopen p order) (refused c n) away s = whole p (reopen p order) c n s (λ r. stayed c n r.1)
+  beside (reopen p order) (refused c n) away s = whole (reopen p order) c n s (λ r. stayed c n r.1)
   beside (write p target given options) done away s = let w = s.0 in changed_beside p w.held _ w.writes.table away w.found w.writes.updates w.writes.stores.others
   beside (write p target given options) (cells payload) away s = absurd s
   beside (write p target given options) (compacted changed) away s = absurd s
-  beside (write p target given options) (refused c n) away s = whole p (write p target given options) c n s (λ r.
-      held_cases (held_at p old.arrays) (RefusesWrite target given options) c n old new (Keeps reads h new) r (stayed c n) (λ g found.
-      ⊎_elim (λ first. stayed c n first.1) (λ (first : WritesFirst g target given options c n old new). changed_beside p g _ first.writes.table away found first.writes.updates first.writes.stores.others)))
+  beside (write p target given options) (refused c n) away s = whole (write p target given options) c n s (λ r.
+      held_cases (held_at p old.arrays) (RefusesWrite (record { target = target; cells = given; options = options })) c n old new (Keeps reads h new) r (stayed c n) (λ g found.
+      ⊎_elim (λ first. stayed c n first.1) (λ (first : WritesFirst g (record { target = target; cells = given; options = options }) (refusal c n) old new). changed_beside p g _ first.writes.table away found first.writes.updates first.writes.stores.others)))
   beside (read p target options) done away s = absurd s
   beside (read p target options) (compacted changed) away s = absurd s
   beside (read p target options) (cells payload) away s = unmoved (ap (λ (w : World). w.arrays) s.1) (ap (λ (w : World). w.store) s.1)
-  beside (read p target options) (refused c n) away s = whole p (read p target options) c n s (λ r.
+  beside (read p target options) (refused c n) away s = whole (read p target options) c n s (λ r.
       held_cases (held_at p old.arrays) (RefusesRead target) c n old new (Keeps reads h new) r (stayed c n) (λ g found q. stayed c n q.1))
   beside (erase p chunks) done away s = let e = s.0 in changed_beside p e.held _ e.erases.table away e.found e.erases.updates e.erases.stores.others
   beside (erase p chunks) (cells payload) away s = absurd s
   beside (erase p chunks) (compacted changed) away s = absurd s
-  beside (erase p chunks) (refused c n) away s = whole p (erase p chunks) c n s (λ r.
+  beside (erase p chunks) (refused c n) away s = whole (erase p chunks) c n s (λ r.
       held_cases (held_at p old.arrays) (RefusesErase chunks) c n old new (Keeps reads h new) r (stayed c n) (λ g found.
-      ⊎_elim (λ first. stayed c n first.1) (λ (first : ErasesFirst g chunks c n old new). changed_beside p g _ first.erases.table away found first.erases.updates first.erases.stores.others)))
+      ⊎_elim (λ first. stayed c n first.1) (λ (first : ErasesFirst g chunks (refusal c n) old new). changed_beside p g _ first.erases.table away found first.erases.updates first.erases.stores.others)))
   beside (compact p chunk options) done away s = absurd s
   beside (compact p chunk options) (cells payload) away s = absurd s
   beside (compact p chunk options) (compacted changed) away s = let c = s.0 in changed_beside p c.held (chunk ∷ []) c.held.table away c.found c.updates c.stores.others
-  beside (compact p chunk options) (refused c n) away s = whole p (compact p chunk options) c n s (λ r.
+  beside (compact p chunk options) (refused c n) away s = whole (compact p chunk options) c n s (λ r.
       held_cases (held_at p old.arrays) (RefusesCompact chunk) c n old new (Keeps reads h new) r (stayed c n) (λ g found q. stayed c n q.1))
   beside (rewrite p options) done away s = let r = s.0 in changed_beside p r.held _ r.held.table away r.found r.rewrites.updates r.rewrites.stores.others
   beside (rewrite p options) (cells payload) away s = absurd s
   beside (rewrite p options) (compacted changed) away s = absurd s
-  beside (rewrite p options) (refused c n) away s = whole p (rewrite p options) c n s (λ r.
+  beside (rewrite p options) (refused c n) away s = whole (rewrite p options) c n s (λ r.
       held_cases (held_at p old.arrays) (RefusesRewrite options) c n old new (Keeps reads h new) r (stayed c n) (λ g found.
-      ⊎_elim (λ first. stayed c n first.1) (λ (first : RewritesFirst g options c n old new). changed_beside p g _ g.table away found first.rewrites.updates first.rewrites.stores.others)))
+      ⊎_elim (λ first. stayed c n first.1) (λ (first : RewritesFirst g options (refusal c n) old new). changed_beside p g _ g.table away found first.rewrites.updates first.rewrites.stores.others)))
 
   -- ---- a reopening of the path
 
@@ -207,9 +207,9 @@ module _ (reads : ReadsCodecs) (old new : World) (h : Held) (good : ReadsGood re
     opens o = ⊎_elim (opened_again order o) (λ no. absurd (⊎_elim (not_refused cause.Memory) (not_refused cause.Store) no)) (alike order done o.begins.free s)
   mine order (cells payload) s = absurd s
   mine order (compacted changed) s = absurd s
-  mine order (refused c n) s = whole h.path (reopen h.path order) c n s (λ r. stayed c n r.1)
+  mine order (refused c n) s = whole (reopen h.path order) c n s (λ r. stayed c n r.1)
 
-  held_refused : (order : SubchunkWriteOrder) (c : Cause) (n : ℕ) (g : Held) → held_at h.path old.arrays ≡ Some g → RefusesAt reads h.path (reopen h.path order) c n old new → IsAnsweredAgain (refused c n)
+  held_refused : (order : SubchunkWriteOrder) (c : Cause) (n : ℕ) (g : Held) → held_at h.path old.arrays ≡ Some g → RefusesAt reads (reopen h.path order) (refusal c n) old new → IsAnsweredAgain (refused c n)
   held_refused order cause.Path n g at s = absurd (false≢true (sym s.0 ∙ k.there.node))
   held_refused order cause.Memory n g at s = inr (inl (ap (refused cause.Memory) (⊎_elim (λ (x : Stays cause.Memory n old new). x.applied) (λ x. x.1.1.applied) s)))
   held_refused order cause.Store n g at s = inr (inr (ap (refused cause.Store) s.1.1.applied))

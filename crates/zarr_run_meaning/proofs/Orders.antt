@@ -9,7 +9,7 @@ use Rattle.zarr_codecs_options.specs.declared.subchunk_write_order.SubchunkWrite
 use Rattle.zarr_array_meaning.specs.StoreMaps.{StoreMap}
 use Rattle.zarr_run_meaning.specs.declared.cause.Cause.{Cause}
 use Rattle.zarr_run_meaning.specs.Changes.{Creates, Reopens, Opens}
-use Rattle.zarr_run_meaning.specs.Requests.{Request, create, reopen, write, read, erase, compact, rewrite, Answer, done, cells, compacted, refused}
+use Rattle.zarr_run_meaning.specs.Requests.{Refusal, refusal, Request, create, reopen, write, read, erase, compact, rewrite, path_of, Answer, done, cells, compacted, refused}
 use Rattle.zarr_run_meaning.specs.Steps.{Stays, WritesFirst, ErasesFirst, RewritesFirst, RefusesWrite, RefusesRead, RefusesErase, RefusesCompact, RefusesRewrite, RefusesHeld, Refuses, RefusesAt, Step}
 use Rattle.zarr_run_meaning.specs.Tables.{Table}
 use Rattle.zarr_run_meaning.specs.Tight.{AsksRowMajor}
@@ -41,7 +41,7 @@ NoneBegan old new = (path : List ℕ) (h : Held) → held_at path new.arrays ≡
 -- a step begins no array and gives none another order, or it is a create or a reopening that is done
 pub data Begun (reads : ReadsCodecs) (request : Request) (answer : Answer) (old new : World) : Type 0 where
   none_began : NoneBegan old new → Begun reads request answer old new
-  creates : (path : List ℕ) (document : Data) (order : SubchunkWriteOrder) → request ≡ create path document order → answer ≡ done → Creates reads path document order old new → Begun reads request answer old new
+  creates : (path : List ℕ) (document : Data) (order : SubchunkWriteOrder) → request ≡ create path document order → answer ≡ done → Creates reads (record { path = path; document = document; order = order }) old new → Begun reads request answer old new
   reopens : (path : List ℕ) (order : SubchunkWriteOrder) → request ≡ reopen path order → answer ≡ done → Reopens path order old new ⊎ Opens reads path order old new → Begun reads request answer old new
 
 module _ (reads : ReadsCodecs) (old new : World) (request : Request) (answer : Answer) where
@@ -55,13 +55,13 @@ module _ (reads : ReadsCodecs) (old new : World) (request : Request) (answer : A
   tabled p t updates = none_began (λ path h e. let g = held_before p t new.store old.arrays new.arrays updates path h e in (g.0, g.1, stayed_order p t new.store g.0 h g.2))
 
 -- a refusal by a held array
-refusing : (reads : ReadsCodecs) (old new : World) (p : List ℕ) (request : Request) (refuses : Held → Cause → ℕ → World → World → Type 0) (c : Cause) (n : ℕ) → RefusesAt reads p request c n old new
-    → (Refuses reads request c n old new → RefusesHeld (held_at p old.arrays) refuses c n old new) → ((g : Held) → refuses g c n old new → Begun reads request (refused c n) old new) → Begun reads request (refused c n) old new
-refusing reads old new p request refuses c n s by held = at_cases reads p request c n old new (Begun reads request (refused c n) old new) s (stays reads old new request (refused c n) c n) (λ r.
-    held_cases (held_at p old.arrays) refuses c n old new (Begun reads request (refused c n) old new) (by r) (stays reads old new request (refused c n) c n) (λ g found. held g))
+refusing : (reads : ReadsCodecs) (old new : World) (request : Request) (refuses : Held → Refusal → World → World → Type 0) (c : Cause) (n : ℕ) → RefusesAt reads request (refusal c n) old new
+    → (Refuses reads request (refusal c n) old new → RefusesHeld (held_at (path_of request) old.arrays) refuses (refusal c n) old new) → ((g : Held) → refuses g (refusal c n) old new → Begun reads request (refused c n) old new) → Begun reads request (refused c n) old new
+refusing reads old new request refuses c n s by held = at_cases reads request c n old new (Begun reads request (refused c n) old new) s (stays reads old new request (refused c n) c n) (λ r.
+    held_cases (held_at (path_of request) old.arrays) refuses c n old new (Begun reads request (refused c n) old new) (by r) (stays reads old new request (refused c n) c n) (λ g found. held g))
 
-whole : (reads : ReadsCodecs) (old new : World) (p : List ℕ) (request : Request) (c : Cause) (n : ℕ) → RefusesAt reads p request c n old new → (Refuses reads request c n old new → Stays c n old new) → Begun reads request (refused c n) old new
-whole reads old new p request c n s by = at_cases reads p request c n old new (Begun reads request (refused c n) old new) s (stays reads old new request (refused c n) c n) (λ r. stays reads old new request (refused c n) c n (by r))
+whole : (reads : ReadsCodecs) (old new : World) (request : Request) (c : Cause) (n : ℕ) → RefusesAt reads request (refusal c n) old new → (Refuses reads request (refusal c n) old new → Stays c n old new) → Begun reads request (refused c n) old new
+whole reads old new request c n s by = at_cases reads request c n old new (Begun reads request (refused c n) old new) s (stays reads old new request (refused c n) c n) (λ r. stays reads old new request (refused c n) c n (by r))
 
 pub step_begun : (reads : ReadsCodecs) (old new : World) (request : Request) (answer : Answer) → Step reads old request answer new → Begun reads request answer old new
 step_begun reads old new (create p document order) done s = creates p document order refl refl s.0
@@ -73,40 +73,40 @@ step_begun reads old new (create p document order) (refused c n) s =
 step_begun reads old new (reopen p order) done s = reopens p order refl refl s.0
 step_begun reads old new (reopen p order) (cells payload) s = absurd s
 step_begun reads old new (reopen p order) (compacted changed) s = absurd s
-step_begun reads old new (reopen p order) (refused c n) s = whole reads old new p (reopen p order) c n s (λ r. r.1)
+step_begun reads old new (reopen p order) (refused c n) s = whole reads old new (reopen p order) c n s (λ r. r.1)
 step_begun reads old new (write p target given options) done s = let w = s.0 in tabled reads old new (write p target given options) done w.held.path w.writes.table w.writes.updates
 step_begun reads old new (write p target given options) (cells payload) s = absurd s
 step_begun reads old new (write p target given options) (compacted changed) s = absurd s
 step_begun reads old new (write p target given options) (refused c n) s =
     let q : Request = write p target given options in
-    refusing reads old new p q (RefusesWrite target given options) c n s (λ r. r) (λ g r.
-    ⊎_elim (λ first. stays reads old new q (refused c n) c n first.1) (λ (first : WritesFirst g target given options c n old new). tabled reads old new q (refused c n) g.path first.writes.table first.writes.updates) r)
+    refusing reads old new q (RefusesWrite (record { target = target; cells = given; options = options })) c n s (λ r. r) (λ g r.
+    ⊎_elim (λ first. stays reads old new q (refused c n) c n first.1) (λ (first : WritesFirst g (record { target = target; cells = given; options = options }) (refusal c n) old new). tabled reads old new q (refused c n) g.path first.writes.table first.writes.updates) r)
 step_begun reads old new (read p target options) done s = absurd s
 step_begun reads old new (read p target options) (cells payload) s = same_arrays reads old new (read p target options) (cells payload) (ap (λ (w : World). w.arrays) s.1)
 step_begun reads old new (read p target options) (compacted changed) s = absurd s
 step_begun reads old new (read p target options) (refused c n) s =
     let q : Request = read p target options in
-    refusing reads old new p q (RefusesRead target) c n s (λ r. r) (λ g r. stays reads old new q (refused c n) c n r.1)
+    refusing reads old new q (RefusesRead target) c n s (λ r. r) (λ g r. stays reads old new q (refused c n) c n r.1)
 step_begun reads old new (erase p chunks) done s = let e = s.0 in tabled reads old new (erase p chunks) done e.held.path e.erases.table e.erases.updates
 step_begun reads old new (erase p chunks) (cells payload) s = absurd s
 step_begun reads old new (erase p chunks) (compacted changed) s = absurd s
 step_begun reads old new (erase p chunks) (refused c n) s =
     let q : Request = erase p chunks in
-    refusing reads old new p q (RefusesErase chunks) c n s (λ r. r) (λ g r.
-    ⊎_elim (λ first. stays reads old new q (refused c n) c n first.1) (λ (first : ErasesFirst g chunks c n old new). tabled reads old new q (refused c n) g.path first.erases.table first.erases.updates) r)
+    refusing reads old new q (RefusesErase chunks) c n s (λ r. r) (λ g r.
+    ⊎_elim (λ first. stays reads old new q (refused c n) c n first.1) (λ (first : ErasesFirst g chunks (refusal c n) old new). tabled reads old new q (refused c n) g.path first.erases.table first.erases.updates) r)
 step_begun reads old new (compact p chunk options) done s = absurd s
 step_begun reads old new (compact p chunk options) (cells payload) s = absurd s
 step_begun reads old new (compact p chunk options) (compacted changed) s = let c = s.0 in tabled reads old new (compact p chunk options) (compacted changed) c.held.path c.held.table c.updates
 step_begun reads old new (compact p chunk options) (refused c n) s =
     let q : Request = compact p chunk options in
-    refusing reads old new p q (RefusesCompact chunk) c n s (λ r. r) (λ g r. stays reads old new q (refused c n) c n r.1)
+    refusing reads old new q (RefusesCompact chunk) c n s (λ r. r) (λ g r. stays reads old new q (refused c n) c n r.1)
 step_begun reads old new (rewrite p options) done s = let r = s.0 in tabled reads old new (rewrite p options) done r.held.path r.held.table r.rewrites.updates
 step_begun reads old new (rewrite p options) (cells payload) s = absurd s
 step_begun reads old new (rewrite p options) (compacted changed) s = absurd s
 step_begun reads old new (rewrite p options) (refused c n) s =
     let q : Request = rewrite p options in
-    refusing reads old new p q (RefusesRewrite options) c n s (λ r. r) (λ g r.
-    ⊎_elim (λ first. stays reads old new q (refused c n) c n first.1) (λ (first : RewritesFirst g options c n old new). tabled reads old new q (refused c n) g.path g.table first.rewrites.updates) r)
+    refusing reads old new q (RefusesRewrite options) c n s (λ r. r) (λ g r.
+    ⊎_elim (λ first. stays reads old new q (refused c n) c n first.1) (λ (first : RewritesFirst g options (refusal c n) old new). tabled reads old new q (refused c n) g.path g.table first.rewrites.updates) r)
 
 -- ---- row-major order
 

@@ -73,13 +73,13 @@ module _ (reads : ReadsCodecs) (old new : World) (key : List ℕ) (owned : IsOwn
   own_more : (b : Held) → new.arrays ≡ old.arrays ++ b ∷ [] → IsOwnKey old.arrays key → IsOwnKey new.arrays key
   own_more b arrays own = let P : List Held → Type 0 = λ hs. IsOwnKey hs key in subst P (sym arrays) (own.0, held_at-before own.0.path old.arrays b own.0 own.1, own.2)
 
-  own_created : (path : List ℕ) (document : Data) (order : SubchunkWriteOrder) → Creates reads path document order old new → IsOwned new key
+  own_created : (path : List ℕ) (document : Data) (order : SubchunkWriteOrder) → Creates reads (record { path = path; document = document; order = order }) old new → IsOwned new key
   own_created path document order c value e = ⊎_elim
       (λ at. inl (begun, ap (held_at path) c.begins.holds ∙ held_at-new path old.arrays begun (free_none path old.arrays c.free) refl, inl at))
       (λ more. ⊎_elim (λ at. inr (path, c.node, at)) (λ same. own_still (own_more begun c.begins.holds) value (sym same ∙ e)) more)
       (document_keys path (written_document document) old.store new.store c.stores key) where
         begun : Held
-        begun = record { path = path; tree = written_document document; document = c.meaning; order = order; table = c.begins.table }
+        begun = record { path = path; tree = written_document document; document = c.meaning; order = order; table = c.table }
 
   own_opened : (path : List ℕ) (order : SubchunkWriteOrder) → Opens reads path order old new → IsOwned new key
   own_opened path order o value e = own_still (own_more _ o.begins.holds) value (ap (λ m. get m key) (sym o.stores) ∙ e)

@@ -17,19 +17,21 @@ use Rattle.zarr_sharding_values.proofs.ChainCompaction.{standing_undamaged}
 use Rattle.zarr_codecs_metadata.specs.Chains.{ReadsCodecs}
 use Rattle.zarr_codecs_traits.proofs.Damage.{decoded_intact}
 use Rattle.zarr_codecs_options.specs.declared.codec_options.CodecOptions.{CodecOptions}
+use Rattle.zarr_array_meaning.specs.Arrays.{value_at}
 use Rattle.zarr_array_meaning.specs.Boxes.{IsDamagedIn, IsUnfitIn}
-use Rattle.zarr_array_meaning.specs.Chunks.{number_in, stored_at, fits_box, decoded_at, ReadsCell, IsNthIntersecting}
+use Rattle.zarr_array_meaning.specs.Chunks.{number_in, stored_at, fits_box, decoded_in, ReadsCell, IsNthIntersecting}
 use Rattle.zarr_array_meaning.specs.Documents.{Document}
 use Rattle.zarr_array_meaning.specs.Standing.{ChunkStandsAt, IsLossless, IsGood, AreValues}
 use Rattle.zarr_array_meaning.specs.StoreMaps.{StoreMap}
 use Rattle.zarr_array_meaning.specs.Texts.{HasDocument}
+use Rattle.zarr_array_meaning.specs.Writes.{write_to}
 use Rattle.zarr_array_meaning.specs.Writing.{IsPartDamaged, is_into_shard, LacksRoom, StopsInto, shared_numbers}
 use Rattle.zarr_array_meaning.proofs.Showing.{are_cells, listed_at}
 use Rattle.zarr_array_meaning.proofs.TakenParts.{opens_decoded, takes_decoded}
 use Rattle.zarr_run_meaning.specs.declared.cause.Cause.TheVariants as cause
 use Rattle.zarr_run_meaning.specs.Causes.{ReopenRefuses, IsNotCompacted, IsNotRewritten}
 use Rattle.zarr_run_meaning.specs.Laws.{NeverDamaged, AloneUndamaged, ReadsFit}
-use Rattle.zarr_run_meaning.specs.Requests.{Request, create, reopen, write, read, erase, compact, rewrite, path_of, refused}
+use Rattle.zarr_run_meaning.specs.Requests.{refusal, Request, create, reopen, write, read, erase, compact, rewrite, path_of, refused}
 use Rattle.zarr_run_meaning.specs.Sound.{IsSoundAt, ReadsGood}
 use Rattle.zarr_run_meaning.specs.Steps.{RefusesHeld, RefusesWrite, RefusesRead, RefusesErase, RefusesCompact, RefusesRewrite, WritesFirst, ErasesFirst, RewritesFirst, Step}
 use Rattle.zarr_run_meaning.specs.Tables.{cell}
@@ -42,12 +44,12 @@ use Rattle.zarr_run_meaning.proofs.Keys.{number_listed, listed_below}
 pub box_same : (document : Document) (chunk : List ℕ) (box : Region) → IsInGrid document.grid chunk box → length box.start ≡ length box.shape
 box_same document chunk box below = let rank = chunk_box-rank document.grid chunk box below.has_box in rank.0 ∙ sym rank.1
 
-module _ (path : List ℕ) (document : Document) (store : StoreMap) (chunk : List ℕ) (box : Region) (cells : List ℕ → Cell) (good : IsGood document) (lossless : IsLossless document) (values : AreValues document cells) (below : IsInGrid document.grid chunk box) (stands : ChunkStandsAt path document store chunk box cells) where
-  pub standing_decoded : decoded_at path document store chunk box ≡ Some (map cells (places box.start box.shape))
+module _ (path : List ℕ) (document : Document) (store : StoreMap) (chunk : List ℕ) (box : Region) (cells : List ℕ → Cell) (good : IsGood document) (lossless : IsLossless document) (values : AreValues document cells) (below : IsInGrid document.grid chunk box) (stands : ChunkStandsAt document box (stored_at path document store chunk) cells) where
+  pub standing_decoded : decoded_in document box (stored_at path document store chunk) ≡ Some (map cells (places box.start box.shape))
   standing_decoded = stored_decoded document.chain document.elements box.shape (stored_at path document store chunk) (map cells (places box.start box.shape)) good.lawful lossless
       (are_cells document chunk box cells (box_same document chunk box below) good values below) stands
 
-  pub standing_reads : (place : List ℕ) → is_in_box box.start box.shape place ≡ true → ReadsCell path document store chunk box place (cells place)
+  pub standing_reads : (place : List ℕ) → is_in_box box.start box.shape place ≡ true → ReadsCell document box (stored_at path document store chunk) place (cells place)
   standing_reads place inside =
       let n = number_in box place in
       let low : (nat_lt n (product box.shape) && true) ≡ true = rw (lt-ltb n (product box.shape) (number_in_grid box.start box.shape place inside)) refl in
@@ -72,10 +74,10 @@ module _ (reads : ReadsCodecs) (store : StoreMap) (h : Held) (good : ReadsGood r
 
   -- nor is there no room behind it
   no_part_damaged : (region : Region) (values : List Cell) (options : CodecOptions) (n : ℕ) (chunk : List ℕ) (box : Region) → IsNthIntersecting h.document.grid region n chunk box
-      → IsPartDamaged h.path h.document store region options chunk box ⊎ LacksRoom h.path h.document store region values options chunk box → ⊥
-  no_part_damaged region values options n chunk box nth damaged = ⊎_elim part (λ (no : LacksRoom h.path h.document store region values options chunk box). none-some _ (sym no.undecoded ∙ decoded)) damaged where
+      → IsPartDamaged (write_to (array_of h) region values options) box (value_at (array_of h) store chunk) ⊎ LacksRoom (write_to (array_of h) region values options) box (value_at (array_of h) store chunk) → ⊥
+  no_part_damaged region values options n chunk box nth damaged = ⊎_elim part (λ (no : LacksRoom (write_to (array_of h) region values options) box (value_at (array_of h) store chunk)). none-some _ (sym no.undecoded ∙ decoded)) damaged where
     stored : Option (List ℕ)
-    stored = stored_at h.path h.document store chunk
+    stored = value_at (array_of h) store chunk
 
     below : IsInGrid h.document.grid chunk box
     below = let among = listed_below h.document.grid region chunk (number_listed _ n chunk nth.listed) in record { below = among.1.below; has_box = nth.has_box }
@@ -83,7 +85,7 @@ module _ (reads : ReadsCodecs) (store : StoreMap) (h : Held) (good : ReadsGood r
     decoded : chunk_decoded h.document.chain h.document.elements box.shape stored ≡ Some (map (cell h.document.elements.fill h.table) (places box.start box.shape))
     decoded = standing_decoded h.path h.document store chunk box (cell h.document.elements.fill h.table) (good h.tree h.document sound.says) sound.lossless sound.values below (sound.stands chunk box below)
 
-    part : IsPartDamaged h.path h.document store region options chunk box → ⊥
+    part : IsPartDamaged (write_to (array_of h) region values options) box (value_at (array_of h) store chunk) → ⊥
     part is = ⊎_elim
         (λ into. none_stopped region box stored is.fit decoded (sound.stands chunk box below) (MatchBool-at_true _ _ into is.lost))
         (λ whole. false≢true (sym (MatchBool-at_false _ _ whole is.lost) ∙ takes_decoded h.document options region box stored (map (cell h.document.elements.fill h.table) (places box.start box.shape)) is.fit decoded))
@@ -138,26 +140,26 @@ module _ (reads : ReadsCodecs) (old new : World) (n : ℕ) (good : ReadsGood rea
     go None r = r
     go (Some h) r = r
   undamaged (write path target given options) sound s = go (held_at path old.arrays) refl s.1 where
-    go : (o : Option Held) → held_at path old.arrays ≡ o → RefusesHeld o (RefusesWrite target given options) cause.Damage n old new → ⊥
+    go : (o : Option Held) → held_at path old.arrays ≡ o → RefusesHeld o (RefusesWrite (record { target = target; cells = given; options = options })) (refusal cause.Damage n) old new → ⊥
     go None e r = r
-    go (Some h) e r = ⊎_elim (λ whole. whole.0) (λ (first : WritesFirst h target given options cause.Damage n old new).
+    go (Some h) e r = ⊎_elim (λ whole. whole.0) (λ (first : WritesFirst h (record { target = target; cells = given; options = options }) (refusal cause.Damage n) old new).
         no_part_damaged reads old.store h good (sound h e) first.box first.values options n first.stops.chunk first.stops.box first.stops.nth first.stops.refuses) r
   undamaged (read path target options) sound s = go (held_at path old.arrays) refl s.1 where
-    go : (o : Option Held) → held_at path old.arrays ≡ o → RefusesHeld o (RefusesRead target) cause.Damage n old new → ⊥
+    go : (o : Option Held) → held_at path old.arrays ≡ o → RefusesHeld o (RefusesRead target) (refusal cause.Damage n) old new → ⊥
     go None e r = r
     go (Some h) e r = none_damaged reads old.store h good (sound h e) r.0.0 r.0.3
   undamaged (erase path chunks) sound s = go (held_at path old.arrays) refl s.1 where
-    go : (o : Option Held) → held_at path old.arrays ≡ o → RefusesHeld o (RefusesErase chunks) cause.Damage n old new → ⊥
+    go : (o : Option Held) → held_at path old.arrays ≡ o → RefusesHeld o (RefusesErase chunks) (refusal cause.Damage n) old new → ⊥
     go None e r = r
-    go (Some h) e r = ⊎_elim (λ whole. whole.0) (λ (first : ErasesFirst h chunks cause.Damage n old new). first.stops) r
+    go (Some h) e r = ⊎_elim (λ whole. whole.0) (λ (first : ErasesFirst h chunks (refusal cause.Damage n) old new). first.stops) r
   undamaged (compact path chunk options) sound s = go (held_at path old.arrays) refl s.1 where
-    go : (o : Option Held) → held_at path old.arrays ≡ o → RefusesHeld o (RefusesCompact chunk) cause.Damage n old new → ⊥
+    go : (o : Option Held) → held_at path old.arrays ≡ o → RefusesHeld o (RefusesCompact chunk) (refusal cause.Damage n) old new → ⊥
     go None e r = r
     go (Some h) e r = none_gaping reads old.store h good (sound h e) chunk r.0
   undamaged (rewrite path options) sound s = go (held_at path old.arrays) refl s.1 where
-    go : (o : Option Held) → held_at path old.arrays ≡ o → RefusesHeld o (RefusesRewrite options) cause.Damage n old new → ⊥
+    go : (o : Option Held) → held_at path old.arrays ≡ o → RefusesHeld o (RefusesRewrite options) (refusal cause.Damage n) old new → ⊥
     go None e r = r
-    go (Some h) e r = ⊎_elim (λ whole. whole.0) (λ (first : RewritesFirst h options cause.Damage n old new). none_undecoded reads old.store h good (sound h e) options.store_empty_chunks n first.stops) r
+    go (Some h) e r = ⊎_elim (λ whole. whole.0) (λ (first : RewritesFirst h options (refusal cause.Damage n) old new). none_undecoded reads old.store h good (sound h e) options.store_empty_chunks n first.stops) r
 
   unchanged : (request : Request) → IsSoundThere reads old (path_of request) → Step reads old request (refused cause.DocumentChanged n) new → ⊥
   unchanged (create path document order) sound s = s.1.0
@@ -166,25 +168,25 @@ module _ (reads : ReadsCodecs) (old new : World) (n : ℕ) (good : ReadsGood rea
     go None e r = r
     go (Some h) e r = none_changed reads old.store h good (sound h e) path (held_at-path path old.arrays h e) old refl r
   unchanged (write path target given options) sound s = go (held_at path old.arrays) s.1 where
-    go : (o : Option Held) → RefusesHeld o (RefusesWrite target given options) cause.DocumentChanged n old new → ⊥
+    go : (o : Option Held) → RefusesHeld o (RefusesWrite (record { target = target; cells = given; options = options })) (refusal cause.DocumentChanged n) old new → ⊥
     go None r = r
-    go (Some h) r = ⊎_elim (λ whole. whole.0) (λ (first : WritesFirst h target given options cause.DocumentChanged n old new). first.stops.refuses) r
+    go (Some h) r = ⊎_elim (λ whole. whole.0) (λ (first : WritesFirst h (record { target = target; cells = given; options = options }) (refusal cause.DocumentChanged n) old new). first.stops.refuses) r
   unchanged (read path target options) sound s = go (held_at path old.arrays) s.1 where
-    go : (o : Option Held) → RefusesHeld o (RefusesRead target) cause.DocumentChanged n old new → ⊥
+    go : (o : Option Held) → RefusesHeld o (RefusesRead target) (refusal cause.DocumentChanged n) old new → ⊥
     go None r = r
     go (Some h) r = r.0
   unchanged (erase path chunks) sound s = go (held_at path old.arrays) s.1 where
-    go : (o : Option Held) → RefusesHeld o (RefusesErase chunks) cause.DocumentChanged n old new → ⊥
+    go : (o : Option Held) → RefusesHeld o (RefusesErase chunks) (refusal cause.DocumentChanged n) old new → ⊥
     go None r = r
-    go (Some h) r = ⊎_elim (λ whole. whole.0) (λ (first : ErasesFirst h chunks cause.DocumentChanged n old new). first.stops) r
+    go (Some h) r = ⊎_elim (λ whole. whole.0) (λ (first : ErasesFirst h chunks (refusal cause.DocumentChanged n) old new). first.stops) r
   unchanged (compact path chunk options) sound s = go (held_at path old.arrays) s.1 where
-    go : (o : Option Held) → RefusesHeld o (RefusesCompact chunk) cause.DocumentChanged n old new → ⊥
+    go : (o : Option Held) → RefusesHeld o (RefusesCompact chunk) (refusal cause.DocumentChanged n) old new → ⊥
     go None r = r
     go (Some h) r = r.0
   unchanged (rewrite path options) sound s = go (held_at path old.arrays) s.1 where
-    go : (o : Option Held) → RefusesHeld o (RefusesRewrite options) cause.DocumentChanged n old new → ⊥
+    go : (o : Option Held) → RefusesHeld o (RefusesRewrite options) (refusal cause.DocumentChanged n) old new → ⊥
     go None r = r
-    go (Some h) r = ⊎_elim (λ whole. whole.0) (λ (first : RewritesFirst h options cause.DocumentChanged n old new). first.stops.refuses) r
+    go (Some h) r = ⊎_elim (λ whole. whole.0) (λ (first : RewritesFirst h options (refusal cause.DocumentChanged n) old new). first.stops.refuses) r
 
 pub never_damaged : NeverDamaged
 never_damaged reads old new request n good sound = (undamaged reads old new n good request (sound.each (path_of request)), unchanged reads old new n good request (sound.each (path_of request)))
@@ -196,17 +198,17 @@ alone_undamaged reads old new request n good alone = (undamaged reads old new n 
 
 pub reads_fit : ReadsFit
 reads_fit reads old new (read path target options) n sound asks s = go (held_at path old.arrays) refl s.1 where
-  go : (o : Option Held) → held_at path old.arrays ≡ o → RefusesHeld o (RefusesRead target) cause.Fit n old new → ⊥
+  go : (o : Option Held) → held_at path old.arrays ≡ o → RefusesHeld o (RefusesRead target) (refusal cause.Fit n) old new → ⊥
   go None e r = r
   go (Some h) e r = unfit_none reads old.store h r.0.0 (sound.each path h e) r.0.3
 reads_fit reads old new (compact path chunk options) n sound asks s = go (held_at path old.arrays) refl s.1 where
-  go : (o : Option Held) → held_at path old.arrays ≡ o → RefusesHeld o (RefusesCompact chunk) cause.Fit n old new → ⊥
+  go : (o : Option Held) → held_at path old.arrays ≡ o → RefusesHeld o (RefusesCompact chunk) (refusal cause.Fit n) old new → ⊥
   go None e r = r
   go (Some h) e r = let f : IsNotCompacted (array_of h) old.store chunk cause.Fit = r.0 in unfit_stored reads old.store h chunk f.box f.value (sound.each path h e) f.below f.stored f.refuses
 reads_fit reads old new (rewrite path options) n sound asks s = go (held_at path old.arrays) refl s.1 where
-  go : (o : Option Held) → held_at path old.arrays ≡ o → RefusesHeld o (RefusesRewrite options) cause.Fit n old new → ⊥
+  go : (o : Option Held) → held_at path old.arrays ≡ o → RefusesHeld o (RefusesRewrite options) (refusal cause.Fit n) old new → ⊥
   go None e r = r
-  go (Some h) e r = ⊎_elim (λ whole. whole.0) (λ (first : RewritesFirst h options cause.Fit n old new).
+  go (Some h) e r = ⊎_elim (λ whole. whole.0) (λ (first : RewritesFirst h options (refusal cause.Fit n) old new).
       let f : IsNotRewritten (array_of h) old.store options.store_empty_chunks n cause.Fit = first.stops in
       unfit_stored reads old.store h f.chunk f.box f.value (sound.each path h e) f.below f.stored f.refuses) r
 reads_fit reads old new request n sound asks s = absurd asks

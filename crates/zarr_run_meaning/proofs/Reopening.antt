@@ -22,7 +22,7 @@ use Rattle.zarr_run_meaning.specs.declared.cause.Cause.TheVariants as cause
 use Rattle.zarr_run_meaning.specs.Causes.{ReopenRefuses, IsChunkKeyIn, HasNoneAt, HasNoDocumentIn, IsFoundIn}
 use Rattle.zarr_run_meaning.specs.Changes.{Opens}
 use Rattle.zarr_run_meaning.specs.Laws.{SameCells, HasCells, IsReopenedAs, ReopensAlike, ReopenedSound, ReopenedOwned}
-use Rattle.zarr_run_meaning.specs.Requests.{reopen, Answer, done, cells, compacted, refused}
+use Rattle.zarr_run_meaning.specs.Requests.{refusal, reopen, Answer, done, cells, compacted, refused}
 use Rattle.zarr_run_meaning.specs.Sound.{OwnsKey, IsOwnKey, IsSoundAt, ReadsGood}
 use Rattle.zarr_run_meaning.specs.Steps.{RefusesAt, Step}
 use Rattle.zarr_run_meaning.specs.Tables.{Table, cell}
@@ -77,7 +77,7 @@ module _ (reads : ReadsCodecs) (closed old new : World) (path : List ℕ) (h : H
         (found_in.first a))
 
   opened_alike : Opens reads path order old new → IsReopenedAs h order done new
-  opened_alike o = record { is = refl; table = o.begins.table; held = again; cells = shown } where
+  opened_alike o = record { is = refl; table = o.table; held = again; cells = shown } where
     tree : o.tree ≡ h.tree
     tree = the_document o.tree o.found
 
@@ -85,21 +85,21 @@ module _ (reads : ReadsCodecs) (closed old new : World) (path : List ℕ) (h : H
     document = ok_once (read_document reads o.tree) o.meaning h.document o.opens (ap (read_document reads) tree ∙ there.says)
 
     begun : Held
-    begun = record { path = path; tree = o.tree; document = o.meaning; order = order; table = o.begins.table }
+    begun = record { path = path; tree = o.tree; document = o.meaning; order = order; table = o.table }
 
-    is : begun ≡ record h { order = order; table = o.begins.table }
-    is = λ i. record { path = at i; tree = tree i; document = document i; order = order; table = o.begins.table }
+    is : begun ≡ record h { order = order; table = o.table }
+    is = λ i. record { path = at i; tree = tree i; document = document i; order = order; table = o.table }
 
-    again : held_at h.path new.arrays ≡ Some (record h { order = order; table = o.begins.table })
+    again : held_at h.path new.arrays ≡ Some (record h { order = order; table = o.table })
     again = ap (held_at h.path) o.begins.holds ∙ ap (λ q. held_at q (old.arrays ++ begun ∷ [])) (sym at) ∙ held_at-new path old.arrays begun none refl ∙ ap Some is
 
-    shows : IsTableAt h.path h.document closed.store o.begins.table
+    shows : IsTableAt h.path h.document closed.store o.table
     shows =
         let P : Held → Type 0 = λ x. IsTableAt x.path x.document old.store x.table in
-        let Q : StoreMap → Type 0 = λ s. IsTableAt h.path h.document s o.begins.table in
+        let Q : StoreMap → Type 0 = λ s. IsTableAt h.path h.document s o.table in
         subst Q same (subst P is o.begins.shows)
 
-    shown : (chunk : List ℕ) (box : Region) (place : List ℕ) → IsInGrid h.document.grid chunk box → is_in_box box.start box.shape place ≡ true → cell h.document.elements.fill o.begins.table place ≡ cell h.document.elements.fill h.table place
+    shown : (chunk : List ℕ) (box : Region) (place : List ℕ) → IsInGrid h.document.grid chunk box → is_in_box box.start box.shape place ≡ true → cell h.document.elements.fill o.table place ≡ cell h.document.elements.fill h.table place
     shown chunk box place below inside =
         sym (shows there.lossless chunk box place (cell h.document.elements.fill h.table place) below inside
         (standing_reads h.path h.document closed.store chunk box (cell h.document.elements.fill h.table) (good h.tree h.document there.says) there.lossless there.values below (there.stands chunk box below) place inside))
@@ -126,7 +126,7 @@ module _ (reads : ReadsCodecs) (closed old new : World) (path : List ℕ) (h : H
   refused_open cause.Store n r zero = inr (inr (ap (refused cause.Store) zero))
   refused_open c n r zero = absurd r
 
-  refused_alike : (c : Cause) (n : ℕ) → RefusesAt reads path (reopen path order) c n old new → Alike (refused c n)
+  refused_alike : (c : Cause) (n : ℕ) → RefusesAt reads (reopen path order) (refusal c n) old new → Alike (refused c n)
   refused_alike cause.Path n r = absurd (false≢true (sym r.0 ∙ ap is_node_path at ∙ there.node))
   refused_alike cause.Memory n r = ⊎_elim (λ s. inr (inl (ap (refused cause.Memory) s.applied))) (λ s. inr (inl (ap (refused cause.Memory) s.1.1.applied))) r
   refused_alike c n r = let P : Option Held → Type 0 = λ o. ReopenRefuses reads old path o c in refused_open c n (subst P none r.1.0) r.1.1.applied

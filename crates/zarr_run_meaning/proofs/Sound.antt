@@ -71,7 +71,7 @@ module _ (reads : ReadsCodecs) (old new : World) (sound : IsSound reads old) whe
   }
 
 module _ (reads : ReadsCodecs) (old new : World) (path : List ℕ) (order : SubchunkWriteOrder) (good : ReadsGood reads) (sound : IsSound reads old) where
-  created_sound : (document : Data) (c : Creates reads path document order old new) → (cells : List ℕ → Cell) × IsStoredAs path c.meaning old.store cells → IsSound reads new
+  created_sound : (document : Data) (c : Creates reads (record { path = path; document = document; order = order }) old new) → (cells : List ℕ → Cell) × IsStoredAs path c.meaning old.store cells → IsSound reads new
   created_sound document c begins =
       more_sound reads old new new.store (created_array reads old new path document order c)
       (still reads old new sound path c.node c.free (created_put reads old new path document order c))

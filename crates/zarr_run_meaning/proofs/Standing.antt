@@ -16,16 +16,17 @@ use Rattle.zarr_codecs_types.specs.SameEquivalence.{same_cell_decides}
 use Rattle.zarr_codecs_metadata.specs.Chains.{ReadsCodecs}
 use Rattle.zarr_codecs_options.specs.declared.codec_options.CodecOptions.{CodecOptions}
 use Rattle.zarr_grids_keys.specs.declared.document_name.DocumentName.TheVariants.{ZarrJson}
-use Rattle.zarr_array_meaning.specs.Boxes.{cell_of_box, with_chunks}
+use Rattle.zarr_array_meaning.specs.Boxes.{cell_of_box, lies_in_any, replaced_in}
 use Rattle.zarr_array_meaning.specs.Chunks.{stored_at, is_listed, KeepsOtherKeys}
 use Rattle.zarr_array_meaning.specs.Documents.{Document}
 use Rattle.zarr_array_meaning.specs.Standing.{ChunkStandsAt, StoreStands, IsGood, AreValues}
 use Rattle.zarr_array_meaning.specs.StoreMaps.{StoreMap}
+use Rattle.zarr_array_meaning.specs.Writes.{write_to}
 use Rattle.zarr_array_meaning.specs.Writing.{WroteChunks, ErasedChunks}
 use Rattle.zarr_array_meaning.proofs.Showing.{each_inside, each_place}
 use Rattle.zarr_run_meaning.specs.Sound.{IsSoundAt}
 use Rattle.zarr_run_meaning.specs.Tables.{Table, cell}
-use Rattle.zarr_run_meaning.specs.Worlds.{Held, writes_exactly}
+use Rattle.zarr_run_meaning.specs.Worlds.{Held, array_of}
 use Rattle.zarr_run_meaning.proofs.Documents.{formed}
 use Rattle.zarr_run_meaning.proofs.Frames.{IsWritten, IsErased, written_cell, erased_cell}
 use Rattle.zarr_run_meaning.proofs.Keys.{AreBelow, KeepsUnder, chunk_kept, documents_kept}
@@ -43,21 +44,21 @@ each_same f g (p ∷ ps) h = ap (λ c. c ∷ map f ps) h.0 ∙ ap (λ (cs : List
 
 -- where two functions have the same cells in a chunk, what stands for the one stands for the other
 pub stands_alike : (path : List ℕ) (document : Document) (store : StoreMap) (chunk : List ℕ) (box : Region) (f g : List ℕ → Cell) → IsInGrid document.grid chunk box → ((place : List ℕ) → is_in_box box.start box.shape place ≡ true → f place ≡ g place)
-    → ChunkStandsAt path document store chunk box f → ChunkStandsAt path document store chunk box g
+    → ChunkStandsAt document box (stored_at path document store chunk) f → ChunkStandsAt document box (stored_at path document store chunk) g
 stands_alike path document store chunk box f g below same stands =
     let P : List Cell → Type 0 = λ cs. IsStored document.chain document.elements box.shape (stored_at path document store chunk) cs in
     subst P (each_same f g (places box.start box.shape) (each_inside (λ p. f p ≡ g p) box.start box.shape (box_same document chunk box below) same)) stands
 
 -- where the same is stored
 pub stands_same : (path : List ℕ) (document : Document) (old new : StoreMap) (chunk : List ℕ) (box : Region) (cells : List ℕ → Cell) → stored_at path document new chunk ≡ stored_at path document old chunk
-    → ChunkStandsAt path document old chunk box cells → ChunkStandsAt path document new chunk box cells
+    → ChunkStandsAt document box (stored_at path document old chunk) cells → ChunkStandsAt document box (stored_at path document new chunk) cells
 stands_same path document old new chunk box cells same stands =
     let P : Option (List ℕ) → Type 0 = λ o. IsStored document.chain document.elements box.shape o (map cells (places box.start box.shape)) in
     subst P (sym same) stands
 
 -- nothing stands for the fill value alone
 pub none_stands : (path : List ℕ) (document : Document) (store : StoreMap) (chunk : List ℕ) (box : Region) (cells : List ℕ → Cell) → IsInGrid document.grid chunk box → stored_at path document store chunk ≡ None
-    → ((place : List ℕ) → is_in_box box.start box.shape place ≡ true → cells place ≡ document.elements.fill) → ChunkStandsAt path document store chunk box cells
+    → ((place : List ℕ) → is_in_box box.start box.shape place ≡ true → cells place ≡ document.elements.fill) → ChunkStandsAt document box (stored_at path document store chunk) cells
 none_stands path document store chunk box cells below none all =
     let P : Option (List ℕ) → Type 0 = λ o. IsStored document.chain document.elements box.shape o (map cells (places box.start box.shape)) in
     subst P (sym none) (go (fits document.chain document.elements.type box.shape)) where
@@ -104,9 +105,9 @@ one_value type false b x y p q = q
 
 module _ (reads : ReadsCodecs) (h : Held) (old new : StoreMap) (region : Region) (values : List Cell) (options : CodecOptions) (chunks : List (List ℕ)) (table : Table) where
   pub written_sound : IsGood h.document → IsWritten h old new region values options chunks table → ((chunk : List ℕ) → is_listed chunks chunk ≡ true → is_listed (intersecting h.document.grid region) chunk ≡ true)
-      → length values ≡ product region.shape → list_all (is_value h.document.elements.type) values ≡ true → WroteChunks h.path h.document (writes_exactly h) region values options chunks old new → IsSoundAt reads old h → IsSoundAt reads new (record h { table = table })
+      → length values ≡ product region.shape → list_all (is_value h.document.elements.type) values ≡ true → WroteChunks (write_to (array_of h) region values options) chunks old new → IsSoundAt reads old h → IsSoundAt reads new (record h { table = table })
   written_sound good is few many are w s = with_table reads old new h chunks table w.others s all stands where
-    same : (place : List ℕ) → cell h.document.elements.fill table place ≡ with_chunks h.document.grid region chunks (cell_of_box region values h.document.elements.fill) (cell h.document.elements.fill h.table) place
+    same : (place : List ℕ) → cell h.document.elements.fill table place ≡ replaced_in region (lies_in_any h.document.grid chunks) (cell_of_box region values h.document.elements.fill) (cell h.document.elements.fill h.table) place
     same place = written_cell h old new region values options chunks table is few many place
 
     all : AreValues h.document (cell h.document.elements.fill table)

@@ -96,11 +96,11 @@ rewritten_tight array store_empty shape value new cells good lossless exact are 
 -- some chunks of an array are read as before at each place, where the chain keeps every bit, and each stands for cells that it stood for, and stays tight where values depend on cells alone; no other key changed
 pub record KeepsCells (h : Held) (chunks : List (List ℕ)) (old new : StoreMap) : Type 0 where
   pub shows : IsLossless h.document → (chunk : List ℕ) (box : Region) (place : List ℕ) → IsInGrid h.document.grid chunk box → is_listed chunks chunk ≡ true → is_in_box box.start box.shape place ≡ true
-      → part_at h.path h.document new chunk box place ≡ part_at h.path h.document old chunk box place
+      → part_at h.document box (value_at (array_of h) new chunk) place ≡ part_at h.document box (value_at (array_of h) old chunk) place
   pub stands : IsGood h.document → IsLossless h.document → (cells : List ℕ → Cell) → AreValues h.document cells → (chunk : List ℕ) (box : Region) → IsInGrid h.document.grid chunk box → is_listed chunks chunk ≡ true
-      → ChunkStandsAt h.path h.document old chunk box cells → ChunkStandsAt h.path h.document new chunk box cells
+      → ChunkStandsAt h.document box (value_at (array_of h) old chunk) cells → ChunkStandsAt h.document box (value_at (array_of h) new chunk) cells
   pub tight : IsGood h.document → IsLossless h.document → writes_exactly h ≡ true → (cells : List ℕ → Cell) → AreValues h.document cells → (chunk : List ℕ) (box : Region) → IsInGrid h.document.grid chunk box → is_listed chunks chunk ≡ true
-      → ChunkStandsAt h.path h.document old chunk box cells → ChunkTightAt h.path h.document old chunk box cells → ChunkTightAt h.path h.document new chunk box cells
+      → ChunkStandsAt h.document box (value_at (array_of h) old chunk) cells → ChunkTightAt h.document box (value_at (array_of h) old chunk) cells → ChunkTightAt h.document box (value_at (array_of h) new chunk) cells
   pub others : KeepsOtherKeys h.path h.document chunks old new
 
 pub only : (chunk c : List ℕ) → is_listed (chunk ∷ []) c ≡ true → c ≡ chunk
@@ -114,20 +114,20 @@ module _ (h : Held) (chunk : List ℕ) (changed : Bool) (old new : StoreMap) (c 
   same_box : (box : Region) → IsInGrid h.document.grid chunk box → c.box ≡ box
   same_box box below = some_same (sym c.below.has_box ∙ below.has_box)
 
-  shows_here : IsLossless h.document → (box : Region) (place : List ℕ) → IsInGrid h.document.grid chunk box → is_in_box box.start box.shape place ≡ true → part_at h.path h.document new chunk box place ≡ part_at h.path h.document old chunk box place
+  shows_here : IsLossless h.document → (box : Region) (place : List ℕ) → IsInGrid h.document.grid chunk box → is_in_box box.start box.shape place ≡ true → part_at h.document box (value_at (array_of h) new chunk) place ≡ part_at h.document box (value_at (array_of h) old chunk) place
   shows_here lossless box place below inside =
-      let P : Region → Type 0 = λ b. is_in_box b.start b.shape place ≡ true → part_at h.path h.document new chunk b place ≡ part_at h.path h.document old chunk b place in
+      let P : Region → Type 0 = λ b. is_in_box b.start b.shape place ≡ true → part_at h.document b (value_at (array_of h) new chunk) place ≡ part_at h.document b (value_at (array_of h) old chunk) place in
       subst P (same_box box below) (c.shows lossless place) inside
 
   stands_here : IsGood h.document → IsLossless h.document → (cells : List ℕ → Cell) → AreValues h.document cells → (box : Region) → IsInGrid h.document.grid chunk box
-      → ChunkStandsAt h.path h.document old chunk box cells → ChunkStandsAt h.path h.document new chunk box cells
+      → ChunkStandsAt h.document box (value_at (array_of h) old chunk) cells → ChunkStandsAt h.document box (value_at (array_of h) new chunk) cells
   stands_here good lossless cells values box below stood =
       let P : Region → Type 0 = λ b. IsCompacted h.document b.shape changed (value_at (array_of h) old chunk) (value_at (array_of h) new chunk) in
       compacted_stands h.document box.shape (map cells (places box.start box.shape)) good lossless (are_cells h.document chunk box cells (box_same h.document chunk box below) good values below)
       changed (value_at (array_of h) old chunk) (value_at (array_of h) new chunk) (subst P (same_box box below) c.is) stood
 
   tight_here : IsGood h.document → IsLossless h.document → (cells : List ℕ → Cell) → AreValues h.document cells → (box : Region) → IsInGrid h.document.grid chunk box
-      → ChunkTightAt h.path h.document old chunk box cells → ChunkTightAt h.path h.document new chunk box cells
+      → ChunkTightAt h.document box (value_at (array_of h) old chunk) cells → ChunkTightAt h.document box (value_at (array_of h) new chunk) cells
   tight_here good lossless cells values box below tight =
       let P : Region → Type 0 = λ b. IsCompacted h.document b.shape changed (value_at (array_of h) old chunk) (value_at (array_of h) new chunk) in
       compacted_tight h.document box.shape (map cells (places box.start box.shape)) good lossless (are_cells h.document chunk box cells (box_same h.document chunk box below) good values below)
@@ -136,13 +136,13 @@ module _ (h : Held) (chunk : List ℕ) (changed : Bool) (old new : StoreMap) (c 
   pub compacted_keeps : KeepsCells h (chunk ∷ []) old new
   compacted_keeps = record {
     shows = λ lossless other box place below listed inside.
-        let P : List ℕ → Type 0 = λ e. IsInGrid h.document.grid e box → part_at h.path h.document new e box place ≡ part_at h.path h.document old e box place in
+        let P : List ℕ → Type 0 = λ e. IsInGrid h.document.grid e box → part_at h.document box (value_at (array_of h) new e) place ≡ part_at h.document box (value_at (array_of h) old e) place in
         subst P (sym (only chunk other listed)) (λ there. shows_here lossless box place there inside) below;
     stands = λ good lossless cells values other box below listed stood.
-        let P : List ℕ → Type 0 = λ e. IsInGrid h.document.grid e box → ChunkStandsAt h.path h.document old e box cells → ChunkStandsAt h.path h.document new e box cells in
+        let P : List ℕ → Type 0 = λ e. IsInGrid h.document.grid e box → ChunkStandsAt h.document box (value_at (array_of h) old e) cells → ChunkStandsAt h.document box (value_at (array_of h) new e) cells in
         subst P (sym (only chunk other listed)) (stands_here good lossless cells values box) below stood;
     tight = λ good lossless exact cells values other box below listed stood was.
-        let P : List ℕ → Type 0 = λ e. IsInGrid h.document.grid e box → ChunkTightAt h.path h.document old e box cells → ChunkTightAt h.path h.document new e box cells in
+        let P : List ℕ → Type 0 = λ e. IsInGrid h.document.grid e box → ChunkTightAt h.document box (value_at (array_of h) old e) cells → ChunkTightAt h.document box (value_at (array_of h) new e) cells in
         subst P (sym (only chunk other listed)) (tight_here good lossless cells values box) below was;
     others = c.others;
   }

@@ -16,7 +16,7 @@ use Rattle.zarr_grids_chunks.specs.Grids.{Grid, lies_in_chunk}
 use Rattle.zarr_grids_chunks.proofs.Filters.{told}
 use Rattle.zarr_codecs_meaning.specs.Types.{Cell, DataType, is_value, same_cell}
 use Rattle.zarr_codecs_types.specs.SameEquivalence.{same_cell_decides}
-use Rattle.zarr_array_meaning.specs.Boxes.{cell_of_box, with_chunks}
+use Rattle.zarr_array_meaning.specs.Boxes.{cell_of_box, lies_in_any, replaced_in}
 use Rattle.zarr_run_meaning.specs.Tables.{Table, cell, with_cell, updated, changes, changes_in}
 
 -- the cell after one was replaced
@@ -131,7 +131,7 @@ last_at-changes region cells q d other l n =
 
 -- ---- a write of a box, as a table and as a function of places
 pub cell-chunks : (fill : Cell) (t : Table) (grid : Grid) (region : Region) (cells : List Cell) (chunks : List (List ℕ)) (other : Cell) (q : List ℕ) → length region.start ≡ length region.shape → length cells ≡ product region.shape
-    → cell fill (updated fill t (changes_in grid chunks (changes region cells))) q ≡ with_chunks grid region chunks (cell_of_box region cells other) (cell fill t) q
+    → cell fill (updated fill t (changes_in grid chunks (changes region cells))) q ≡ replaced_in region (lies_in_any grid chunks) (cell_of_box region cells other) (cell fill t) q
 cell-chunks fill t grid region cells chunks other q l n =
     cell-updated fill t (changes_in grid chunks (changes region cells)) q
     ∙ last_at-filter (λ p. list_any (lies_in_chunk grid p) chunks) q (changes region cells) (cell fill t q)

@@ -11,7 +11,7 @@ use Rattle.zarr_grids_chunks.specs.Grids.{Grid, chunk_box, lies_in_chunk, inters
 use Rattle.zarr_grids_chunks.proofs.Filters.{told, filter-any}
 use Rattle.zarr_grids_cover.proofs.ChunkLaws.{chunks_apart}
 use Rattle.zarr_codecs_meaning.specs.Types.{Cell}
-use Rattle.zarr_array_meaning.specs.Boxes.{cell_of_box, with_chunks}
+use Rattle.zarr_array_meaning.specs.Boxes.{cell_of_box, lies_in_any, replaced_in}
 use Rattle.zarr_array_meaning.specs.Chunks.{is_listed}
 use Rattle.zarr_run_meaning.specs.Tables.{Table, cell, updated, changes, changes_in}
 use Rattle.zarr_run_meaning.proofs.TableLemmas.{cell-chunks}
@@ -51,14 +51,14 @@ none_kept (e ∷ es) = none_kept es
 
 -- the cells of a box are given to chunks that it intersects
 pub cell-written : (fill : Cell) (t : Table) (grid : Grid) (region : Region) (cells : List Cell) (chunks : List (List ℕ)) (other : Cell) (q : List ℕ) → ((chunk : List ℕ) → is_listed chunks chunk ≡ true → is_listed (intersecting grid region) chunk ≡ true)
-    → length cells ≡ product region.shape → cell fill (updated fill t (changes_in grid chunks (changes region cells))) q ≡ with_chunks grid region chunks (cell_of_box region cells other) (cell fill t) q
+    → length cells ≡ product region.shape → cell fill (updated fill t (changes_in grid chunks (changes region cells))) q ≡ replaced_in region (lies_in_any grid chunks) (cell_of_box region cells other) (cell fill t) q
 cell-written fill t grid region cells chunks other q few n = ⊎_elim
     (λ same. cell-chunks fill t grid region cells chunks other q (eqb-true (length region.start) (length region.shape) same) n)
     (λ differs. let none = no_chunks grid region chunks few (eqb-false (length region.start) (length region.shape) differs) in
     ap (λ cs. cell fill (updated fill t (changes_in grid cs (changes region cells))) q) none
     ∙ ap (λ es. cell fill (updated fill t es) q) (none_kept (changes region cells))
     ∙ unwritten (is_in_box region.start region.shape q)
-    ∙ ap (λ cs. with_chunks grid region cs (cell_of_box region cells other) (cell fill t) q) (sym none))
+    ∙ ap (λ cs. replaced_in region (lies_in_any grid cs) (cell_of_box region cells other) (cell fill t) q) (sym none))
     (told (length region.start == length region.shape)) where
       unwritten : (b : Bool) → cell fill t q ≡ (if b && false then cell_of_box region cells other q else cell fill t q)
       unwritten true = refl

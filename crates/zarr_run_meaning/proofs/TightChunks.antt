@@ -16,12 +16,12 @@ use Rattle.zarr_codecs_options.specs.declared.codec_options.CodecOptions.{CodecO
 use Rattle.zarr_codecs_traits.specs.PartWriting.{ChunkTight}
 use Rattle.zarr_sharding_values.proofs.StoredAfresh.{fresh_tight}
 use Rattle.zarr_array_meaning.specs.Arrays.{value_at}
-use Rattle.zarr_array_meaning.specs.Boxes.{cell_of_box, with_chunks}
 use Rattle.zarr_array_meaning.specs.Chunks.{stored_at, is_listed}
 use Rattle.zarr_array_meaning.specs.Documents.{Document}
 use Rattle.zarr_array_meaning.specs.Standing.{ChunkTightAt, IsGood}
 use Rattle.zarr_array_meaning.specs.StoreMaps.{StoreMap}
-use Rattle.zarr_array_meaning.specs.Writing.{WroteChunks, ErasedChunks}
+use Rattle.zarr_array_meaning.specs.Writes.{write_to}
+use Rattle.zarr_array_meaning.specs.Writing.{WroteChunks, ErasedChunks, written_over}
 use Rattle.zarr_array_meaning.proofs.Showing.{are_cells, each_inside, each_place}
 use Rattle.zarr_run_meaning.specs.Sound.{IsSoundAt}
 use Rattle.zarr_run_meaning.specs.Tables.{Table, cell}
@@ -39,21 +39,21 @@ use Rattle.zarr_run_meaning.proofs.Tables.{unlisted_lies}
 
 -- where two functions have the same cells in a chunk, what is tight with the one is tight with the other
 pub tight_alike : (path : List ℕ) (document : Document) (store : StoreMap) (chunk : List ℕ) (box : Region) (f g : List ℕ → Cell) → IsInGrid document.grid chunk box → ((place : List ℕ) → is_in_box box.start box.shape place ≡ true → f place ≡ g place)
-    → ChunkTightAt path document store chunk box f → ChunkTightAt path document store chunk box g
+    → ChunkTightAt document box (stored_at path document store chunk) f → ChunkTightAt document box (stored_at path document store chunk) g
 tight_alike path document store chunk box f g below same tight =
     let P : List Cell → Type 0 = λ cs. ChunkTight document.chain document.elements box.shape (stored_at path document store chunk) cs in
     subst P (each_same f g (places box.start box.shape) (each_inside (λ p. f p ≡ g p) box.start box.shape (box_same document chunk box below) same)) tight
 
 -- where the same is stored
 pub tight_same : (path : List ℕ) (document : Document) (old new : StoreMap) (chunk : List ℕ) (box : Region) (cells : List ℕ → Cell) → stored_at path document new chunk ≡ stored_at path document old chunk
-    → ChunkTightAt path document old chunk box cells → ChunkTightAt path document new chunk box cells
+    → ChunkTightAt document box (stored_at path document old chunk) cells → ChunkTightAt document box (stored_at path document new chunk) cells
 tight_same path document old new chunk box cells same tight =
     let P : Option (List ℕ) → Type 0 = λ o. ChunkTight document.chain document.elements box.shape o (map cells (places box.start box.shape)) in
     subst P (sym same) tight
 
 -- no value is tight with the fill value alone
 none_tight : (path : List ℕ) (document : Document) (store : StoreMap) (chunk : List ℕ) (box : Region) (cells : List ℕ → Cell) → IsInGrid document.grid chunk box → stored_at path document store chunk ≡ None
-    → ((place : List ℕ) → is_in_box box.start box.shape place ≡ true → cells place ≡ document.elements.fill) → ChunkTightAt path document store chunk box cells
+    → ((place : List ℕ) → is_in_box box.start box.shape place ≡ true → cells place ≡ document.elements.fill) → ChunkTightAt document box (stored_at path document store chunk) cells
 none_tight path document store chunk box cells below none all =
     let P : Option (List ℕ) → Type 0 = λ o. ChunkTight document.chain document.elements box.shape o (map cells (places box.start box.shape)) in
     subst P (sym none) (each_place (λ c. same_cell c document.elements.fill) cells (places box.start box.shape)
@@ -71,9 +71,9 @@ tight_under old new h same tight chunk box below = tight_same h.path h.document 
 
 module _ (reads : ReadsCodecs) (h : Held) (old new : StoreMap) (region : Region) (values : List Cell) (options : CodecOptions) (chunks : List (List ℕ)) (table : Table) where
   pub written_tight : IsWritten h old new region values options chunks table → ((chunk : List ℕ) → is_listed chunks chunk ≡ true → is_listed (intersecting h.document.grid region) chunk ≡ true)
-      → length values ≡ product region.shape → writes_exactly h ≡ true → WroteChunks h.path h.document (writes_exactly h) region values options chunks old new → IsSoundAt reads old h → IsTightHeld old h → IsTightHeld new (record h { table = table })
+      → length values ≡ product region.shape → writes_exactly h ≡ true → WroteChunks (write_to (array_of h) region values options) chunks old new → IsSoundAt reads old h → IsTightHeld old h → IsTightHeld new (record h { table = table })
   written_tight is few many exact w s tight chunk box below =
-      tight_alike h.path h.document new chunk box (with_chunks h.document.grid region chunks (cell_of_box region values h.document.elements.fill) (cell h.document.elements.fill h.table)) (cell h.document.elements.fill table) below
+      tight_alike h.path h.document new chunk box (written_over (write_to (array_of h) region values options) chunks (cell h.document.elements.fill h.table)) (cell h.document.elements.fill table) below
       (λ place inside. sym (written_cell h old new region values options chunks table is few many place))
       (w.tight exact s.lossless (cell h.document.elements.fill h.table) s.values chunk box below (tight chunk box below))
 
