@@ -5,12 +5,11 @@ use Rattle.std.proofs.lemmas.Bool.{false≢true}
 use Rattle.zarr_grids_boxes.specs.Boxes.{Region, product, place_at, is_in_box, share_place}
 use Rattle.zarr_grids_boxes.proofs.Sharing.{share_place-has}
 use Rattle.zarr_grids_boxes.proofs.InBox.{in_box-place_at, ravel-place_at}
-use Rattle.zarr_codecs_meaning.specs.Chunks.{chunk_decoded}
 use Rattle.zarr_codecs_meaning.specs.Types.{is_value, Cell}
 use Rattle.zarr_codecs_meaning.proofs.Lists.{each_passes, each_get}
 use Rattle.zarr_array_meaning.specs.Boxes.{cell_of_box}
-use Rattle.zarr_array_meaning.specs.Chunks.{number_in, holds_box}
-use Rattle.zarr_array_meaning.specs.Documents.{Document}
+use Rattle.zarr_array_meaning.specs.Chunks.{decoded_in, number_in, holds_box}
+use Rattle.zarr_array_meaning.specs.Writes.{Write}
 use Rattle.zarr_array_elements.specs.Boxes.{AreTakenOut, ArePutOver}
 use Rattle.zarr_array_elements.proofs.FixedCells.{number_below}
 use Rattle.zarr_array_core.specs.ChunkValues.{CellsBecome}
@@ -42,32 +41,32 @@ at_places test box cells fill rank many h = all_at test cells fill (λ k below.
 -- ---- a chunk's cells after a write
 
 -- a chunk that lies in the box
-pub whole_become : (document : Document) (region box : Region) (given made : List Cell) (stored : Option (List ℕ)) → AreTakenOut document.elements.fill box region given made → length region.start ≡ length region.shape → length box.start ≡ length box.shape → length region.start ≡ length box.start
-    → is_value document.elements.type document.elements.fill ≡ true → list_all (is_value document.elements.type) given ≡ true → holds_box region box ≡ true → CellsBecome document region given stored box made
-whole_become document region box given made stored taken region_rank box_rank rank fine values holds =
-    let fill = document.elements.fill in
-    let test = is_value document.elements.type in
+pub whole_become : (write : Write) (box : Region) (made : List Cell) (stored : Option (List ℕ)) → AreTakenOut write.array.document.elements.fill box write.region write.cells made → length write.region.start ≡ length write.region.shape → length box.start ≡ length box.shape → length write.region.start ≡ length box.start
+    → is_value write.array.document.elements.type write.array.document.elements.fill ≡ true → list_all (is_value write.array.document.elements.type) write.cells ≡ true → holds_box write.region box ≡ true → CellsBecome write box stored made
+whole_become write box made stored taken region_rank box_rank rank fine values holds =
+    let fill = write.array.document.elements.fill in
+    let test = is_value write.array.document.elements.type in
     record {
       many = taken.many;
-      values = at_places test box made fill box_rank taken.many (λ place t. ap test (taken.same place t) ∙ cell_value test region given fill place fine values);
+      values = at_places test box made fill box_rank taken.many (λ place t. ap test (taken.same place t) ∙ cell_value test write.region write.cells fill place fine values);
       written = λ place r t. taken.same place t;
       kept = λ no. absurd (false≢true (sym no ∙ holds));
     }
 
 -- a chunk of which a part may stay
-pub part_become : (document : Document) (region box : Region) (given before made : List Cell) (stored : Option (List ℕ)) → ArePutOver document.elements.fill box region given before made → length box.start ≡ length box.shape
-    → is_value document.elements.type document.elements.fill ≡ true → list_all (is_value document.elements.type) given ≡ true → list_all (is_value document.elements.type) before ≡ true
-    → chunk_decoded document.chain document.elements box.shape stored ≡ Some before → CellsBecome document region given stored box made
-part_become document region box given before made stored put box_rank fine values stored_values decoded =
-    let fill = document.elements.fill in
-    let test = is_value document.elements.type in
+pub part_become : (write : Write) (box : Region) (before made : List Cell) (stored : Option (List ℕ)) → ArePutOver write.array.document.elements.fill box write.region write.cells before made → length box.start ≡ length box.shape
+    → is_value write.array.document.elements.type write.array.document.elements.fill ≡ true → list_all (is_value write.array.document.elements.type) write.cells ≡ true → list_all (is_value write.array.document.elements.type) before ≡ true
+    → decoded_in write.array.document box stored ≡ Some before → CellsBecome write box stored made
+part_become write box before made stored put box_rank fine values stored_values decoded =
+    let fill = write.array.document.elements.fill in
+    let test = is_value write.array.document.elements.type in
     record {
       many = put.many;
       values = at_places test box made fill box_rank put.many (λ place t.
-          either_value test (is_in_box region.start region.shape place) (is_in_box region.start region.shape place) (cell_of_box box made fill place)
-          (cell_of_box region given fill place) (cell_of_box box before fill place) refl
+          either_value test (is_in_box write.region.start write.region.shape place) (is_in_box write.region.start write.region.shape place) (cell_of_box box made fill place)
+          (cell_of_box write.region write.cells fill place) (cell_of_box box before fill place) refl
           (λ r. put.put place r t) (λ r. put.kept place r t)
-          (cell_value test region given fill place fine values) (cell_value test box before fill place fine stored_values));
+          (cell_value test write.region write.cells fill place fine values) (cell_value test box before fill place fine stored_values));
       written = λ place r t. put.put place r t;
       kept = λ no. (before, decoded, λ place r t. put.kept place r t);
     }

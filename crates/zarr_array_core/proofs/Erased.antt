@@ -8,6 +8,7 @@ use Rattle.std.proofs.lemmas.Slice.Eq.{bytes_eq-Decides}
 use Rattle.zarr_grids_boxes.specs.Boxes.{Region, product, places, place_at}
 use Rattle.zarr_grids_chunks.proofs.Filters.{told}
 use Rattle.zarr_grids_keys.specs.Keys.{chunk_key}
+use Rattle.zarr_array_meaning.specs.Arrays.{Array}
 use Rattle.zarr_array_meaning.specs.Documents.{Document}
 use Rattle.zarr_array_meaning.specs.StoreMaps.{StoreMap}
 use Rattle.zarr_array_meaning.specs.Writing.{ErasedChunks}
@@ -67,9 +68,9 @@ pub erased_all : (path : List ℕ) (document : Document) (chunks : Region) (n co
 erased_all path document chunks n count old new l is end erased = rw (← first_chunks-places chunks n l (end ∙ is)) erased
 
 -- the first chunks of the box, where the next one stops
-pub erased_stops : (path : List ℕ) (document : Document) (chunks : Region) (n : ℕ) (error : ChunkError) (old mid new : StoreMap) → length chunks.start ≡ length chunks.shape → n < product chunks.shape → IsErasureStop error → new ≡ mid
-    → ErasedChunks path document (first_chunks chunks n) old mid → EraseStops path document chunks old new (record { applied = n; error = error })
-erased_stops path document chunks n error old mid new l below stops same erased = record {
+pub erased_stops : (array : Array) (chunks : Region) (n : ℕ) (error : ChunkError) (old mid new : StoreMap) → length chunks.start ≡ length chunks.shape → n < product chunks.shape → IsErasureStop error → new ≡ mid
+    → ErasedChunks array.path array.document (first_chunks chunks n) old mid → EraseStops array chunks old new (record { applied = n; error = error })
+erased_stops array chunks n error old mid new l below stops same erased = record {
   fewer = below;
   stops = stops;
   erased = rw (same, ← first_chunks-taken chunks n l (omega arith)) erased;

@@ -7,30 +7,29 @@ use Rattle.std.proofs.lemmas.List.{get_or-map, length-map, length-set}
 use Rattle.std.proofs.lemmas.List.FromFn.{get_or-map-range_with_len, length-map-range_with_len}
 use Rattle.zarr_grids_boxes.specs.Boxes.{Region, product, places, is_in_box}
 use Rattle.zarr_grids_boxes.specs.Cuts.{overlapped}
-use Rattle.zarr_codecs_meaning.specs.Chains.{Chain}
 use Rattle.zarr_codecs_meaning.specs.Chunks.{chunk_part}
 use Rattle.zarr_codecs_meaning.specs.Decoding.{opens}
-use Rattle.zarr_codecs_meaning.specs.Fits.{fits, is_plain}
+use Rattle.zarr_codecs_meaning.specs.Fits.{is_plain}
 use Rattle.zarr_codecs_meaning.specs.Partial.{encodes_in_part}
 use Rattle.zarr_codecs_meaning.specs.Payloads.{Payload}
 use Rattle.zarr_codecs_meaning.specs.Refusals.{CodecRefuses, PassesIndex}
 use Rattle.zarr_codecs_meaning.specs.Standing.{ChunkStands}
-use Rattle.zarr_codecs_meaning.specs.Types.{Cell, Elements, is_value, is_fill, IsTooLarge}
+use Rattle.zarr_codecs_meaning.specs.Types.{Cell, is_value, is_fill, IsTooLarge}
 use Rattle.zarr_codecs_meaning.proofs.Lists.{some_same}
 use Rattle.zarr_codecs_options.specs.declared.codec_options.CodecOptions.{CodecOptions}
 use Rattle.zarr_codecs_arrays.specs.declared.error.CodecError.{CodecError}
 use Rattle.zarr_codecs_arrays.specs.declared.error.CodecError.TheVariants as codec_error
-use Rattle.zarr_codecs_traits.specs.Indexers.{Asked, in_box, numbers_asked, numbers_of, put}
+use Rattle.zarr_codecs_traits.specs.Indexers.{in_box, numbers_of, put}
 use Rattle.zarr_codecs_traits.specs.PartWriting.{ChunkTight, IsEncodedInto, IsPlaced, MeetsLost, NotEncodedInto, PassesLength, StopsWrite, cells_after, cells_shown, only_cell}
 use Rattle.zarr_codecs_traits.proofs.Damage.{stops_part}
 use Rattle.zarr_array_storage.specs.declared.error.StorageError.{StorageError}
 use Rattle.zarr_array_meaning.specs.Boxes.{cell_of_box}
 use Rattle.zarr_array_meaning.specs.Chunks.{holds_box, number_in}
 use Rattle.zarr_array_meaning.specs.Documents.{Document}
+use Rattle.zarr_array_meaning.specs.Writes.{Write}
 use Rattle.zarr_array_meaning.specs.Writing.{StopsInto, is_into_shard, may_be_in_part, shared_numbers}
 use Rattle.zarr_array_core.specs.IntoShards.{HasNoRoomFor, IntoShardStops, IsPutInto, NotPutInto, Putting, PutsIntoShard, cells_over, cells_then, shard_refusal_of}
 use Rattle.zarr_array_core.specs.Outcomes.{IsStoreRefusal}
-use Rattle.zarr_array_core.specs.Writes.{Write}
 use Rattle.zarr_array_core.proofs.ChunkPayloads.{listed_none, not_counted}
 use Rattle.zarr_array_core.proofs.ChunkWritten.{cells_at_places}
 use Rattle.zarr_array_core.proofs.PutParts.{ArePut, IsPutCall, are_put, cell_in, cell_out, counted_asked, part_is, part_of, puts_cells}
@@ -73,7 +72,7 @@ length-put (n ∷ ns) (x ∷ xs) ys = length-put ns xs (set ys n x) ∙ length-s
 
 -- ---- the cells
 
-module _ (write : Write) (box : Region) (payload : Payload) (sub : List Cell) (rank : length box.start ≡ length box.shape) (are : ArePut write.array.document write.region box write.cells payload sub) where
+module _ (write : Write) (box : Region) (payload : Payload) (sub : List Cell) (rank : length box.start ≡ length box.shape) (are : ArePut write box payload sub) where
   abbrev document : Document
   document = write.array.document
 
@@ -93,8 +92,8 @@ module _ (write : Write) (box : Region) (payload : Payload) (sub : List Cell) (r
       cells_at_places box (put ns sub before) (λ place. if is_in_box write.region.start write.region.shape place then given place else at place) fill rank (length-put ns sub before ∙ whole)
       (λ place inside. by (is_in_box write.region.start write.region.shape place) place refl inside) where
         by : (t : Bool) (place : List ℕ) → is_in_box write.region.start write.region.shape place ≡ t → is_in_box box.start box.shape place ≡ true → get_or (put ns sub before) (number_in box place) fill ≡ (if t then given place else at place)
-        by true place r inside = cell_in document write.region box write.cells payload sub are before place whole r inside
-        by false place r inside = cell_out document write.region box write.cells payload sub are before place r inside ∙ h place inside
+        by true place r inside = cell_in write box payload sub are before place whole r inside
+        by false place r inside = cell_out write box payload sub are before place r inside ∙ h place inside
 
   put_before : (before : List Cell) → length before ≡ product box.shape → put ns sub before ≡ cells_over write box before
   put_before before whole = put_over before (λ place. cell_of_box box before fill place) whole (λ place inside. refl)
@@ -122,7 +121,7 @@ module _ (write : Write) (box : Region) (payload : Payload) (sub : List Cell) (r
       record {
         fit = are.fit;
         taken = taken_of document write.region box old into.partly h.opened h.none_lost placed;
-        puts = puts_cells document write.array.exact write.region box write.cells payload sub cells old new are h;
+        puts = puts_cells write write.array.exact box payload sub cells old new are h;
         stands = λ lossless before is st. subst (λ (cs : List Cell). ChunkStands document.chain document.elements box.shape new cs) (over before is.whole) (h.stands lossless before is st);
         tight = λ exact lossless before is st. subst (λ (cs : List Cell). ChunkTight document.chain document.elements box.shape new cs) (over before is.whole) (h.tight exact lossless before is st);
         absent = λ lossless before is st filled. h.absent into.shard lossless before is st (ap (is_fill fill) (over before is.whole) ∙ filled);
@@ -159,7 +158,7 @@ module _ (write : Write) (box : Region) (payload : Payload) (sub : List Cell) (r
       absurd (false≢true (sym h.1.2 ∙ (ap (list_all (is_value document.elements.type)) same ∙ are.are.valid.values)))
   not_into stored codec_error.IncompatibleIndexer refusal told into small h = absurd (false≢true (sym h ∙ (meeting write.region box are.share).inside))
   not_into stored codec_error.InvalidNumberOfElements refusal told into small h =
-      absurd (not_counted document.elements.type payload (length ns) sub (counted_asked document write.region box write.cells payload sub are) h.1)
+      absurd (not_counted document.elements.type payload (length ns) sub (counted_asked write box payload sub are) h.1)
   not_into stored codec_error.ExpectedFixedLengthBytes refusal told into small h = absurd (listed_none document.elements (overlapped write.region box).shape payload sub are.are h.1.0)
   not_into stored codec_error.ExpectedVariableLengthBytes refusal told into small h = absurd (listed_none document.elements (overlapped write.region box).shape payload sub are.are h.1.0)
   not_into stored codec_error.ExpectedOptionalBytes refusal told into small h = absurd (listed_none document.elements (overlapped write.region box).shape payload sub are.are h.1.0)
@@ -169,15 +168,15 @@ module _ (write : Write) (box : Region) (payload : Payload) (sub : List Cell) (r
 
 -- ---- a call of a codec
 
-module _ (write : Write) (box shared part : Region) (shape start : List ℕ) (payload : Payload) (sub : List Cell) (rank : length box.start ≡ length box.shape) (into : IsIntoShard write.array.document write.region box) (call : IsPutCall write.array.document write.region box shared part shape start write.cells payload sub) where
+module _ (write : Write) (box shared part : Region) (shape start : List ℕ) (payload : Payload) (sub : List Cell) (rank : length box.start ≡ length box.shape) (into : IsIntoShard write.array.document write.region box) (call : IsPutCall write box shared part shape start payload sub) where
   abbrev chunk_part_is : Putting
   chunk_part_is = record { chain = write.array.document.chain; exact = write.array.exact; elements = write.array.document.elements; shape = shape; asked = in_box part; payload = payload }
 
-  are : ArePut write.array.document write.region box write.cells payload sub
-  are = are_put write.array.document write.region box shared part shape start write.cells payload sub call
+  are : ArePut write box payload sub
+  are = are_put write box shared part shape start payload sub call
 
   same_part : part ≡ part_of write.region box
-  same_part = part_is write.array.document write.region box shared part shape start write.cells payload sub call
+  same_part = part_is write box shared part shape start payload sub call
 
   pub was_into : (old new : Option (List ℕ)) → IsPutInto chunk_part_is old new → PutsIntoShard write box old new
   was_into old new h =

@@ -27,9 +27,9 @@ use Rattle.zarr_array_meaning.specs.Boxes.{cell_of_box}
 use Rattle.zarr_array_meaning.specs.Chunks.{number_in, holds_box, fits_box}
 use Rattle.zarr_array_meaning.specs.Documents.{Document}
 use Rattle.zarr_array_meaning.specs.StoreMaps.{StoreMap}
-use Rattle.zarr_array_meaning.specs.Writing.{stores_fill}
+use Rattle.zarr_array_meaning.specs.Writes.{Write}
+use Rattle.zarr_array_meaning.specs.Writing.{keeps_fill}
 use Rattle.zarr_array_core.specs.ChunkValues.{CellsBecome, MakesValue, NewValueStops, with_value}
-use Rattle.zarr_array_core.specs.Writes.{Write}
 use Rattle.zarr_array_core.specs.PartWrites.{PatchesChunk}
 use Rattle.zarr_array_core.specs.declared.error.ChunkError.TheVariants as error
 use Rattle.zarr_array_core.proofs.ChunkPayloads.{AreArrayElements, decoded_chunk_values}
@@ -153,67 +153,65 @@ unless_all false h = refl
 -- ---- the value
 
 -- elements of a box that lie in a chunk, to be written into its value
-pub record AreShared (document : Document) (region box : Region) (given : List Cell) (payload : Payload) (sub : List Cell) (store_empty : Bool) : Type 0 where
-  pub share : share_place box.start box.shape region.start region.shape ≡ true
-  pub rank : length region.start ≡ length box.start
-  pub fit : fits_box document box ≡ true
-  pub fine : is_value document.elements.type document.elements.fill ≡ true
-  pub are : AreArrayElements document.elements (overlapped region box).shape payload sub
-  pub becomes : CellsBecome document region given None (overlapped region box) sub
-  pub some : store_empty ≡ false → is_fill document.elements.fill sub ≡ false
+pub record AreShared (write : Write) (box : Region) (payload : Payload) (sub : List Cell) (store_empty : Bool) : Type 0 where
+  pub share : share_place box.start box.shape write.region.start write.region.shape ≡ true
+  pub rank : length write.region.start ≡ length box.start
+  pub fit : fits_box write.array.document box ≡ true
+  pub fine : is_value write.array.document.elements.type write.array.document.elements.fill ≡ true
+  pub are : AreArrayElements write.array.document.elements (overlapped write.region box).shape payload sub
+  pub becomes : CellsBecome write (overlapped write.region box) None sub
+  pub some : store_empty ≡ false → is_fill write.array.document.elements.fill sub ≡ false
 
 -- the cells that the codec put into the value are those of the box
-put_cells : (document : Document) (exact : Bool) (region box : Region) (given : List Cell) (payload : Payload) (sub : List Cell) (store_empty : Bool) (cells : List Cell) (patches : List Patch) → AreShared document region box given payload sub store_empty
-    → IsEncodedPart document.chain exact document.elements box.shape (part_of region box) payload cells patches → cells ≡ sub
-put_cells document exact region box given payload sub store_empty cells patches are h =
+put_cells : (write : Write) (exact : Bool) (box : Region) (payload : Payload) (sub : List Cell) (store_empty : Bool) (cells : List Cell) (patches : List Patch) → AreShared write box payload sub store_empty
+    → IsEncodedPart write.array.document.chain exact write.array.document.elements box.shape (part_of write.region box) payload cells patches → cells ≡ sub
+put_cells write exact box payload sub store_empty cells patches are h =
     some_same (sym h.valid.is.lists ∙ are.are.valid.is.lists)
 
-part_stands : (document : Document) (exact : Bool) (region box : Region) (given : List Cell) (payload : Payload) (sub : List Cell) (store_empty : Bool) (cells : List Cell) (patches : List Patch) → AreShared document region box given payload sub store_empty
-    → IsEncodedPart document.chain exact document.elements box.shape (part_of region box) payload cells patches → (value : List ℕ) (before : List Cell) → decoded document.chain document.elements box.shape value ≡ Some before
-    → is_lossless document.chain document.elements.type ≡ true → Stands document.chain document.elements box.shape (patched value patches) (new_cells document.elements.fill region box sub before)
-part_stands document exact region box given payload sub store_empty cells patches are h value before is lossless =
-    subst (λ (cs : List Cell). Stands document.chain document.elements box.shape (patched value patches) (new_cells document.elements.fill region box cs before)) (put_cells document exact region box given payload sub store_empty cells patches are h)
+part_stands : (write : Write) (exact : Bool) (box : Region) (payload : Payload) (sub : List Cell) (store_empty : Bool) (cells : List Cell) (patches : List Patch) → AreShared write box payload sub store_empty
+    → IsEncodedPart write.array.document.chain exact write.array.document.elements box.shape (part_of write.region box) payload cells patches → (value : List ℕ) (before : List Cell) → decoded write.array.document.chain write.array.document.elements box.shape value ≡ Some before
+    → is_lossless write.array.document.chain write.array.document.elements.type ≡ true → Stands write.array.document.chain write.array.document.elements box.shape (patched value patches) (new_cells write.array.document.elements.fill write.region box sub before)
+part_stands write exact box payload sub store_empty cells patches are h value before is lossless =
+    subst (λ (cs : List Cell). Stands write.array.document.chain write.array.document.elements box.shape (patched value patches) (new_cells write.array.document.elements.fill write.region box cs before)) (put_cells write exact box payload sub store_empty cells patches are h)
     (h.stands lossless value before is)
 
-part_encoded : (document : Document) (exact : Bool) (region box : Region) (given : List Cell) (payload : Payload) (sub : List Cell) (store_empty : Bool) (cells : List Cell) (patches : List Patch) → AreShared document region box given payload sub store_empty
-    → IsEncodedPart document.chain exact document.elements box.shape (part_of region box) payload cells patches → (value : List ℕ) (before : List Cell) → decoded document.chain document.elements box.shape value ≡ Some before
-    → IsTrue exact → encoded document.chain document.elements box.shape (new_cells document.elements.fill region box sub before) ≡ Some (patched value patches)
-part_encoded document exact region box given payload sub store_empty cells patches are h value before is one =
-    subst (λ (cs : List Cell). encoded document.chain document.elements box.shape (new_cells document.elements.fill region box cs before) ≡ Some (patched value patches)) (put_cells document exact region box given payload sub store_empty cells patches are h)
+part_encoded : (write : Write) (exact : Bool) (box : Region) (payload : Payload) (sub : List Cell) (store_empty : Bool) (cells : List Cell) (patches : List Patch) → AreShared write box payload sub store_empty
+    → IsEncodedPart write.array.document.chain exact write.array.document.elements box.shape (part_of write.region box) payload cells patches → (value : List ℕ) (before : List Cell) → decoded write.array.document.chain write.array.document.elements box.shape value ≡ Some before
+    → IsTrue exact → encoded write.array.document.chain write.array.document.elements box.shape (new_cells write.array.document.elements.fill write.region box sub before) ≡ Some (patched value patches)
+part_encoded write exact box payload sub store_empty cells patches are h value before is one =
+    subst (λ (cs : List Cell). encoded write.array.document.chain write.array.document.elements box.shape (new_cells write.array.document.elements.fill write.region box cs before) ≡ Some (patched value patches)) (put_cells write exact box payload sub store_empty cells patches are h)
     (h.encodes one value before is)
 
-part_become : (document : Document) (region box : Region) (given : List Cell) (payload : Payload) (sub : List Cell) (store_empty : Bool) (value : List ℕ) (before : List Cell) → AreShared document region box given payload sub store_empty → decoded document.chain document.elements box.shape value ≡ Some before
-    → CellsBecome document region given (Some value) box (new_cells document.elements.fill region box sub before)
-part_become document region box given payload sub store_empty value before are is =
-    let fill = document.elements.fill in
-    let test = is_value document.elements.type in
-    let meet = meeting region box are.share in
-    let others = decoded_chunk_values document.chain document.elements box.shape (Some value) before are.fine are.fit is in
+part_become : (write : Write) (box : Region) (payload : Payload) (sub : List Cell) (store_empty : Bool) (value : List ℕ) (before : List Cell) → AreShared write box payload sub store_empty → decoded write.array.document.chain write.array.document.elements box.shape value ≡ Some before
+    → CellsBecome write box (Some value) (new_cells write.array.document.elements.fill write.region box sub before)
+part_become write box payload sub store_empty value before are is =
+    let fill = write.array.document.elements.fill in
+    let test = is_value write.array.document.elements.type in
+    let meet = meeting write.region box are.share in
+    let others = decoded_chunk_values write.array.document.chain write.array.document.elements box.shape (Some value) before are.fine are.fit is in
     record {
-      many = new_length fill region box sub before;
-      values = new_values test fill region box sub before are.fine are.are.valid.values others;
+      many = new_length fill write.region box sub before;
+      values = new_values test fill write.region box sub before are.fine are.are.valid.values others;
       written = λ place r t.
-          let s : is_in_box (overlapped region box).start (overlapped region box).shape place ≡ true = meet.both place ∙ (ap (λ (b : Bool). b && is_in_box box.start box.shape place) r ∙ t) in
-          cell_in fill region box sub before place are.rank t s ∙ are.becomes.written place r s;
+          let s : is_in_box (overlapped write.region box).start (overlapped write.region box).shape place ≡ true = meet.both place ∙ (ap (λ (b : Bool). b && is_in_box box.start box.shape place) r ∙ t) in
+          cell_in fill write.region box sub before place are.rank t s ∙ are.becomes.written place r s;
       kept = λ no. (
         before,
         is,
         λ place r t.
-            let s : is_in_box (overlapped region box).start (overlapped region box).shape place ≡ false = meet.both place ∙ ap (λ (b : Bool). b && is_in_box box.start box.shape place) r in
-            cell_out fill region box sub before place are.rank t s,
+            let s : is_in_box (overlapped write.region box).start (overlapped write.region box).shape place ≡ false = meet.both place ∙ ap (λ (b : Bool). b && is_in_box box.start box.shape place) r in
+            cell_out fill write.region box sub before place are.rank t s,
       );
     }
 
 -- the ranges of a codec, written into a chunk's value
-pub part_patches : (write : Write) (box : Region) (payload : Payload) (sub : List Cell) (patches : ValuePatches) → AreShared write.array.document write.region box write.cells payload sub (stores_fill write.array.document write.options write.region box)
+pub part_patches : (write : Write) (box : Region) (payload : Payload) (sub : List Cell) (patches : ValuePatches) → AreShared write box payload sub (keeps_fill write box)
     → EncodesPart write.array.document.chain write.array.exact write.array.document.elements box.shape (part_of write.region box) payload (Ok (Some patches)) → PatchesChunk write box (patches_in patches)
 part_patches write box payload sub patches are h =
-    let document = write.array.document in
     let exact = write.array.exact in
     let region = write.region in
-    let given = write.cells in
-    let store_empty = stores_fill document write.options region box in
-    let fill = document.elements.fill in
+    let store_empty = keeps_fill write box in
+    let fill = write.array.document.elements.fill in
     let meet = meeting region box are.share in
     record {
       near = h.1.near;
@@ -222,18 +220,18 @@ part_patches write box payload sub patches are h =
           record {
             fit = are.fit;
             cells = cells;
-            becomes = part_become document region box given payload sub store_empty value before are is;
+            becomes = part_become write box payload sub store_empty value before are is;
             is = record {
               absent = λ none. let no : Some (patched value (patches_in patches)) ≡ None = none in cc;
               present = λ made same empty. unless_all (is_fill fill cells) (not_filled fill region box sub before are.rank meet are.becomes.many (are.some empty));
-              stands = part_stands document exact region box given payload sub store_empty h.0 (patches_in patches) are h.1 value before is;
-              encodes = λ one made same. part_encoded document exact region box given payload sub store_empty h.0 (patches_in patches) are h.1 value before is one ∙ same;
+              stands = part_stands write exact box payload sub store_empty h.0 (patches_in patches) are h.1 value before is;
+              encodes = λ one made same. part_encoded write exact box payload sub store_empty h.0 (patches_in patches) are h.1 value before is one ∙ same;
             };
           };
     }
 
 -- whatever ranges it gave
-pub found_patches : (write : Write) (box : Region) (payload : Payload) (sub : List Cell) (found : Option ValuePatches) → AreShared write.array.document write.region box write.cells payload sub (stores_fill write.array.document write.options write.region box)
+pub found_patches : (write : Write) (box : Region) (payload : Payload) (sub : List Cell) (found : Option ValuePatches) → AreShared write box payload sub (keeps_fill write box)
     → EncodesPart write.array.document.chain write.array.exact write.array.document.elements box.shape (part_of write.region box) payload (Ok found) → IfSome found (λ patches. PatchesChunk write box (patches_in patches))
 found_patches write box payload sub None are h = tt
 found_patches write box payload sub (Some patches) are h = part_patches write box payload sub patches are h

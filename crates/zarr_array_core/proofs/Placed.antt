@@ -17,7 +17,7 @@ use Rattle.zarr_codecs_traits.specs.Outcomes.{IsPart}
 use Rattle.zarr_array_meaning.specs.Boxes.{cell_of_box}
 use Rattle.zarr_array_meaning.specs.Chunks.{number_in, fits_box}
 use Rattle.zarr_array_meaning.specs.Documents.{Document}
-use Rattle.zarr_array_core.specs.Parts.{DecodesElements, IsPlaced, IsLost, ValueStops}
+use Rattle.zarr_array_core.specs.Parts.{DecodesElements, IsPlaced, IsLost, MetChunk, ValueStops}
 use Rattle.zarr_array_core.specs.declared.error.ChunkError.{ChunkError}
 use Rattle.zarr_array_core.specs.declared.error.ChunkError.TheVariants as error
 use Rattle.zarr_array_elements.specs.Boxes.{cells_of, ArePutOver}
@@ -43,45 +43,45 @@ part_shows document region box shared part stored payload place meet is t =
     ∙ chunk_single document.chain document.elements box.shape stored ns is.cells n document.elements.fill is.is low
 
 -- ---- the part over the box
-pub placed : (document : Document) (region box shared part : Region) (stored : Option (List ℕ)) (payload : Payload) (old new : List Cell) → IsMeeting region box shared part
-    → IsPart document.chain document.elements box.shape stored (in_box part) payload → ArePutOver document.elements.fill region shared (cells_of document.elements.type payload) old new → IsPlaced document region box stored old new
-placed document region box shared part stored payload old new meet is over =
-    let cells = known document.elements.type payload is.cells is.lists in
+pub placed : (met : MetChunk) (shared part : Region) (payload : Payload) (old new : List Cell) → IsMeeting met.region met.box shared part
+    → IsPart met.document.chain met.document.elements met.box.shape met.stored (in_box part) payload → ArePutOver met.document.elements.fill met.region shared (cells_of met.document.elements.type payload) old new → IsPlaced met old new
+placed met shared part payload old new meet is over =
+    let cells = known met.document.elements.type payload is.cells is.lists in
     record {
       fit = is.fit;
       shown = λ place in_region in_chunk.
-          let inside : is_in_box shared.start shared.shape place ≡ true = meet.both place ∙ (ap (λ b. b && is_in_box box.start box.shape place) in_region ∙ in_chunk) in
-          part_shows document region box shared part stored payload place meet is inside
-          ∙ ap (λ (cell : Cell). Some (cell ∷ [])) (sym (over.put place inside in_region ∙ ap (λ (cs : List Cell). cell_of_box shared cs document.elements.fill place) cells));
-      kept = λ place in_region out. over.kept place (meet.both place ∙ (ap (λ b. b && is_in_box box.start box.shape place) in_region ∙ out)) in_region;
+          let inside : is_in_box shared.start shared.shape place ≡ true = meet.both place ∙ (ap (λ b. b && is_in_box met.box.start met.box.shape place) in_region ∙ in_chunk) in
+          part_shows met.document met.region met.box shared part met.stored payload place meet is inside
+          ∙ ap (λ (cell : Cell). Some (cell ∷ [])) (sym (over.put place inside in_region ∙ ap (λ (cs : List Cell). cell_of_box shared cs met.document.elements.fill place) cells));
+      kept = λ place in_region out. over.kept place (meet.both place ∙ (ap (λ b. b && is_in_box met.box.start met.box.shape place) in_region ∙ out)) in_region;
     }
 
 -- ---- why there is no part
-lost : (document : Document) (region box shared part : Region) (stored : Option (List ℕ)) → IsMeeting region box shared part → fits_box document box ≡ true
-    → chunk_part document.chain document.elements box.shape stored (numbers_of box.shape part) ≡ None → IsLost document region box stored
-lost document region box shared part stored meet fit h =
-    let ns = numbers_of box.shape part in
-    let found = chunk_lost document.chain document.elements box.shape stored ns h (omega (arith, meet.many, meet.some)) in
+lost : (met : MetChunk) (shared part : Region) → IsMeeting met.region met.box shared part → fits_box met.document met.box ≡ true
+    → chunk_part met.document.chain met.document.elements met.box.shape met.stored (numbers_of met.box.shape part) ≡ None → IsLost met
+lost met shared part meet fit h =
+    let ns = numbers_of met.box.shape part in
+    let found = chunk_lost met.document.chain met.document.elements met.box.shape met.stored ns h (omega (arith, meet.many, meet.some)) in
     let n = found.0 in
     let low = found.1 in
     let below : n < product shared.shape = omega (arith, low, meet.many) in
     let place = place_at shared.start shared.shape n in
-    let inside = both (is_in_box region.start region.shape place) (is_in_box box.start box.shape place) (sym (meet.both place) ∙ in_box-place_at shared.start shared.shape n meet.rank below) in
+    let inside = both (is_in_box met.region.start met.region.shape place) (is_in_box met.box.start met.box.shape place) (sym (meet.both place) ∙ in_box-place_at shared.start shared.shape n meet.rank below) in
     record {
       fit = fit;
       place = place;
       of_region = inside.0;
       of_chunk = inside.1;
-      lost = ap (λ m. chunk_part document.chain document.elements box.shape stored (m ∷ [])) (sym (meet.number n below)) ∙ found.2;
+      lost = ap (λ m. chunk_part met.document.chain met.document.elements met.box.shape met.stored (m ∷ [])) (sym (meet.number n below)) ∙ found.2;
     }
 
-pub decode_stops : (document : Document) (region box shared part : Region) (stored : Option (List ℕ)) (e : ChunkError) → IsMeeting region box shared part → DecodesElements document box.shape stored part (Err e) → ValueStops document region box stored e
-decode_stops document region box shared part stored error.Fit meet h = h
-decode_stops document region box shared part stored (error.Storage s) meet h = h
-decode_stops document region box shared part stored error.Damage meet h = lost document region box shared part stored meet h.0 h.1
-decode_stops document region box shared part stored error.Codec meet h = h
-decode_stops document region box shared part stored error.Size meet h = h
-decode_stops document region box shared part stored error.Memory meet h = h
+pub decode_stops : (met : MetChunk) (shared part : Region) (e : ChunkError) → IsMeeting met.region met.box shared part → DecodesElements met.document met.box.shape met.stored part (Err e) → ValueStops met e
+decode_stops met shared part error.Fit meet h = h
+decode_stops met shared part (error.Storage s) meet h = h
+decode_stops met shared part error.Damage meet h = lost met shared part meet h.0 h.1
+decode_stops met shared part error.Codec meet h = h
+decode_stops met shared part error.Size meet h = h
+decode_stops met shared part error.Memory meet h = h
 
 -- ---- a box that shares a place with a chunk
 

@@ -29,6 +29,7 @@ use Rattle.zarr_codecs_traits.specs.Sources.{refused_after}
 use Rattle.zarr_array_meaning.specs.Boxes.{cell_of_box}
 use Rattle.zarr_array_meaning.specs.Chunks.{number_in, fits_box}
 use Rattle.zarr_array_meaning.specs.Documents.{Document}
+use Rattle.zarr_array_meaning.specs.Writes.{Write}
 use Rattle.zarr_array_meaning.specs.Writing.{opens_in}
 use Rattle.zarr_array_meaning.proofs.TakenParts.{part_of_decoded}
 use Rattle.zarr_array_core.specs.ChunkValues.{CellsBecome, IsPutRefusal, PutsCells, PutStops, put_refusal_of}
@@ -62,25 +63,25 @@ put_at (suc k) (n ∷ ns) (x ∷ xs) ys d distinct same below low =
 -- ---- what a chunk shows
 
 -- the elements of a box that lie in a chunk, and what is stored for the chunk before and after they are put there
-pub record ArePut (document : Document) (region box : Region) (given : List Cell) (payload : Payload) (sub : List Cell) : Type 0 where
-  pub share : share_place box.start box.shape region.start region.shape ≡ true
-  pub fit : fits_box document box ≡ true
-  pub are : AreArrayElements document.elements (overlapped region box).shape payload sub
-  pub becomes : CellsBecome document region given None (overlapped region box) sub
+pub record ArePut (write : Write) (box : Region) (payload : Payload) (sub : List Cell) : Type 0 where
+  pub share : share_place box.start box.shape write.region.start write.region.shape ≡ true
+  pub fit : fits_box write.array.document box ≡ true
+  pub are : AreArrayElements write.array.document.elements (overlapped write.region box).shape payload sub
+  pub becomes : CellsBecome write (overlapped write.region box) None sub
 
 -- elements that were taken out of those of a write
-put_elements : (document : Document) (region box shared : Region) (given : List Cell) (payload : Payload) (sub : List Cell) → shared ≡ overlapped region box → share_place box.start box.shape region.start region.shape ≡ true
-    → fits_box document box ≡ true → ¬ IsTooLarge document.elements.type (product box.shape) → CellsBecome document region given None shared sub → IsCounted document.elements.type payload (product shared.shape) sub
-    → ArePut document region box given payload sub
-put_elements document region box shared given payload sub same share fit small becomes counted =
-    let there : CellsBecome document region given None (overlapped region box) sub = subst (λ (r : Region). CellsBecome document region given None r sub) same becomes in
-    let many : IsCounted document.elements.type payload (product (overlapped region box).shape) sub = subst (λ (r : Region). IsCounted document.elements.type payload (product r.shape) sub) same counted in
+put_elements : (write : Write) (box shared : Region) (payload : Payload) (sub : List Cell) → shared ≡ overlapped write.region box → share_place box.start box.shape write.region.start write.region.shape ≡ true
+    → fits_box write.array.document box ≡ true → ¬ IsTooLarge write.array.document.elements.type (product box.shape) → CellsBecome write shared None sub → IsCounted write.array.document.elements.type payload (product shared.shape) sub
+    → ArePut write box payload sub
+put_elements write box shared payload sub same share fit small becomes counted =
+    let there : CellsBecome write (overlapped write.region box) None sub = subst (λ (r : Region). CellsBecome write r None sub) same becomes in
+    let many : IsCounted write.array.document.elements.type payload (product (overlapped write.region box).shape) sub = subst (λ (r : Region). IsCounted write.array.document.elements.type payload (product r.shape) sub) same counted in
     record {
       share = share;
       fit = fit;
       are = record {
         valid = record { is = many; values = there.values };
-        small = λ large. small (large_grows document.elements.type (product (overlapped region box).shape) (product box.shape) (shared_smaller region box share) large);
+        small = λ large. small (large_grows write.array.document.elements.type (product (overlapped write.region box).shape) (product box.shape) (shared_smaller write.region box share) large);
       };
       becomes = there;
     }
@@ -88,22 +89,22 @@ put_elements document region box shared given payload sub same share fit small b
 abbrev pub part_of : Region → Region → Region
 part_of region box = relative (overlapped region box) box.start
 
-module _ (document : Document) (region box : Region) (given : List Cell) (payload : Payload) (sub : List Cell) (are : ArePut document region box given payload sub) where
+module _ (write : Write) (box : Region) (payload : Payload) (sub : List Cell) (are : ArePut write box payload sub) where
   abbrev shared : Region
-  shared = overlapped region box
+  shared = overlapped write.region box
 
-  meet : IsMeeting region box shared (part_of region box)
-  meet = meeting region box are.share
+  meet : IsMeeting write.region box shared (part_of write.region box)
+  meet = meeting write.region box are.share
 
   abbrev ns : List ℕ
-  ns = numbers_of box.shape (part_of region box)
+  ns = numbers_of box.shape (part_of write.region box)
 
   abbrev place_of : ℕ → List ℕ
   place_of = place_at shared.start shared.shape
 
   in_chunk : (k : ℕ) → k < product shared.shape → is_in_box box.start box.shape (place_of k) ≡ true
   in_chunk k low =
-      (both (is_in_box region.start region.shape (place_of k)) (is_in_box box.start box.shape (place_of k)) (sym (meet.both (place_of k)) ∙ in_box-place_at shared.start shared.shape k meet.rank low)).1
+      (both (is_in_box write.region.start write.region.shape (place_of k)) (is_in_box box.start box.shape (place_of k)) (sym (meet.both (place_of k)) ∙ in_box-place_at shared.start shared.shape k meet.rank low)).1
 
   distinct : AreDistinct ns
   distinct j k a b e =
@@ -113,7 +114,7 @@ module _ (document : Document) (region box : Region) (given : List Cell) (payloa
       sym (ravel-place_at shared.start shared.shape j meet.rank low) ∙ (ap (number_in shared) same ∙ ravel-place_at shared.start shared.shape k meet.rank under)
 
   -- a list after others were put at the shared places: at a place in the box
-  put_in : {X : Type 0} (xs before : List X) (d : X) (place : List ℕ) → length xs ≡ length ns → length before ≡ product box.shape → is_in_box region.start region.shape place ≡ true → is_in_box box.start box.shape place ≡ true
+  put_in : {X : Type 0} (xs before : List X) (d : X) (place : List ℕ) → length xs ≡ length ns → length before ≡ product box.shape → is_in_box write.region.start write.region.shape place ≡ true → is_in_box box.start box.shape place ≡ true
       → (number_in shared place < length ns) × (get_or (put ns xs before) (number_in box place) d ≡ get_or xs (number_in shared place) d)
   put_in xs before d place counted whole r t =
       let inside : is_in_box shared.start shared.shape place ≡ true = meet.both place ∙ (ap (λ (b : Bool). b && is_in_box box.start box.shape place) r ∙ t) in
@@ -125,7 +126,7 @@ module _ (document : Document) (region box : Region) (given : List Cell) (payloa
       (under, ap (λ n. get_or (put ns xs before) n d) (sym here) ∙ put_at k ns xs before d distinct counted under (omega (arith, here, below, whole)))
 
   -- at a place outside of it
-  put_out : {X : Type 0} (xs before : List X) (d : X) (place : List ℕ) → is_in_box region.start region.shape place ≡ false → is_in_box box.start box.shape place ≡ true → get_or (put ns xs before) (number_in box place) d ≡ get_or before (number_in box place) d
+  put_out : {X : Type 0} (xs before : List X) (d : X) (place : List ℕ) → is_in_box write.region.start write.region.shape place ≡ false → is_in_box box.start box.shape place ≡ true → get_or (put ns xs before) (number_in box place) d ≡ get_or before (number_in box place) d
   put_out xs before d place r t =
       let outside : is_in_box shared.start shared.shape place ≡ false = meet.both place ∙ ap (λ (b : Bool). b && is_in_box box.start box.shape place) r in
       put_other (number_in box place) ns xs before d (λ k under e.
@@ -134,26 +135,26 @@ module _ (document : Document) (region box : Region) (given : List Cell) (payloa
       false≢true (sym outside ∙ (ap (is_in_box shared.start shared.shape) (sym same) ∙ in_box-place_at shared.start shared.shape k meet.rank low)))
 
   -- the elements at a place in the box
-  pub cell_in : (before : List Cell) (place : List ℕ) → length before ≡ product box.shape → is_in_box region.start region.shape place ≡ true → is_in_box box.start box.shape place ≡ true
-      → get_or (put ns sub before) (number_in box place) document.elements.fill ≡ cell_of_box region given document.elements.fill place
-  cell_in before place whole r t = (put_in sub before document.elements.fill place (are.are.valid.is.many ∙ sym meet.many) whole r t).1 ∙ are.becomes.written place r (meet.both place ∙ (ap (λ (b : Bool). b && is_in_box box.start box.shape place) r ∙ t))
+  pub cell_in : (before : List Cell) (place : List ℕ) → length before ≡ product box.shape → is_in_box write.region.start write.region.shape place ≡ true → is_in_box box.start box.shape place ≡ true
+      → get_or (put ns sub before) (number_in box place) write.array.document.elements.fill ≡ cell_of_box write.region write.cells write.array.document.elements.fill place
+  cell_in before place whole r t = (put_in sub before write.array.document.elements.fill place (are.are.valid.is.many ∙ sym meet.many) whole r t).1 ∙ are.becomes.written place r (meet.both place ∙ (ap (λ (b : Bool). b && is_in_box box.start box.shape place) r ∙ t))
 
   -- and outside of it
-  pub cell_out : (before : List Cell) (place : List ℕ) → is_in_box region.start region.shape place ≡ false → is_in_box box.start box.shape place ≡ true → get_or (put ns sub before) (number_in box place) document.elements.fill ≡ get_or before (number_in box place) document.elements.fill
-  cell_out before place r t = put_out sub before document.elements.fill place r t
+  pub cell_out : (before : List Cell) (place : List ℕ) → is_in_box write.region.start write.region.shape place ≡ false → is_in_box box.start box.shape place ≡ true → get_or (put ns sub before) (number_in box place) write.array.document.elements.fill ≡ get_or before (number_in box place) write.array.document.elements.fill
+  cell_out before place r t = put_out sub before write.array.document.elements.fill place r t
 
-module _ (document : Document) (exact : Bool) (region box : Region) (given : List Cell) (payload : Payload) (sub cells : List Cell) (old new : Option (List ℕ)) (are : ArePut document region box given payload sub) (h : IsEncodedInto document.chain exact document.elements box.shape (in_box (part_of region box)) payload cells old new) (lossless : is_lossless document.chain document.elements.type ≡ true) where
+module _ (write : Write) (exact : Bool) (box : Region) (payload : Payload) (sub cells : List Cell) (old new : Option (List ℕ)) (are : ArePut write box payload sub) (h : IsEncodedInto write.array.document.chain exact write.array.document.elements box.shape (in_box (part_of write.region box)) payload cells old new) (lossless : is_lossless write.array.document.chain write.array.document.elements.type ≡ true) where
   abbrev numbers : List ℕ
-  numbers = numbers_of box.shape (part_of region box)
+  numbers = numbers_of box.shape (part_of write.region box)
 
   -- what is stored is read at a place
   abbrev read : Option (List ℕ) → ℕ → Option (List Cell)
-  read stored n = chunk_part document.chain document.elements box.shape stored (n ∷ [])
+  read stored n = chunk_part write.array.document.chain write.array.document.elements box.shape stored (n ∷ [])
 
-  shown_at : (stored : Option (List ℕ)) (n : ℕ) → n < product box.shape → get_or (cells_shown document.chain document.elements box.shape stored) n None ≡ read stored n
+  shown_at : (stored : Option (List ℕ)) (n : ℕ) → n < product box.shape → get_or (cells_shown write.array.document.chain write.array.document.elements box.shape stored) n None ≡ read stored n
   shown_at stored n below = get_or-map-range_with_len (read stored) 0 (product box.shape) n n None below (omega arith)
 
-  length-shown : length (cells_shown document.chain document.elements box.shape old) ≡ product box.shape
+  length-shown : length (cells_shown write.array.document.chain write.array.document.elements box.shape old) ≡ product box.shape
   length-shown = length-map-range_with_len (read old) 0 (product box.shape)
 
   abbrev one : Cell → Option (List Cell)
@@ -163,14 +164,14 @@ module _ (document : Document) (exact : Bool) (region box : Region) (given : Lis
   same_cells = some_same (sym h.valid.is.lists ∙ are.are.valid.is.lists)
 
   -- a place in the box
-  shows_in : (place : List ℕ) → is_in_box region.start region.shape place ≡ true → is_in_box box.start box.shape place ≡ true → read new (number_in box place) ≡ one (cell_of_box region given document.elements.fill place)
+  shows_in : (place : List ℕ) → is_in_box write.region.start write.region.shape place ≡ true → is_in_box box.start box.shape place ≡ true → read new (number_in box place) ≡ one (cell_of_box write.region write.cells write.array.document.elements.fill place)
   shows_in place r t =
-      let fill = document.elements.fill in
-      let inside : is_in_box (overlapped region box).start (overlapped region box).shape place ≡ true = (meeting region box are.share).both place ∙ (ap (λ (b : Bool). b && is_in_box box.start box.shape place) r ∙ t) in
-      let k = number_in (overlapped region box) place in
+      let fill = write.array.document.elements.fill in
+      let inside : is_in_box (overlapped write.region box).start (overlapped write.region box).shape place ≡ true = (meeting write.region box are.share).both place ∙ (ap (λ (b : Bool). b && is_in_box box.start box.shape place) r ∙ t) in
+      let k = number_in (overlapped write.region box) place in
       let counted : length cells ≡ length numbers = h.valid.is.many in
       let many : length (map one cells) ≡ length numbers = length-map cells one ∙ counted in
-      let there = put_in document region box given payload sub are (map one cells) (cells_shown document.chain document.elements box.shape old) None place many length-shown r t in
+      let there = put_in write box payload sub are (map one cells) (cells_shown write.array.document.chain write.array.document.elements box.shape old) None place many length-shown r t in
       let long : k < length cells = omega (arith, there.0, counted) in
       sym (shown_at new (number_in box place) (number_below box place t))
       ∙ (ap (λ (xs : List (Option (List Cell))). get_or xs (number_in box place) None) (h.shows lossless)
@@ -179,16 +180,16 @@ module _ (document : Document) (exact : Bool) (region box : Region) (given : Lis
       ∙ ap one (ap (λ (cs : List Cell). get_or cs k fill) same_cells ∙ are.becomes.written place r inside))))
 
   -- a place outside of it
-  shows_out : (place : List ℕ) → is_in_box region.start region.shape place ≡ false → is_in_box box.start box.shape place ≡ true → read new (number_in box place) ≡ read old (number_in box place)
+  shows_out : (place : List ℕ) → is_in_box write.region.start write.region.shape place ≡ false → is_in_box box.start box.shape place ≡ true → read new (number_in box place) ≡ read old (number_in box place)
   shows_out place r t =
       let below : number_in box place < product box.shape = number_below box place t in
       sym (shown_at new (number_in box place) below)
       ∙ (ap (λ (xs : List (Option (List Cell))). get_or xs (number_in box place) None) (h.shows lossless)
-      ∙ (put_out document region box given payload sub are (map one cells) (cells_shown document.chain document.elements box.shape old) None place r t
+      ∙ (put_out write box payload sub are (map one cells) (cells_shown write.array.document.chain write.array.document.elements box.shape old) None place r t
       ∙ shown_at old (number_in box place) below))
 
-  shows_place : (place : List ℕ) (t : Bool) → is_in_box region.start region.shape place ≡ t → is_in_box box.start box.shape place ≡ true
-      → MatchBool t (read new (number_in box place) ≡ one (cell_of_box region given document.elements.fill place)) (read new (number_in box place) ≡ read old (number_in box place))
+  shows_place : (place : List ℕ) (t : Bool) → is_in_box write.region.start write.region.shape place ≡ t → is_in_box box.start box.shape place ≡ true
+      → MatchBool t (read new (number_in box place) ≡ one (cell_of_box write.region write.cells write.array.document.elements.fill place)) (read new (number_in box place) ≡ read old (number_in box place))
   shows_place place true r t = shows_in place r t
   shows_place place false r t = shows_out place r t
 
@@ -197,11 +198,11 @@ opened_of document box None h = refl
 opened_of document box (Some value) h = h
 
 -- what a codec put into what is stored
-pub puts_cells : (document : Document) (exact : Bool) (region box : Region) (given : List Cell) (payload : Payload) (sub cells : List Cell) (old new : Option (List ℕ)) → ArePut document region box given payload sub
-    → IsEncodedInto document.chain exact document.elements box.shape (in_box (part_of region box)) payload cells old new → PutsCells document region given box old new
-puts_cells document exact region box given payload sub cells old new are h = record {
-  opened = opened_of document box old h.opened;
-  shows = λ lossless place t. shows_place document exact region box given payload sub cells old new are h lossless place (is_in_box region.start region.shape place) refl t;
+pub puts_cells : (write : Write) (exact : Bool) (box : Region) (payload : Payload) (sub cells : List Cell) (old new : Option (List ℕ)) → ArePut write box payload sub
+    → IsEncodedInto write.array.document.chain exact write.array.document.elements box.shape (in_box (part_of write.region box)) payload cells old new → PutsCells write box old new
+puts_cells write exact box payload sub cells old new are h = record {
+  opened = opened_of write.array.document box old h.opened;
+  shows = λ lossless place t. shows_place write exact box payload sub cells old new are h lossless place (is_in_box write.region.start write.region.shape place) refl t;
 }
 
 -- ---- the fill value, where a codec left no value
@@ -221,15 +222,15 @@ same_shown true a b other cell e h = e ∙ h
 same_shown false a b other cell e h = e ∙ h
 
 -- the fill value encoded is read as no value
-pub puts_filled : (document : Document) (region box : Region) (given : List Cell) (old : Option (List ℕ)) (value : List ℕ) → IsLawfulChain document.chain → is_value document.elements.type document.elements.fill ≡ true → fits_box document box ≡ true
-    → (is_lossless document.chain document.elements.type ≡ true → Stands document.chain document.elements box.shape value (replicate (product box.shape) document.elements.fill)) → PutsCells document region given box old None → PutsCells document region given box old (Some value)
-puts_filled document region box given old value lawful fine fit stands puts = record {
+pub puts_filled : (write : Write) (box : Region) (old : Option (List ℕ)) (value : List ℕ) → IsLawfulChain write.array.document.chain → is_value write.array.document.elements.type write.array.document.elements.fill ≡ true → fits_box write.array.document box ≡ true
+    → (is_lossless write.array.document.chain write.array.document.elements.type ≡ true → Stands write.array.document.chain write.array.document.elements box.shape value (replicate (product box.shape) write.array.document.elements.fill)) → PutsCells write box old None → PutsCells write box old (Some value)
+puts_filled write box old value lawful fine fit stands puts = record {
   opened = puts.opened;
   shows = λ lossless place t.
       let n = number_in box place in
-      let part = λ (stored : Option (List ℕ)). chunk_part document.chain document.elements box.shape stored (n ∷ []) in
-      same_shown (is_in_box region.start region.shape place) (part None) (part (Some value)) (part old) (cell_of_box region given document.elements.fill place)
-      (filled_read document box value n lawful lossless fine fit (number_below box place t) (stands lossless)) (puts.shows lossless place t);
+      let part = λ (stored : Option (List ℕ)). chunk_part write.array.document.chain write.array.document.elements box.shape stored (n ∷ []) in
+      same_shown (is_in_box write.region.start write.region.shape place) (part None) (part (Some value)) (part old) (cell_of_box write.region write.cells write.array.document.elements.fill place)
+      (filled_read write.array.document box value n lawful lossless fine fit (number_below box place t) (stands lossless)) (puts.shows lossless place t);
 }
 
 -- ---- why a codec puts nothing
@@ -241,33 +242,33 @@ IsPutStop document box stored codec_error.Memory = Unit {0}
 IsPutStop document box stored codec_error.Source = Unit {0}
 IsPutStop document box stored e = ⊥
 
-pub counted_asked : (document : Document) (region box : Region) (given : List Cell) (payload : Payload) (sub : List Cell) → ArePut document region box given payload sub → IsCounted document.elements.type payload (length (numbers_of box.shape (part_of region box))) sub
-counted_asked document region box given payload sub are =
-    subst (λ n. IsCounted document.elements.type payload n sub) (sym (meeting region box are.share).many) are.are.valid.is
+pub counted_asked : (write : Write) (box : Region) (payload : Payload) (sub : List Cell) → ArePut write box payload sub → IsCounted write.array.document.elements.type payload (length (numbers_of box.shape (part_of write.region box))) sub
+counted_asked write box payload sub are =
+    subst (λ n. IsCounted write.array.document.elements.type payload n sub) (sym (meeting write.region box are.share).many) are.are.valid.is
 
-why_not_put : (A : Type 0) (document : Document) (region box : Region) (given : List Cell) (payload : Payload) (sub : List Cell) (stored : Option (List ℕ)) (e : CodecError) → IsInPart document.chain → ArePut document region box given payload sub → ¬ IsTooLarge document.elements.type (product box.shape)
-    → NotEncodedInto {A = A} document.chain document.elements box.shape (in_box (part_of region box)) payload stored (Err e) → IsPutStop document box stored e
-why_not_put A document region box given payload sub stored codec_error.Fit chain are small h = false≢true (sym h ∙ are.fit)
-why_not_put A document region box given payload sub stored codec_error.Damage chain are small h = stopped_closed document.chain document.elements box.shape _ payload stored chain h.1
-why_not_put A document region box given payload sub stored codec_error.Codec chain are small h = no_codec_refuses document.chain document.elements box.shape _ chain h.is
-why_not_put A document region box given payload sub stored codec_error.Source chain are small h = tt
-why_not_put A document region box given payload sub stored codec_error.Size chain are small (inl large) = small large
-why_not_put A document region box given payload sub stored codec_error.Size chain are small (inr h) = elim h.is [
-  | inl k ↦ none_passes document.chain document.elements box.shape _ chain k
-  | inr k ↦ none_long document.chain document.elements box.shape stored _ chain k
+why_not_put : (A : Type 0) (write : Write) (box : Region) (payload : Payload) (sub : List Cell) (stored : Option (List ℕ)) (e : CodecError) → IsInPart write.array.document.chain → ArePut write box payload sub → ¬ IsTooLarge write.array.document.elements.type (product box.shape)
+    → NotEncodedInto {A = A} write.array.document.chain write.array.document.elements box.shape (in_box (part_of write.region box)) payload stored (Err e) → IsPutStop write.array.document box stored e
+why_not_put A write box payload sub stored codec_error.Fit chain are small h = false≢true (sym h ∙ are.fit)
+why_not_put A write box payload sub stored codec_error.Damage chain are small h = stopped_closed write.array.document.chain write.array.document.elements box.shape _ payload stored chain h.1
+why_not_put A write box payload sub stored codec_error.Codec chain are small h = no_codec_refuses write.array.document.chain write.array.document.elements box.shape _ chain h.is
+why_not_put A write box payload sub stored codec_error.Source chain are small h = tt
+why_not_put A write box payload sub stored codec_error.Size chain are small (inl large) = small large
+why_not_put A write box payload sub stored codec_error.Size chain are small (inr h) = elim h.is [
+  | inl k ↦ none_passes write.array.document.chain write.array.document.elements box.shape _ chain k
+  | inr k ↦ none_long write.array.document.chain write.array.document.elements box.shape stored _ chain k
 ]
-why_not_put A document region box given payload sub stored codec_error.CellOutOfRange chain are small h =
+why_not_put A write box payload sub stored codec_error.CellOutOfRange chain are small h =
     let same = some_same (sym h.1.1.lists ∙ are.are.valid.is.lists) in
-    false≢true (sym h.1.2 ∙ (ap (list_all (is_value document.elements.type)) same ∙ are.are.valid.values))
-why_not_put A document region box given payload sub stored codec_error.IncompatibleIndexer chain are small h = false≢true (sym h ∙ (meeting region box are.share).inside)
-why_not_put A document region box given payload sub stored codec_error.InvalidNumberOfElements chain are small h =
-    not_counted document.elements.type payload (length (numbers_of box.shape (part_of region box))) sub (counted_asked document region box given payload sub are) h.1
-why_not_put A document region box given payload sub stored codec_error.ExpectedFixedLengthBytes chain are small h = listed_none document.elements (overlapped region box).shape payload sub are.are h.1.0
-why_not_put A document region box given payload sub stored codec_error.ExpectedVariableLengthBytes chain are small h = listed_none document.elements (overlapped region box).shape payload sub are.are h.1.0
-why_not_put A document region box given payload sub stored codec_error.ExpectedOptionalBytes chain are small h = listed_none document.elements (overlapped region box).shape payload sub are.are h.1.0
-why_not_put A document region box given payload sub stored codec_error.Unsupported chain are small h = h.1
-why_not_put A document region box given payload sub stored codec_error.Memory chain are small h = tt
-why_not_put A document region box given payload sub stored (codec_error.Other text) chain are small h = h.1
+    false≢true (sym h.1.2 ∙ (ap (list_all (is_value write.array.document.elements.type)) same ∙ are.are.valid.values))
+why_not_put A write box payload sub stored codec_error.IncompatibleIndexer chain are small h = false≢true (sym h ∙ (meeting write.region box are.share).inside)
+why_not_put A write box payload sub stored codec_error.InvalidNumberOfElements chain are small h =
+    not_counted write.array.document.elements.type payload (length (numbers_of box.shape (part_of write.region box))) sub (counted_asked write box payload sub are) h.1
+why_not_put A write box payload sub stored codec_error.ExpectedFixedLengthBytes chain are small h = listed_none write.array.document.elements (overlapped write.region box).shape payload sub are.are h.1.0
+why_not_put A write box payload sub stored codec_error.ExpectedVariableLengthBytes chain are small h = listed_none write.array.document.elements (overlapped write.region box).shape payload sub are.are h.1.0
+why_not_put A write box payload sub stored codec_error.ExpectedOptionalBytes chain are small h = listed_none write.array.document.elements (overlapped write.region box).shape payload sub are.are h.1.0
+why_not_put A write box payload sub stored codec_error.Unsupported chain are small h = h.1
+why_not_put A write box payload sub stored codec_error.Memory chain are small h = tt
+why_not_put A write box payload sub stored (codec_error.Other text) chain are small h = h.1
 
 -- such an error as a chunk's: a source in memory refuses nothing
 put_refusal_told : (A : Type 0) (document : Document) (box : Region) (stored : Option (List ℕ)) (e : CodecError) → IsPutStop document box stored e → refused_after {A = A} 0 (Err e) ≡ 0 → IsPutRefusal e × PutStops document box stored (put_refusal_of e)
@@ -293,32 +294,32 @@ pub shared_is : (subset region own met : Region) → subset ≡ region → met �
 shared_is subset region own met e f = f ∙ ap (λ (r : Region). overlapped r own) e
 
 -- elements were taken out of those of a write for a part of a chunk, and a codec was given these and that part
-pub record IsPutCall (document : Document) (region box shared part : Region) (shape start : List ℕ) (given : List Cell) (payload : Payload) (sub : List Cell) : Type 0 where
-  pub same : shared ≡ overlapped region box
+pub record IsPutCall (write : Write) (box shared part : Region) (shape start : List ℕ) (payload : Payload) (sub : List Cell) : Type 0 where
+  pub same : shared ≡ overlapped write.region box
   pub seen : part ≡ relative shared start
   pub from : start ≡ box.start
   pub whole : shape ≡ box.shape
-  pub share : share_place box.start box.shape region.start region.shape ≡ true
-  pub fit : fits_box document box ≡ true
-  pub small : ¬ IsTooLarge document.elements.type (product box.shape)
-  pub becomes : CellsBecome document region given None shared sub
-  pub counted : IsCounted document.elements.type payload (product shared.shape) sub
+  pub share : share_place box.start box.shape write.region.start write.region.shape ≡ true
+  pub fit : fits_box write.array.document box ≡ true
+  pub small : ¬ IsTooLarge write.array.document.elements.type (product box.shape)
+  pub becomes : CellsBecome write shared None sub
+  pub counted : IsCounted write.array.document.elements.type payload (product shared.shape) sub
 
-module _ (document : Document) (region box shared part : Region) (shape start : List ℕ) (given : List Cell) (payload : Payload) (sub : List Cell) (call : IsPutCall document region box shared part shape start given payload sub) where
-  pub are_put : ArePut document region box given payload sub
-  are_put = put_elements document region box shared given payload sub call.same call.share call.fit call.small call.becomes call.counted
+module _ (write : Write) (box shared part : Region) (shape start : List ℕ) (payload : Payload) (sub : List Cell) (call : IsPutCall write box shared part shape start payload sub) where
+  pub are_put : ArePut write box payload sub
+  are_put = put_elements write box shared payload sub call.same call.share call.fit call.small call.becomes call.counted
 
-  pub part_is : part ≡ part_of region box
-  part_is = call.seen ∙ (ap (λ (r : Region). relative r start) call.same ∙ ap (relative (overlapped region box)) call.from)
+  pub part_is : part ≡ part_of write.region box
+  part_is = call.seen ∙ (ap (λ (r : Region). relative r start) call.same ∙ ap (relative (overlapped write.region box)) call.from)
 
-  pub was_put : (exact : Bool) (cells : List Cell) (old new : Option (List ℕ)) → IsEncodedInto document.chain exact document.elements shape (in_box part) payload cells old new → PutsCells document region given box old new
+  pub was_put : (exact : Bool) (cells : List Cell) (old new : Option (List ℕ)) → IsEncodedInto write.array.document.chain exact write.array.document.elements shape (in_box part) payload cells old new → PutsCells write box old new
   was_put exact cells old new h =
-      puts_cells document exact region box given payload sub cells old new are_put
-      (subst (λ (s : List ℕ). IsEncodedInto document.chain exact document.elements s (in_box (part_of region box)) payload cells old new) call.whole
-      (subst (λ (r : Region). IsEncodedInto document.chain exact document.elements shape (in_box r) payload cells old new) part_is h))
+      puts_cells write exact box payload sub cells old new are_put
+      (subst (λ (s : List ℕ). IsEncodedInto write.array.document.chain exact write.array.document.elements s (in_box (part_of write.region box)) payload cells old new) call.whole
+      (subst (λ (r : Region). IsEncodedInto write.array.document.chain exact write.array.document.elements shape (in_box r) payload cells old new) part_is h))
 
-  pub was_refused : (old : Option (List ℕ)) (e : CodecError) → IsInPart document.chain → NotEncodedInto {A = Unit {0}} document.chain document.elements shape (in_box part) payload old (Err e) → refused_after {A = Unit {0}} 0 (Err e) ≡ 0 → IsPutRefusal e × PutStops document box old (put_refusal_of e)
+  pub was_refused : (old : Option (List ℕ)) (e : CodecError) → IsInPart write.array.document.chain → NotEncodedInto {A = Unit {0}} write.array.document.chain write.array.document.elements shape (in_box part) payload old (Err e) → refused_after {A = Unit {0}} 0 (Err e) ≡ 0 → IsPutRefusal e × PutStops write.array.document box old (put_refusal_of e)
   was_refused old e chain h none =
-      put_refusal_told (Unit {0}) document box old e (why_not_put (Unit {0}) document region box given payload sub old e chain are_put call.small
-      (subst (λ (s : List ℕ). NotEncodedInto {A = Unit {0}} document.chain document.elements s (in_box (part_of region box)) payload old (Err e)) call.whole
-      (subst (λ (r : Region). NotEncodedInto {A = Unit {0}} document.chain document.elements shape (in_box r) payload old (Err e)) part_is h))) none
+      put_refusal_told (Unit {0}) write.array.document box old e (why_not_put (Unit {0}) write box payload sub old e chain are_put call.small
+      (subst (λ (s : List ℕ). NotEncodedInto {A = Unit {0}} write.array.document.chain write.array.document.elements s (in_box (part_of write.region box)) payload old (Err e)) call.whole
+      (subst (λ (r : Region). NotEncodedInto {A = Unit {0}} write.array.document.chain write.array.document.elements shape (in_box r) payload old (Err e)) part_is h))) none

@@ -1,6 +1,6 @@
 -- What a rewrite of chunks, one by one, leaves of a store.
 use Rattle.std.proofs.Common.{◌≡◌, ◌∙◌, ℕ, zero, suc, ◌+◌, ◌-◌, ◌<◌, ◌≤◌, Bool, true, false, cond, ◌&&◌, ◌||◌, bytes_eq, List, [], ◌∷◌, ◌++◌, length, take, slice_get, refl, sym, ap, subst, arith, Option, Some, None, is_some, ⊎_elim, inr, append_assoc, append-nil, length-append}
-use Rattle.std.specs.Prelude.{not, nat_lt}
+use Rattle.std.specs.Prelude.{not, nat_lt, MatchBool}
 use Rattle.std.specs.List.{filter, list_all}
 use Rattle.std.proofs.Math.Bool.{or-true}
 use Rattle.std.proofs.Math.Seq.{take-append_seam}
@@ -27,7 +27,7 @@ use Rattle.zarr_array_meaning.specs.Standing.{IsGood, IsLossless}
 use Rattle.zarr_array_meaning.specs.StoreMaps.{StoreMap}
 use Rattle.zarr_array_core.specs.ChunkValues.{DecodeStops, EncodeStops, IsNewValue, with_value}
 use Rattle.zarr_array_core.specs.Outcomes.{IsErasureStop}
-use Rattle.zarr_array_core.specs.Rewriting.{ChunkNotRewritten, ChunkRewriteStops, counted_chunk, NotRewritten, RemakingStops, RewritesChunk, RewriteStops, WalkStops}
+use Rattle.zarr_array_core.specs.Rewriting.{ChunkNotRewritten, ChunkRewriteStops, counted_chunk, IsAbsentAt, NotRewritten, RemakingStops, RewriteStops, WalkStops}
 use Rattle.zarr_array_core.specs.declared.error.ChunkError.{ChunkError}
 use Rattle.zarr_array_core.specs.declared.error.ChunkError.TheVariants as error
 use Rattle.zarr_array_core.proofs.ChunkWritten.{AreApart, at_one, value_same, value_other}
@@ -113,7 +113,7 @@ rewrote_one array store_empty chunk box value made old known below stored is = r
       at_one array.document.grid (λ k r. (value : List ℕ) × (value_at array old k ≡ Some value) × IsRewritten array store_empty r.shape value (value_at array new k)) chunk d box other below over listed
       (value, stored, subst (λ (o : Option (List ℕ)). IsRewritten array store_empty box.shape value o) (sym now) is);
   shows = λ lossless d other place over listed.
-      at_one array.document.grid (λ k r. is_in_box r.start r.shape place ≡ true → part_at array.path array.document new k r place ≡ part_at array.path array.document old k r place) chunk d box other below over listed (shown lossless place);
+      at_one array.document.grid (λ k r. is_in_box r.start r.shape place ≡ true → part_at array.document r (value_at array new k) place ≡ part_at array.document r (value_at array old k) place) chunk d box other below over listed (shown lossless place);
   others = λ key ne. value_other old (chunk_key array.path array.document.keys chunk) key made (ne chunk (one_listed chunk chunk refl));
 } where
   new : StoreMap
@@ -244,7 +244,7 @@ pub so_far_none : (array : Array) (store_empty : Bool) (chunks : Region) (store 
 so_far_none array store_empty chunks store = record { rewrote = rewrote_none array store_empty store; many = refl }
 
 pub so_far_next : (array : Array) (store_empty : Bool) (chunks : Region) (n applied more : ℕ) (chunk : List ℕ) (box : Region) (had : Bool) (old mid new : StoreMap) → IsRewrite array chunks → n < product chunks.shape → chunk ≡ place_at chunks.start chunks.shape n
-    → IsInGrid array.document.grid chunk box → more ≡ counted_chunk applied had → RewritesChunk array store_empty chunk had mid new → SoFar array store_empty chunks n applied old mid → SoFar array store_empty chunks (n + 1) more old new
+    → IsInGrid array.document.grid chunk box → more ≡ counted_chunk applied had → MatchBool had (RewroteChunks array store_empty (chunk ∷ []) mid new) (IsAbsentAt array chunk mid new) → SoFar array store_empty chunks n applied old mid → SoFar array store_empty chunks (n + 1) more old new
 so_far_next array store_empty chunks n applied more chunk box true old mid new walk below at here is one first =
     let next = next_is array old chunks n chunk box walk below at here in
     let had = one.each chunk box here (one_listed chunk chunk refl) in

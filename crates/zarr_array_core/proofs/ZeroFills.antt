@@ -23,9 +23,9 @@ use Rattle.zarr_codecs_arrays.specs.Values.{takes_all_bytes}
 use Rattle.zarr_codecs_traits.specs.Patches.{Patch, patched}
 use Rattle.zarr_codecs_traits.specs.PartEncoding.{takes_patches}
 use Rattle.zarr_array_meaning.specs.StoreMaps.{StoreMap}
+use Rattle.zarr_array_meaning.specs.Writes.{Write}
 use Rattle.zarr_array_core.specs.ChunkValues.{MakesValue, with_value}
 use Rattle.zarr_array_core.specs.PartWrites.{PatchesChunk}
-use Rattle.zarr_array_core.specs.Writes.{Write}
 
 -- ---- zeros
 

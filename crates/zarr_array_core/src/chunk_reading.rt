@@ -165,12 +165,12 @@ impl<C: ArrayToBytesCodecTraits> ArrayCore<C> {
         ensures found { IsTrue (S.is_honest store.old) → IfOk result (FindsPart
             (document_of C.meaning self.now) (region_of own.now)
             (map.get (S.held store.old) key.now)) }
-        ensures err { IsTrue (S.is_honest store.old) → IfErr result (ValueStops record {
+        ensures err { IsTrue (S.is_honest store.old) → IfErr result (ValueStops (record {
           document = document_of C.meaning self.now;
           region = region_of read.entry.region.now;
           box = region_of own.now;
           stored = map.get (S.held store.old) key.now;
-        }) }
+        })) }
         ensures store { Reads S.ReadableStorageTraits store.old store.new
             (refused_after (S.refused_calls store.old) result) }
     {

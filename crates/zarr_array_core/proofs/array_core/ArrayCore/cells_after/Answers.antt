@@ -4,8 +4,9 @@ use Rattle.std.proofs.lemmas.Result.{IfOk-weaker}
 use Rattle.zarr_codecs_arrays.specs.declared.array_bytes.ArrayBytes.{ArrayBytes}
 use Rattle.zarr_grids_boxes.specs.Subsets.{region_of}
 use Rattle.zarr_grids_overlay.specs.Overlays.{extent_of}
+use Rattle.zarr_array_core.specs.BoxWrites.{write_of}
 use Rattle.zarr_array_core.specs.ChunkValues.{CellsBecome}
-use Rattle.zarr_array_core.specs.Views.{array_cells, document_of}
+use Rattle.zarr_array_core.specs.Views.{array_cells}
 use Rattle.zarr_array_core.proofs.ChunkCells.{shares_some}
 use Rattle.zarr_array_core.proofs.array_core.ArrayCore.cells_after.Goals as goal
 
@@ -13,7 +14,7 @@ pub returns-then-holds_box-clause-ok : goal.returns-then-holds_box-clause-ok
 returns-then-holds_box-clause-ok g c =
     let found = get (g.S.ReadableStorageTraits.held c.args.store.now) c.args.key.now in
     let becomes : Option (List ℕ) → ArrayBytes → Type 0 = λ stored bytes.
-    CellsBecome (document_of g.C.ArrayToBytesCodecTraits.meaning c.args.self.now) (extent_of c.args.write.now.region) (array_cells c.args.self.now c.args.write.now.bytes.now) stored (region_of c.args.own.now) (array_cells c.args.self.now bytes) in
+    CellsBecome (write_of g.C.ArrayToBytesCodecTraits c.args.self.now c.args.write.now) (region_of c.args.own.now) stored (array_cells c.args.self.now bytes) in
     IfOk-weaker c.whole_cells.result (λ bytes. (stored : Option (List ℕ)) → becomes stored bytes)
     (λ bytes. (stored : Option (List ℕ)) × (IsTrue (g.S.ReadableStorageTraits.is_honest c.args.store.now) → stored ≡ found) × becomes stored bytes)
     (λ bytes law. (found, (λ honest. refl), law found)) c.whole_cells.ensures.ok

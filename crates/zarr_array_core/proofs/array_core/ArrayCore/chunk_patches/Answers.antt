@@ -10,7 +10,7 @@ use Rattle.zarr_codecs_meaning.specs.Types.{is_fill, IsTooLarge}
 use Rattle.zarr_codecs_traits.specs.PartEncoding.{EncodesPart}
 use Rattle.zarr_array_meaning.specs.Chunks.{holds_box}
 use Rattle.zarr_array_core.specs.ChunkValues.{CellsBecome}
-use Rattle.zarr_array_meaning.specs.Writing.{stores_fill}
+use Rattle.zarr_array_meaning.specs.Writing.{keeps_fill}
 use Rattle.zarr_array_core.specs.BoxWrites.{write_of}
 use Rattle.zarr_array_core.specs.Views.{array_cells, document_of}
 use Rattle.zarr_array_elements.proofs.Meeting.{meeting, starts_alike}
@@ -67,15 +67,14 @@ returns-in-Ok-clause-ok g c =
     let write = write_of g.C.ArrayToBytesCodecTraits c.args.self.now c.args.write.now in
     let region : Region = extent_of c.args.write.now.region in
     let box : Region = region_of c.args.own.now in
-    let given = array_cells c.args.self.now c.args.write.now.bytes.now in
     let payload = payload_of c.in_ok-bytes.bytes in
     let sub = array_cells c.args.self.now c.in_ok-bytes.bytes in
     let fill = document.elements.fill in
-    let empty = stores_fill document c.args.write.now.options.now region box in
+    let empty = keeps_fill write box in
     let shared : region_of c.in_ok-shared.shared ≡ overlapped region box = shared_is (region_of c.args.write.now.subset.now) region box (region_of c.in_ok-shared.shared) c.args.write.now.same_box c.in_ok-shared.ensures in
     let part : region_of c.seen_from-part.result ≡ relative (overlapped region box) box.start =
     c.seen_from-part.ensures ∙ (ap (λ (r : Region). relative r c.start.result.now) shared ∙ ap (relative (overlapped region box)) c.start.ensures) in
-    let becomes : CellsBecome document region given None (overlapped region box) sub = subst (λ (r : Region). CellsBecome document region given None r sub) shared (c.in_ok-bytes.ensures.ok None) in
+    let becomes : CellsBecome write (overlapped region box) None sub = subst (λ (r : Region). CellsBecome write r None sub) shared (c.in_ok-bytes.ensures.ok None) in
     let counted : IsCounted document.elements.type payload (product (overlapped region box).shape) sub = subst (λ (r : Region). IsCounted document.elements.type payload (product r.shape) sub) shared c.in_ok-bytes.ensures.counted in
     let small : ¬ IsTooLarge document.elements.type (product (overlapped region box).shape) = λ large. c.requires.writes.small (large_grows document.elements.type (product (overlapped region box).shape) (product box.shape) (shared_smaller region box c.requires.writes.shares) large) in
     let elements : AreArrayElements document.elements (overlapped region box).shape payload sub = record { valid = record { is = counted; values = becomes.values }; small = small } in
@@ -84,7 +83,7 @@ returns-in-Ok-clause-ok g c =
       | else-not-empty-via-then-not-empty+else-is_all_fill w ↦ (λ e. sym w.is_all_fill.ensures ∙ w.if-is_all_fill.false)
       | else-not-empty-via-else-not-empty w ↦ (λ e. absurd (false≢true (sym e ∙ (sym c.in_ok-empty.ensures.ok ∙ w.if-not-empty.false))))
     ] in
-    let are : AreShared document region box given payload sub empty = record { share = c.requires.writes.shares; rank = c.requires.writes.rank; fit = c.requires.fit; fine = c.args.self.now.elements.fills; are = elements; becomes = becomes; some = some } in
+    let are : AreShared write box payload sub empty = record { share = c.requires.writes.shares; rank = c.requires.writes.rank; fit = c.requires.fit; fine = c.args.self.now.elements.fills; are = elements; becomes = becomes; some = some } in
     let encodes = subst (λ (s : List ℕ). EncodesPart document.chain exact document.elements s (relative (overlapped region box) box.start) payload (Ok c.in-Ok.patches)) c.shape-2.ensures
     (subst (λ (p : Region). EncodesPart document.chain exact document.elements c.shape-2.result.now p payload (Ok c.in-Ok.patches)) part c.in-Ok.ensures) in
     found_patches write box payload sub c.in-Ok.patches are encodes

@@ -1,6 +1,7 @@
 use Rattle.std.proofs.Common.{◌≡◌, ◌∙◌, ◌<◌, ap, sym, rules, arith}
 use Rattle.zarr_grids_boxes.specs.Boxes.{Region, product}
 use Rattle.zarr_grids_boxes.specs.Subsets.{region_of}
+use Rattle.zarr_array_core.specs.Arrays.{array_of}
 use Rattle.zarr_array_core.specs.Outcomes.{refused_with}
 use Rattle.zarr_array_core.specs.Views.{document_of, path_of}
 use Rattle.zarr_array_core.proofs.Erased.{erased_none, erased_next, erased_all, erased_stops}
@@ -20,7 +21,7 @@ returns-in-Err-clause-err g c = λ honest.
     let total : c.unwrap-count.result ≡ product chunks.shape = search rules in
     let below : c.loop-n.n < product chunks.shape = omega (arith, c.loop-n-test.true) in
     let kept = c.in-Err.ensures.store.1 (rw c.loop-n.invariant.honest honest) in
-    erased_stops (path_of c.args.self.now) (document_of g.C.ArrayToBytesCodecTraits.meaning c.args.self.now) chunks c.loop-n.n c.in-Err.error (g.S.ReadableStorageTraits.held c.args.store.now) (g.S.ReadableStorageTraits.held c.loop-n.store)
+    erased_stops (array_of g.C.ArrayToBytesCodecTraits c.args.self.now) chunks c.loop-n.n c.in-Err.error (g.S.ReadableStorageTraits.held c.args.store.now) (g.S.ReadableStorageTraits.held c.loop-n.store)
     (g.S.ReadableStorageTraits.held c.erase_chunk.new.store) (sym c.args.chunks.now.same) below (c.in-Err.ensures.stops (rw c.loop-n.invariant.honest honest)) kept (c.loop-n.invariant.erased honest)
 
 pub loop-n-preserved : goal.loop-n-preserved

@@ -7,6 +7,7 @@ use Rattle.zarr_codecs_arrays.specs.Outcomes.{IsCounted}
 use Rattle.zarr_codecs_arrays.specs.Views.{payload_of}
 use Rattle.zarr_array_elements.specs.Boxes.{ArePutOver}
 use Rattle.zarr_array_storage.specs.Stores.{value_bytes}
+use Rattle.zarr_array_core.specs.BoxWrites.{write_of}
 use Rattle.zarr_array_core.specs.Views.{document_of, array_cells}
 use Rattle.zarr_array_core.proofs.ChunkCells.{part_become}
 use Rattle.zarr_array_core.proofs.ChunkPayloads.{decoded_chunk_values}
@@ -36,4 +37,4 @@ returns-clause-ok g c =
     let put : ArePutOver document.elements.fill box region given before made = subst (λ (r : Region). ArePutOver document.elements.fill box r given before made) c.args.write.now.same_box c.in_ok-put_over.ensures.cells in
     let is : chunk_decoded document.chain document.elements box.shape stored ≡ Some before = subst (λ (shape : List ℕ). chunk_decoded document.chain document.elements shape stored ≡ Some before) c.shape.ensures c.in_ok-before.ensures.ok in
     let values = decoded_chunk_values document.chain document.elements box.shape stored before c.args.self.now.elements.fills c.requires.fit is in
-    part_become document region box given before made stored put (sym c.args.own.now.same) c.args.self.now.elements.fills c.requires.values values is
+    part_become (write_of g.C.ArrayToBytesCodecTraits c.args.self.now c.args.write.now) box before made stored put (sym c.args.own.now.same) c.args.self.now.elements.fills c.requires.values values is

@@ -39,7 +39,7 @@ returns-in-Err-clause-err g c = λ honest.
     let stored : Option (List ℕ) = get (g.S.ReadableStorageTraits.held c.args.store.now) c.args.key.now in
     let moved = rw c.start.ensures at c.seen_from-part.ensures in
     let meet = meets region own (region_of c.args.shared) (region_of c.seen_from-part.result) c.requires.shares c.requires.shared moved in
-    decode_stops document region own (region_of c.args.shared) (region_of c.seen_from-part.result) stored c.in-Err.error meet
+    decode_stops (record { document = document; region = region; box = own; stored = stored }) (region_of c.args.shared) (region_of c.seen_from-part.result) c.in-Err.error meet
     (subst (λ (shape : List ℕ). DecodesElements document shape stored (region_of c.seen_from-part.result) (Err c.in-Err.error)) c.shape.ensures (c.in-Err.ensures.part honest))
 
 pub count_elements-count-requires : goal.count_elements-count-requires

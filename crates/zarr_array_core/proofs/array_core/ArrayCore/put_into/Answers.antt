@@ -7,6 +7,7 @@ use Rattle.zarr_codecs_meaning.specs.Types.{IsTooLarge}
 use Rattle.zarr_array_meaning.specs.Chunks.{holds_box}
 use Rattle.zarr_codecs_arrays.specs.Views.{payload_of}
 use Rattle.zarr_codecs_traits.specs.Sources.{source_contents}
+use Rattle.zarr_array_core.specs.BoxWrites.{write_of}
 use Rattle.zarr_array_core.specs.ChunkValues.{PutStops}
 use Rattle.zarr_array_core.specs.declared.error.ChunkError.{ChunkError}
 use Rattle.zarr_array_core.specs.Views.{array_cells, document_of}
@@ -55,18 +56,17 @@ seen_from-part-requires g c =
 
 pub returns-in-Ok-clause-ok : goal.returns-in-Ok-clause-ok
 returns-in-Ok-clause-ok g c =
-    let document = document_of g.C.ArrayToBytesCodecTraits.meaning c.args.self.now in
     let region : Region = extent_of c.args.write.now.region in
     let box : Region = region_of c.args.own.now in
     let shared = region_of c.in_ok-shared.shared in
     let part = region_of c.seen_from-part.result in
-    let given = array_cells c.args.self.now c.args.write.now.bytes.now in
+    let write = write_of g.C.ArrayToBytesCodecTraits c.args.self.now c.args.write.now in
     let payload = payload_of c.in_ok-bytes.bytes in
     let sub = array_cells c.args.self.now c.in_ok-bytes.bytes in
     let same : shared ≡ overlapped region box = shared_is (region_of c.args.write.now.subset.now) region box shared c.args.write.now.same_box c.in_ok-shared.ensures in
-    let call : IsPutCall document region box shared part c.shape.result.now c.start.result.now given payload sub = record { same = same; seen = c.seen_from-part.ensures; from = c.start.ensures; whole = c.shape.ensures; share = c.requires.writes.shares; fit = c.requires.fit; small = c.requires.writes.small; becomes = c.in_ok-bytes.ensures.ok None; counted = c.in_ok-bytes.ensures.counted } in
+    let call : IsPutCall write box shared part c.shape.result.now c.start.result.now payload sub = record { same = same; seen = c.seen_from-part.ensures; from = c.start.ensures; whole = c.shape.ensures; share = c.requires.writes.shares; fit = c.requires.fit; small = c.requires.writes.small; becomes = c.in_ok-bytes.ensures.ok None; counted = c.in_ok-bytes.ensures.counted } in
     let found = c.in-Ok.ensures.ok in
-    was_put document region box shared part c.shape.result.now c.start.result.now given payload sub call (g.C.ArrayToBytesCodecTraits.is_function c.args.self.now.codecs) found.0 (source_contents c.args.source.now) (source_contents c.encode_into.new.source) found.1
+    was_put write box shared part c.shape.result.now c.start.result.now payload sub call (g.C.ArrayToBytesCodecTraits.is_function c.args.self.now.codecs) found.0 (source_contents c.args.source.now) (source_contents c.encode_into.new.source) found.1
 
 pub of_putting-requires : goal.of_putting-requires
 of_putting-requires g c =
@@ -75,12 +75,12 @@ of_putting-requires g c =
     let box : Region = region_of c.args.own.now in
     let shared = region_of c.in_ok-shared.shared in
     let part = region_of c.seen_from-part.result in
-    let given = array_cells c.args.self.now c.args.write.now.bytes.now in
+    let write = write_of g.C.ArrayToBytesCodecTraits c.args.self.now c.args.write.now in
     let payload = payload_of c.in_ok-bytes.bytes in
     let sub = array_cells c.args.self.now c.in_ok-bytes.bytes in
     let same : shared ≡ overlapped region box = shared_is (region_of c.args.write.now.subset.now) region box shared c.args.write.now.same_box c.in_ok-shared.ensures in
-    let call : IsPutCall document region box shared part c.shape.result.now c.start.result.now given payload sub = record { same = same; seen = c.seen_from-part.ensures; from = c.start.ensures; whole = c.shape.ensures; share = c.requires.writes.shares; fit = c.requires.fit; small = c.requires.writes.small; becomes = c.in_ok-bytes.ensures.ok None; counted = c.in_ok-bytes.ensures.counted } in
-    (was_refused document region box shared part c.shape.result.now c.start.result.now given payload sub call (source_contents c.args.source.now) c.in-Err.error (parts_of_write document c.args.write.now.options.now region box c.requires.in_part).0 c.in-Err.ensures.cause c.in-Err.ensures.refused).0
+    let call : IsPutCall write box shared part c.shape.result.now c.start.result.now payload sub = record { same = same; seen = c.seen_from-part.ensures; from = c.start.ensures; whole = c.shape.ensures; share = c.requires.writes.shares; fit = c.requires.fit; small = c.requires.writes.small; becomes = c.in_ok-bytes.ensures.ok None; counted = c.in_ok-bytes.ensures.counted } in
+    (was_refused write box shared part c.shape.result.now c.start.result.now payload sub call (source_contents c.args.source.now) c.in-Err.error (parts_of_write document c.args.write.now.options.now region box c.requires.in_part).0 c.in-Err.ensures.cause c.in-Err.ensures.refused).0
 
 pub returns-clause-err : goal.returns-clause-err
 returns-clause-err g c =
@@ -89,10 +89,10 @@ returns-clause-err g c =
     let box : Region = region_of c.args.own.now in
     let shared = region_of c.in_ok-shared.shared in
     let part = region_of c.seen_from-part.result in
-    let given = array_cells c.args.self.now c.args.write.now.bytes.now in
+    let write = write_of g.C.ArrayToBytesCodecTraits c.args.self.now c.args.write.now in
     let payload = payload_of c.in_ok-bytes.bytes in
     let sub = array_cells c.args.self.now c.in_ok-bytes.bytes in
     let same : shared ≡ overlapped region box = shared_is (region_of c.args.write.now.subset.now) region box shared c.args.write.now.same_box c.in_ok-shared.ensures in
-    let call : IsPutCall document region box shared part c.shape.result.now c.start.result.now given payload sub = record { same = same; seen = c.seen_from-part.ensures; from = c.start.ensures; whole = c.shape.ensures; share = c.requires.writes.shares; fit = c.requires.fit; small = c.requires.writes.small; becomes = c.in_ok-bytes.ensures.ok None; counted = c.in_ok-bytes.ensures.counted } in
+    let call : IsPutCall write box shared part c.shape.result.now c.start.result.now payload sub = record { same = same; seen = c.seen_from-part.ensures; from = c.start.ensures; whole = c.shape.ensures; share = c.requires.writes.shares; fit = c.requires.fit; small = c.requires.writes.small; becomes = c.in_ok-bytes.ensures.ok None; counted = c.in_ok-bytes.ensures.counted } in
     subst (λ (e : ChunkError). PutStops document box (source_contents c.args.source.now) e) (sym c.of_putting.ensures)
-    (was_refused document region box shared part c.shape.result.now c.start.result.now given payload sub call (source_contents c.args.source.now) c.in-Err.error (parts_of_write document c.args.write.now.options.now region box c.requires.in_part).0 c.in-Err.ensures.cause c.in-Err.ensures.refused).1
+    (was_refused write box shared part c.shape.result.now c.start.result.now payload sub call (source_contents c.args.source.now) c.in-Err.error (parts_of_write document c.args.write.now.options.now region box c.requires.in_part).0 c.in-Err.ensures.cause c.in-Err.ensures.refused).1

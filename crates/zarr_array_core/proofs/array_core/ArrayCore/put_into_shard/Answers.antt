@@ -64,7 +64,7 @@ returns-in-Ok-clause-ok g c = λ honest.
     let payload = payload_of c.in_ok-bytes.bytes in
     let sub = array_cells c.args.self.now c.in_ok-bytes.bytes in
     let same : shared ≡ overlapped region box = shared_is (region_of c.args.write.now.subset.now) region box shared c.args.write.now.same_box c.in_ok-shared.ensures in
-    let call : IsPutCall write.array.document region box shared part c.shape.result.now c.start.result.now write.cells payload sub = record { same = same; seen = c.seen_from-part.ensures; from = c.start.ensures; whole = c.shape.ensures; share = c.requires.writes.shares; fit = c.requires.fit; small = c.requires.writes.small; becomes = c.in_ok-bytes.ensures.ok None; counted = c.in_ok-bytes.ensures.counted } in
+    let call : IsPutCall write box shared part c.shape.result.now c.start.result.now payload sub = record { same = same; seen = c.seen_from-part.ensures; from = c.start.ensures; whole = c.shape.ensures; share = c.requires.writes.shares; fit = c.requires.fit; small = c.requires.writes.small; becomes = c.in_ok-bytes.ensures.ok None; counted = c.in_ok-bytes.ensures.counted } in
     let into = shard_write write.array.document write.options region box c.requires.into in
     let stored : Option (List ℕ) = map.get (g.S.ReadableStorageTraits.held c.args.store.now) c.args.key.now in
     let found = c.in-Ok.ensures.ok honest in
@@ -80,7 +80,7 @@ returns-clause-err g c = λ honest.
     let payload = payload_of c.in_ok-bytes.bytes in
     let sub = array_cells c.args.self.now c.in_ok-bytes.bytes in
     let same : shared ≡ overlapped region box = shared_is (region_of c.args.write.now.subset.now) region box shared c.args.write.now.same_box c.in_ok-shared.ensures in
-    let call : IsPutCall write.array.document region box shared part c.shape.result.now c.start.result.now write.cells payload sub = record { same = same; seen = c.seen_from-part.ensures; from = c.start.ensures; whole = c.shape.ensures; share = c.requires.writes.shares; fit = c.requires.fit; small = c.requires.writes.small; becomes = c.in_ok-bytes.ensures.ok None; counted = c.in_ok-bytes.ensures.counted } in
+    let call : IsPutCall write box shared part c.shape.result.now c.start.result.now payload sub = record { same = same; seen = c.seen_from-part.ensures; from = c.start.ensures; whole = c.shape.ensures; share = c.requires.writes.shares; fit = c.requires.fit; small = c.requires.writes.small; becomes = c.in_ok-bytes.ensures.ok None; counted = c.in_ok-bytes.ensures.counted } in
     let into = shard_write write.array.document write.options region box c.requires.into in
     let stored : Option (List ℕ) = map.get (g.S.ReadableStorageTraits.held c.args.store.now) c.args.key.now in
     subst (λ (e : ChunkError). IntoShardStops write box stored e) (sym c.of_sharding.ensures)

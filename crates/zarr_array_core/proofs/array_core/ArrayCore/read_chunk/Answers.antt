@@ -1,4 +1,4 @@
-use Rattle.std.proofs.Common.{◌≡◌, ◌∙◌, ℕ, List, Option, Some, refl, sym, subst, inr}
+use Rattle.std.proofs.Common.{◌≡◌, ◌∙◌, Option, Some, refl, sym, subst, inr}
 use Rattle.std.specs.Prelude.{IfSome}
 use Rattle.zarr_grids_boxes.specs.Boxes.{Region, is_in_box}
 use Rattle.zarr_grids_boxes.specs.Cuts.{relative}
@@ -6,12 +6,11 @@ use Rattle.zarr_grids_boxes.specs.Subsets.{region_of}
 use Rattle.zarr_grids_boxes.proofs.Places.{both}
 use Rattle.zarr_grids_chunks.specs.Grids.{IsInGrid}
 use Rattle.zarr_codecs_arrays.specs.Views.{payload_of}
-use Rattle.zarr_array_meaning.specs.Chunks.{stored_at}
 use Rattle.zarr_array_elements.specs.Views.{cells_shown}
 use Rattle.zarr_array_elements.proofs.Meeting.{shares_own}
 use Rattle.zarr_array_core.specs.Arrays.{array_of}
-use Rattle.zarr_array_core.specs.Parts.{AreShared, FindsAt, GivesChunk}
-use Rattle.zarr_array_core.specs.Views.{document_of, path_of}
+use Rattle.zarr_array_core.specs.Parts.{AreShared, FindsAt, GivesChunk, met_in}
+use Rattle.zarr_array_core.specs.Views.{document_of}
 use Rattle.zarr_array_core.specs.declared.chunk_reading.ChunkPart.{ChunkPart}
 use Rattle.zarr_array_core.proofs.Placed.{meets, placed, ranks_alike, same_box}
 use Rattle.zarr_array_core.proofs.array_core.ArrayCore.read_chunk.Goals as goal
@@ -63,7 +62,6 @@ returns-in_ok-made-in-Ok-Some-clause-ok g c = λ honest box below.
     let held = g.S.ReadableStorageTraits.held c.args.store.now in
     let region : Region = region_of c.args.read.region.now in
     let shared : Region = region_of c.in-Ok-Some.part.shared in
-    let stored : Option (List ℕ) = stored_at (path_of c.args.self.now) document held c.args.chunk.now in
     let found = of_found (λ part. (x : Region) × IsInGrid document.grid c.args.chunk.now x × AreShared (document_of g.C.ArrayToBytesCodecTraits.meaning c.args.self.now).elements.type region x part) c.in-Ok-Some.field-0 c.in-Ok-Some.part c.in-Ok-Some.field-0-is c.in-Ok-Some.ensures.shared in
     let part = relative shared found.0.start in
     let share = shares_own document.grid c.args.chunk.now region found.0 found.1.has_box c.requires.shares in
@@ -72,5 +70,6 @@ returns-in_ok-made-in-Ok-Some-clause-ok g c = λ honest box below.
     let is = (said found.0 found.1).is in
     let old = cells_shown document.elements c.args.shown in
     let new = cells_shown document.elements c.in_ok-made-in-Ok-Some.made in
-    subst (λ (b : Region). GivesChunk (path_of c.args.self.now) document held region c.args.chunk.now b old new) (same_box document.grid c.args.chunk.now found.0 box found.1 below)
-    (inr (placed document region found.0 shared part stored (payload_of c.in-Ok-Some.part.bytes) old new meet is c.in_ok-made-in-Ok-Some.ensures.cells))
+    let array = array_of g.C.ArrayToBytesCodecTraits c.args.self.now in
+    subst (λ (b : Region). GivesChunk (met_in array held region c.args.chunk.now b) old new) (same_box document.grid c.args.chunk.now found.0 box found.1 below)
+    (inr (placed (met_in array held region c.args.chunk.now found.0) shared part (payload_of c.in-Ok-Some.part.bytes) old new meet is c.in_ok-made-in-Ok-Some.ensures.cells))

@@ -1,7 +1,8 @@
 use Rattle.std.proofs.Common.{◌≡◌, IsTrue}
 use Rattle.zarr_grids_boxes.specs.Subsets.{region_of}
 use Rattle.zarr_array_elements.specs.Views.{AreShown, cells_shown}
-use Rattle.zarr_array_core.specs.Views.{document_of, path_of}
+use Rattle.zarr_array_core.specs.Arrays.{array_of}
+use Rattle.zarr_array_core.specs.Views.{document_of}
 use Rattle.zarr_array_core.proofs.NthChunks.{first_chunks}
 use Rattle.zarr_array_core.proofs.ReadSoFar.{ReadSoFar}
 use Rattle.zarr_array_core.proofs.array_core.ArrayCore.read_chunks.Given as goal
@@ -9,7 +10,7 @@ use Rattle.zarr_array_core.proofs.array_core.ArrayCore.read_chunks.Given as goal
 abbrev pub invariant-loop-n : goal.invariant-loop-n
 invariant-loop-n g l = record {
   shown : AreShown (document_of g.C.ArrayToBytesCodecTraits.meaning l.self).elements (region_of l.read.region.now) l.target;
-  read : IsTrue (g.S.ReadableStorageTraits.is_honest l.initial.store) → ReadSoFar (path_of l.self) (document_of g.C.ArrayToBytesCodecTraits.meaning l.self) (g.S.ReadableStorageTraits.held l.initial.store) (region_of l.read.region.now)
+  read : IsTrue (g.S.ReadableStorageTraits.is_honest l.initial.store) → ReadSoFar (array_of g.C.ArrayToBytesCodecTraits l.self) (g.S.ReadableStorageTraits.held l.initial.store) (region_of l.read.region.now)
       (first_chunks (region_of l.read.chunks.now) l.n) (cells_shown (document_of g.C.ArrayToBytesCodecTraits.meaning l.self).elements l.target);
   held : g.S.ReadableStorageTraits.held l.store ≡ g.S.ReadableStorageTraits.held l.initial.store;
   honest : g.S.ReadableStorageTraits.is_honest l.store ≡ g.S.ReadableStorageTraits.is_honest l.initial.store;

@@ -11,6 +11,7 @@ use Rattle.zarr_codecs_meaning.specs.Types.{Cell, is_value}
 use Rattle.zarr_codecs_meaning.proofs.DecodedElements.{all_filled}
 use Rattle.zarr_codecs_traits.specs.Sources.{source_contents}
 use Rattle.zarr_array_storage.specs.Stores.{value_bytes}
+use Rattle.zarr_array_core.specs.BoxWrites.{write_of}
 use Rattle.zarr_array_core.specs.ChunkValues.{EncodeRefuses, PutsCells, PutStops}
 use Rattle.zarr_array_core.specs.Views.{array_cells, document_of}
 use Rattle.zarr_array_core.proofs.InParts.{fill_stops, parts_of_write}
@@ -25,9 +26,8 @@ encode_value-requires-clause-values g c =
 pub returns-in_ok-fill-in-None-clause-ok : goal.returns-in_ok-fill-in-None-clause-ok
 returns-in_ok-fill-in-None-clause-ok g c =
     let document = document_of g.C.ArrayToBytesCodecTraits.meaning c.args.self.now in
-    let region : Region = extent_of c.args.write.now.region in
+    let write = write_of g.C.ArrayToBytesCodecTraits c.args.self.now c.args.write.now in
     let box : Region = region_of c.args.own.now in
-    let given = array_cells c.args.self.now c.args.write.now.bytes.now in
     let filled = array_cells c.args.self.now c.in_ok-fill-in-None.fill in
     let stored = value_bytes c.args.stored in
     let fill = document.elements.fill in
@@ -35,14 +35,14 @@ returns-in_ok-fill-in-None-clause-ok g c =
     let count : c.unwrap-count.result ≡ product box.shape = search rules in
     let all : filled ≡ replicate (product box.shape) fill = c.in_ok-fill-in-None.ensures.fill ∙ ap (λ n. replicate n fill) count in
     let none : source_contents c.put_into.new.source ≡ None = search rules in
-    let puts : PutsCells document region given box stored None =
-    subst (λ (o : Option (List ℕ)). PutsCells document region given box stored o) none
-    (subst (λ (o : Option (List ℕ)). PutsCells document region given box o (source_contents c.put_into.new.source)) c.new-source.ensures.contents c.in_ok-put_into.ensures.ok) in
+    let puts : PutsCells write box stored None =
+    subst (λ (o : Option (List ℕ)). PutsCells write box stored o) none
+    (subst (λ (o : Option (List ℕ)). PutsCells write box o (source_contents c.put_into.new.source)) c.new-source.ensures.contents c.in_ok-put_into.ensures.ok) in
     IfOk-weaker c.encode_value.result
     (λ (value : Vec ℕ Global). is_lossless document.chain document.elements.type ≡ true → Stands document.chain document.elements shape value.items filled)
-    (λ (value : Vec ℕ Global). PutsCells document region given box stored (Some value.items))
+    (λ (value : Vec ℕ Global). PutsCells write box stored (Some value.items))
     (λ value stands.
-    puts_filled document region box given stored value.items (g.met.C.ArrayToBytesCodecTraits.lawful c.args.self.now.codecs) c.args.self.now.elements.fills c.requires.fit
+    puts_filled write box stored value.items (g.met.C.ArrayToBytesCodecTraits.lawful c.args.self.now.codecs) c.args.self.now.elements.fills c.requires.fit
     (λ lossless. subst (λ (s : List ℕ). Stands document.chain document.elements s value.items (replicate (product box.shape) fill)) c.shape-in-None.ensures
     (subst (λ (cells : List Cell). Stands document.chain document.elements shape value.items cells) all (stands lossless)))
     puts)

@@ -5,6 +5,7 @@ use Rattle.zarr_grids_overlay.specs.Overlays.{extent_of}
 use Rattle.zarr_codecs_arrays.specs.Outcomes.{IsCounted}
 use Rattle.zarr_codecs_arrays.specs.Views.{payload_of}
 use Rattle.zarr_array_elements.specs.Boxes.{AreTakenOut}
+use Rattle.zarr_array_core.specs.BoxWrites.{write_of}
 use Rattle.zarr_array_core.specs.Views.{document_of, array_cells}
 use Rattle.zarr_array_meaning.proofs.HeldBoxes.{held_place}
 use Rattle.zarr_array_core.proofs.ChunkCells.{whole_become}
@@ -32,4 +33,4 @@ returns-clause-ok g c = λ stored.
     let given = array_cells c.args.self.now c.args.write.now.bytes.now in
     let made = array_cells c.args.self.now c.in_ok-take_out.field-0 in
     let taken : AreTakenOut document.elements.fill box region given made = subst (λ (r : Region). AreTakenOut document.elements.fill box r given made) c.args.write.now.same_box c.in_ok-take_out.ensures.cells in
-    whole_become document region box given made stored taken (sym c.args.write.now.region.same) (sym c.args.own.now.same) c.requires.rank c.args.self.now.elements.fills c.requires.values c.requires.holds
+    whole_become (write_of g.C.ArrayToBytesCodecTraits c.args.self.now c.args.write.now) box made stored taken (sym c.args.write.now.region.same) (sym c.args.own.now.same) c.requires.rank c.args.self.now.elements.fills c.requires.values c.requires.holds

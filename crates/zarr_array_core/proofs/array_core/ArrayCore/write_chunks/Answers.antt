@@ -4,7 +4,8 @@ use Rattle.zarr_grids_boxes.specs.Boxes.{Region, product, place_at}
 use Rattle.zarr_grids_boxes.specs.Subsets.{region_of}
 use Rattle.zarr_grids_overlay.specs.Overlays.{extent_of}
 use Rattle.zarr_array_core.specs.Outcomes.{refused_with}
-use Rattle.zarr_array_core.specs.Views.{array_cells, document_of, is_exact, path_of}
+use Rattle.zarr_array_core.specs.BoxWrites.{write_of}
+use Rattle.zarr_array_core.specs.Views.{document_of}
 use Rattle.zarr_array_core.specs.declared.error.ChunkError.TheVariants as error
 use Rattle.zarr_array_core.proofs.BoxWalks.{walk_of}
 use Rattle.zarr_array_core.proofs.ChunksWritten.{wrote_none, wrote_next, wrote_all, write_stops}
@@ -14,19 +15,14 @@ use Rattle.zarr_array_core.proofs.array_core.ArrayCore.write_chunks.Goals as goa
 pub returns-then-is_err-clause-err : goal.returns-then-is_err-clause-err
 returns-then-is_err-clause-err g c = λ honest.
     let array = c.args.self.now in
-    let path = path_of array in
-    let document = document_of g.C.ArrayToBytesCodecTraits.meaning array in
-    let exact = is_exact g.C.ArrayToBytesCodecTraits.is_function array in
-    let region = extent_of c.args.write.now.region in
+    let write = write_of g.C.ArrayToBytesCodecTraits array c.args.write.now in
     let chunks : Region = region_of c.args.chunks.now in
-    let bytes = c.args.write.now.bytes.now in
-    let options = c.args.write.now.options.now in
     let old = g.S.ReadableStorageTraits.held c.args.store.now in
-    let walk = walk_of g.C.ArrayToBytesCodecTraits.meaning g.met.C.ArrayToBytesCodecTraits.lawful array region chunks (array_cells array bytes) (sym c.args.write.now.region.same) (sym c.args.chunks.now.same) c.requires.rank c.requires.intersecting c.requires.values in
+    let walk = walk_of g.C.ArrayToBytesCodecTraits g.met.C.ArrayToBytesCodecTraits.lawful array c.args.write.now chunks (sym c.args.write.now.region.same) (sym c.args.chunks.now.same) c.requires.rank c.requires.intersecting c.requires.values in
     let lists = c.requires.many.lists in
     let chunk = place_at chunks.start chunks.shape 0 in
-    let here = nth_here document.grid chunks 0 chunk walk.chunks_rank walk.intersecting.below c.requires.some refl in
-    write_stops path document exact region chunks (array_cells array bytes) (payload_of bytes) options 0 chunk here.0 error.Memory old old old walk lists c.requires.some refl here.1 tt refl (wrote_none path document exact region (array_cells array bytes) options old)
+    let here = nth_here write.array.document.grid chunks 0 chunk walk.chunks_rank walk.intersecting.below c.requires.some refl in
+    write_stops write chunks (payload_of c.args.write.now.bytes.now) 0 chunk here.0 error.Memory old old old walk lists c.requires.some refl here.1 tt refl (wrote_none write old)
 
 pub write_at-requires-clause-below : goal.write_at-requires-clause-below
 write_at-requires-clause-below g c =
@@ -47,15 +43,10 @@ write_at-requires-clause-shares g c =
 pub returns-in-Err-clause-err : goal.returns-in-Err-clause-err
 returns-in-Err-clause-err g c = λ honest.
     let array = c.args.self.now in
-    let path = path_of array in
-    let document = document_of g.C.ArrayToBytesCodecTraits.meaning array in
-    let exact = is_exact g.C.ArrayToBytesCodecTraits.is_function array in
-    let region = extent_of c.args.write.now.region in
+    let write = write_of g.C.ArrayToBytesCodecTraits array c.args.write.now in
     let chunks : Region = region_of c.args.chunks.now in
-    let bytes = c.args.write.now.bytes.now in
-    let options = c.args.write.now.options.now in
     let old = g.S.ReadableStorageTraits.held c.args.store.now in
-    let walk = walk_of g.C.ArrayToBytesCodecTraits.meaning g.met.C.ArrayToBytesCodecTraits.lawful array region chunks (array_cells array bytes) (sym c.args.write.now.region.same) (sym c.args.chunks.now.same) c.requires.rank c.requires.intersecting c.requires.values in
+    let walk = walk_of g.C.ArrayToBytesCodecTraits g.met.C.ArrayToBytesCodecTraits.lawful array c.args.write.now chunks (sym c.args.write.now.region.same) (sym c.args.chunks.now.same) c.requires.rank c.requires.intersecting c.requires.values in
     let lists = c.requires.many.lists in
     let mid = g.S.ReadableStorageTraits.held c.loop-n.store in
     let new = g.S.ReadableStorageTraits.held c.write_at.new.store in
@@ -64,20 +55,15 @@ returns-in-Err-clause-err g c = λ honest.
     let below : c.loop-n.n < product chunks.shape = omega (arith, c.loop-n-test.true) in
     let still : IsTrue (g.S.ReadableStorageTraits.is_honest c.loop-n.store) = rw c.loop-n.invariant.honest honest in
     let stops = c.in-Err.ensures.err still in
-    write_stops path document exact region chunks (array_cells array bytes) (payload_of bytes) options c.loop-n.n c.place_into.new.place stops.0 c.in-Err.error old mid new walk lists below at_place stops.1 stops.2 (c.in-Err.ensures.store.1 still) (c.loop-n.invariant.wrote honest)
+    write_stops write chunks (payload_of c.args.write.now.bytes.now) c.loop-n.n c.place_into.new.place stops.0 c.in-Err.error old mid new walk lists below at_place stops.1 stops.2 (c.in-Err.ensures.store.1 still) (c.loop-n.invariant.wrote honest)
 
 pub loop-n-preserved : goal.loop-n-preserved
 loop-n-preserved g c =
     let array = c.args.self.now in
-    let path = path_of array in
-    let document = document_of g.C.ArrayToBytesCodecTraits.meaning array in
-    let exact = is_exact g.C.ArrayToBytesCodecTraits.is_function array in
-    let region = extent_of c.args.write.now.region in
+    let write = write_of g.C.ArrayToBytesCodecTraits array c.args.write.now in
     let chunks : Region = region_of c.args.chunks.now in
-    let bytes = c.args.write.now.bytes.now in
-    let options = c.args.write.now.options.now in
     let old = g.S.ReadableStorageTraits.held c.args.store.now in
-    let walk = walk_of g.C.ArrayToBytesCodecTraits.meaning g.met.C.ArrayToBytesCodecTraits.lawful array region chunks (array_cells array bytes) (sym c.args.write.now.region.same) (sym c.args.chunks.now.same) c.requires.rank c.requires.intersecting c.requires.values in
+    let walk = walk_of g.C.ArrayToBytesCodecTraits g.met.C.ArrayToBytesCodecTraits.lawful array c.args.write.now chunks (sym c.args.write.now.region.same) (sym c.args.chunks.now.same) c.requires.rank c.requires.intersecting c.requires.values in
     let mid = g.S.ReadableStorageTraits.held c.loop-n.store in
     let new = g.S.ReadableStorageTraits.held c.write_at.new.store in
     let at_place = rw (c.start.ensures, c.shape-in-loop-n.ensures) at c.place_into.ensures in
@@ -88,7 +74,7 @@ loop-n-preserved g c =
     record {
       wrote = λ honest.
           let made = step.ok (rw kept.honest honest) in
-          wrote_next path document exact region chunks (array_cells array bytes) options c.loop-n.n c.place_into.new.place made.0 made.1 old mid new walk below at_place made.2 made.3 made.4 (kept.wrote honest);
+          wrote_next write chunks c.loop-n.n c.place_into.new.place made.0 made.1 old mid new walk below at_place made.2 made.3 made.4 (kept.wrote honest);
       honest = step.store.0.honest ∙ kept.honest;
       refused = step.store.0.refused ∙ kept.refused;
       counts = (omega (arith, step.store.0.counts.0, kept.counts.0), omega (arith, step.store.0.counts.1, kept.counts.1));
@@ -117,14 +103,9 @@ returns-clause-store g c =
 pub returns-clause-ok : goal.returns-clause-ok
 returns-clause-ok g c = λ honest.
     let array = c.args.self.now in
-    let path = path_of array in
-    let document = document_of g.C.ArrayToBytesCodecTraits.meaning array in
-    let exact = is_exact g.C.ArrayToBytesCodecTraits.is_function array in
-    let region = extent_of c.args.write.now.region in
+    let write = write_of g.C.ArrayToBytesCodecTraits array c.args.write.now in
     let chunks : Region = region_of c.args.chunks.now in
-    let bytes = c.args.write.now.bytes.now in
-    let options = c.args.write.now.options.now in
     let old = g.S.ReadableStorageTraits.held c.args.store.now in
-    let walk = walk_of g.C.ArrayToBytesCodecTraits.meaning g.met.C.ArrayToBytesCodecTraits.lawful array region chunks (array_cells array bytes) (sym c.args.write.now.region.same) (sym c.args.chunks.now.same) c.requires.rank c.requires.intersecting c.requires.values in
+    let walk = walk_of g.C.ArrayToBytesCodecTraits g.met.C.ArrayToBytesCodecTraits.lawful array c.args.write.now chunks (sym c.args.write.now.region.same) (sym c.args.chunks.now.same) c.requires.rank c.requires.intersecting c.requires.values in
     let total : c.unwrap-count.result ≡ product chunks.shape = search rules in
-    wrote_all path document exact region chunks (array_cells array bytes) options c.loop-n.n old (g.S.ReadableStorageTraits.held c.loop-n.store) walk (omega arith) (c.loop-n.invariant.wrote honest)
+    wrote_all write chunks c.loop-n.n old (g.S.ReadableStorageTraits.held c.loop-n.store) walk (omega arith) (c.loop-n.invariant.wrote honest)

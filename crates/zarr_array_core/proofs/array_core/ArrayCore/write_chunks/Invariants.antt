@@ -1,15 +1,14 @@
 use Rattle.std.proofs.Common.{◌≡◌, IsTrue}
 use Rattle.zarr_grids_boxes.specs.Subsets.{region_of}
-use Rattle.zarr_grids_overlay.specs.Overlays.{extent_of}
 use Rattle.zarr_array_meaning.specs.Writing.{WroteChunks}
-use Rattle.zarr_array_core.specs.Views.{array_cells, document_of, is_exact, path_of}
+use Rattle.zarr_array_core.specs.BoxWrites.{write_of}
 use Rattle.zarr_array_meaning.specs.StoreMaps.{CountsUpTo}
 use Rattle.zarr_array_core.proofs.NthChunks.{first_chunks}
 use Rattle.zarr_array_core.proofs.array_core.ArrayCore.write_chunks.Given as goal
 
 abbrev pub invariant-loop-n : goal.invariant-loop-n
 invariant-loop-n g l = record {
-  wrote : IsTrue (g.S.ReadableStorageTraits.is_honest l.initial.store) → WroteChunks (path_of l.self) (document_of g.C.ArrayToBytesCodecTraits.meaning l.self) (is_exact g.C.ArrayToBytesCodecTraits.is_function l.self) (extent_of l.write.region) (array_cells l.self l.write.bytes.now) l.write.options.now (first_chunks (region_of l.chunks) l.n) (g.S.ReadableStorageTraits.held l.initial.store) (g.S.ReadableStorageTraits.held l.store);
+  wrote : IsTrue (g.S.ReadableStorageTraits.is_honest l.initial.store) → WroteChunks (write_of g.C.ArrayToBytesCodecTraits l.self l.write) (first_chunks (region_of l.chunks) l.n) (g.S.ReadableStorageTraits.held l.initial.store) (g.S.ReadableStorageTraits.held l.store);
   honest : g.S.ReadableStorageTraits.is_honest l.store ≡ g.S.ReadableStorageTraits.is_honest l.initial.store;
   refused : g.S.ReadableStorageTraits.refused_calls l.store ≡ g.S.ReadableStorageTraits.refused_calls l.initial.store;
   counts : CountsUpTo l.n (g.S.ReadableStorageTraits.accepted_writes l.initial.store) (g.S.ReadableStorageTraits.accepted_writes l.store);
