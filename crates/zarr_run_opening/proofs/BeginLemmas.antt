@@ -18,7 +18,7 @@ use Rattle.zarr_run_opening.proofs.HoldsLemmas.{agrees_some, agrees_kept}
 use Rattle.zarr_run_opening.proofs.WorldLemmas.{held_at-new, held_at-others, distinct_more}
 
 module _ (B : Type 0) (meaning : B → ByteCodec) (reads : ReadsCodecs) (path : List ℕ) (tree : Data) (order : SubchunkWriteOrder) (old new : Arrays B) (store store' : StoreMap) (n : ℕ) (w : World) (k : IsIn meaning reads (old, (store, n)) w)
-    (array : HeldArray B) (is : IsOpened meaning reads path tree order array) (table : Table) (shows : IsTableAt path (document_of meaning array) store' table) (node : IsTrue (is_node_path path)) (free : held_at path w.arrays ≡ None)
+    (array : HeldArray B) (is : IsOpened (meaning, reads) path tree order array) (table : Table) (shows : IsTableAt path (document_of meaning array) store' table) (node : IsTrue (is_node_path path)) (free : held_at path w.arrays ≡ None)
     (here : array_at new path ≡ Some array) (others : KeepsOtherArrays path old new)
     (kept : (a : HeldArray B) (q : List ℕ) (h : Held) → held_at q w.arrays ≡ Some h → IsHeld meaning reads store a h → IsHeld meaning reads store' a h) where
   abbrev pub begun : Held

@@ -48,8 +48,8 @@ ok_of {A} {E} r x e = let P : Result A E → Type 0 = λ r. IsOk r in subst P (s
 pub record Creates {B : Type 0} (meaning : B → ByteCodec) (reads : ReadsCodecs) (path : List ℕ) (d : Data) (order : SubchunkWriteOrder) (prepared : Prepared B) (old new : Arrays B) (store store' : StoreMap) (n n' : ℕ) (r : Result (Unit {0}) Cause) : Type 0 where
   pub node : IsTrue (is_node_path path)
   pub free : IsFreeIn old path
-  pub is : IsPrepared meaning reads path d order prepared
-  pub ok : OnOk r (IsStored path prepared old new store store')
+  pub is : IsPrepared (meaning, reads) path d order prepared
+  pub ok : OnOk r (IsStored path prepared (old, (store, n)) (new, (store', n')))
   pub refused : IfErr r (StoringRefused path store)
   pub leaves : OnErr r (LeavesFirst path prepared.texts store store')
   pub keeps : OnErr r (KeepsArrays old new)
@@ -98,7 +98,7 @@ module _ (B : Type 0) (meaning : B → ByteCodec) (reads : ReadsCodecs) (path : 
     in_refused B meaning reads old old store store n n c w k (λ q. refl) refl (sym (no_call c why)),
   )
 
-  module _ (prepared : Prepared B) (node : IsTrue (is_node_path path)) (free : IsFreeIn old path) (is : IsPrepared meaning reads path d order prepared) where
+  module _ (prepared : Prepared B) (node : IsTrue (is_node_path path)) (free : IsFreeIn old path) (is : IsPrepared (meaning, reads) path d order prepared) where
     opens : IsOk (read_document reads d)
     opens = ok_of (read_document reads d) (document_of meaning prepared.array) is.opens
 
@@ -187,7 +187,7 @@ module _ (B : Type 0) (meaning : B → ByteCodec) (reads : ReadsCodecs) (path : 
           leaves
 
     -- ---- the create is done
-    module _ (new : Arrays B) (store' : StoreMap) (c : IsStored path prepared old new store store') where
+    module _ (new : Arrays B) (store' : StoreMap) (n' : ℕ) (c : IsStored path prepared (old, (store, n)) (new, (store', n'))) where
       get_other : (q : List ℕ) → ((name : DocumentName) → q ≡ document_key path name → ⊥) → get store' q ≡ get store q
       get_other q ne = ap (λ (m : StoreMap). get m q) c.writes ∙ texts_other path (written_document d) prepared.texts store q is.texts ne
 
@@ -226,7 +226,8 @@ module _ (B : Type 0) (meaning : B → ByteCodec) (reads : ReadsCodecs) (path : 
                 fresh = has_none c.fresh;
                 meaning = document;
                 opens = is.opens;
-                begins = record { free = free_at; table = found.0; shows = subst P (sym k.store) found.1; holds = refl };
+                table = found.0;
+                begins = record { free = free_at; shows = subst P (sym k.store) found.1; holds = refl };
                 stores = stores;
               },
               sym k.refused,
@@ -240,7 +241,7 @@ pub create_steps : {B : Type 0} (meaning : B → ByteCodec) (reads : ReadsCodecs
     → Creates meaning reads path d order prepared old new store store' n n' r → (w : World) → IsIn meaning reads (old, (store, n)) w → StepsTo meaning reads w path d order (answer_of r) new store' n'
 create_steps {B} meaning reads path d order prepared old new store store' n n' (Ok x) c w k =
     let P : ℕ → Type 0 = λ m. StepsTo meaning reads w path d order done new store' m in
-    subst P (sym c.calls) (created B meaning reads path d order old store n w k prepared c.node c.free c.is new store' c.ok)
+    subst P (sym c.calls) (created B meaning reads path d order old store n w k prepared c.node c.free c.is new store' n' c.ok)
 create_steps {B} meaning reads path d order prepared old new store store' n n' (Err e) c w k =
     refused_after_first B meaning reads path d order old store n w k prepared c.node c.free c.is new store' n' e c.refused c.keeps c.calls c.leaves
 

@@ -205,7 +205,7 @@ module _ (B : Type 0) (meaning : B → ByteCodec) (reads : ReadsCodecs) (path : 
     opening_refused cause.Damage why = absurd why
     opening_refused cause.DocumentChanged why = absurd why
 
-    module _ (array : HeldArray B) (is : array_at new path ≡ Some array) (from : IsOpenedFrom meaning reads old path store order array) (others : KeepsOtherArrays path old new) where
+    module _ (array : HeldArray B) (is : array_at new path ≡ Some array) (from : IsOpenedFrom (meaning, reads) (record { path = path; order = order; arrays = old; store = store }) array) (others : KeepsOtherArrays path old new) where
       abbrev document : Document
       document = document_of meaning array
 
@@ -226,7 +226,8 @@ module _ (B : Type 0) (meaning : B → ByteCodec) (reads : ReadsCodecs) (path : 
                 found = found_in_world from.tree from.found;
                 meaning = document;
                 opens = from.opened.says;
-                begins = record { free = free; table = found.0; shows = subst Q (sym k.store) found.1; holds = refl };
+                table = found.0;
+                begins = record { free = free; shows = subst Q (sym k.store) found.1; holds = refl };
                 stores = sym k.store;
               }),
               sym k.refused,
@@ -235,7 +236,7 @@ module _ (B : Type 0) (meaning : B → ByteCodec) (reads : ReadsCodecs) (path : 
           )
 
 steps_held : (B : Type 0) (meaning : B → ByteCodec) (reads : ReadsCodecs) (path : List ℕ) (order : SubchunkWriteOrder) (old new : Arrays B) (store : StoreMap) (n n' : ℕ) (r : Result (Unit {0}) Cause) → Reopens meaning reads path order old new store store n n' r
-    → (o : Option (HeldArray B)) → array_at old path ≡ o → Reopened meaning reads old o path order store r new → (w : World) → IsIn meaning reads (old, (store, n)) w → StepsTo meaning reads w path order (answer_of r) new store n'
+    → (o : Option (HeldArray B)) → array_at old path ≡ o → Reopened (meaning, reads) (record { path = path; order = order; arrays = old; store = store }) o r new → (w : World) → IsIn meaning reads (old, (store, n)) w → StepsTo meaning reads w path order (answer_of r) new store n'
 steps_held B meaning reads path order old new store n n' (Ok x) c (Some array) e is w k =
     let P : ℕ → Type 0 = λ m. StepsTo meaning reads w path order done new store m in
     subst P (sym c.calls) (gets_order B meaning reads path order old new store n w k c.node array e is.1.0 is.1.2 is.1.1 c.others is.0)
@@ -255,7 +256,7 @@ steps_held B meaning reads path order old new store n n' (Err f) c None e is w k
 
 -- what a reopening found and left is a step in each world
 pub reopen_steps : {B : Type 0} (meaning : B → ByteCodec) (reads : ReadsCodecs) (path : List ℕ) (order : SubchunkWriteOrder) (old new : Arrays B) (store store' : StoreMap) (n n' : ℕ) (r : Result (Unit {0}) Cause) → Reopens meaning reads path order old new store store' n n' r
-    → Reopened meaning reads old (array_at old path) path order store r new → (w : World) → IsIn meaning reads (old, (store, n)) w → StepsTo meaning reads w path order (answer_of r) new store' n'
+    → Reopened (meaning, reads) (record { path = path; order = order; arrays = old; store = store }) (array_at old path) r new → (w : World) → IsIn meaning reads (old, (store, n)) w → StepsTo meaning reads w path order (answer_of r) new store' n'
 reopen_steps {B} meaning reads path order old new store store' n n' r c is w k =
     let P : StoreMap → Type 0 = λ (s : StoreMap). StepsTo meaning reads w path order (answer_of r) new s n' in
     subst P (sym c.same) (steps_held B meaning reads path order old new store n n' r (record { node = c.node; others = c.others; keeps = c.keeps; same = refl; calls = c.calls }) (array_at old path) refl is w k)

@@ -6,7 +6,6 @@ use Rattle.serde_json.specs.View.{view}
 use Rattle.zarr_grids_keys.specs.Documents.{document_key}
 use Rattle.zarr_grids_keys.specs.Paths.{is_node_path}
 use Rattle.zarr_grids_keys.specs.declared.document_name.DocumentName.TheVariants.{ZarrJson, ZArray, ZAttrs}
-use Rattle.zarr_codecs_meaning.specs.Chains.{ByteCodec}
 use Rattle.zarr_codecs_metadata.specs.Chains.{ReadsCodecs}
 use Rattle.zarr_codecs_options.specs.declared.subchunk_write_order.SubchunkWriteOrder.{SubchunkWriteOrder}
 use Rattle.zarr_array_v2.specs.Attributes.{attributes_of, without_attributes}
@@ -20,7 +19,7 @@ use Rattle.zarr_run_meaning.specs.Causes.{HasSomeDocument}
 use Rattle.zarr_run_meaning.specs.declared.cause.Cause.{Cause}
 use Rattle.zarr_run_meaning.specs.declared.cause.Cause.TheVariants as cause
 use Rattle.zarr_run_opening.specs.Arrays.{IsTakenIn, IsFreeIn, KeepsOtherArrays}
-use Rattle.zarr_run_opening.specs.Sessions.{Arrays, array_at, document_of, FollowsOrder}
+use Rattle.zarr_run_opening.specs.Sessions.{Arrays, Codecs, State, array_at, document_of, FollowsOrder}
 use Rattle.zarr_run_opening.specs.declared.creating.Prepared.{Prepared}
 use Rattle.zarr_run_opening.specs.declared.creating.WrittenDocument.{WrittenDocument}
 use Rattle.zarr_run_opening.specs.declared.held.HeldArray.{HeldArray}
@@ -87,19 +86,19 @@ most_created document (Err c) = if is_version_2 document then most_left c else 0
 -- ---- a new array
 
 -- an array stands at a path, says what the tree of its document says, and has a write order, which its codecs follow
-pub record IsOpened {B : Type 0} (meaning : B → ByteCodec) (reads : ReadsCodecs) (path : List ℕ) (tree : Data) (order : SubchunkWriteOrder) (array : HeldArray B) : Type 0 where
+pub record IsOpened {B : Type 0} (codecs : Codecs B) (path : List ℕ) (tree : Data) (order : SubchunkWriteOrder) (array : HeldArray B) : Type 0 where
   pub at : path_of array.core ≡ path
   pub tree_is : view array.tree ≡ tree
   pub order_is : array.order ≡ order
-  pub says : read_document reads tree ≡ Ok (document_of meaning array)
-  pub exact : FollowsOrder meaning order array.core
+  pub says : read_document codecs.1 tree ≡ Ok (document_of codecs.0 array)
+  pub exact : FollowsOrder codecs.0 order array.core
 
 -- a new array at a path, and the texts of the document that is written
-pub record IsPrepared {B : Type 0} (meaning : B → ByteCodec) (reads : ReadsCodecs) (path : List ℕ) (tree : Data) (order : SubchunkWriteOrder) (prepared : Prepared B) : Type 0 where
+pub record IsPrepared {B : Type 0} (codecs : Codecs B) (path : List ℕ) (tree : Data) (order : SubchunkWriteOrder) (prepared : Prepared B) : Type 0 where
   pub at : string_bytes prepared.at ≡ path
   pub texts : AreTextsOf path (written_document tree) prepared.texts
-  pub opens : read_document reads tree ≡ Ok (document_of meaning prepared.array)
-  pub opened : IsOpened meaning reads path (written_document tree) order prepared.array
+  pub opens : read_document codecs.1 tree ≡ Ok (document_of codecs.0 prepared.array)
+  pub opened : IsOpened codecs path (written_document tree) order prepared.array
 
 -- the document that is written for a new array at a path, and its texts
 pub record IsWritten (path : List ℕ) (tree : Data) (written : WrittenDocument) : Type 0 where
@@ -116,11 +115,11 @@ PreparationRefused reads arrays path tree cause.Memory = Unit {0}
 PreparationRefused reads arrays path tree c = ⊥
 
 -- the new array is held, and its document is stored where none was
-pub record IsStored {B : Type 0} (path : List ℕ) (prepared : Prepared B) (old new : Arrays B) (store store' : StoreMap) : Type 0 where
-  pub fresh : HasNoDocument path store
-  pub held : array_at new path ≡ Some prepared.array
-  pub others : KeepsOtherArrays path old new
-  pub writes : store' ≡ with_texts prepared.texts store
+pub record IsStored {B : Type 0} (path : List ℕ) (prepared : Prepared B) (old new : State B) : Type 0 where
+  pub fresh : HasNoDocument path old.1.0
+  pub held : array_at new.0 path ≡ Some prepared.array
+  pub others : KeepsOtherArrays path old.0 new.0
+  pub writes : new.1.0 ≡ with_texts prepared.texts old.1.0
 
 -- what the store holds where it refused a document: the same, or all but the last of its texts, where no document was stored
 abbrev pub LeavesFirst : List ℕ → Texts → StoreMap → StoreMap → Type 0

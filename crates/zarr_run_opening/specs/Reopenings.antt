@@ -8,7 +8,6 @@ use Rattle.zarr_grids_keys.specs.Documents.{document_key}
 use Rattle.zarr_grids_keys.specs.declared.document_name.DocumentName.{DocumentName}
 use Rattle.zarr_grids_keys.specs.declared.document_name.DocumentName.TheVariants.{ZarrJson, ZArray}
 use Rattle.zarr_grids_metadata.specs.Trees.{SameTree}
-use Rattle.zarr_codecs_meaning.specs.Chains.{ByteCodec}
 use Rattle.zarr_codecs_metadata.specs.Chains.{ReadsCodecs}
 use Rattle.zarr_codecs_options.specs.declared.subchunk_write_order.SubchunkWriteOrder.{SubchunkWriteOrder}
 use Rattle.zarr_array_v2.specs.Versions.{is_version_2}
@@ -20,7 +19,7 @@ use Rattle.zarr_run_meaning.specs.declared.cause.Cause.TheVariants as cause
 use Rattle.zarr_run_opening.specs.Arrays.{IsReorderedAt}
 use Rattle.zarr_run_opening.specs.ChunkKeys.{IsChunkKeyOf, HasNoneBeside, HasSomeBeside}
 use Rattle.zarr_run_opening.specs.Creations.{IsOpened}
-use Rattle.zarr_run_opening.specs.Sessions.{Arrays, array_at}
+use Rattle.zarr_run_opening.specs.Sessions.{Arrays, Codecs, array_at}
 use Rattle.zarr_run_opening.specs.declared.held.HeldArray.{HeldArray}
 use Rattle.zarr_run_opening.specs.declared.stored.StoredDocument.{StoredDocument}
 use Rattle.zarr_run_opening.specs.declared.stored.StoredDocument.TheVariants.{Nothing, NoDocument, Tree}
@@ -105,11 +104,18 @@ ComparisonRefused path array store c = ⊥
 
 -- ---- an array that is not held
 
+-- a reopening: its path and its order, and the arrays and what the store holds before it
+pub record Reopening (B : Type 0) : Type 0 where
+  pub path : List ℕ
+  pub order : SubchunkWriteOrder
+  pub arrays : Arrays B
+  pub store : StoreMap
+
 -- an array was opened from the document that its path has
-pub record IsOpenedFrom {B : Type 0} (meaning : B → ByteCodec) (reads : ReadsCodecs) (arrays : Arrays B) (path : List ℕ) (store : StoreMap) (order : SubchunkWriteOrder) (array : HeldArray B) : Type 0 where
+pub record IsOpenedFrom {B : Type 0} (codecs : Codecs B) (given : Reopening B) (array : HeldArray B) : Type 0 where
   pub tree : Data
-  pub found : IsFoundBeside (IsChunkKeyOf meaning arrays) path tree store
-  pub opened : IsOpened meaning reads path tree order array
+  pub found : IsFoundBeside (IsChunkKeyOf codecs.0 given.arrays) given.path tree given.store
+  pub opened : IsOpened codecs given.path tree given.order array
 
 -- something is stored under the key of a path's document, and it is no document that opens
 pub record HasBadBeside (IsChunk : List ℕ → Type 0) (reads : ReadsCodecs) (path : List ℕ) (store : StoreMap) : Type 0 where
@@ -125,8 +131,8 @@ OpeningRefused IsChunk reads path store cause.Memory = Unit {0}
 OpeningRefused IsChunk reads path store c = ⊥
 
 -- what a reopening of a node path answers where an array was held, or none, and the array that is held then
-abbrev pub Reopened : {B : Type 0} → (B → ByteCodec) → ReadsCodecs → Arrays B → Option (HeldArray B) → List ℕ → SubchunkWriteOrder → StoreMap → Result (Unit {0}) Cause → Arrays B → Type 0
-Reopened meaning reads old (Some array) path order store (Ok x) new = HasSameDocument path array store × IsReorderedAt meaning order array new path
-Reopened meaning reads old (Some array) path order store (Err c) new = ComparisonRefused path array store c
-Reopened {B} meaning reads old None path order store (Ok x) new = (array : HeldArray B) × (array_at new path ≡ Some array) × IsOpenedFrom meaning reads old path store order array
-Reopened meaning reads old None path order store (Err c) new = OpeningRefused (IsChunkKeyOf meaning old) reads path store c
+abbrev pub Reopened : {B : Type 0} → Codecs B → Reopening B → Option (HeldArray B) → Result (Unit {0}) Cause → Arrays B → Type 0
+Reopened codecs given (Some array) (Ok x) new = HasSameDocument given.path array given.store × IsReorderedAt codecs.0 given.order array new given.path
+Reopened codecs given (Some array) (Err c) new = ComparisonRefused given.path array given.store c
+Reopened {B} codecs given None (Ok x) new = (array : HeldArray B) × (array_at new given.path ≡ Some array) × IsOpenedFrom codecs given array
+Reopened codecs given None (Err c) new = OpeningRefused (IsChunkKeyOf codecs.0 given.arrays) codecs.1 given.path given.store c

@@ -29,6 +29,10 @@ Arrays B = BTreeMap (String Global) (HeldArray B)
 abbrev pub array_at : {B : Type 0} → Arrays B → List ℕ → Option (HeldArray B)
 array_at arrays path = get_by_text arrays path
 
+-- what the caller's codecs do, and which of them metadata says
+abbrev pub Codecs : Type 0 → Type 0
+Codecs B = (B → ByteCodec) × ReadsCodecs
+
 -- what the document of an array says, given what the caller's codecs are
 abbrev pub document_of : {B : Type 0} → (B → ByteCodec) → HeldArray B → Document
 document_of meaning array = core.document_of (array_meaning meaning) array.core
@@ -71,9 +75,13 @@ pub record IsIn {B : Type 0} (meaning : B → ByteCodec) (reads : ReadsCodecs) (
   pub store : world.store ≡ state.1.0
   pub refused : world.refused ≡ state.1.1
 
+-- a command with its answer
+abbrev pub Exchange : Type 0
+Exchange = Request × Answer
+
 -- from each world that the old state is in, a step with this answer leads to one that the new state is in
-abbrev pub StepsFrom : {B : Type 0} → (B → ByteCodec) → ReadsCodecs → State B → Request → Answer → State B → Type 0
-StepsFrom meaning reads old request answer new = (before : World) → IsIn meaning reads old before → (after : World) × Step reads before request answer after × IsIn meaning reads new after
+abbrev pub StepsFrom : {B : Type 0} → Codecs B → State B → Exchange → State B → Type 0
+StepsFrom codecs old e new = (before : World) → IsIn codecs.0 codecs.1 old before → (after : World) × Step codecs.1 before e.0 e.1 after × IsIn codecs.0 codecs.1 new after
 
 -- what is answered to a command that is done, or refused before it changed anything
 abbrev pub answer_of : Result (Unit {0}) Cause → Answer

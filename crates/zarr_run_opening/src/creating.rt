@@ -65,9 +65,9 @@ pub fn create<B: BytesToBytesCodecTraits, S: WritableStorageTraits>(
     document: &Value,
     order: SubchunkWriteOrder,
 ) -> Result<(), Cause>
-    ensures steps { IsTrue (S.is_honest store.old) → StepsFrom B.meaning B.reads
+    ensures steps { IsTrue (S.is_honest store.old) → StepsFrom (B.meaning, B.reads)
         (arrays.old, (S.held store.old, S.refused_calls store.old))
-        (ask.create path.now (view document.now) order) (answer_of result)
+        (ask.create path.now (view document.now) order, answer_of result)
         (arrays.new, (S.held store.new, S.refused_calls store.new)) }
     ensures honest { S.is_honest store.new ≡ S.is_honest store.old }
     ensures calls { S.refused_calls store.new ≡ refused_by (S.refused_calls store.old) result }
@@ -94,7 +94,7 @@ fn prepare<B: BytesToBytesCodecTraits>(
     ensures node { OnOk result (IsTrue (is_node_path path.now)) }
     ensures free { OnOk result (IsFreeIn arrays.now path.now) }
     ensures ok { IfOk result
-        (IsPrepared B.meaning B.reads path.now (view document.now) order) }
+        (IsPrepared (B.meaning, B.reads) path.now (view document.now) order) }
     ensures refused { IfErr result
         (PreparationRefused B.reads arrays.now path.now (view document.now)) }
 {
@@ -130,7 +130,7 @@ fn with_document<B: BytesToBytesCodecTraits>(
         ≡ Ok (document_of (array_meaning B.meaning) core) }
     requires exact { FollowsOrder B.meaning order core }
     ensures { IfOk result
-        (IsPrepared B.meaning B.reads path.now (view document.now) order) }
+        (IsPrepared (B.meaning, B.reads) path.now (view document.now) order) }
 {
     match write_texts(alloc, path, document) {
         Ok(WrittenDocument { at, tree, texts }) => {
@@ -170,7 +170,8 @@ fn put<B: BytesToBytesCodecTraits, S: WritableStorageTraits>(
     requires free { array_at arrays.old path.now ≡ None }
     requires at { string_bytes prepared.at ≡ path.now }
     ensures ok { IsTrue (S.is_honest store.old) → OnOk result (IsStored path.now prepared
-        arrays.old arrays.new (S.held store.old) (S.held store.new)) }
+        (arrays.old, (S.held store.old, S.refused_calls store.old))
+        (arrays.new, (S.held store.new, S.refused_calls store.new))) }
     ensures refused { IsTrue (S.is_honest store.old) →
         IfErr result (StoringRefused path.now (S.held store.old)) }
     ensures leaves { IsTrue (S.is_honest store.old) → OnErr result

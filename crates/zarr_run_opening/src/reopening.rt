@@ -34,9 +34,9 @@ pub fn reopen<B: BytesToBytesCodecTraits, S: ReadableStorageTraits>(
     path: &str,
     order: SubchunkWriteOrder,
 ) -> Result<(), Cause>
-    ensures steps { IsTrue (S.is_honest store.old) → StepsFrom B.meaning B.reads
+    ensures steps { IsTrue (S.is_honest store.old) → StepsFrom (B.meaning, B.reads)
         (arrays.old, (S.held store.old, S.refused_calls store.old))
-        (ask.reopen path.now order) (answer_of result)
+        (ask.reopen path.now order, answer_of result)
         (arrays.new, (S.held store.new, S.refused_calls store.new)) }
     ensures honest { S.is_honest store.new ≡ S.is_honest store.old }
     ensures calls { S.refused_calls store.new ≡ refused_by (S.refused_calls store.old) result }
@@ -57,8 +57,9 @@ fn reopened<B: BytesToBytesCodecTraits, S: ReadableStorageTraits>(
     order: SubchunkWriteOrder,
 ) -> Result<(), Cause>
     requires { IsTrue (is_node_path path.now) }
-    ensures found { IsTrue (S.is_honest store.old) → Reopened B.meaning B.reads arrays.old
-        (array_at arrays.old path.now) path.now order (S.held store.old) result arrays.new }
+    ensures found { IsTrue (S.is_honest store.old) → Reopened (B.meaning, B.reads)
+        (record { path = path.now; order = order; arrays = arrays.old; store = S.held store.old })
+        (array_at arrays.old path.now) result arrays.new }
     ensures others { OnOk result (KeepsOtherArrays path.now arrays.old arrays.new) }
     ensures arrays { OnErr result (KeepsArrays arrays.old arrays.new) }
     ensures held { S.held store.new ≡ S.held store.old }
@@ -127,8 +128,13 @@ fn open<B: BytesToBytesCodecTraits, S: ReadableStorageTraits>(
     order: SubchunkWriteOrder,
 ) -> Result<HeldArray<B>, Cause>
     requires { IsTrue (is_node_path path.now) }
-    ensures ok { IsTrue (S.is_honest store.old) →
-        IfOk result (IsOpenedFrom B.meaning B.reads arrays.now path.now (S.held store.old) order) }
+    ensures ok { IsTrue (S.is_honest store.old) → IfOk result (IsOpenedFrom (B.meaning, B.reads)
+        (record {
+          path = path.now;
+          order = order;
+          arrays = arrays.now;
+          store = S.held store.old;
+        })) }
     ensures refused { IsTrue (S.is_honest store.old) → IfErr result
         (OpeningRefused (IsChunkKeyOf B.meaning arrays.now) B.reads path.now (S.held store.old)) }
     ensures held { S.held store.new ≡ S.held store.old }

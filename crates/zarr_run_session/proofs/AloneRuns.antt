@@ -26,7 +26,8 @@ use Rattle.zarr_run_meaning.proofs.Orders.{IsRowMajorThere, orders}
 use Rattle.zarr_run_meaning.proofs.Owning.{steps_own, free_no_chunks}
 use Rattle.zarr_run_meaning.proofs.Sound.{steps_sound, owned_begins, asks_still, all_still}
 use Rattle.zarr_run_meaning.proofs.TightChunks.{no_chunks_are_tight}
-use Rattle.zarr_run_session.specs.Headline.{Exchanges, IsIntact, BeginsFill, IsPlainThere, EndsCanonAt, IsAloneOrFree, NamesFaithful, AsksAlone, AloneStep, RunOf, IsTightExactly, EndsAlone, EndsTables, AsksFresh}
+use Rattle.zarr_run_session.specs.Headline.{IsIntact, BeginsFill, IsPlainThere, EndsCanonAt, IsAloneOrFree, NamesFaithful, AsksAlone, AloneStep, RunOf, IsTightExactly, EndsAlone, EndsTables, AsksFresh}
+use Rattle.zarr_run_session.specs.Sessions.{Exchanges}
 use Rattle.zarr_run_session.proofs.Beginning.{asks_free, begins_free, free_intact}
 use Rattle.zarr_run_session.proofs.Headline.{All-left, All-right, intact, ends_canon, or_left, or_right, written_exactly}
 use Rattle.zarr_run_session.proofs.Plain.{document_stays, plain_before}

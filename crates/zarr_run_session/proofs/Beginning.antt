@@ -12,7 +12,7 @@ use Rattle.zarr_run_meaning.specs.declared.cause.Cause.TheVariants as cause
 use Rattle.zarr_run_meaning.specs.Causes.{ReopenRefuses}
 use Rattle.zarr_run_meaning.specs.Changes.{Reopens, Opens}
 use Rattle.zarr_run_meaning.specs.Laws.{HasTables}
-use Rattle.zarr_run_meaning.specs.Requests.{Request, create, reopen, write, read, erase, compact, rewrite, path_of, Answer, done, refused}
+use Rattle.zarr_run_meaning.specs.Requests.{refusal, Request, create, reopen, write, read, erase, compact, rewrite, path_of, Answer, done, refused}
 use Rattle.zarr_run_meaning.specs.Sound.{IsSoundAlone, BeginsSound, HasNoChunks, OwnsKeysUnder, AsksOwned, AsksFaithful, ReadsGood}
 use Rattle.zarr_run_meaning.specs.Steps.{RefusesHeld, RefusesWrite, RefusesRead, RefusesErase, RefusesCompact, RefusesRewrite, Step}
 use Rattle.zarr_run_meaning.specs.Worlds.{Held, World, held_at}
@@ -94,20 +94,20 @@ module _ (reads : ReadsCodecs) (old new : World) (n : ℕ) where
   free_undamaged : (request : Request) → held_at (path_of request) old.arrays ≡ None → Step reads old request (refused cause.Damage n) new → ⊥
   free_undamaged (create p document order) none s = s.1.0
   free_undamaged (reopen p order) none s = let P : Option Held → Type 0 = λ o. ReopenRefuses reads old p o cause.Damage in subst P none s.1.0
-  free_undamaged (write p target given options) none s = let P : Option Held → Type 0 = λ o. RefusesHeld o (RefusesWrite target given options) cause.Damage n old new in subst P none s.1
-  free_undamaged (read p target options) none s = let P : Option Held → Type 0 = λ o. RefusesHeld o (RefusesRead target) cause.Damage n old new in subst P none s.1
-  free_undamaged (erase p chunks) none s = let P : Option Held → Type 0 = λ o. RefusesHeld o (RefusesErase chunks) cause.Damage n old new in subst P none s.1
-  free_undamaged (compact p chunk options) none s = let P : Option Held → Type 0 = λ o. RefusesHeld o (RefusesCompact chunk) cause.Damage n old new in subst P none s.1
-  free_undamaged (rewrite p options) none s = let P : Option Held → Type 0 = λ o. RefusesHeld o (RefusesRewrite options) cause.Damage n old new in subst P none s.1
+  free_undamaged (write p target given options) none s = let P : Option Held → Type 0 = λ o. RefusesHeld o (RefusesWrite (record { target = target; cells = given; options = options })) (refusal cause.Damage n) old new in subst P none s.1
+  free_undamaged (read p target options) none s = let P : Option Held → Type 0 = λ o. RefusesHeld o (RefusesRead target) (refusal cause.Damage n) old new in subst P none s.1
+  free_undamaged (erase p chunks) none s = let P : Option Held → Type 0 = λ o. RefusesHeld o (RefusesErase chunks) (refusal cause.Damage n) old new in subst P none s.1
+  free_undamaged (compact p chunk options) none s = let P : Option Held → Type 0 = λ o. RefusesHeld o (RefusesCompact chunk) (refusal cause.Damage n) old new in subst P none s.1
+  free_undamaged (rewrite p options) none s = let P : Option Held → Type 0 = λ o. RefusesHeld o (RefusesRewrite options) (refusal cause.Damage n) old new in subst P none s.1
 
   free_unchanged : (request : Request) → held_at (path_of request) old.arrays ≡ None → Step reads old request (refused cause.DocumentChanged n) new → ⊥
   free_unchanged (create p document order) none s = s.1.0
   free_unchanged (reopen p order) none s = let P : Option Held → Type 0 = λ o. ReopenRefuses reads old p o cause.DocumentChanged in subst P none s.1.0
-  free_unchanged (write p target given options) none s = let P : Option Held → Type 0 = λ o. RefusesHeld o (RefusesWrite target given options) cause.DocumentChanged n old new in subst P none s.1
-  free_unchanged (read p target options) none s = let P : Option Held → Type 0 = λ o. RefusesHeld o (RefusesRead target) cause.DocumentChanged n old new in subst P none s.1
-  free_unchanged (erase p chunks) none s = let P : Option Held → Type 0 = λ o. RefusesHeld o (RefusesErase chunks) cause.DocumentChanged n old new in subst P none s.1
-  free_unchanged (compact p chunk options) none s = let P : Option Held → Type 0 = λ o. RefusesHeld o (RefusesCompact chunk) cause.DocumentChanged n old new in subst P none s.1
-  free_unchanged (rewrite p options) none s = let P : Option Held → Type 0 = λ o. RefusesHeld o (RefusesRewrite options) cause.DocumentChanged n old new in subst P none s.1
+  free_unchanged (write p target given options) none s = let P : Option Held → Type 0 = λ o. RefusesHeld o (RefusesWrite (record { target = target; cells = given; options = options })) (refusal cause.DocumentChanged n) old new in subst P none s.1
+  free_unchanged (read p target options) none s = let P : Option Held → Type 0 = λ o. RefusesHeld o (RefusesRead target) (refusal cause.DocumentChanged n) old new in subst P none s.1
+  free_unchanged (erase p chunks) none s = let P : Option Held → Type 0 = λ o. RefusesHeld o (RefusesErase chunks) (refusal cause.DocumentChanged n) old new in subst P none s.1
+  free_unchanged (compact p chunk options) none s = let P : Option Held → Type 0 = λ o. RefusesHeld o (RefusesCompact chunk) (refusal cause.DocumentChanged n) old new in subst P none s.1
+  free_unchanged (rewrite p options) none s = let P : Option Held → Type 0 = λ o. RefusesHeld o (RefusesRewrite options) (refusal cause.DocumentChanged n) old new in subst P none s.1
 
 pub free_intact : (reads : ReadsCodecs) (old new : World) (request : Request) (answer : Answer) → held_at (path_of request) old.arrays ≡ None → Step reads old request answer new → IsIntact answer
 free_intact reads old new request (refused cause.Damage n) none s = free_undamaged reads old new n request none s

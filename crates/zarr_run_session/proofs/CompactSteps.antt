@@ -15,7 +15,7 @@ use Rattle.zarr_run_boxes.specs.Outcomes.{refused_with}
 use Rattle.zarr_run_meaning.specs.declared.cause.Cause.{Cause}
 use Rattle.zarr_run_meaning.specs.declared.cause.Cause.TheVariants as cause
 use Rattle.zarr_run_meaning.specs.Causes.{CompactRefuses}
-use Rattle.zarr_run_meaning.specs.Requests.{compact, Answer, compacted, refused}
+use Rattle.zarr_run_meaning.specs.Requests.{refusal, compact, Answer, compacted, refused}
 use Rattle.zarr_run_meaning.specs.Steps.{RefusesCompact, Step, refused_after}
 use Rattle.zarr_run_meaning.specs.Worlds.{Held, World, array_of, held_at, writes_exactly}
 use Rattle.zarr_run_opening.specs.Sessions.{Arrays, array_at, document_of, IsIn, StepsFrom}
@@ -52,13 +52,13 @@ module _ (B : Type 0) (meaning : B → ByteCodec) (reads : ReadsCodecs) (arrays 
         let after : World = record w { refused = refused_after c w.refused } in
         let P : Cause → Type 0 = λ c. CompactRefuses (array_of h) w.store chunk c in
         let step : Step reads w (compact path chunk options) (refused c 0) after =
-        refused_at reads path (compact path chunk options) c 0 w after node (λ is. subst P is refuses)
-        (refused_held (held_at path w.arrays) h (RefusesCompact chunk) c 0 w after found (refuses, stays_at c 0 w refl)) in
+        refused_at reads (compact path chunk options) c 0 w after node (λ is. subst P is refuses)
+        (refused_held (held_at path w.arrays) h (RefusesCompact chunk) (refusal c 0) w after found (refuses, stays_at c 0 w refl)) in
         (after, step, in_untouched B meaning reads arrays store store' n n' w c k same calls)
 
     compact_short : (c : Cause) → n' ≡ refused_after c n → store' ≡ store → c ≡ cause.Memory → LeadsTo meaning reads w (compact path chunk options) (refused c 0) arrays store' n'
     compact_short c calls same is =
-        let step = short_of_memory reads path (compact path chunk options) c 0 w refl is in
+        let step = short_of_memory reads (compact path chunk options) c 0 w refl is in
         (record w { refused = refused_after c w.refused }, step, in_untouched B meaning reads arrays store store' n n' w c k same calls)
 
     compact_answered : (result : Result Bool Cause) → n' ≡ refused_with n result → IfOk result (λ changed. CompactsTarget (array_of h) chunk changed store store') → IfErr result (λ c. CompactRefused (array_of h) chunk c store) → OnErr result (store' ≡ store)
@@ -74,7 +74,7 @@ module _ (B : Type 0) (meaning : B → ByteCodec) (reads : ReadsCodecs) (arrays 
   pub compact_steps : (array : HeldArray B) (result : Result Bool Cause) (answer : Answer) → IsFound arrays path array → n' ≡ refused_with n result → answer ≡ answer_changed result
       → IfOk result (λ changed. CompactsTarget (record { path = path_of array.core; document = document_of meaning array; exact = is_exact array_function array.core }) chunk changed store store')
       → IfErr result (λ c. CompactRefused (record { path = path_of array.core; document = document_of meaning array; exact = is_exact array_function array.core }) chunk c store) → OnErr result (store' ≡ store)
-      → StepsFrom meaning reads (arrays, (store, n)) (compact path chunk options) answer (arrays, (store', n'))
+      → StepsFrom (meaning, reads) (arrays, (store, n)) (compact path chunk options, answer) (arrays, (store', n'))
   compact_steps array result answer is calls says ok err kept w k =
       let held = agreed_held B meaning reads store (array_at arrays path) (held_at path w.arrays) array (k.agree path) is.found in
       let h = held.0 in

@@ -36,7 +36,8 @@ use Rattle.zarr_run_meaning.proofs.Sound.{steps_sound, owned_begins, asks_still,
 use Rattle.zarr_run_meaning.proofs.TightChunks.{no_chunks_are_tight}
 use Rattle.zarr_run_meaning.proofs.Undamaged.{runs_undamaged}
 use Rattle.zarr_run_session.proofs.Plain.{plain_before}
-use Rattle.zarr_run_session.specs.Headline.{Exchanges, IsIntact, LeavesCanon, CompactsAfresh, BeginsFill, TableRun, is_row_major_at, is_row_major_by, is_row_major_after, IsPlainThere, EndsCanon, HasBegun, AsksFresh}
+use Rattle.zarr_run_session.specs.Headline.{IsIntact, LeavesCanon, CompactsAfresh, BeginsFill, TableRun, is_row_major_at, is_row_major_by, is_row_major_after, IsPlainThere, EndsCanon, HasBegun, AsksFresh}
+use Rattle.zarr_run_session.specs.Sessions.{Exchanges}
 
 -- ---- lists of commands in two parts
 

@@ -16,16 +16,16 @@ use Rattle.zarr_run_meaning.proofs.KeptCanon.{all_owned}
 use Rattle.zarr_run_meaning.proofs.KeptTight.{steps_keep_tight}
 use Rattle.zarr_run_meaning.proofs.Owning.{empty_owned}
 use Rattle.zarr_run_meaning.proofs.Sound.{steps_sound}
-use Rattle.zarr_run_opening.specs.Sessions.{State, StepsFrom}
-use Rattle.zarr_run_session.specs.Headline.{Exchange, Exchanges, Codecs, KeepsTables, StaysAlone, BeginsAlone, KeepsAlone, RewritesAfresh, KeepsTight, TablesFrom, AloneFrom, AsksFresh, BeginsFresh, TablesOver, AloneOver}
-use Rattle.zarr_run_session.specs.Sessions.{Contents, RunsFrom, RunsOver}
+use Rattle.zarr_run_opening.specs.Sessions.{Codecs, State, Exchange, StepsFrom}
+use Rattle.zarr_run_session.specs.Headline.{KeepsTables, StaysAlone, BeginsAlone, KeepsAlone, RewritesAfresh, KeepsTight, TablesFrom, AloneFrom, AsksFresh, BeginsFresh, TablesOver, AloneOver}
+use Rattle.zarr_run_session.specs.Sessions.{Exchanges, Contents, RunsFrom, RunsOver}
 use Rattle.zarr_run_session.proofs.Headline.{undamaged, intact, rewritten, compacted_afresh, begun, table_run}
 use Rattle.zarr_run_session.proofs.AloneRuns.{alone_run, ends_alone, ends_tables}
 use Rattle.zarr_run_session.proofs.RunSteps.{tables_in}
 
 module _ (B : Type 0) (codecs : Codecs B) (good : ReadsGood codecs.1) (old new : State B) where
   -- ---- one command
-  module _ (e : Exchange) (steps : StepsFrom codecs.0 codecs.1 old e.0 e.1 new) where
+  module _ (e : Exchange) (steps : StepsFrom codecs old e new) where
     pub keeps_tables : KeepsTables codecs old e new
     keeps_tables before k sound begins =
         let s = steps before k in (
@@ -68,7 +68,7 @@ module _ (B : Type 0) (codecs : Codecs B) (good : ReadsGood codecs.1) (old new :
         )
 
   -- ---- runs
-  module _ (es : Exchanges) (runs : RunsFrom codecs.0 codecs.1 old es.0 es.1 new) where
+  module _ (es : Exchanges) (runs : RunsFrom codecs old es new) where
     pub tables_from : TablesFrom codecs old es new
     tables_from before k sound fresh =
         let r = runs before k in

@@ -1,20 +1,18 @@
 -- From what is stored for one array to the world: the array at a path has another table, and each array that was held stays one of the session's.
 use Rattle.std.proofs.Common.{◌≡◌, ◌∙◌, ℕ, List, [], ◌∷◌, refl, sym, ap, subst, Bool, true, false, ◌||◌, MatchBool, Option, Some, None, bytes_eq}
 use Rattle.std.specs.List.{list_any}
-use Rattle.zarr_grids_boxes.specs.Boxes.{Region}
 use Rattle.zarr_grids_keys.specs.Related.{is_related}
 use Rattle.zarr_codecs_meaning.specs.Chains.{ByteCodec}
-use Rattle.zarr_codecs_meaning.specs.Types.{Cell}
 use Rattle.zarr_codecs_metadata.specs.Chains.{ReadsCodecs}
-use Rattle.zarr_codecs_options.specs.declared.codec_options.CodecOptions.{CodecOptions}
 use Rattle.zarr_array_meaning.specs.StoreMaps.{StoreMap}
+use Rattle.zarr_array_meaning.specs.Writes.{Write}
 use Rattle.zarr_array_meaning.specs.Writing.{WroteChunks, ErasedChunks}
 use Rattle.zarr_run_meaning.specs.Changes.{WritesChunks, ErasesChunks}
 use Rattle.zarr_run_meaning.specs.Laws.{HasTables}
 use Rattle.zarr_run_meaning.specs.Requests.{Request, Answer}
 use Rattle.zarr_run_meaning.specs.Steps.{Step}
 use Rattle.zarr_run_meaning.specs.Tables.{Table, updated, changes, changes_in, fills}
-use Rattle.zarr_run_meaning.specs.Worlds.{Held, World, held_at, writes_exactly, IsTableAt, StaysBut, WithTable}
+use Rattle.zarr_run_meaning.specs.Worlds.{Held, World, held_at, IsTableAt, StaysBut, WithTable}
 use Rattle.zarr_run_meaning.proofs.Arrays.{Stayed, at_path, near, apart, stayed, stayed_path, held_before, held_after}
 use Rattle.zarr_run_meaning.proofs.Frames.{steps_show}
 use Rattle.zarr_run_meaning.proofs.FoundTables.{table_found}
@@ -121,15 +119,15 @@ module _ (B : Type 0) (meaning : B → ByteCodec) (reads : ReadsCodecs) where
 
 -- ---- chunks of one array
 
-abbrev pub table_written : Held → Region → List Cell → List (List ℕ) → Table
-table_written h box values chunks = updated h.document.elements.fill h.table (changes_in h.document.grid chunks (changes box values))
+abbrev pub table_written : Held → Write → List (List ℕ) → Table
+table_written h write chunks = updated h.document.elements.fill h.table (changes_in h.document.grid chunks (changes write.region write.cells))
 
-pub written : (h : Held) (box : Region) (values : List Cell) (options : CodecOptions) (chunks : List (List ℕ)) (w : World) (store : StoreMap) (n : ℕ) → WroteChunks h.path h.document (writes_exactly h) box values options chunks w.store store
-    → WritesChunks h box values options chunks w (world_after h.path (table_written h box values chunks) w store n)
-written h box values options chunks w store n wrote = record {
-  table = table_written h box values chunks;
+pub written : (h : Held) (write : Write) (chunks : List (List ℕ)) (w : World) (store : StoreMap) (n : ℕ) → WroteChunks write chunks w.store store
+    → WritesChunks h write chunks w (world_after h.path (table_written h write chunks) w store n)
+written h write chunks w store n wrote = record {
+  table = table_written h write chunks;
   is = refl;
-  updates = has_table h.path (table_written h box values chunks) w store n;
+  updates = has_table h.path (table_written h write chunks) w store n;
   stores = wrote;
 }
 

@@ -24,7 +24,7 @@ use Rattle.zarr_run_meaning.specs.declared.cause.Cause.{Cause}
 use Rattle.zarr_run_meaning.specs.declared.cause.Cause.TheVariants as cause
 use Rattle.zarr_run_meaning.specs.Causes.{IsTarget, ReadRefuses}
 use Rattle.zarr_run_meaning.specs.Changes.{Reads}
-use Rattle.zarr_run_meaning.specs.Requests.{Target, in_box, in_chunk, read}
+use Rattle.zarr_run_meaning.specs.Requests.{Target, in_box, in_chunk, refusal, read}
 use Rattle.zarr_run_meaning.specs.Steps.{RefusesHeld, RefusesRead, RefusesAt, refused_after}
 use Rattle.zarr_run_meaning.specs.Tables.{Table, cell}
 use Rattle.zarr_run_meaning.specs.Worlds.{Held, World, held_at, IsTableAt}
@@ -100,12 +100,12 @@ module _ (B : Type 0) (meaning : B → ByteCodec) (reads : ReadsCodecs) (arrays 
   abbrev after : Cause → World
   after c = record w { refused = refused_after c w.refused }
 
-  held_refuses : (c : Cause) → ReadRefuses (core.path_of array.core) (document_of meaning array) store target c → RefusesHeld (held_at path w.arrays) (RefusesRead target) c 0 w (after c)
+  held_refuses : (c : Cause) → ReadRefuses (core.path_of array.core) (document_of meaning array) store target c → RefusesHeld (held_at path w.arrays) (RefusesRead target) (refusal c 0) w (after c)
   held_refuses c why =
-      let P : Option Held → Type 0 = λ o. RefusesHeld o (RefusesRead target) c 0 w (after c) in
+      let P : Option Held → Type 0 = λ o. RefusesHeld o (RefusesRead target) (refusal c 0) w (after c) in
       subst P (sym h.1) (in_world (λ q d s. ReadRefuses q d s target c) why, stays c w)
 
-  read_refuses : (options : CodecOptions) (c : Cause) → ReadRefuses (core.path_of array.core) (document_of meaning array) store target c → RefusesAt reads path (read path target options) c 0 w (after c)
+  read_refuses : (options : CodecOptions) (c : Cause) → ReadRefuses (core.path_of array.core) (document_of meaning array) store target c → RefusesAt reads (read path target options) (refusal c 0) w (after c)
   read_refuses options cause.Region why = (found.node, held_refuses cause.Region why)
   read_refuses options cause.Size why = (found.node, held_refuses cause.Size why)
   read_refuses options cause.Fit why = (found.node, held_refuses cause.Fit why)
@@ -113,15 +113,15 @@ module _ (B : Type 0) (meaning : B → ByteCodec) (reads : ReadsCodecs) (arrays 
   read_refuses options cause.Store why = (found.node, held_refuses cause.Store why)
   read_refuses options c why = absurd why
 
-  read_refused : (options : CodecOptions) (c : Cause) → ReadRefused (core.path_of array.core) (document_of meaning array) store target c → RefusesAt reads path (read path target options) c 0 w (after c)
+  read_refused : (options : CodecOptions) (c : Cause) → ReadRefused (core.path_of array.core) (document_of meaning array) store target c → RefusesAt reads (read path target options) (refusal c 0) w (after c)
   read_refused options c (inl why) = read_refuses options c why
-  read_refused options c (inr is) = subst (λ c. RefusesAt reads path (read path target options) c 0 w (after c)) (sym is) (inl (stays cause.Memory w))
+  read_refused options c (inr is) = subst (λ c. RefusesAt reads (read path target options) (refusal c 0) w (after c)) (sym is) (inl (stays cause.Memory w))
 
 module _ (B : Type 0) (meaning : B → ByteCodec) (reads : ReadsCodecs) (arrays : Arrays B) (store store' : StoreMap) (n n' : ℕ) (path : List ℕ) (target : Target) (options : CodecOptions) (array : HeldArray B) (found : IsFound arrays path array) (formed : IsFormed target) (same : store' ≡ store) where
   -- a read in each world
   pub read_steps : (result : Result ArrayBytes Cause) → IfOk result (λ bytes. ReadsTarget (core.path_of array.core) (document_of meaning array) store target (payload_of bytes))
       → IfErr result (ReadRefused (core.path_of array.core) (document_of meaning array) store target) → n' ≡ refused_with n result
-      → StepsFrom meaning reads (arrays, (store, n)) (read path target options) (answer_with result) (arrays, (store', n'))
+      → StepsFrom (meaning, reads) (arrays, (store, n)) (read path target options, answer_with result) (arrays, (store', n'))
   read_steps (Ok bytes) ok err calls w k =
       let P : StoreMap → ℕ → Type 0 = λ s m. IsIn meaning reads (arrays, (s, m)) w in (
         w,

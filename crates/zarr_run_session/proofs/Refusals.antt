@@ -8,7 +8,7 @@ use Rattle.zarr_codecs_types.specs.Given.{GivenCells}
 use Rattle.zarr_array_meaning.specs.StoreMaps.{StoreMap}
 use Rattle.zarr_run_meaning.specs.declared.cause.Cause.{Cause}
 use Rattle.zarr_run_meaning.specs.declared.cause.Cause.TheVariants as cause
-use Rattle.zarr_run_meaning.specs.Requests.{Target, Request, write, read, erase, compact, rewrite, refused}
+use Rattle.zarr_run_meaning.specs.Requests.{Target, Refusal, refusal, Request, write, read, erase, compact, rewrite, path_of, refused}
 use Rattle.zarr_run_meaning.specs.Steps.{RefusesHeld, RefusesWrite, RefusesRead, RefusesErase, RefusesCompact, RefusesRewrite, Refuses, RefusesAt}
 use Rattle.zarr_run_meaning.specs.Worlds.{Held, World, held_at}
 use Rattle.zarr_run_opening.specs.Sessions.{Arrays, array_at, IsIn, StepsFrom}
@@ -16,38 +16,39 @@ use Rattle.zarr_run_opening.proofs.HoldsLemmas.{agreed_none, stays}
 use Rattle.zarr_run_session.specs.Finding.{NotFound}
 
 -- where no array is held, a command on one is refused
-held_none : (o : Option Held) (refuses : Held → Cause → ℕ → World → World → Type 0) (w : World) → o ≡ None → RefusesHeld o refuses cause.NoArray 0 w w
-held_none o refuses w none = let P : Option Held → Type 0 = λ o. RefusesHeld o refuses cause.NoArray 0 w w in subst P (sym none) (stays cause.NoArray w)
+held_none : (o : Option Held) (refuses : Held → Refusal → World → World → Type 0) (w : World) → o ≡ None → RefusesHeld o refuses (refusal cause.NoArray 0) w w
+held_none o refuses w none = let P : Option Held → Type 0 = λ o. RefusesHeld o refuses (refusal cause.NoArray 0) w w in subst P (sym none) (stays cause.NoArray w)
 
 module _ (B : Type 0) (meaning : B → ByteCodec) (reads : ReadsCodecs) (arrays : Arrays B) (store : StoreMap) (n : ℕ) (path : List ℕ) where
-  not_found : (request : Request) (c : Cause) → NotFound arrays path c → ((w : World) → held_at path w.arrays ≡ None → Refuses reads request cause.NoArray 0 w w)
-      → (w : World) → IsIn meaning reads (arrays, (store, n)) w → RefusesAt reads path request c 0 w w
+  not_found : (request : Request) (c : Cause) → NotFound arrays (path_of request) c → ((w : World) → held_at (path_of request) w.arrays ≡ None → Refuses reads request (refusal cause.NoArray 0) w w)
+      → (w : World) → IsIn meaning reads (arrays, (store, n)) w → RefusesAt reads request (refusal c 0) w w
   not_found request cause.Path none refuses w k = (none, stays cause.Path w)
-  not_found request cause.NoArray none refuses w k = (none.0, refuses w (agreed_none B meaning reads store (array_at arrays path) (held_at path w.arrays) (k.agree path) none.1))
+  not_found request cause.NoArray none refuses w k =
+      (none.0, refuses w (agreed_none B meaning reads store (array_at arrays (path_of request)) (held_at (path_of request) w.arrays) (k.agree (path_of request)) none.1))
   not_found request c none refuses w k = absurd none
 
   -- nothing changes
   pub write_not_found : (target : Target) (given : GivenCells) (options : CodecOptions) (c : Cause) → NotFound arrays path c
-      → StepsFrom meaning reads (arrays, (store, n)) (write path target given options) (refused c 0) (arrays, (store, n))
+      → StepsFrom (meaning, reads) (arrays, (store, n)) (write path target given options, refused c 0) (arrays, (store, n))
   write_not_found target given options c none w k =
-      (w, not_found (write path target given options) c none (λ v e. held_none (held_at path v.arrays) (RefusesWrite target given options) v e) w k, k)
+      (w, not_found (write path target given options) c none (λ v e. held_none (held_at path v.arrays) (RefusesWrite (record { target = target; cells = given; options = options })) v e) w k, k)
 
   pub read_not_found : (target : Target) (options : CodecOptions) (c : Cause) → NotFound arrays path c
-      → StepsFrom meaning reads (arrays, (store, n)) (read path target options) (refused c 0) (arrays, (store, n))
+      → StepsFrom (meaning, reads) (arrays, (store, n)) (read path target options, refused c 0) (arrays, (store, n))
   read_not_found target options c none w k =
       (w, not_found (read path target options) c none (λ v e. held_none (held_at path v.arrays) (RefusesRead target) v e) w k, k)
 
   pub erase_not_found : (chunks : Region) (c : Cause) → NotFound arrays path c
-      → StepsFrom meaning reads (arrays, (store, n)) (erase path chunks) (refused c 0) (arrays, (store, n))
+      → StepsFrom (meaning, reads) (arrays, (store, n)) (erase path chunks, refused c 0) (arrays, (store, n))
   erase_not_found chunks c none w k =
       (w, not_found (erase path chunks) c none (λ v e. held_none (held_at path v.arrays) (RefusesErase chunks) v e) w k, k)
 
   pub compact_not_found : (chunk : List ℕ) (options : CodecOptions) (c : Cause) → NotFound arrays path c
-      → StepsFrom meaning reads (arrays, (store, n)) (compact path chunk options) (refused c 0) (arrays, (store, n))
+      → StepsFrom (meaning, reads) (arrays, (store, n)) (compact path chunk options, refused c 0) (arrays, (store, n))
   compact_not_found chunk options c none w k =
       (w, not_found (compact path chunk options) c none (λ v e. held_none (held_at path v.arrays) (RefusesCompact chunk) v e) w k, k)
 
   pub rewrite_not_found : (options : CodecOptions) (c : Cause) → NotFound arrays path c
-      → StepsFrom meaning reads (arrays, (store, n)) (rewrite path options) (refused c 0) (arrays, (store, n))
+      → StepsFrom (meaning, reads) (arrays, (store, n)) (rewrite path options, refused c 0) (arrays, (store, n))
   rewrite_not_found options c none w k =
       (w, not_found (rewrite path options) c none (λ v e. held_none (held_at path v.arrays) (RefusesRewrite options) v e) w k, k)

@@ -15,6 +15,7 @@ use Rattle.zarr_run_boxes.specs.declared.refusal.Refusal.{Refusal}
 use Rattle.zarr_run_meaning.specs.declared.cause.Cause.{Cause}
 use Rattle.zarr_run_meaning.specs.declared.cause.Cause.TheVariants as cause
 use Rattle.zarr_run_meaning.specs.Causes.{RewriteRefuses, RewriteStopsAt}
+use Rattle.zarr_run_meaning.specs.Requests as ask
 use Rattle.zarr_run_meaning.specs.Requests.{rewrite, Answer, done, refused}
 use Rattle.zarr_run_meaning.specs.Steps.{RefusesRewrite, Step, refused_after}
 use Rattle.zarr_run_meaning.specs.Worlds.{Held, World, array_of, held_at, writes_exactly}
@@ -50,14 +51,14 @@ module _ (B : Type 0) (meaning : B → ByteCodec) (reads : ReadsCodecs) (arrays 
     rewrite_stopped c m calls first =
         let after = world_after h.path h.table w store' n' in
         let P : Cause → Type 0 = λ c. RewriteStopsAt (array_of h) w.store options.store_empty_chunks m c in
-        let refuses : RefusesRewrite options h c m w after = inr (record {
+        let refuses : RefusesRewrite options h (ask.refusal c m) w after = inr (record {
           small = first.small;
           stops = first.stops;
           rewrites = record { updates = has_table h.path h.table w store' n'; stores = first.rewrote };
           count = calls ∙ ap (refused_after c) (sym k.refused);
         }) in
         let step : Step reads w (rewrite path options) (refused c m) after =
-        refused_at reads path (rewrite path options) c m w after node (λ is. (subst P is first.stops).refuses) (refused_held (held_at path w.arrays) h (RefusesRewrite options) c m w after found refuses) in
+        refused_at reads (rewrite path options) c m w after node (λ is. (subst P is first.stops).refuses) (refused_held (held_at path w.arrays) h (RefusesRewrite options) (ask.refusal c m) w after found refuses) in
         (after, step, in_after B meaning reads arrays store store' n n' w (rewrite path options) (refused c m) h.path h.table k step)
 
     -- the rewrite was refused before a chunk was stored anew
@@ -66,13 +67,13 @@ module _ (B : Type 0) (meaning : B → ByteCodec) (reads : ReadsCodecs) (arrays 
         let after : World = record w { refused = refused_after c w.refused } in
         let P : Cause → Type 0 = λ c. RewriteRefuses (array_of h) w.store c in
         let step : Step reads w (rewrite path options) (refused c m) after =
-        refused_at reads path (rewrite path options) c m w after node (λ is. subst P is refuses)
-        (refused_held (held_at path w.arrays) h (RefusesRewrite options) c m w after found (inl (refuses, stays_at c m w none))) in
+        refused_at reads (rewrite path options) c m w after node (λ is. subst P is refuses)
+        (refused_held (held_at path w.arrays) h (RefusesRewrite options) (ask.refusal c m) w after found (inl (refuses, stays_at c m w none))) in
         (after, step, in_untouched B meaning reads arrays store store' n n' w c k same calls)
 
     rewrite_short : (c : Cause) (m : ℕ) → n' ≡ refused_after c n → m ≡ 0 → store' ≡ store → c ≡ cause.Memory → LeadsTo meaning reads w (rewrite path options) (refused c m) arrays store' n'
     rewrite_short c m calls none same is =
-        let step = short_of_memory reads path (rewrite path options) c m w none is in
+        let step = short_of_memory reads (rewrite path options) c m w none is in
         (record w { refused = refused_after c w.refused }, step, in_untouched B meaning reads arrays store store' n n' w c k same calls)
 
     rewrite_answered : (result : Result (Unit {0}) Refusal) → n' ≡ refused_by n result → OnOk result (RewritesTarget (array_of h) options.store_empty_chunks store store')
@@ -92,7 +93,7 @@ module _ (B : Type 0) (meaning : B → ByteCodec) (reads : ReadsCodecs) (arrays 
   pub rewrite_steps : (array : HeldArray B) (result : Result (Unit {0}) Refusal) (answer : Answer) → IsFound arrays path array → n' ≡ refused_by n result → answer ≡ answer_after result
       → OnOk result (RewritesTarget (record { path = path_of array.core; document = document_of meaning array; exact = is_exact array_function array.core }) options.store_empty_chunks store store')
       → IfErr result (λ refusal. RewriteRefused (record { path = path_of array.core; document = document_of meaning array; exact = is_exact array_function array.core }) options.store_empty_chunks refusal store store')
-      → StepsFrom meaning reads (arrays, (store, n)) (rewrite path options) answer (arrays, (store', n'))
+      → StepsFrom (meaning, reads) (arrays, (store, n)) (rewrite path options, answer) (arrays, (store', n'))
   rewrite_steps array result answer is calls says ok err w k =
       let held = agreed_held B meaning reads store (array_at arrays path) (held_at path w.arrays) array (k.agree path) is.found in
       let h = held.0 in

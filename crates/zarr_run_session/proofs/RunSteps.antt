@@ -26,13 +26,13 @@ run_more reads old mid new (r ∷ requests) (a ∷ answers) request answer ran s
 
 module _ (B : Type 0) (meaning : B → ByteCodec) (reads : ReadsCodecs) (old : State B) where
   -- before the first command
-  pub runs_none : RunsFrom meaning reads old [] [] old
+  pub runs_none : RunsFrom (meaning, reads) old ([], []) old
   runs_none before k = (before, refl, k)
 
   -- the next of the commands
   pub runs_more : (mid new : State B) (commands : List Command) (n : ℕ) (other : Command) (replies : List Reply) (reply : Reply) → n < length commands
-      → RunsFrom meaning reads old (map asked (take n commands)) (map answered replies) mid → StepsFrom meaning reads mid (asked (get_or commands n other)) (answered reply) new
-      → RunsFrom meaning reads old (map asked (take (n + 1) commands)) (map answered (replies ++ reply ∷ [])) new
+      → RunsFrom (meaning, reads) old (map asked (take n commands), map answered replies) mid → StepsFrom (meaning, reads) mid (asked (get_or commands n other), answered reply) new
+      → RunsFrom (meaning, reads) old (map asked (take (n + 1) commands), map answered (replies ++ reply ∷ [])) new
   runs_more mid new commands n other replies reply low ran steps before k =
       let r = ran before k in
       let s = steps r.0 r.2 in (
@@ -51,7 +51,7 @@ module _ (B : Type 0) (meaning : B → ByteCodec) (reads : ReadsCodecs) (old : S
 
 -- a run of a session that began with no array
 pub runs_over : (B : Type 0) (meaning : B → ByteCodec) (reads : ReadsCodecs) (old new : State B) (contents : Contents) (requests : List Request) (answers : List Answer) → IsIn meaning reads old (world_over contents.0 contents.1)
-    → RunsFrom meaning reads old requests answers new → RunsOver reads contents requests answers new.1
+    → RunsFrom (meaning, reads) old (requests, answers) new → RunsOver reads contents requests answers new.1
 runs_over B meaning reads old new contents requests answers begins ran =
     let r = ran (world_over contents.0 contents.1) begins in
     (r.0, r.1, r.2.store, r.2.refused, tables_in B meaning reads new r.0 r.2)

@@ -4,8 +4,7 @@ use Rattle.zarr_array_storage.specs.declared.traits.ReadableStorageTraits as sto
 use Rattle.zarr_codecs_traits.specs.declared.bytes_to_bytes.BytesToBytesCodecTraits as byte_codecs
 use Rattle.zarr_run_meaning.specs.Counts.{WritesAtMost}
 use Rattle.zarr_run_meaning.specs.Worlds.{World}
-use Rattle.zarr_run_opening.specs.Sessions.{State, IsIn, StepsFrom}
-use Rattle.zarr_run_session.specs.Headline.{Codecs, Exchange}
+use Rattle.zarr_run_opening.specs.Sessions.{Codecs, State, IsIn, Exchange, StepsFrom}
 use Rattle.zarr_run_session.specs.Sessions.{refused_with, state_of}
 use Rattle.zarr_run_session.specs.declared.session.Session.{Session}
 
@@ -17,10 +16,6 @@ Traits S B = stores.Ghosts S × byte_codecs.Ghosts B
 abbrev pub OverHonest : {S B : Type 0} → Traits S B → Session S B → Exchange → Session S B → (Codecs B → State B → Exchange → State B → Type 0) → Type 0
 OverHonest t old e new Holds = IsTrue (t.0.is_honest old.store) → Holds (t.1.meaning, t.1.reads) (state_of t.0.held t.0.refused_calls old) e (state_of t.0.held t.0.refused_calls new)
 
--- from each world that the old state is in, a step with this answer leads to one that the new state is in
-abbrev pub StepsBy : {B : Type 0} → Codecs B → State B → Exchange → State B → Type 0
-StepsBy codecs old e new = StepsFrom codecs.0 codecs.1 old e.0 e.1 new
-
 -- over an honest store the command makes at most as many writing calls as its answer says in each world that the session was in
 abbrev pub BoundsWrites : {S B : Type 0} → Traits S B → Session S B → Exchange → Session S B → Type 0
 BoundsWrites t old e new = IsTrue (t.0.is_honest old.store) → (world : World) → IsIn t.1.meaning t.1.reads (state_of t.0.held t.0.refused_calls old) world
@@ -28,7 +23,7 @@ BoundsWrites t old e new = IsTrue (t.0.is_honest old.store) → (world : World) 
 
 -- a command was run: over an honest store it is a step with few writing calls; and whatever the store is, it stays as honest as it was, and a refusal of it is counted
 pub record Ran {S B : Type 0} (t : Traits S B) (old : Session S B) (e : Exchange) (new : Session S B) : Type 0 where
-  pub steps : OverHonest t old e new StepsBy
+  pub steps : OverHonest t old e new StepsFrom
   pub writes : BoundsWrites t old e new
   pub honest : t.0.is_honest new.store ≡ t.0.is_honest old.store
   pub refused : t.0.refused_calls new.store ≡ refused_with (t.0.refused_calls old.store) e.1

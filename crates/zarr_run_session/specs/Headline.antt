@@ -2,7 +2,6 @@
 use Rattle.std.specs.Prelude.{◌≡◌, ◌⊎◌, ℕ, List, [], ◌∷◌, ◌++◌, length, take, All, bytes_eq, Bool, true, false, if◌then◌else◌, Some, None}
 use Rattle.std.specs.FinMap.{empty}
 use Rattle.std.specs.Option.{option_map_or}
-use Rattle.zarr_codecs_meaning.specs.Chains.{ByteCodec}
 use Rattle.zarr_codecs_meaning.specs.Fits.{is_plain}
 use Rattle.zarr_codecs_metadata.specs.Chains.{ReadsCodecs}
 use Rattle.zarr_codecs_options.specs.declared.codec_options.CodecOptions.{CodecOptions}
@@ -17,16 +16,8 @@ use Rattle.zarr_run_meaning.specs.Sound.{IsSound, IsSoundAlone, BeginsSound, Ope
 use Rattle.zarr_run_meaning.specs.Steps.{Step}
 use Rattle.zarr_run_meaning.specs.Tight.{IsTightAlone, IsTightHeld, IsEncodedAt, AllAskRowMajor}
 use Rattle.zarr_run_meaning.specs.Worlds.{Held, World, array_of, held_at, is_row_major, writes_exactly}
-use Rattle.zarr_run_opening.specs.Sessions.{State, IsIn}
-use Rattle.zarr_run_session.specs.Sessions.{Contents}
-
--- a command with its answer
-abbrev pub Exchange : Type 0
-Exchange = Request × Answer
-
--- commands with their answers
-abbrev pub Exchanges : Type 0
-Exchanges = List Request × List Answer
+use Rattle.zarr_run_opening.specs.Sessions.{Codecs, State, IsIn, Exchange}
+use Rattle.zarr_run_session.specs.Sessions.{Exchanges, Contents}
 
 -- ---- what a command leaves
 
@@ -169,10 +160,6 @@ abbrev pub AnswersAlone : ReadsCodecs → List ℕ → World → Exchanges → (
 AnswersAlone reads path before es Holds = (after : World) × RunOf (AloneStep reads path) before es.0 es.1 after × EndsAlone reads path before es after × Holds after
 
 -- ---- one command of a session
-
--- what the caller's codecs do, and which of them metadata says
-abbrev pub Codecs : Type 0 → Type 0
-Codecs B = (B → ByteCodec) × ReadsCodecs
 
 -- from a world, a step with this answer leads to one that the new state is in, and of which this holds
 abbrev pub StepsTo : {B : Type 0} → Codecs B → World → Exchange → State B → (World → Type 0) → Type 0

@@ -10,7 +10,7 @@ use Rattle.zarr_run_meaning.specs.Requests.{Request, Answer}
 use Rattle.zarr_run_meaning.specs.Runs.{Run, world_over}
 use Rattle.zarr_run_meaning.specs.Steps.{refused_after}
 use Rattle.zarr_run_meaning.specs.Worlds.{World}
-use Rattle.zarr_run_opening.specs.Sessions.{State, IsIn, array_at, document_of}
+use Rattle.zarr_run_opening.specs.Sessions.{Codecs, State, IsIn, array_at, document_of}
 use Rattle.zarr_run_opening.specs.declared.held.HeldArray.{HeldArray}
 use Rattle.zarr_run_session.specs.declared.session.Session.{Session}
 
@@ -31,9 +31,13 @@ abbrev pub refused_with : ℕ → Answer → ℕ
 refused_with count (ask.refused c n) = refused_after c count
 refused_with count answer = count
 
+-- commands with their answers
+abbrev pub Exchanges : Type 0
+Exchanges = List Request × List Answer
+
 -- from each world that the old state is in, a run of commands with these answers leads to one that the new state is in
-abbrev pub RunsFrom : {B : Type 0} → (B → ByteCodec) → ReadsCodecs → State B → List Request → List Answer → State B → Type 0
-RunsFrom meaning reads old requests answers new = (before : World) → IsIn meaning reads old before → (after : World) × Run reads before requests answers after × IsIn meaning reads new after
+abbrev pub RunsFrom : {B : Type 0} → Codecs B → State B → Exchanges → State B → Type 0
+RunsFrom codecs old es new = (before : World) → IsIn codecs.0 codecs.1 old before → (after : World) × Run codecs.1 before es.0 es.1 after × IsIn codecs.0 codecs.1 new after
 
 -- what a store holds, and how many of its calls it has refused
 abbrev pub Contents : Type 0

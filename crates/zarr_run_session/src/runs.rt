@@ -29,8 +29,8 @@ pub fn run_on<R: Threads + Sync, S: WritableStorageTraits, B: BytesToBytesCodecT
     commands: &[Command],
 ) -> Result<Vec<Reply>, AllocError>
     ensures runs { IsTrue (S.is_honest (store_of session.old)) → IfOk result (λ replies.
-        RunsFrom B.meaning B.reads (state_of S.held S.refused_calls session.old)
-        (map asked commands.now) (map answered replies.items)
+        RunsFrom (B.meaning, B.reads) (state_of S.held S.refused_calls session.old)
+        (map asked commands.now, map answered replies.items)
         (state_of S.held S.refused_calls session.new)) }
     // the tables, what rewrites leave and tight layout: of all arrays, and of one alone
     ensures tables { IsTrue (S.is_honest (store_of session.old)) → IfOk result (λ replies.

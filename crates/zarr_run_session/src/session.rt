@@ -63,7 +63,8 @@ impl<S: WritableStorageTraits, B: BytesToBytesCodecTraits> Session<S, B> {
 impl<S: WritableStorageTraits, B: BytesToBytesCodecTraits + Sync> Session<S, B> {
     ghost use Rattle.std.specs.Prelude.{◌≡◌};
     ghost use Rattle.zarr_run_commands.specs.Commands.{asked, answered};
-    ghost use Rattle.zarr_run_session.specs.Commands.{BoundsWrites, OverHonest, Ran, StepsBy};
+    ghost use Rattle.zarr_run_opening.specs.Sessions.{StepsFrom};
+    ghost use Rattle.zarr_run_session.specs.Commands.{BoundsWrites, OverHonest, Ran};
     ghost use Rattle.zarr_run_session.specs.Headline.{KeepsTables, KeepsAlone, RewritesAfresh, KeepsTight};
     ghost use Rattle.zarr_run_session.specs.Sessions.{refused_with, store_of};
 
@@ -73,7 +74,7 @@ impl<S: WritableStorageTraits, B: BytesToBytesCodecTraits + Sync> Session<S, B> 
     /// storing its cells afresh leaves. Exactly `Store` counts a refused call.
     pub fn step<R: Threads + Sync>(&mut self, rt: &R, command: &Command) -> Reply
         ensures steps { OverHonest (S.ReadableStorageTraits, B.BytesToBytesCodecTraits) self.old
-            (asked command.now, answered result) self.new StepsBy }
+            (asked command.now, answered result) self.new StepsFrom }
         // all tables and one alone, what rewrites leave, and tight layout
         ensures tables { OverHonest (S.ReadableStorageTraits, B.BytesToBytesCodecTraits) self.old
             (asked command.now, answered result) self.new KeepsTables }

@@ -25,7 +25,7 @@ loop-command-preserved g c = record {
       let old = state_of g.S.ReadableStorageTraits.held g.S.ReadableStorageTraits.refused_calls c.args.session.now in
       let mid = state_of g.S.ReadableStorageTraits.held g.S.ReadableStorageTraits.refused_calls c.loop-command.session in
       let new = state_of g.S.ReadableStorageTraits.held g.S.ReadableStorageTraits.refused_calls c.step-reply.new.self in
-      let P : Command → Type 0 = λ d. StepsFrom meaning reads mid (asked d) (answered c.step-reply.result) new in
+      let P : Command → Type 0 = λ d. StepsFrom (meaning, reads) mid (asked d, answered c.step-reply.result) new in
       rw c.enter.ensures.items
       (runs_more g.row.B.Denot meaning reads old mid new c.args.commands.now c.loop-command.command-index c.command-item.result c.loop-command.replies.items c.step-reply.result c.loop-command-test.true
       (c.loop-command.invariant.ran honest) (subst P c.command-item.is (c.step-reply.ensures.steps (c.loop-command.invariant.honest ∙ honest))));

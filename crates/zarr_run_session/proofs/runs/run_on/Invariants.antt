@@ -5,8 +5,8 @@ use Rattle.zarr_run_session.proofs.runs.run_on.Given as goal
 
 abbrev pub invariant-loop-command : goal.invariant-loop-command
 invariant-loop-command g l = record {
-  ran : IsTrue (g.S.ReadableStorageTraits.is_honest (store_of l.fn.session)) → RunsFrom g.B.BytesToBytesCodecTraits.meaning g.B.BytesToBytesCodecTraits.reads
-      (state_of g.S.ReadableStorageTraits.held g.S.ReadableStorageTraits.refused_calls l.fn.session) (map asked (take l.command-index l.commands)) (map answered l.replies.items)
+  ran : IsTrue (g.S.ReadableStorageTraits.is_honest (store_of l.fn.session)) → RunsFrom (g.B.BytesToBytesCodecTraits.meaning, g.B.BytesToBytesCodecTraits.reads)
+      (state_of g.S.ReadableStorageTraits.held g.S.ReadableStorageTraits.refused_calls l.fn.session) (map asked (take l.command-index l.commands), map answered l.replies.items)
       (state_of g.S.ReadableStorageTraits.held g.S.ReadableStorageTraits.refused_calls l.session);
   honest : g.S.ReadableStorageTraits.is_honest (store_of l.session) ≡ g.S.ReadableStorageTraits.is_honest (store_of l.fn.session);
   room : length l.commands ≤ vec_capacity l.replies;

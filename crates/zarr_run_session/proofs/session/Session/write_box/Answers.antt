@@ -34,7 +34,7 @@ returns g c = record {
       let readable = g.S.ReadableStorageTraits in
       let codec = g.B.BytesToBytesCodecTraits in
       write_steps g.row.B.Denot codec.meaning codec.reads c.args.self.now.arrays (readable.held old) (readable.held new) (readable.refused_calls old) (readable.refused_calls new)
-      c.args.path.now (ask.in_box (region_of c.args.region.now)) (given c.args.cells.now) c.args.options.now c.in-Ok.array.now c.write_box.result (answered c.reply_to_change.result)
+      c.args.path.now (record { target = ask.in_box (region_of c.args.region.now); cells = given c.args.cells.now; options = c.args.options.now }) c.in-Ok.array.now c.write_box.result (answered c.reply_to_change.result)
       c.in-Ok.ensures.ok c.write_box.ensures.store.refused c.reply_to_change.ensures (c.write_box.ensures.ok honest) (c.write_box.ensures.err honest);
   writes = λ honest world is.
       let old = c.args.self.now.store in

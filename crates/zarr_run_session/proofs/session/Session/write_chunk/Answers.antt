@@ -33,7 +33,7 @@ returns g c = record {
       let readable = g.S.ReadableStorageTraits in
       let codec = g.B.BytesToBytesCodecTraits in
       write_steps g.row.B.Denot codec.meaning codec.reads c.args.self.now.arrays (readable.held old) (readable.held new) (readable.refused_calls old) (readable.refused_calls new)
-      c.args.path.now (ask.in_chunk c.args.chunk.now) (given c.args.cells.now) c.args.options.now c.in-Ok.array.now c.write_chunk.result (answered c.reply_to_change.result)
+      c.args.path.now (record { target = ask.in_chunk c.args.chunk.now; cells = given c.args.cells.now; options = c.args.options.now }) c.in-Ok.array.now c.write_chunk.result (answered c.reply_to_change.result)
       c.in-Ok.ensures.ok c.write_chunk.ensures.store.refused c.reply_to_change.ensures (c.write_chunk.ensures.ok honest) (c.write_chunk.ensures.err honest);
   writes = λ honest world is.
       let old = c.args.self.now.store in
