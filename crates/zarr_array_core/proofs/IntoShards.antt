@@ -27,7 +27,7 @@ use Rattle.zarr_array_meaning.specs.Boxes.{cell_of_box}
 use Rattle.zarr_array_meaning.specs.Chunks.{holds_box, number_in}
 use Rattle.zarr_array_meaning.specs.Documents.{Document}
 use Rattle.zarr_array_meaning.specs.Writes.{Write}
-use Rattle.zarr_array_meaning.specs.Writing.{StopsInto, is_into_shard, may_be_in_part, shared_numbers}
+use Rattle.zarr_array_meaning.specs.Writing.{StopsInto, given_cell, is_into_shard, may_be_in_part, shared_numbers}
 use Rattle.zarr_array_core.specs.IntoShards.{HasNoRoomFor, IntoShardStops, IsPutInto, NotPutInto, Putting, PutsIntoShard, cells_over, cells_then, shard_refusal_of}
 use Rattle.zarr_array_core.specs.Outcomes.{IsStoreRefusal}
 use Rattle.zarr_array_core.proofs.ChunkPayloads.{listed_none, not_counted}
@@ -82,16 +82,13 @@ module _ (write : Write) (box : Region) (payload : Payload) (sub : List Cell) (r
   abbrev ns : List ℕ
   ns = numbers_of box.shape (part_of write.region box)
 
-  abbrev given : List ℕ → Cell
-  given = cell_of_box write.region write.cells fill
-
   -- what is put over cells that a chunk has
   put_over : (before : List Cell) (at : List ℕ → Cell) → length before ≡ product box.shape → ((place : List ℕ) → is_in_box box.start box.shape place ≡ true → cell_of_box box before fill place ≡ at place)
-      → put ns sub before ≡ map (λ place. if is_in_box write.region.start write.region.shape place then given place else at place) (places box.start box.shape)
+      → put ns sub before ≡ map (λ place. if is_in_box write.region.start write.region.shape place then given_cell write place else at place) (places box.start box.shape)
   put_over before at whole h =
-      cells_at_places box (put ns sub before) (λ place. if is_in_box write.region.start write.region.shape place then given place else at place) fill rank (length-put ns sub before ∙ whole)
+      cells_at_places box (put ns sub before) (λ place. if is_in_box write.region.start write.region.shape place then given_cell write place else at place) fill rank (length-put ns sub before ∙ whole)
       (λ place inside. by (is_in_box write.region.start write.region.shape place) place refl inside) where
-        by : (t : Bool) (place : List ℕ) → is_in_box write.region.start write.region.shape place ≡ t → is_in_box box.start box.shape place ≡ true → get_or (put ns sub before) (number_in box place) fill ≡ (if t then given place else at place)
+        by : (t : Bool) (place : List ℕ) → is_in_box write.region.start write.region.shape place ≡ t → is_in_box box.start box.shape place ≡ true → get_or (put ns sub before) (number_in box place) fill ≡ (if t then given_cell write place else at place)
         by true place r inside = cell_in write box payload sub are before place whole r inside
         by false place r inside = cell_out write box payload sub are before place r inside ∙ h place inside
 

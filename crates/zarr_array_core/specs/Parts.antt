@@ -53,14 +53,14 @@ FindsAt array store chunk (Some part) = (box : Region) → IsInGrid array.docume
 
 -- ---- a chunk that a box meets
 
--- a chunk of an array, of which a box meets places, and what is stored for it
+-- a chunk of an array that a box meets, and what is stored for it
 pub record MetChunk : Type 0 where
   pub document : Document
   pub region : Region
   pub box : Region
   pub stored : Option (List ℕ)
 
--- a chunk with this box that a region meets, as a store holds it
+-- a chunk that a region meets, its box, and what a store holds for it
 abbrev pub met_in : Array → StoreMap → Region → List ℕ → Region → MetChunk
 met_in array store region chunk box = record { document = array.document; region = region; box = box; stored = value_at array store chunk }
 
