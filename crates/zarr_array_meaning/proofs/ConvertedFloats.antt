@@ -5,11 +5,11 @@ use Rattle.serde_json.specs.Data.{Data, null, boolean, number, unsigned, string,
 use Rattle.serde_json.specs.Find.{get_member, as_str}
 use Rattle.serde_json.specs.View.{items_of}
 use Rattle.serde_json.specs.Written.{has_float, items_have_float, members_have_float}
-use Rattle.zarr_grids_metadata.specs.ExtensionPoints.{ExtensionPoint, configured, written_point}
+use Rattle.zarr_grids_metadata.specs.ExtensionPoints.{configured, written_point}
 use Rattle.zarr_grids_metadata.proofs.PointLemmas.{float_written}
 use Rattle.zarr_grids_metadata.proofs.PutLemmas.{float_put, float_got}
 use Rattle.zarr_array_v2.specs.Attributes.{without, with_attributes}
-use Rattle.zarr_array_v2.specs.Codecs.{point, falling, dimensions_of, order_codecs, bytes_codec, codec_named, codec_of, codec_in, codecs_in, filters_in, compressor_in}
+use Rattle.zarr_array_v2.specs.Codecs.{point, falling, dimensions_of, order_codecs, bytes_codec, codec_named, codec_in, codecs_in, filters_in, compressor_in}
 use Rattle.zarr_array_v2.specs.Conversion.{endian_of, codecs_of, separator_of, chunk_grid_of, chunk_key_encoding_of, v3_fields, to_v3}
 use Rattle.zarr_array_v2.specs.Dtypes.{Dtype, dtype_in, data_type_of, is_bool, is_null, is_number, boolean_fill, number_fill, fill_value_of}
 use Rattle.zarr_array_v2.specs.Fields.{Fields, fields_in}

@@ -1,15 +1,15 @@
 -- What a version 2 document is converted to says what it says.
-use Rattle.std.proofs.Common.{◌≡◌, ◌≤◌, codes, Bool, true, false, not, nat_le, ◌==◌, Option, Some, None, Result, Ok, Err, refl, sym, ap, ◌∙◌}
+use Rattle.std.proofs.Common.{◌≡◌, ◌≤◌, Bool, true, false, not, nat_le, Some, Result, Ok, refl, sym, ap, ◌∙◌}
 use Rattle.std.specs.Option.{ok_or, option_map_or}
 use Rattle.std.proofs.lemmas.Bool.{le-leb, not_from_false}
-use Rattle.serde_json.specs.Data.{Data, object, Members, depth}
+use Rattle.serde_json.specs.Data.{object, Members, depth}
 use Rattle.serde_json.specs.Written.{has_float}
 use Rattle.zarr_codecs_metadata.specs.Chains.{ReadsCodecs}
 use Rattle.zarr_array_v2.specs.Conversion.{to_v3}
 use Rattle.zarr_array_v2.specs.Dtypes.{is_number}
 use Rattle.zarr_array_v2.specs.Versions.{has_version_2}
 use Rattle.zarr_array_v2.proofs.Converted.{converts}
-use Rattle.zarr_array_meaning.specs.Documents.{Metadata, ◌>>=◌, depth_limit, read_members, version_3_of, read_metadata}
+use Rattle.zarr_array_meaning.specs.Documents.{Metadata, depth_limit, read_members, version_3_of, read_metadata}
 use Rattle.zarr_array_meaning.specs.declared.error.DocumentError.{DocumentError}
 use Rattle.zarr_array_meaning.specs.declared.error.DocumentError.TheVariants.{Fields}
 use Rattle.zarr_array_meaning.proofs.ConvertedFloats.{converted_float}

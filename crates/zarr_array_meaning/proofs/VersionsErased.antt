@@ -1,19 +1,18 @@
 -- A path has one document that is asked for, and the documents that are erased are gone.
-use Rattle.std.proofs.Common.{◌≡◌, ℕ, List, [], ◌∷◌, ◌++◌, map, bytes_eq, cond, Bool, true, false, not, ◌||◌, if◌then◌else◌, Option, Some, None, MatchBool, subst, refl, sym, ap, ◌∙◌}
+use Rattle.std.proofs.Common.{◌≡◌, ℕ, List, [], ◌∷◌, ◌++◌, map, bytes_eq, cond, Bool, true, false, ◌||◌, if◌then◌else◌, Option, Some, None, MatchBool, subst, refl, sym, ap, ◌∙◌}
 use Rattle.std.specs.FinMap.{get, remove, get-remove}
-use Rattle.std.proofs.lemmas.Bool.{both_ways, or_parts, or_left, or_right}
+use Rattle.std.proofs.lemmas.Bool.{or_parts, or_left, or_right}
 use Rattle.std.proofs.lemmas.Cmp.{nat_list_cmp_total}
 use Rattle.std.proofs.lemmas.Map.Text.{is_eq-slice_cmp}
 use Rattle.std.proofs.lemmas.Slice.Eq.{bytes_eq-Decides}
 use Rattle.serde_json.specs.Data.{Data}
 use Rattle.zarr_grids_keys.specs.Documents.{document_key}
-use Rattle.zarr_grids_keys.specs.declared.document_name.DocumentName.{DocumentName}
 use Rattle.zarr_grids_keys.specs.declared.document_name.DocumentName.TheVariants.{ZarrJson, ZArray, ZAttrs}
 use Rattle.zarr_array_v2.specs.Versions.{is_version_2}
 use Rattle.zarr_array_meaning.specs.Chunks.{is_listed}
 use Rattle.zarr_array_meaning.specs.StoreMaps.{StoreMap}
 use Rattle.zarr_array_meaning.specs.Texts.{HasTree, HasParts, HasDocument}
-use Rattle.zarr_array_meaning.specs.Versions.{Retrieves, erases_3, erases_2, erased_names, erased_keys, without_keys, ErasesDocuments}
+use Rattle.zarr_array_meaning.specs.Versions.{Retrieves, erases_3, erases_2, erased_keys, without_keys, ErasesDocuments}
 use Rattle.zarr_array_meaning.specs.declared.versions.MetadataRetrieveVersion.{MetadataRetrieveVersion}
 use Rattle.zarr_array_meaning.specs.declared.versions.MetadataRetrieveVersion.TheVariants as retrieve
 use Rattle.zarr_array_meaning.specs.declared.versions.MetadataEraseVersion.{MetadataEraseVersion}
