@@ -26,7 +26,7 @@ use Rattle.zarr_run_meaning.specs.Causes.{IsChunkKey, IsChunkKeyIn, HasBadDocume
 use Rattle.zarr_run_meaning.specs.Changes.{Creates, Reopens, Opens}
 use Rattle.zarr_run_meaning.specs.Laws.{EmptyOwned, StepsOwn, RunsOwn, HasNoAttributes, OwnedHasNoChunks, OpensNone}
 use Rattle.zarr_run_meaning.specs.Requests.{Request, Answer}
-use Rattle.zarr_run_meaning.specs.Sound.{EndsOtherwise, HasNoChunks, OwnsKey, IsOwnKey, IsAttributesKey, IsOwned, OwnsKeysUnder, IsSound}
+use Rattle.zarr_run_meaning.specs.Sound.{EndsOtherwise, HasNoChunks, OwnsKey, IsOwnKey, IsAttributesKey, IsOwned, OwnsKeysUnder}
 use Rattle.zarr_run_meaning.specs.Tables.{Table}
 use Rattle.zarr_run_meaning.specs.Worlds.{Held, World, held_at, is_taken, with_order, WithTable}
 use Rattle.zarr_run_meaning.proofs.Arrays.{AreNodes, Stayed, at_path, near, apart, held_own, held_at-before, held_at-new, held_at-reordered, held_after, free_of, free_none}

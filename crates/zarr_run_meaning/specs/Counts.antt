@@ -1,5 +1,5 @@
 -- How many writing calls of the store a command may make: one for each text of a document that it stores, and one for each chunk that it writes or erases.
-use Rattle.std.specs.Prelude.{ℕ, length, true, if◌then◌else◌, Option}
+use Rattle.std.specs.Prelude.{ℕ, length, true, if◌then◌else◌}
 use Rattle.std.specs.Option.{option_map_or}
 use Rattle.zarr_grids_boxes.specs.Boxes.{product}
 use Rattle.zarr_grids_chunks.specs.Grids.{Grid, intersecting}
