@@ -65,7 +65,7 @@ takes-line old new limit n piece line count some within is drops strips rest kno
     let dropped : new ≡ Some (drop_through 10 (take k rest)) = known-at old (λ xs. new ≡ Some (drop_through 10 xs)) (take k rest) known drops in
     let whole : piece ≡ take_through 10 rest = piece-is ∙ through.taken in
     let after : new ≡ Some (take (limit - n + 1) (drop_through 10 rest)) =
-        dropped ∙ ap Some (through.left ∙ ap (λ m. take (k - m) (drop_through 10 rest)) long ∙ ap (λ m. take m (drop_through 10 rest)) (same-limit limit n within)) in
+    dropped ∙ ap Some (through.left ∙ ap (λ m. take (k - m) (drop_through 10 rest)) long ∙ ap (λ m. take m (drop_through 10 rest)) (same-limit limit n within)) in
     record {
       some = λ e. some (sym long ∙ none-through k rest e);
       first = strips ∙ ap (strip_last 10) whole;
