@@ -11,6 +11,7 @@ ghost use Rattle.zarr_sharding_places.specs.Placed.{Shows};
 
 use crate::box_reading::IndexedPlaces;
 use crate::codec::ShardingCodec;
+use crate::subchunks::part_shape;
 use crate::whole_subchunk::are_equal;
 use std::alloc::{AllocError, Global};
 use zarr_codecs_arrays::{ArrayBytes, CodecError, Elements};
@@ -18,6 +19,7 @@ use zarr_codecs_options::CodecOptions;
 use zarr_codecs_regions::count_asked;
 use zarr_codecs_traits::{
     ArrayPart, ArrayToBytesCodecTraits, BytesPartialDecoderTraits, Indexer, MemorySource,
+    WholeArray,
 };
 use zarr_grids_boxes::walk::count_places;
 use zarr_sharding_index::held::{fetch_index, fetch_slice};
@@ -42,6 +44,13 @@ pub struct OpenedShard<'a> {
 pub struct NumberedPlaces<'a> {
     pub shape: &'a [u64],
     pub numbers: &'a [u64],
+}
+
+/// Places of one subchunk, and that subchunk's shape.
+#[derive(Clone, Copy)]
+struct GroupPlaces<'a> {
+    shape: &'a [u64],
+    group: &'a [AskedPlace],
 }
 
 impl<I: ArrayToBytesCodecTraits, X: ArrayToBytesCodecTraits> ShardingCodec<I, X> {
@@ -195,7 +204,11 @@ impl<I: ArrayToBytesCodecTraits, X: ArrayToBytesCodecTraits> ShardingCodec<I, X>
         let mut rest = places.as_slice();
         while rest.len() > 0 {
             let (group, others) = leading_group(rest);
-            match self.read_group(alloc, source, shard, group, options) {
+            let subchunk = &self.subchunk_shape;
+            let edges = part_shape(alloc, asked.shape, subchunk, group[0].subchunk)?;
+            let shape = edges.as_slice();
+            let part = GroupPlaces { shape, group };
+            match self.read_group(alloc, source, shard, part, options) {
                 Ok(piece) => all = put_group(alloc, all, group, &piece, shard.elements)?,
                 Err(error) => return Err(error),
             }
@@ -231,40 +244,47 @@ impl<I: ArrayToBytesCodecTraits, X: ArrayToBytesCodecTraits> ShardingCodec<I, X>
         alloc: Global,
         source: &mut D,
         shard: OpenedShard<'_>,
-        group: &[AskedPlace],
+        part: GroupPlaces<'_>,
         options: &CodecOptions,
     ) -> Result<ArrayBytes, CodecError>
         requires fit { fits (I.meaning (inner_of self.now)) (elements_of shard.elements.now).type
-            (subchunk_of self.now) ≡ true }
-        requires some { 0 < length group.now }
-        requires pair { (get_or group.now 0 no_place).subchunk
+            part.shape.now ≡ true }
+        requires some { 0 < length part.group.now }
+        requires pair { (get_or part.group.now 0 no_place).subchunk
             < length (pairs_of shard.index.now) }
-        requires inside { list_all (λ n. nat_lt n (product (subchunk_of self.now)))
-            (map (λ place. place.inside) group.now) ≡ true }
+        requires inside { list_all (λ n. nat_lt n (product part.shape.now))
+            (map (λ place. place.inside) part.group.now) ≡ true }
         ensures part { IsTrue (D.is_honest source.old) → IsTotalOf (D.contents source.old)
             (pairs_of shard.entry.index.now) shard.entry.total
-            → ListsRead (elements_of shard.entry.elements.now) (subchunk_of self.now)
+            → ListsRead (elements_of shard.entry.elements.now) part.entry.shape.now
             (places_decoded (I.meaning (inner_of self.now)) (elements_of shard.entry.elements.now)
-            (unwrap_or (D.contents source.old) []) (subchunk_of self.now)
-            (get_or (pairs_of shard.entry.index.now) (get_or group.now 0 no_place).subchunk
-            absent_pair) (map (λ place. place.inside) group.now)) result }
+            (unwrap_or (D.contents source.old) []) part.entry.shape.now
+            (get_or (pairs_of shard.entry.index.now)
+            (get_or part.entry.group.now 0 no_place).subchunk absent_pair)
+            (map (λ place. place.inside) part.entry.group.now)) result }
         ensures refused { D.refused_calls source.new ≡
             refused_after (D.refused_calls source.old) result }
         ensures given { IsTrue (D.is_honest source.old) → D.given_bytes source.new
             ≤ D.given_bytes source.old
             + slice_length (get_or (pairs_of shard.entry.index.now)
-            (get_or group.now 0 no_place).subchunk absent_pair) }
+            (get_or part.entry.group.now 0 no_place).subchunk absent_pair) }
         ensures follows { D.follows source.old source.new }
     {
+        let elements = shard.elements;
+        let group = part.group;
         let pair = shard.index.get(group[0].subchunk as usize);
         if is_absent(pair) {
-            return Ok(fill_elements(alloc, shard.elements, group.len())?);
+            return Ok(fill_elements(alloc, elements, group.len())?);
         }
         match fetch_slice(alloc, source, shard.total, pair) {
             Ok(slice) => {
                 let insides = insides_of(alloc, group)?;
-                let indexer = Indexer::List(insides.as_slice());
-                self.read_slice(alloc, slice, indexer, shard.elements, options)
+                let asked = ArrayPart {
+                    elements,
+                    shape: part.shape,
+                    indexer: Indexer::List(insides.as_slice()),
+                };
+                self.read_slice(alloc, slice, asked, options)
             }
             Err(error) => Err(error),
         }
@@ -276,63 +296,60 @@ impl<I: ArrayToBytesCodecTraits, X: ArrayToBytesCodecTraits> ShardingCodec<I, X>
         &self,
         alloc: Global,
         slice: Vec<u8>,
-        indexer: Indexer<'_>,
-        elements: &Elements,
+        part: ArrayPart<'_>,
         options: &CodecOptions,
     ) -> Result<ArrayBytes, CodecError>
-        requires fit { fits (I.meaning (inner_of self.now)) (elements_of elements.now).type
-            (subchunk_of self.now) ≡ true }
-        requires some { 0 < length (numbers_asked (subchunk_of self.now) (asked_of indexer)) }
-        requires inside { are_inside (subchunk_of self.now) (asked_of indexer) ≡ true }
-        ensures part { Lists (elements_of elements.now) (subchunk_of self.now)
-            (slice_cells (I.meaning (inner_of self.now)) (elements_of elements.now)
-            (subchunk_of self.now) slice.items
-            (numbers_asked (subchunk_of self.now) (asked_of indexer.entry))) result }
+        requires fit { fits (I.meaning (inner_of self.now)) (elements_of part.elements.now).type
+            part.shape.now ≡ true }
+        requires some { 0 < length (numbers_asked part.shape.now (asked_of part.indexer)) }
+        requires inside { are_inside part.shape.now (asked_of part.indexer) ≡ true }
+        ensures part { Lists (elements_of part.entry.elements.now) part.entry.shape.now
+            (slice_cells (I.meaning (inner_of self.now)) (elements_of part.entry.elements.now)
+            part.entry.shape.now slice.items
+            (numbers_asked part.entry.shape.now (asked_of part.entry.indexer))) result }
         ensures no_source { (count : ℕ) → refused_after count result ≡ count }
     {
-        let shape = self.subchunk_shape.as_slice();
-        if asks_all(shape, indexer) {
-            return self.decode_slice(alloc, slice, elements, options);
+        if asks_all(part.shape, part.indexer) {
+            let array = WholeArray {
+                elements: part.elements,
+                shape: part.shape,
+            };
+            return self.decode_slice(alloc, slice, array, options);
         }
         let mut source = MemorySource::new(Some(slice));
-        let part = ArrayPart {
-            elements,
-            shape,
-            indexer,
-        };
         self.inner_codecs
             .partial_decode(alloc, &mut source, part, options)
     }
 
     /// The elements of the subchunk that a slice holds, all of them. `Damage` where one of them
-    /// cannot be decoded.
+    /// cannot be decoded. There is a place.
     pub(crate) fn decode_slice(
         &self,
         alloc: Global,
         slice: Vec<u8>,
-        elements: &Elements,
+        array: WholeArray<'_>,
         options: &CodecOptions,
     ) -> Result<ArrayBytes, CodecError>
-        requires { fits (I.meaning (inner_of self.now)) (elements_of elements.now).type
-            (subchunk_of self.now) ≡ true }
-        ensures part { Lists (elements_of elements.now) (subchunk_of self.now)
-            (slice_cells (I.meaning (inner_of self.now)) (elements_of elements.now)
-            (subchunk_of self.now) slice.items (place_numbers (subchunk_of self.now))) result }
+        requires fit { fits (I.meaning (inner_of self.now)) (elements_of array.elements.now).type
+            array.shape.now ≡ true }
+        requires some { 0 < product array.shape.now }
+        ensures part { Lists (elements_of array.entry.elements.now) array.entry.shape.now
+            (slice_cells (I.meaning (inner_of self.now)) (elements_of array.entry.elements.now)
+            array.entry.shape.now slice.items (place_numbers array.entry.shape.now)) result }
         ensures no_source { (count : ℕ) → refused_after count result ≡ count }
     {
-        let shape = self.subchunk_shape.as_slice();
-        if self.is_as_is(slice.as_slice(), elements) {
+        if self.is_as_is(slice.as_slice(), array) {
             return Ok(ArrayBytes::Fixed(slice));
         }
         self.inner_codecs
-            .decode(alloc, slice, elements, shape, options)
+            .decode(alloc, slice, array.elements, array.shape, options)
     }
 }
 
 /// Whether the places that are asked for, which are the array's, are told to be all of them, in
-/// their order. Of places that are listed it isn't told.
+/// their order, and there is one. Of places that are listed it isn't told.
 fn asks_all(shape: &[u64], indexer: Indexer<'_>) -> bool
-    requires some { 0 < product shape.now }
+    requires some { 0 < length (numbers_asked shape.now (asked_of indexer)) }
     requires inside { are_inside shape.now (asked_of indexer) ≡ true }
     ensures { result ≡ true →
         numbers_asked shape.now (asked_of indexer.entry) ≡ place_numbers shape.now }
