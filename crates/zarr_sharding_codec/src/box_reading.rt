@@ -6,6 +6,7 @@ ghost use Rattle.zarr_grids_boxes.specs.Boxes.{each2};
 use crate::codec::ShardingCodec;
 use crate::partial::{NumberedPlaces, OpenedShard, fill_elements};
 use crate::subchunks::{CutArray, subchunk_number, subchunk_region};
+use crate::updating::NumberedSubchunk;
 use std::alloc::{AllocError, Global};
 use zarr_codecs_arrays::{ArrayBytes, CodecError};
 use zarr_codecs_options::CodecOptions;
@@ -32,13 +33,6 @@ pub struct IndexedPlaces<'a> {
 pub(crate) struct AskedBox<'a> {
     pub shape: &'a [u64],
     pub region: &'a ArraySubset,
-}
-
-/// The number of a subchunk, and its shape.
-#[derive(Clone, Copy)]
-pub(crate) struct NumberedShape<'a> {
-    pub number: u64,
-    pub shape: &'a [u64],
 }
 
 /// A box of the places of a subchunk, and the subchunk's number and shape.
@@ -148,8 +142,10 @@ impl<I: ArrayToBytesCodecTraits, X: ArrayToBytesCodecTraits> ShardingCodec<I, X>
         ensures follows { D.follows source.old source.new }
     {
         if let Some(number) = self.subchunk_of_box(asked.shape, asked.region) {
-            let shape = asked.region.shape();
-            let found = NumberedShape { number, shape };
+            let found = NumberedSubchunk {
+                number: number as usize,
+                shape: asked.region.shape(),
+            };
             return self.read_whole(alloc, source, shard, found, options);
         }
         match self.subchunk_around(alloc, asked.shape, asked.region)? {
@@ -248,9 +244,10 @@ impl<I: ArrayToBytesCodecTraits, X: ArrayToBytesCodecTraits> ShardingCodec<I, X>
         }
         match fetch_slice(alloc, source, shard.total, pair) {
             Ok(slice) => {
+                let shape = found.shape.as_slice();
                 let part = ArrayPart {
                     elements: shard.elements,
-                    shape: found.shape.as_slice(),
+                    shape,
                     indexer: Indexer::Subset(region),
                 };
                 self.read_slice(alloc, slice, part, options)
@@ -266,7 +263,7 @@ impl<I: ArrayToBytesCodecTraits, X: ArrayToBytesCodecTraits> ShardingCodec<I, X>
         alloc: Global,
         source: &mut D,
         shard: OpenedShard<'_>,
-        found: NumberedShape<'_>,
+        found: NumberedSubchunk<'_>,
         options: &CodecOptions,
     ) -> Result<ArrayBytes, CodecError>
         requires fit { fits (I.meaning (inner_of self.now)) (elements_of shard.elements.now).type
@@ -289,7 +286,7 @@ impl<I: ArrayToBytesCodecTraits, X: ArrayToBytesCodecTraits> ShardingCodec<I, X>
     {
         let shape = found.shape;
         let elements = shard.elements;
-        let pair = shard.index.get(found.number as usize);
+        let pair = shard.index.get(found.number);
         if is_absent(pair) {
             let Some(count) = count_places(shape) else {
                 return Err(CodecError::Memory);
@@ -388,14 +385,16 @@ impl<I: ArrayToBytesCodecTraits, X: ArrayToBytesCodecTraits> ShardingCodec<I, X>
         ensures { IfOk result (IsCutOut shape.now (subchunk_of self.now) (region_of region.now)
             number) }
     {
-        let grid = grid_of(alloc, shape, &self.subchunk_shape)?;
-        let Some(count) = count_places(grid.as_slice()) else {
+        let edges = self.subchunk_shape.as_slice();
+        let counted = grid_of(alloc, shape, &self.subchunk_shape)?;
+        let grid = counted.as_slice();
+        let Some(count) = count_places(grid) else {
             return Err(AllocError);
         };
         let cut = CutArray {
             shape,
-            edges: self.subchunk_shape.as_slice(),
-            grid: grid.as_slice(),
+            edges,
+            grid,
             count,
         };
         let around = subchunk_region(alloc, cut, number)?;

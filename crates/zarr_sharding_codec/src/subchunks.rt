@@ -41,14 +41,16 @@ pub(crate) fn part_shape(
     requires below { n < product (grid_of shape.now subchunk.now) }
     ensures { IfOk result (λ made. made.items ≡ part_shape shape.now subchunk.now n) }
 {
-    let grid = grid_of(alloc, shape, subchunk)?;
-    let Some(count) = count_places(grid.as_slice()) else {
+    let edges = subchunk.as_slice();
+    let counted = grid_of(alloc, shape, subchunk)?;
+    let grid = counted.as_slice();
+    let Some(count) = count_places(grid) else {
         return Err(AllocError);
     };
     let cut = CutArray {
         shape,
-        edges: subchunk.as_slice(),
-        grid: grid.as_slice(),
+        edges,
+        grid,
         count,
     };
     let region = subchunk_region(alloc, cut, n)?;

@@ -15,6 +15,7 @@ impl<I: ArrayToBytesCodecTraits, X: ArrayToBytesCodecTraits> ShardingCodec<I, X>
     ghost use Rattle.zarr_grids_boxes.specs.Subsets.{region_of};
     ghost use Rattle.zarr_sharding_codec.specs.PartWriting.{AreSubchunk};
     ghost use Rattle.zarr_sharding_codec.specs.Views.{subchunk_of};
+    ghost use Rattle.zarr_sharding_places.specs.Locating.{part_shape};
 
     /// The number of the subchunk whose places are asked for, all of them in its order, or `None`
     /// where others are, or only some. The places are the array's.
@@ -34,8 +35,10 @@ impl<I: ArrayToBytesCodecTraits, X: ArrayToBytesCodecTraits> ShardingCodec<I, X>
     pub(crate) fn subchunk_of_box(&self, shape: &[u64], region: &ArraySubset) -> Option<u64>
         requires cuts { can_cut shape.now (subchunk_of self.now) ≡ true }
         requires inside { shape_has shape.now (region_of region.now) ≡ true }
-        ensures { IfSome result (AreSubchunk shape.now (subchunk_of self.now)
+        ensures places { IfSome result (AreSubchunk shape.now (subchunk_of self.now)
             (numbers_of shape.now (region_of region.now))) }
+        ensures shape { IfSome result (λ number. region.now.shape.items
+            ≡ part_shape shape.now (subchunk_of self.now) number) }
     {
         let edges = self.subchunk_shape.as_slice();
         let start = region.start();

@@ -168,7 +168,9 @@ fn locate(axes: &[Axis], n: u64) -> Option<Located>
     let within = along.checked_rem(axis.edge)?;
     let extent = axis.edge.min(axis.size.saturating_sub(first));
     Some(Located {
-        subchunk: block.checked_mul(axis.subchunks)?.checked_add(rest.subchunk)?,
+        subchunk: block
+            .checked_mul(axis.subchunks)?
+            .checked_add(rest.subchunk)?,
         inside: within.checked_mul(rest.count)?.checked_add(rest.inside)?,
         count: extent.checked_mul(rest.count)?,
     })
