@@ -1,5 +1,5 @@
 -- The sum of what is told of the sizes of subchunks.
-use Rattle.std.proofs.Common.{◌≡◌, ◌∙◌, ℕ, zero, suc, ◌+◌, ◌-◌, ◌*◌, ◌/◌, ◌%◌, ◌^◌, ◌<◌, ◌≤◌, min, List, [], ◌∷◌, ◌++◌, length, map, get_or, replicate, ap, sym, refl, subst, arith, inl, inr, Option, Some, None, Err, option_and_then, option_map, append-nil, length-append}
+use Rattle.std.proofs.Common.{◌≡◌, ◌∙◌, ℕ, zero, suc, ◌+◌, ◌-◌, ◌*◌, ◌/◌, ◌%◌, ◌^◌, ◌<◌, ◌≤◌, min, List, [], ◌∷◌, ◌++◌, length, map, get_or, replicate, ap, sym, refl, subst, arith, inl, inr, Option, Some, None, Result, Ok, Err, option_and_then, option_map, append-nil, length-append}
 use Rattle.std.specs.List.{flat_map}
 use Rattle.std.proofs.Math.ListN.{get_or-append}
 use Rattle.std.proofs.lemmas.Bool.{cases_lt}
@@ -11,9 +11,10 @@ use Rattle.zarr_codecs_meaning.specs.Fits.{bound_of, representation_of, sum_of_b
 use Rattle.zarr_codecs_meaning.specs.Places.{Part}
 use Rattle.zarr_codecs_meaning.proofs.Bounds.{plus}
 use Rattle.zarr_codecs_meaning.proofs.Lists.{some_same}
+use Rattle.zarr_codecs_arrays.specs.declared.error.CodecError.{CodecError}
 use Rattle.zarr_codecs_arrays.specs.declared.error.CodecError.TheVariants as error
 use Rattle.zarr_codecs_traits.specs.Representations.{RepresentsArray}
-use Rattle.zarr_sharding_codec.specs.Fitting.{IsOneTooLong, behind, bound_of_shapes, capped, shapes_behind}
+use Rattle.zarr_sharding_codec.specs.Fitting.{BoundsShapes, IsOneTooLong, behind, bound_of_shapes, capped, shapes_behind}
 use Rattle.zarr_sharding_codec.proofs.PartShapes.{behind_short, behind_step, even_lengths, left_over, lengths_along, more_lengths, shapes_with, some_whole}
 
 -- ---- sums
@@ -196,6 +197,25 @@ module _ (inner : Chain) (type : DataType) where
         let are = behind_step front n p ns ps some ∙ (ap (flat_map (shapes_with front ns ps)) (more_lengths n p left) ∙ flat_map-append (shapes_with front ns ps) (replicate (n / p) p) (n % p ∷ [])) in
         subst (IsOneTooLong inner type) (sym are)
         (long_right (flat_map (shapes_with front ns ps) (replicate (n / p) p)) (shapes_with front ns ps (n % p) ++ []) (long_left (shapes_with front ns ps (n % p)) [] long))
+
+-- ---- what is found of the shapes, by the first dimension
+
+module _ (inner : Chain) (type : DataType) (front : List ℕ) (n p : ℕ) (ns ps : List ℕ) where
+  pub shapes_bounded_short : (found : Result (Option ℕ) CodecError) → 0 < n → n < p → BoundsShapes inner type (behind (front ++ n ∷ []) ns ps) found → BoundsShapes inner type (behind front (n ∷ ns) (p ∷ ps)) found
+  shapes_bounded_short (Ok bound) some less is = is ∙ ap (option_map capped) (bounds_short inner type front n p ns ps some less)
+  shapes_bounded_short (Err error.Size) some less long = long_short inner type front n p ns ps some less long
+  shapes_bounded_short (Err error.Memory) some less is = tt
+  shapes_bounded_short (Err e) some less is = absurd is
+
+  pub shapes_unbounded_whole : (e : CodecError) → 0 < p → p ≤ n → BoundsShapes inner type (behind (front ++ p ∷ []) ns ps) (Err e) → BoundsShapes inner type (behind front (n ∷ ns) (p ∷ ps)) (Err e)
+  shapes_unbounded_whole error.Size some fit long = long_whole inner type front n p ns ps some fit long
+  shapes_unbounded_whole error.Memory some fit is = tt
+  shapes_unbounded_whole e some fit is = absurd is
+
+  pub shapes_unbounded_last : (e : CodecError) → 0 < p → 0 < n % p → BoundsShapes inner type (behind (front ++ n % p ∷ []) ns ps) (Err e) → BoundsShapes inner type (behind front (n ∷ ns) (p ∷ ps)) (Err e)
+  shapes_unbounded_last error.Size some left long = long_last inner type front n p ns ps some left long
+  shapes_unbounded_last error.Memory some left is = tt
+  shapes_unbounded_last e some left is = absurd is
 
 -- ---- all subchunks
 

@@ -65,10 +65,10 @@ impl<I: ArrayToBytesCodecTraits, X: ArrayToBytesCodecTraits> ShardingCodec<I, X>
         ensures { IfOk result (λ fit. fit ≡ parts_fit (I.meaning (inner_of self.now))
             (type_of data_type.now) shape.now (subchunk_of self.now)) }
     {
+        let edges = self.subchunk_shape.as_slice();
         if has_no_place(shape) {
             return Ok(true);
         }
-        let edges = self.subchunk_shape.as_slice();
         let front = Vec::new(alloc);
         let front = front.as_slice();
         suits_shapes(&self.inner_codecs, alloc, data_type, front, shape, edges)
