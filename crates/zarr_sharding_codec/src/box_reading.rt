@@ -258,12 +258,12 @@ impl<I: ArrayToBytesCodecTraits, X: ArrayToBytesCodecTraits> ShardingCodec<I, X>
 
     /// The elements of one subchunk of the shard that a source holds, all of them: fill values
     /// where it is absent, else those of its slice. There is one.
-    fn read_whole<D: BytesPartialDecoderTraits>(
+    fn read_whole<'a, D: BytesPartialDecoderTraits>(
         &self,
         alloc: Global,
         source: &mut D,
-        shard: OpenedShard<'_>,
-        found: NumberedSubchunk<'_>,
+        shard: OpenedShard<'a>,
+        found: NumberedSubchunk<'a>,
         options: &CodecOptions,
     ) -> Result<ArrayBytes, CodecError>
         requires fit { fits (I.meaning (inner_of self.now)) (elements_of shard.elements.now).type

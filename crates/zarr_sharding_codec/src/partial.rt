@@ -239,12 +239,12 @@ impl<I: ArrayToBytesCodecTraits, X: ArrayToBytesCodecTraits> ShardingCodec<I, X>
 
     /// The elements at places of one subchunk of the shard that a source holds: fill values where
     /// the subchunk is absent, else those of its slice. There is a place.
-    fn read_group<D: BytesPartialDecoderTraits>(
+    fn read_group<'a, D: BytesPartialDecoderTraits>(
         &self,
         alloc: Global,
         source: &mut D,
-        shard: OpenedShard<'_>,
-        part: GroupPlaces<'_>,
+        shard: OpenedShard<'a>,
+        part: GroupPlaces<'a>,
         options: &CodecOptions,
     ) -> Result<ArrayBytes, CodecError>
         requires fit { fits (I.meaning (inner_of self.now)) (elements_of shard.elements.now).type
@@ -271,6 +271,7 @@ impl<I: ArrayToBytesCodecTraits, X: ArrayToBytesCodecTraits> ShardingCodec<I, X>
         ensures follows { D.follows source.old source.new }
     {
         let elements = shard.elements;
+        let shape = part.shape;
         let group = part.group;
         let pair = shard.index.get(group[0].subchunk as usize);
         if is_absent(pair) {
@@ -279,10 +280,11 @@ impl<I: ArrayToBytesCodecTraits, X: ArrayToBytesCodecTraits> ShardingCodec<I, X>
         match fetch_slice(alloc, source, shard.total, pair) {
             Ok(slice) => {
                 let insides = insides_of(alloc, group)?;
+                let indexer = Indexer::List(insides.as_slice());
                 let asked = ArrayPart {
                     elements,
-                    shape: part.shape,
-                    indexer: Indexer::List(insides.as_slice()),
+                    shape,
+                    indexer,
                 };
                 self.read_slice(alloc, slice, asked, options)
             }

@@ -9,7 +9,7 @@ ghost use Rattle.zarr_codecs_traits.specs.Indexers.{shape_has, numbers_of};
 ghost use Rattle.zarr_grids_boxes.specs.Boxes.{each2, product, ravel};
 ghost use Rattle.zarr_grids_boxes.specs.Subsets.{region_of};
 ghost use Rattle.zarr_grids_overlay.specs.Overlays.{IsOverlaid, extent_of};
-ghost use Rattle.zarr_sharding_places.specs.Locating.{part_shape, subchunk_box};
+ghost use Rattle.zarr_sharding_places.specs.Locating.{numbered, part_shape, subchunk_box};
 
 use std::alloc::{AllocError, Global};
 use zarr_codecs_arrays::ArrayBytes;
@@ -102,14 +102,27 @@ pub(crate) fn move_to_subchunk(
     if start.len() != cut.grid.len() || cut.edges.len() != cut.grid.len() {
         return Err(AllocError);
     }
-    place_into(first, cut.grid, cut.count, n, start.as_mut_slice());
-    multiply(start.as_mut_slice(), cut.edges)?;
+    let place = start.as_mut_slice();
+    index_into(first, cut.grid, cut.count, n, place);
+    multiply(place, cut.edges)?;
     shape.clear();
     push_lengths(start.as_slice(), cut.shape, cut.edges, &mut shape)?;
     match ArraySubset::new_with_start_shape(start, shape) {
         Ok(moved) => Ok(moved),
         Err(_) => Err(AllocError),
     }
+}
+
+/// Writes the index of the subchunk with number `n`, row-major, of a grid that has so many and
+/// begins at this place.
+fn index_into(first: &[u64], grid: &[u64], count: u64, n: u64, index: &mut [u64])
+    requires first { first.now ≡ replicate (length grid.now) 0 }
+    requires count { count ≡ product grid.now }
+    requires below { n < product grid.now }
+    requires room { length index.old ≡ length grid.now }
+    ensures { index.new ≡ numbered grid.now n }
+{
+    place_into(first, grid, count, n, index);
 }
 
 /// The number, row-major, of the subchunk that a place of an array lies in, and how many subchunks

@@ -50,7 +50,7 @@ returns g c =
       overlap = c.in-Ok.ensures.made ∙ ap (overlapped region) box;
       target_is = c.in-Ok-relative_to-2.ensures.made ∙ ap (relative (region_of both)) c.start-3.ensures;
       target_long = target.same;
-      target_in = ap (λ s. shape_has s (region_of target)) (sym c.shape-2.ensures) ∙ (sym c.is_inside-else-not-is_inside.ensures ∙ c.if-not-is_inside-2.false);
+      target_in = ap (λ s. shape_has s (region_of target)) (sym c.shape-else-not-is_inside.ensures) ∙ (sym c.is_inside-else-not-is_inside.ensures ∙ c.if-not-is_inside-2.false);
     } in
     let edges = ap (λ (b : Region). b.shape) box in
     let size = ap product here.shape_is in

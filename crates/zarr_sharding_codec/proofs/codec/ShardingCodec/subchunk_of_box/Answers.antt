@@ -15,7 +15,7 @@ returns g c =
     let n = c.in_ok-number.number in
     let edges = c.as_slice-edges.result.now in
     let same = c.as_slice-edges.ensures.edges in
-    let at_ = c.start.ensures in
+    let at_ = c.start-start.ensures in
     let told = c.if-not-is_subchunk.false in
     let start_is : region.start ≡ (box_of shape subchunk (block region.start subchunk)).start =
     sym at_ ∙ (c.is_subchunk.ensures.start told ∙ (ap (λ (s : List ℕ). (box_of shape edges (block s edges)).start) at_ ∙ ap (λ (e : List ℕ). (box_of shape e (block region.start e)).start) same)) in
