@@ -136,10 +136,9 @@ impl<I: ArrayToBytesCodecTraits, X: ArrayToBytesCodecTraits> ShardingCodec<I, X>
         match self.whole_subchunk(given.shape, given.indexer) {
             Some(n) => {
                 let lengths = part_shape(alloc, given.shape, &self.subchunk_shape, n)?;
-                let subchunk = NumberedSubchunk {
-                    number: n as usize,
-                    shape: lengths.as_slice(),
-                };
+                let shape = lengths.as_slice();
+                let number = n as usize;
+                let subchunk = NumberedSubchunk { number, shape };
                 let bytes = given.bytes;
                 let whole = SubchunkElements { subchunk, bytes };
                 match self.replace_subchunk(alloc, source, shard, whole, options) {
@@ -207,10 +206,11 @@ impl<I: ArrayToBytesCodecTraits, X: ArrayToBytesCodecTraits> ShardingCodec<I, X>
         while rest.len() > 0 {
             let (group, others) = leading_group(rest);
             let lengths = part_shape(alloc, shape, &self.subchunk_shape, group[0].subchunk)?;
+            let edges = lengths.as_slice();
             let part = GroupElements {
                 bytes: given.bytes,
                 group,
-                shape: lengths.as_slice(),
+                shape: edges,
             };
             match self.update_group(alloc, source, shard, part, options) {
                 Ok(change) => changes.push(change)?,

@@ -53,7 +53,7 @@ replace_subchunk-requires-clause-fit g c =
     let is = subst (λ (o : Option ℕ). IfSome o (AreSubchunk shape self.subchunk_shape numbers)) c.in-Some.is c.whole_subchunk.ensures in
     let inner = g.I.ArrayToBytesCodecTraits.meaning self.inner_codecs in
     let elements = elements_of c.args.shard.elements.now in
-    ap (λ (es : List ℕ). fits inner elements.type es) (c.as_slice-subchunk.ensures.value ∙ c.in_ok-lengths-in-Some.ensures)
+    ap (λ (es : List ℕ). fits inner elements.type es) (c.as_slice-shape.ensures.value ∙ c.in_ok-lengths-in-Some.ensures)
     ∙ part_fits self.subchunk_shape inner (g.X.ArrayToBytesCodecTraits.meaning self.index_codecs) (location_of self.index_location) elements shape n c.requires.fit is.below
 
 pub replace_subchunk-requires-clause-pair : goal.replace_subchunk-requires-clause-pair
@@ -161,7 +161,7 @@ returns-in_ok-one_change-in-Ok-clause-changes g c = λ honest of cells valid.
     } in
     let can = askable s (g.X.ArrayToBytesCodecTraits.meaning self.index_codecs) (location_of self.index_location) c.requires.fit c.requires.many (regions.asked_places shape (asked_of c.args.given.indexer) c.requires.inside) in
     let exact = g.I.ArrayToBytesCodecTraits.is_function self.inner_codecs in
-    let here : c.as_slice-subchunk.result.now ≡ part_shape shape self.subchunk_shape n = c.as_slice-subchunk.ensures.value ∙ c.in_ok-lengths-in-Some.ensures in
+    let here : c.as_slice-shape.result.now ≡ part_shape shape self.subchunk_shape n = c.as_slice-shape.ensures.value ∙ c.in_ok-lengths-in-Some.ensures in
     let new = subst (λ (m : ℕ). IsValid s.elements.type (payload_of c.args.given.bytes) m cells) (whole_count s n can is ∙ ap product (sym here)) valid in
     let change = c.in-Ok.change in
     let puts = subst (λ (es : List ℕ). PutsAll es s.elements.fill (asked_places s.shape s.subchunk s.numbers) cells) (sym here) (whole_puts s n can is exact cells valid.is.many) in
@@ -186,7 +186,7 @@ returns-in-Err-clause-changes g c = λ honest of cells valid.
     } in
     let can = askable s (g.X.ArrayToBytesCodecTraits.meaning self.index_codecs) (location_of self.index_location) c.requires.fit c.requires.many (regions.asked_places shape (asked_of c.args.given.indexer) c.requires.inside) in
     let exact = g.I.ArrayToBytesCodecTraits.is_function self.inner_codecs in
-    let here : c.as_slice-subchunk.result.now ≡ part_shape shape self.subchunk_shape n = c.as_slice-subchunk.ensures.value ∙ c.in_ok-lengths-in-Some.ensures in
+    let here : c.as_slice-shape.result.now ≡ part_shape shape self.subchunk_shape n = c.as_slice-shape.ensures.value ∙ c.in_ok-lengths-in-Some.ensures in
     let new = subst (λ (m : ℕ). IsValid s.elements.type (payload_of c.args.given.bytes) m cells) (whole_count s n can is ∙ ap product (sym here)) valid in
     let puts = subst (λ (es : List ℕ). PutsAll es s.elements.fill (asked_places s.shape s.subchunk s.numbers) cells) (sym here) (whole_puts s n can is exact cells valid.is.many) in
     let why = subst (λ (es : List ℕ). UpdatesGroup (stored_as s exact) es n (asked_places s.shape s.subchunk s.numbers) cells (Err c.in-Err.error)) here (c.in-Err.ensures.change honest of cells (asked_places s.shape s.subchunk s.numbers) new puts) in

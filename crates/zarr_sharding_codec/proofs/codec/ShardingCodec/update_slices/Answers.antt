@@ -109,7 +109,7 @@ update_group-requires-clause-fit g c =
     let asked = group_asked s c.as_slice-rest.result.now c.loop-rest.rest.now group c.leading_group.result.1.now moved (record { done = cut.done; split = cut.split }) c.leading_group.ensures.all in
     let below = subchunk_below s (get_or group 0 no_place) can (each_at (IsAsked s) group 0 no_place asked c.leading_group.ensures.some) in
     let many = c.requires.many in
-    ap (λ (es : List ℕ). fits s.inner s.elements.type es) (c.as_slice.ensures.value ∙ c.in_ok-lengths.ensures)
+    ap (λ (es : List ℕ). fits s.inner s.elements.type es) (c.as_slice-edges.ensures.value ∙ c.in_ok-lengths.ensures)
     ∙ part_fits s.subchunk s.inner (g.X.ArrayToBytesCodecTraits.meaning self.index_codecs) (location_of self.index_location) s.elements s.shape (get_or group 0 no_place).subchunk c.requires.fit (omega (arith, below, many))
 
 pub returns-in_err-lengths-clause-given : goal.returns-in_err-lengths-clause-given
@@ -172,13 +172,13 @@ returns-in-Err-clause-changes g c = λ honest of cells valid.
     let same = laws.same _ _ inv.follows in
     let still = subst IsTrue (laws.honest _ _ inv.follows) honest in
     let kept = subst (λ (o : Option (List ℕ)). IsOf (location_of c.args.shard.layout.location) c.args.shard.layout.size o (pairs_in c.args.shard.known.now) (end_of c.args.shard.known.now)) same of in
-    let here : c.as_slice.result.now ≡ part_shape s.shape s.subchunk (number_of group) = c.as_slice.ensures.value ∙ c.in_ok-lengths.ensures in
+    let here : c.as_slice-edges.result.now ≡ part_shape s.shape s.subchunk (number_of group) = c.as_slice-edges.ensures.value ∙ c.in_ok-lengths.ensures in
     let inside = subst (λ (es : List ℕ). list_all (λ n. nat_lt n (product es)) (insides group) ≡ true) (sym here) (insides_below s group can asked c.leading_group.ensures.one) in
     let found = c.in-Err.ensures.change still kept cells (length c.args.given.numbers.now) valid (positions_below s group asked) inside in
     let e = c.in-Err.error in
     group_unwritten s exact cells places rest group others writing front e
     (subst (λ (es : List ℕ). UpdatesGroup (stored_in s.inner exact s.elements (g.D.BytesPartialDecoderTraits.contents c.args.source.now) s.pairs) es (number_of group) group cells (Err e)) here
-    (subst (λ (o : Option (List ℕ)). UpdatesGroup (stored_in s.inner exact s.elements o s.pairs) c.as_slice.result.now (number_of group) group cells (Err e)) (sym same) found))
+    (subst (λ (o : Option (List ℕ)). UpdatesGroup (stored_in s.inner exact s.elements o s.pairs) c.as_slice-edges.result.now (number_of group) group cells (Err e)) (sym same) found))
 
 pub loop-rest-preserved : goal.loop-rest-preserved
 loop-rest-preserved g c =
@@ -220,11 +220,11 @@ loop-rest-preserved g c =
           let same = laws.same _ _ inv.follows in
           let still = subst IsTrue (laws.honest _ _ inv.follows) honest in
           let kept = subst (λ (o : Option (List ℕ)). IsOf (location_of c.args.shard.layout.location) c.args.shard.layout.size o (pairs_in c.args.shard.known.now) (end_of c.args.shard.known.now)) same of in
-          let here : c.as_slice.result.now ≡ part_shape s.shape s.subchunk (number_of group) = c.as_slice.ensures.value ∙ c.in_ok-lengths.ensures in
+          let here : c.as_slice-edges.result.now ≡ part_shape s.shape s.subchunk (number_of group) = c.as_slice-edges.ensures.value ∙ c.in_ok-lengths.ensures in
           let inside = subst (λ (es : List ℕ). list_all (λ n. nat_lt n (product es)) (insides group) ≡ true) (sym here) (insides_below s group can asked c.leading_group.ensures.one) in
           let found = c.in-Ok.ensures.change still kept cells (length c.args.given.numbers.now) valid (positions_below s group asked) inside in
           let is = subst (λ (es : List ℕ). UpdatesGroup (stored_in s.inner exact s.elements (g.D.BytesPartialDecoderTraits.contents c.args.source.now) s.pairs) es (number_of group) group cells (Ok change)) here
-          (subst (λ (o : Option (List ℕ)). UpdatesGroup (stored_in s.inner exact s.elements o s.pairs) c.as_slice.result.now (number_of group) group cells (Ok change)) (sym same) found) in
+          (subst (λ (o : Option (List ℕ)). UpdatesGroup (stored_in s.inner exact s.elements o s.pairs) c.as_slice-edges.result.now (number_of group) group cells (Ok change)) (sym same) found) in
           let next = updated_more s exact cells places rest group others (changes_of old) (change_of change) writing front (inv.updated honest of cells valid) is in
           subst (λ cs. UpdatedSoFar s exact cells places others cs) (sym (ap changes_of more ∙ map-append change_of old (change ∷ []))) next;
       sorted = rest_sorted rest group others c.leading_group.ensures.all inv.sorted;
