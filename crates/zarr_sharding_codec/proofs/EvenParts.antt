@@ -1,10 +1,10 @@
 -- The subchunks of a shape, by their numbers.
-use Rattle.std.proofs.Common.{◌≡◌, ◌∙◌, ℕ, suc, ◌+◌, ◌-◌, ◌*◌, ◌/◌, ◌<◌, ◌≤◌, min, List, [], ◌∷◌, length, get_or, map, replicate, ap, sym, arith, refl, Bool, true, ◌&&◌}
+use Rattle.std.proofs.Common.{◌≡◌, ◌∙◌, ℕ, suc, ◌+◌, ◌-◌, ◌*◌, ◌/◌, ◌<◌, ◌≤◌, min, List, [], ◌∷◌, length, get_or, replicate, ap, sym, arith, refl, Bool, true, ◌&&◌}
 use Rattle.std.specs.Prelude.{nat_lt}
 use Rattle.std.proofs.lemmas.Bool.{and_parts, lt-ltb, ltb-true}
 use Rattle.std.proofs.lemmas.List.{length-map}
 use Rattle.std.proofs.Math.Nat.{le-div_iff_mul-le, mul-le-mul}
-use Rattle.zarr_grids_boxes.specs.Boxes.{Region, product, place_at, places, ravel, each2, IsIndex}
+use Rattle.zarr_grids_boxes.specs.Boxes.{Region, product, place_at, places, ravel, IsIndex}
 use Rattle.zarr_grids_boxes.proofs.Dimensions.{IsIndex-tail}
 use Rattle.zarr_grids_boxes.proofs.InBox.{length-places}
 use Rattle.zarr_grids_boxes.proofs.Places.{length-place_at}

@@ -1,5 +1,5 @@
 -- The places of some subchunks of a shard were read.
-use Rattle.std.proofs.Common.{◌≡◌, ◌∙◌, ◌<◌, ◌≤◌, List, [], ◌∷◌, ◌++◌, length, get_or, replicate, ap, sym, refl, arith, subst, ℕ, Option, Some, true, Result, Err, unwrap_or, append_assoc, append-nil}
+use Rattle.std.proofs.Common.{◌≡◌, ◌∙◌, ◌≤◌, List, [], ◌∷◌, ◌++◌, length, get_or, replicate, ap, sym, refl, arith, subst, ℕ, Option, Some, true, Result, Err, unwrap_or, append_assoc, append-nil}
 use Rattle.std.specs.Prelude.{nat_lt}
 use Rattle.std.specs.List.{list_all}
 use Rattle.std.specs.List.Sorted.{IsPermutation}

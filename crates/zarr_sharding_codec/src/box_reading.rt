@@ -11,9 +11,7 @@ use std::alloc::{AllocError, Global};
 use zarr_codecs_arrays::{ArrayBytes, CodecError};
 use zarr_codecs_options::CodecOptions;
 use zarr_codecs_regions::{is_inside, numbers_asked};
-use zarr_codecs_traits::{
-    ArrayPart, ArrayToBytesCodecTraits, BytesPartialDecoderTraits, Indexer, WholeArray,
-};
+use zarr_codecs_traits::{ArrayToBytesCodecTraits, BytesPartialDecoderTraits, Indexer, WholeArray};
 use zarr_grids_boxes::ArraySubset;
 use zarr_grids_boxes::walk::count_places;
 use zarr_sharding_index::held::fetch_slice;
@@ -245,12 +243,8 @@ impl<I: ArrayToBytesCodecTraits, X: ArrayToBytesCodecTraits> ShardingCodec<I, X>
         match fetch_slice(alloc, source, shard.total, pair) {
             Ok(slice) => {
                 let shape = found.shape.as_slice();
-                let part = ArrayPart {
-                    elements: shard.elements,
-                    shape,
-                    indexer: Indexer::Subset(region),
-                };
-                self.read_slice(alloc, slice, part, options)
+                let indexer = Indexer::Subset(region);
+                self.read_slice(alloc, slice, indexer, shape, shard.elements, options)
             }
             Err(error) => Err(error),
         }

@@ -239,12 +239,12 @@ impl<I: ArrayToBytesCodecTraits, X: ArrayToBytesCodecTraits> ShardingCodec<I, X>
 
     /// The elements at places of one subchunk of the shard that a source holds: fill values where
     /// the subchunk is absent, else those of its slice. There is a place.
-    fn read_group<'a, D: BytesPartialDecoderTraits>(
+    fn read_group<D: BytesPartialDecoderTraits>(
         &self,
         alloc: Global,
         source: &mut D,
-        shard: OpenedShard<'a>,
-        part: GroupPlaces<'a>,
+        shard: OpenedShard<'_>,
+        part: GroupPlaces<'_>,
         options: &CodecOptions,
     ) -> Result<ArrayBytes, CodecError>
         requires fit { fits (I.meaning (inner_of self.now)) (elements_of shard.elements.now).type
@@ -271,7 +271,6 @@ impl<I: ArrayToBytesCodecTraits, X: ArrayToBytesCodecTraits> ShardingCodec<I, X>
         ensures follows { D.follows source.old source.new }
     {
         let elements = shard.elements;
-        let shape = part.shape;
         let group = part.group;
         let pair = shard.index.get(group[0].subchunk as usize);
         if is_absent(pair) {
@@ -281,44 +280,41 @@ impl<I: ArrayToBytesCodecTraits, X: ArrayToBytesCodecTraits> ShardingCodec<I, X>
             Ok(slice) => {
                 let insides = insides_of(alloc, group)?;
                 let indexer = Indexer::List(insides.as_slice());
-                let asked = ArrayPart {
-                    elements,
-                    shape,
-                    indexer,
-                };
-                self.read_slice(alloc, slice, asked, options)
+                self.read_slice(alloc, slice, indexer, part.shape, elements, options)
             }
             Err(error) => Err(error),
         }
     }
 
-    /// The elements at places of the subchunk that a slice holds. `Damage` where one of them cannot
-    /// be decoded. There is a place.
-    pub(crate) fn read_slice(
+    /// The elements at places of the subchunk of this shape that a slice holds. `Damage` where one
+    /// of them cannot be decoded. There is a place.
+    pub(crate) fn read_slice<'a>(
         &self,
         alloc: Global,
         slice: Vec<u8>,
-        part: ArrayPart<'_>,
+        indexer: Indexer<'a>,
+        shape: &'a [u64],
+        elements: &'a Elements,
         options: &CodecOptions,
     ) -> Result<ArrayBytes, CodecError>
-        requires fit { fits (I.meaning (inner_of self.now)) (elements_of part.elements.now).type
-            part.shape.now ≡ true }
-        requires some { 0 < length (numbers_asked part.shape.now (asked_of part.indexer)) }
-        requires inside { are_inside part.shape.now (asked_of part.indexer) ≡ true }
-        ensures part { Lists (elements_of part.entry.elements.now) part.entry.shape.now
-            (slice_cells (I.meaning (inner_of self.now)) (elements_of part.entry.elements.now)
-            part.entry.shape.now slice.items
-            (numbers_asked part.entry.shape.now (asked_of part.entry.indexer))) result }
+        requires fit { fits (I.meaning (inner_of self.now)) (elements_of elements.now).type
+            shape.now ≡ true }
+        requires some { 0 < length (numbers_asked shape.now (asked_of indexer)) }
+        requires inside { are_inside shape.now (asked_of indexer) ≡ true }
+        ensures part { Lists (elements_of elements.now) shape.now (slice_cells
+            (I.meaning (inner_of self.now)) (elements_of elements.now) shape.now slice.items
+            (numbers_asked shape.now (asked_of indexer.entry))) result }
         ensures no_source { (count : ℕ) → refused_after count result ≡ count }
     {
-        if asks_all(part.shape, part.indexer) {
-            let array = WholeArray {
-                elements: part.elements,
-                shape: part.shape,
-            };
-            return self.decode_slice(alloc, slice, array, options);
+        if asks_all(shape, indexer) {
+            return self.decode_slice(alloc, slice, WholeArray { elements, shape }, options);
         }
         let mut source = MemorySource::new(Some(slice));
+        let part = ArrayPart {
+            elements,
+            shape,
+            indexer,
+        };
         self.inner_codecs
             .partial_decode(alloc, &mut source, part, options)
     }

@@ -6,10 +6,10 @@ ghost use Rattle.zarr_codecs_meaning.specs.Payloads.{cells_in, fixed_cells};
 ghost use Rattle.zarr_codecs_meaning.specs.Places.{gather, grid_of};
 ghost use Rattle.zarr_codecs_meaning.specs.Types.{Cell, byte_width};
 ghost use Rattle.zarr_codecs_traits.specs.Indexers.{shape_has, numbers_of};
-ghost use Rattle.zarr_grids_boxes.specs.Boxes.{each2, product, ravel};
+ghost use Rattle.zarr_grids_boxes.specs.Boxes.{each2, place_at, product, ravel};
 ghost use Rattle.zarr_grids_boxes.specs.Subsets.{region_of};
 ghost use Rattle.zarr_grids_overlay.specs.Overlays.{IsOverlaid, extent_of};
-ghost use Rattle.zarr_sharding_places.specs.Locating.{numbered, part_shape, subchunk_box};
+ghost use Rattle.zarr_sharding_places.specs.Locating.{part_shape, subchunk_box};
 
 use std::alloc::{AllocError, Global};
 use zarr_codecs_arrays::ArrayBytes;
@@ -97,14 +97,8 @@ pub(crate) fn move_to_subchunk(
     ensures { IfOk result (λ moved. region_of moved
         ≡ subchunk_box cut.entry.shape.now cut.entry.edges.now n) }
 {
+    let start = subchunk_start(region.start, first, cut.grid, cut.count, n, cut.edges)?;
     let mut shape = region.shape;
-    let mut start = region.start;
-    if start.len() != cut.grid.len() || cut.edges.len() != cut.grid.len() {
-        return Err(AllocError);
-    }
-    let place = start.as_mut_slice();
-    index_into(first, cut.grid, cut.count, n, place);
-    multiply(place, cut.edges)?;
     shape.clear();
     push_lengths(start.as_slice(), cut.shape, cut.edges, &mut shape)?;
     match ArraySubset::new_with_start_shape(start, shape) {
@@ -113,16 +107,30 @@ pub(crate) fn move_to_subchunk(
     }
 }
 
-/// Writes the index of the subchunk with number `n`, row-major, of a grid that has so many and
-/// begins at this place.
-fn index_into(first: &[u64], grid: &[u64], count: u64, n: u64, index: &mut [u64])
+/// Where the subchunk of these edges with number `n`, row-major, begins, in the room of other
+/// numbers; of the grid this is the first place. `Err` where there isn't one number for each
+/// dimension, or a number is too large.
+fn subchunk_start(
+    room: Vec<u64>,
+    first: &[u64],
+    grid: &[u64],
+    count: u64,
+    n: u64,
+    edges: &[u64],
+) -> Result<Vec<u64>, AllocError>
     requires first { first.now ≡ replicate (length grid.now) 0 }
     requires count { count ≡ product grid.now }
     requires below { n < product grid.now }
-    requires room { length index.old ≡ length grid.now }
-    ensures { index.new ≡ numbered grid.now n }
+    ensures { IfOk result (λ start. start.items ≡ each2 (λ i edge. i * edge)
+        (place_at (replicate (length grid.now) 0) grid.now n) edges.now) }
 {
-    place_into(first, grid, count, n, index);
+    let mut start = room;
+    if start.len() != grid.len() || edges.len() != grid.len() {
+        return Err(AllocError);
+    }
+    place_into(first, grid, count, n, start.as_mut_slice());
+    multiply(start.as_mut_slice(), edges)?;
+    Ok(start)
 }
 
 /// The number, row-major, of the subchunk that a place of an array lies in, and how many subchunks

@@ -1,7 +1,9 @@
-use Rattle.std.proofs.Common.{◌≡◌, ◌∙◌, ◌-◌, ◌*◌, ◌++◌, min, List, ℕ, Vec, ap, rules, sym}
+use Rattle.std.proofs.Common.{◌≡◌, ◌∙◌, ◌-◌, ◌*◌, ◌++◌, min, List, ℕ, Vec, ap, sym}
 use Rattle.std.specs.declared.alloc.Global.{Global}
-use Rattle.zarr_grids_boxes.specs.Boxes.{Region, each2}
-use Rattle.zarr_sharding_places.specs.Locating.{numbered, subchunk_box}
+use Rattle.zarr_grids_boxes.specs.Boxes.{Region, each2, place_at}
+use Rattle.zarr_codecs_meaning.proofs.Covers.{zeros}
+use Rattle.zarr_sharding_places.specs.Locating.{subchunk_box}
+use Rattle.zarr_sharding_codec.proofs.EvenParts.{zeros_are}
 use Rattle.zarr_sharding_codec.proofs.subchunks.move_to_subchunk.Goals as goal
 
 -- a box of this start and shape
@@ -14,8 +16,11 @@ returns-in-Ok c =
     let edges = c.args.cut.edges.now in
     let n = c.args.n in
     let box = subchunk_box shape edges n in
-    let firsts : c.as_slice.result.now ≡ each2 (λ i edge. i * edge) (numbered c.args.cut.grid.now n) edges = search rules in
-    let begin : c.as_slice.result.now ≡ box.start = firsts ∙ ap (λ (g : List ℕ). each2 (λ i edge. i * edge) (numbered g n) edges) c.requires.grid in
+    let grid = c.args.cut.grid.now in
+    let begin : c.as_slice.result.now ≡ box.start =
+    c.as_slice.ensures.value
+    ∙ (c.in_ok-start.ensures
+    ∙ (ap (λ (z : List ℕ). each2 (λ i edge. i * edge) (place_at z grid n) edges) (zeros_are grid) ∙ ap (λ (g : List ℕ). each2 (λ i edge. i * edge) (place_at (zeros g) g n) edges) c.requires.grid)) in
     let start = ap (λ (v : Vec ℕ Global). v.items) c.in-Ok.ensures.start ∙ (sym c.as_slice.ensures.value ∙ begin) in
     let lengths = ap (λ (v : Vec ℕ Global). v.items) c.in-Ok.ensures.shape
     ∙ (c.in_ok-push_lengths.ensures

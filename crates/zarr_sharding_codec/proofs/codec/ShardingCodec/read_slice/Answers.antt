@@ -12,15 +12,15 @@ pub decode_slice-requires-clause-some : goal.decode_slice-requires-clause-some
 decode_slice-requires-clause-some g c =
     let some = c.requires.some in
     let are = ap length (c.asks_all.ensures c.if-asks_all.true) in
-    let long = length-range_with_len 0 (product c.args.part.shape.now) in
+    let long = length-range_with_len 0 (product c.args.shape.now) in
     omega (arith, some, are, long)
 
 pub returns : goal.returns
 returns g c =
     let inner = g.I.ArrayToBytesCodecTraits.meaning c.args.self.now.inner_codecs in
-    let elements = elements_of c.args.part.elements.now in
-    let shape = c.args.part.shape.now in
-    let asked = asked_of c.args.part.indexer in
+    let elements = elements_of c.args.elements.now in
+    let shape = c.args.shape.now in
+    let asked = asked_of c.args.indexer in
     let r = c.partial_decode.result in
     let part = subst (λ (stored : Option (List ℕ)). DecodesPart inner elements shape stored asked r) c.new-source.ensures.contents (c.partial_decode.ensures.part refl) in
     let lists = slice_read inner elements shape c.args.slice.items asked r c.requires.fit c.requires.some c.requires.inside c.partial_decode.ensures.refused part in
