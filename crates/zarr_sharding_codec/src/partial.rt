@@ -46,9 +46,10 @@ pub struct NumberedPlaces<'a> {
     pub numbers: &'a [u64],
 }
 
-/// Places of one subchunk, and that subchunk's shape.
+/// Places of one subchunk, and that subchunk's number and shape.
 #[derive(Clone, Copy)]
 struct GroupPlaces<'a> {
+    number: u64,
     shape: &'a [u64],
     group: &'a [AskedPlace],
 }
@@ -71,7 +72,7 @@ impl<I: ArrayToBytesCodecTraits, X: ArrayToBytesCodecTraits> ShardingCodec<I, X>
     ghost use Rattle.zarr_sharding_index.specs.Held.{FetchesIndex};
     ghost use Rattle.zarr_sharding_index.specs.Stored.{index_fits};
     ghost use Rattle.zarr_sharding_index.specs.Views.{pairs_of};
-    ghost use Rattle.zarr_sharding_places.specs.Groups.{IsGroup, no_place, places_in};
+    ghost use Rattle.zarr_sharding_places.specs.Groups.{places_in};
     ghost use Rattle.zarr_sharding_places.specs.Locating.{asked_places};
     ghost use Rattle.zarr_sharding_state.specs.States.{slice_length};
 
@@ -204,10 +205,14 @@ impl<I: ArrayToBytesCodecTraits, X: ArrayToBytesCodecTraits> ShardingCodec<I, X>
         let mut rest = places.as_slice();
         while rest.len() > 0 {
             let (group, others) = leading_group(rest);
-            let subchunk = &self.subchunk_shape;
-            let edges = part_shape(alloc, asked.shape, subchunk, group[0].subchunk)?;
+            let number = group[0].subchunk;
+            let edges = part_shape(alloc, asked.shape, &self.subchunk_shape, number)?;
             let shape = edges.as_slice();
-            let part = GroupPlaces { shape, group };
+            let part = GroupPlaces {
+                number,
+                shape,
+                group,
+            };
             match self.read_group(alloc, source, shard, part, options) {
                 Ok(piece) => all = put_group(alloc, all, group, &piece, shard.elements)?,
                 Err(error) => return Err(error),
@@ -250,8 +255,7 @@ impl<I: ArrayToBytesCodecTraits, X: ArrayToBytesCodecTraits> ShardingCodec<I, X>
         requires fit { fits (I.meaning (inner_of self.now)) (elements_of shard.elements.now).type
             part.shape.now ≡ true }
         requires some { 0 < length part.group.now }
-        requires pair { (get_or part.group.now 0 no_place).subchunk
-            < length (pairs_of shard.index.now) }
+        requires pair { part.number < length (pairs_of shard.index.now) }
         requires inside { list_all (λ n. nat_lt n (product part.shape.now))
             (map (λ place. place.inside) part.group.now) ≡ true }
         ensures part { IsTrue (D.is_honest source.old) → IsTotalOf (D.contents source.old)
@@ -259,20 +263,18 @@ impl<I: ArrayToBytesCodecTraits, X: ArrayToBytesCodecTraits> ShardingCodec<I, X>
             → ListsRead (elements_of shard.entry.elements.now) part.entry.shape.now
             (places_decoded (I.meaning (inner_of self.now)) (elements_of shard.entry.elements.now)
             (unwrap_or (D.contents source.old) []) part.entry.shape.now
-            (get_or (pairs_of shard.entry.index.now)
-            (get_or part.entry.group.now 0 no_place).subchunk absent_pair)
+            (get_or (pairs_of shard.entry.index.now) part.entry.number absent_pair)
             (map (λ place. place.inside) part.entry.group.now)) result }
         ensures refused { D.refused_calls source.new ≡
             refused_after (D.refused_calls source.old) result }
         ensures given { IsTrue (D.is_honest source.old) → D.given_bytes source.new
-            ≤ D.given_bytes source.old
-            + slice_length (get_or (pairs_of shard.entry.index.now)
-            (get_or part.entry.group.now 0 no_place).subchunk absent_pair) }
+            ≤ D.given_bytes source.old + slice_length
+            (get_or (pairs_of shard.entry.index.now) part.entry.number absent_pair) }
         ensures follows { D.follows source.old source.new }
     {
         let elements = shard.elements;
         let group = part.group;
-        let pair = shard.index.get(group[0].subchunk as usize);
+        let pair = shard.index.get(part.number as usize);
         if is_absent(pair) {
             return Ok(fill_elements(alloc, elements, group.len())?);
         }

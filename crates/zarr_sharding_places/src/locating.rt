@@ -39,8 +39,8 @@ pub(crate) struct Located {
 
 /// The places with these numbers in an array, subchunk by subchunk, those of one subchunk in the
 /// order in which they are asked for; the array is cut into subchunks of these edges, as many as
-/// the grid says in each dimension, of which the last one may be cut short. `Err` where an
-/// allocation failed, and where there are 2^63 places or more.
+/// the grid says in each dimension, the last one cut short. `Err` where an allocation failed, and
+/// where there are 2^63 places or more.
 pub fn places_by_subchunk(
     alloc: Global,
     numbers: &[u64],

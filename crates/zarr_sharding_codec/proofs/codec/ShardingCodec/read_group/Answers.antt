@@ -7,7 +7,6 @@ use Rattle.zarr_codecs_meaning.specs.Types.{Cell}
 use Rattle.zarr_sharding_index.specs.Held.{FetchesSlice}
 use Rattle.zarr_sharding_codec.specs.Reading.{Lists, places_decoded, slice_cells}
 use Rattle.zarr_sharding_index.specs.Views.{pairs_of}
-use Rattle.zarr_sharding_places.specs.Groups.{no_place}
 use Rattle.zarr_sharding_places.specs.declared.locating.AskedPlace.{AskedPlace}
 use Rattle.zarr_sharding_codec.proofs.PartsRead.{absent_places, lists_read, present_places, present_value, slice_unread}
 use Rattle.zarr_sharding_codec.proofs.codec.ShardingCodec.read_group.Goals as goal
@@ -18,7 +17,7 @@ returns-then-is_absent-clause-part g c = λ honest told.
     let shape = c.args.part.shape.now in
     let elements = elements_of c.args.shard.elements.now in
     let group = c.args.part.group.now in
-    let pair = get_or (pairs_of c.args.shard.index.now) (get_or group 0 no_place).subchunk absent_pair in
+    let pair = get_or (pairs_of c.args.shard.index.now) c.args.part.number absent_pair in
     let insides = map (λ (place : AskedPlace). place.inside) group in
     let absent : is_absent pair ≡ true = ap is_absent (sym c.get-pair.ensures) ∙ (sym c.is_absent.ensures ∙ c.if-is_absent.true) in
     record {
@@ -35,7 +34,7 @@ returns-in_ok-insides-in-Ok-clause-part g c = λ honest told.
     let elements = elements_of c.args.shard.elements.now in
     let group = c.args.part.group.now in
     let pairs = pairs_of c.args.shard.index.now in
-    let k = (get_or group 0 no_place).subchunk in
+    let k = c.args.part.number in
     let pair = get_or pairs k absent_pair in
     let insides = map (λ (place : AskedPlace). place.inside) group in
     let contents = g.D.BytesPartialDecoderTraits.contents c.args.source.now in
@@ -58,7 +57,7 @@ returns-in-Err-clause-part g c = λ honest told.
     let elements = elements_of c.args.shard.elements.now in
     let group = c.args.part.group.now in
     let pairs = pairs_of c.args.shard.index.now in
-    let k = (get_or group 0 no_place).subchunk in
+    let k = c.args.part.number in
     let pair = get_or pairs k absent_pair in
     let insides = map (λ (place : AskedPlace). place.inside) group in
     let contents = g.D.BytesPartialDecoderTraits.contents c.args.source.now in
