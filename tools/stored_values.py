@@ -1,9 +1,12 @@
-"""What is stored for the cells of a chunk, for tools/generated_stories: by the rules of the Zarr core specification for `bytes` and the
-codecs between arrays, of the Zarr sharding codec, and of this repository for packed bits, strings and optional cells.
+"""What is stored for the cells of a chunk, for tools/generated_stories and tools/generated_shards: by the rules of the Zarr core
+specification for `bytes` and the codecs between arrays, of the Zarr sharding codec, and of this repository for packed bits, strings,
+optional cells, and subchunks that don't divide their shard.
 
 Cells are a list, row-major, of values as they stand in lines: numbers, booleans, texts, or null or a list of one value.
 """
+import functools
 import itertools
+import math
 
 # Data types: the bits of a value, and whether it has a sign. A value of a bool is false or true.
 TYPES = {"bool": (1, False)}
@@ -26,9 +29,14 @@ def number(count, length=8):
 
 
 class Chain:
-    """Codecs, and some values of the data type that they store. `takes_parts` is whether a part is put into what is stored."""
+    """Codecs, and some values of the data type that they store. `takes_parts` is whether a part is put into what is stored, and `fits`
+    whether the codecs suit the shape of the cells."""
 
-    takes_parts = False
+    takes_parts, fits = False, True
+
+    def of(self, _shape):
+        """The same codecs for cells of another shape."""
+        return self
 
     def fields(self):
         """Of a document."""
@@ -124,16 +132,37 @@ class Optionals(Chain):
         return number(len(mask)) + number(len(data)) + mask + data
 
 
-class Turned(Chain):
-    """The cells with these numbers in turn, as a codec between arrays of this kind gives them to others."""
+def turned(kind, given, shape):
+    """The numbers of the cells of this shape as a codec between arrays of this kind, with this order or these sizes, gives them on, and the
+    shape that it makes."""
+    every = list(range(math.prod(shape)))
+    if kind == "reshape":
+        return every, [len(every)]
+    if kind == "squeeze":
+        return every, [size for size in shape if size > 1] or [1]
+    made = [shape[n] for n in given]
+    at = dict(zip(places_below(shape), every))
+    return [at[tuple(place[given.index(n)] for n in range(len(shape)))] for place in places_below(made)], made
 
-    def __init__(self, kind, configuration, numbers, inside):
-        self.kind, self.configuration = kind, configuration
-        self.numbers, self.inside, self.name = numbers, inside, inside.name
+
+class Turned(Chain):
+    """The cells of this shape in turn, as a codec between arrays of this kind gives them to others: `transpose` with an order, `reshape`
+    with one size, or -1 for any, or `squeeze`."""
+
+    def __init__(self, kind, given, shape, inside):
+        self.kind, self.given, self.name = kind, given, inside.name
+        self.numbers, made = turned(kind, given, shape)
+        self.inside = inside.of(tuple(made))
+        self.fits = self.inside.fits and (kind != "reshape" or given in ([-1], made))
         self.takes_parts = inside.takes_parts and not (kind == "reshape" and isinstance(inside, Shard))
 
+    @functools.lru_cache(maxsize=None)
+    def of(self, shape):
+        return Turned(self.kind, self.given, shape, self.inside)
+
     def codecs(self):
-        codec = {"name": self.kind, "configuration": self.configuration} if self.configuration else self.kind
+        field = {"transpose": "order", "reshape": "shape"}.get(self.kind)
+        codec = {"name": self.kind, "configuration": {field: self.given}} if field else self.kind
         return [codec, *self.inside.codecs()]
 
     def stored(self, cells):
@@ -148,19 +177,28 @@ class Turned(Chain):
 
 
 class Shard(Chain):
-    """Subchunks, row-major, by what stores the cells of one, with an index in front or behind; the order of all bytes is turned so
-    often."""
+    """Subchunks, row-major, by what stores the cells of one, with an index in front or behind; the order of all bytes is turned so often.
+    There are as many subchunks along a dimension as the size divided by the edge, rounded up; the last one ends with the shard."""
 
     def __init__(self, shape, subchunk, inside, fill, at_start, reversals=0):
         self.subchunk, self.inside, self.fill = subchunk, inside, fill
         self.at_start, self.reversals, self.name = at_start, reversals, inside.name
         self.takes_parts = not reversals
+        # For each subchunk what stores its cells, and their numbers.
+        self.subchunks = list(self.cut(shape)) if len(shape) == len(subchunk) else []
+        self.fits = len(shape) == len(subchunk) and all(own.fits for own, _ in self.subchunks)
+        self.index_size = 16 * len(self.subchunks)
+
+    def cut(self, shape):
         numbers = {place: n for n, place in enumerate(places_below(shape))}
-        counts = [size // edge for size, edge in zip(shape, subchunk)]
-        boxes = [[[n * edge, (n + 1) * edge] for n, edge in zip(at, subchunk)] for at in places_below(counts)]
-        # For each subchunk the numbers of its cells.
-        self.subchunks = [[numbers[place] for place in places(box)] for box in boxes]
-        self.index_size = 16 * len(boxes)
+        counts = [-(-size // edge) for size, edge in zip(shape, self.subchunk)]
+        for at in places_below(counts):
+            box = [[n * edge, min((n + 1) * edge, size)] for n, edge, size in zip(at, self.subchunk, shape)]
+            yield self.inside.of(tuple(end - start for start, end in box)), [numbers[place] for place in places(box)]
+
+    @functools.lru_cache(maxsize=None)
+    def of(self, shape):
+        return Shard(shape, self.subchunk, self.inside, self.fill, self.at_start, self.reversals)
 
     def codecs(self):
         location = "start" if self.at_start else "end"
@@ -184,12 +222,12 @@ class Shard(Chain):
     def appended(self, data, pairs, cells, numbers):
         """The slices and pairs once each subchunk that has one of these numbers is encoded anew, behind the others."""
         pairs = list(pairs)
-        for k, own in enumerate(self.subchunks):
+        for k, (inside, own) in enumerate(self.subchunks):
             if numbers.isdisjoint(own):
                 continue
             inner, pairs[k] = [cells[n] for n in own], None
             if any(cell != self.fill for cell in inner):
-                value = self.inside.stored(inner)
+                value = inside.stored(inner)
                 pairs[k] = (len(data), len(value))
                 data += value
         return data, pairs

@@ -10,7 +10,7 @@ use Rattle.zarr_codecs_meaning.specs.Chains.{Chain, Location}
 use Rattle.zarr_codecs_meaning.specs.Chains.Chain.{sharded}
 use Rattle.zarr_codecs_meaning.specs.Chains.Location.{at_start, at_end}
 use Rattle.zarr_codecs_meaning.specs.Places.{Part, parts_of, index_shape}
-use Rattle.zarr_codecs_meaning.specs.Fits.{fits, size_of, has_index_size, is_some_below, can_cut, divides}
+use Rattle.zarr_codecs_meaning.specs.Fits.{fits, size_of, has_index_size, is_some_below, can_cut}
 use Rattle.zarr_codecs_meaning.specs.Encoding.{encoded, Pair, Piece, piece_of, pieces_of, stored_pieces, joined_slices, pairs_from, pair_cells, index_size, base_of, joined, shard_of}
 use Rattle.zarr_codecs_meaning.specs.Laws.{AreCells}
 use Rattle.zarr_codecs_meaning.proofs.Lists.{map_some, if_some, Each, each_passes}
@@ -39,17 +39,14 @@ fitted subchunk inner index location elements shape fit =
     let pairs_shape = index_shape shape subchunk in
     let e = has_index_size index pairs_shape in
     let d = fits index uint64 pairs_shape in
-    let parts = list_all (λ (part : Part). fits inner elements.type part.shape) (parts_of shape subchunk) in
-    let c = fits inner elements.type subchunk && parts in
+    let c = list_all (λ (part : Part). fits inner elements.type part.shape) (parts_of shape subchunk) in
     let b = can_cut shape subchunk in
     let a = not (is_some (inner_type elements.type)) in
-    let one = and_parts (divides shape subchunk) (a && (b && (c && (d && e)))) fit in
-    let two = and_parts a (b && (c && (d && e))) one.1 in
+    let two = and_parts a (b && (c && (d && e))) fit in
     let three = and_parts b (c && (d && e)) two.1 in
     let four = and_parts c (d && e) three.1 in
     let five = and_parts d e four.1 in
-    let six = and_parts (fits inner elements.type subchunk) parts four.0 in
-    record { cuts = three.0; each = six.1; index_fits = five.0; sized = some_below (2 ^ 63) (size_of index uint64 pairs_shape) (size_is_below index pairs_shape five.1) }
+    record { cuts = three.0; each = four.0; index_fits = five.0; sized = some_below (2 ^ 63) (size_of index uint64 pairs_shape) (size_is_below index pairs_shape five.1) }
 
 -- the pairs of a shard as the cells of its index
 pub pairs_are_cells : (shape subchunk : List ℕ) (pairs : List Pair) → AreWords pairs → length pairs ≡ length (parts_of shape subchunk) → AreCells (zero_filled uint64) (index_shape shape subchunk) (pair_cells pairs)

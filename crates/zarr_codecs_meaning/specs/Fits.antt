@@ -153,12 +153,6 @@ can_cut [] (edge ∷ edges) = false
 can_cut (size ∷ sizes) [] = false
 can_cut (size ∷ sizes) (edge ∷ edges) = nat_lt 0 edge && can_cut sizes edges
 
--- each edge divides its size
-abbrev pub divides : List ℕ → List ℕ → Bool
-divides [] edges = true
-divides (size ∷ sizes) [] = true
-divides (size ∷ sizes) (edge ∷ edges) = (size % edge == 0) && divides sizes edges
-
 -- components of several bytes need an order
 abbrev pub order_fits : Option Endianness → List Component → Bool
 order_fits order parts = is_some order || list_all (λ (c : Component). nat_le c.byte_count 1) parts
@@ -167,7 +161,7 @@ order_fits order parts = is_some order || list_all (λ (c : Component). nat_le c
 abbrev pub bits_fit : ℕ → Option ℕ → Component → Bool
 bits_fit first last c = nat_le first (last_kept last c) && nat_lt (last_kept last c) c.width
 
--- whether a chain can encode an array of this type and shape (this project's profile). The inner chain of a shard has to fit the subchunk shape also where the shard has no subchunk
+-- whether a chain can encode an array of this type and shape (this project's profile). The inner chain of a shard has to fit the shape of each subchunk, and so of none where the shard has no subchunk
 abbrev pub fits : Chain → DataType → List ℕ → Bool
 fits (bytes order) type shape = is_fixed type && order_fits order (components type)
 fits (packbits padding first last) type shape = is_fixed type && list_all (bits_fit first last) (components type)
@@ -178,8 +172,8 @@ fits (optional mask values) type shape =
 fits (after_array_codec codec chain) type shape = array_codec_fits codec shape && fits chain type (encoded_shape codec shape)
 fits (then_bytes chain codec) type shape = fits chain type shape
 fits (sharded subchunk inner index location) type shape =
-    divides shape subchunk && (not (is_some (inner_type type)) && (can_cut shape subchunk && ((fits inner type subchunk && list_all (λ (part : Part). fits inner type part.shape) (parts_of shape subchunk))
-    && (fits index uint64 (index_shape shape subchunk) && has_index_size index (index_shape shape subchunk)))))
+    not (is_some (inner_type type)) && (can_cut shape subchunk && (list_all (λ (part : Part). fits inner type part.shape) (parts_of shape subchunk)
+    && (fits index uint64 (index_shape shape subchunk) && has_index_size index (index_shape shape subchunk))))
 
 -- ---- What is kept
 

@@ -78,13 +78,17 @@ pub record FitRows : Type 0 where
   pub optional_of_uint16_without_order : fits (optional (packbits no_padding_byte 0 None) (bytes None)) (optional_of (integer unsigned 16)) (3 ∷ []) ≡ false
   pub optional_over_uint8 : fits (optional (packbits no_padding_byte 0 None) (bytes None)) uint8 (3 ∷ []) ≡ false
   pub shard_divides : fits (sharded (2 ∷ 2 ∷ []) (bytes None) (bytes (Some little)) at_end) uint8 (4 ∷ 4 ∷ []) ≡ true
-  pub shard_divides_not : fits (sharded (2 ∷ []) (bytes None) (bytes (Some little)) at_end) uint8 (3 ∷ []) ≡ false
+  -- a last subchunk that is cut short, of one element; one that is larger than its shard, of three
+  pub shard_clipped : fits (sharded (2 ∷ []) (bytes None) (bytes (Some little)) at_end) uint8 (3 ∷ []) ≡ true
+  pub shard_clipped_reshape : fits (sharded (2 ∷ []) (after_array_codec (reshape (size_entry 2 ∷ [])) (bytes None)) (bytes (Some little)) at_end) uint8 (3 ∷ []) ≡ false
+  pub shard_smaller : fits (sharded (4 ∷ []) (after_array_codec (reshape (size_entry 3 ∷ [])) (bytes None)) (bytes (Some little)) at_end) uint8 (3 ∷ []) ≡ true
+  pub shard_smaller_reshape : fits (sharded (4 ∷ []) (after_array_codec (reshape (size_entry 4 ∷ [])) (bytes None)) (bytes (Some little)) at_end) uint8 (3 ∷ []) ≡ false
   pub shard_dimensions : fits (sharded (2 ∷ 2 ∷ []) (bytes None) (bytes (Some little)) at_end) uint8 (4 ∷ []) ≡ false
   pub shard_edge_zero : fits (sharded (0 ∷ []) (bytes None) (bytes (Some little)) at_end) uint8 (4 ∷ []) ≡ false
   pub shard_of_optional : fits (sharded (2 ∷ []) (optional (packbits no_padding_byte 0 None) (bytes None)) (bytes (Some little)) at_end) (optional_of uint8) (4 ∷ []) ≡ false
   pub shard_inner : fits (sharded (2 ∷ []) (bytes (Some little)) (bytes (Some little)) at_end) string (4 ∷ []) ≡ false
-  -- the inner chain has to fit also where there is no subchunk
-  pub shard_without_subchunks : fits (sharded (2 ∷ []) (bytes None) (bytes (Some little)) at_end) (integer unsigned 16) (0 ∷ []) ≡ false
+  -- where there is no subchunk, the inner chain may be any
+  pub shard_without_subchunks : fits (sharded (2 ∷ []) (bytes None) (bytes (Some little)) at_end) (integer unsigned 16) (0 ∷ []) ≡ true
   pub shard_without_subchunks_in_order : fits (sharded (2 ∷ []) (bytes (Some little)) (bytes (Some little)) at_end) (integer unsigned 16) (0 ∷ []) ≡ true
   pub shard_index_without_order : fits (sharded (2 ∷ []) (bytes None) (bytes None) at_end) uint8 (4 ∷ []) ≡ false
   pub shard_nested : fits (sharded (2 ∷ 2 ∷ []) (sharded (1 ∷ 2 ∷ []) (bytes None) (bytes (Some little)) at_end) (bytes (Some little)) at_end) uint8 (4 ∷ 4 ∷ []) ≡ true

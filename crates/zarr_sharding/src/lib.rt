@@ -26,8 +26,8 @@ pub use zarr_sharding_cells::{ShardState, ShardingPartialEncoder};
 pub use zarr_sharding_chains::ShardingCodecBuilder;
 pub use zarr_sharding_codec::{
     AskedElements, ChainOfMetadata, IndexCodec, IndexedPlaces, NumberedElements, NumberedPlaces,
-    OpenedShard, ShardInSource, ShardingCodec, ShardingCodecOptions, TakesShardingOptions,
-    TestedPart,
+    NumberedSubchunk, OpenedShard, ShardInSource, ShardingCodec, ShardingCodecOptions,
+    TakesShardingOptions, TestedPart,
 };
 pub use zarr_sharding_configurations::ShardingCodecConfiguration;
 pub use zarr_sharding_decoder::{OpenedIndex, ShardingPartialDecoder, open_shard};

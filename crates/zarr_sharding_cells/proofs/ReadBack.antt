@@ -10,7 +10,7 @@ use Rattle.zarr_codecs_arrays.specs.declared.error.CodecError.{CodecError}
 use Rattle.zarr_codecs_arrays.specs.declared.error.CodecError.TheVariants as error
 use Rattle.zarr_codecs_meaning.specs.Chains.{Chain}
 use Rattle.zarr_codecs_meaning.specs.Encoding.{Pair, absent_pair}
-use Rattle.zarr_codecs_meaning.specs.Fits.{can_cut, divides, fits}
+use Rattle.zarr_codecs_meaning.specs.Fits.{can_cut, fits}
 use Rattle.zarr_codecs_meaning.specs.Places.{index_shape, parts_of}
 use Rattle.zarr_codecs_meaning.specs.Types.{Cell, Elements}
 use Rattle.zarr_codecs_meaning.proofs.Fitting.{fitted}
@@ -22,10 +22,9 @@ use Rattle.zarr_sharding_codec.specs.Reading.{IsTotalOf, ListsRead, place_decode
 use Rattle.zarr_sharding_codec.proofs.PartShown.{absent_at}
 use Rattle.zarr_sharding_codec.proofs.PartsRead.{part_found}
 use Rattle.zarr_sharding_codec.proofs.PlaceCells.{shard_place}
-use Rattle.zarr_sharding_codec.proofs.ShardSizes.{divides_fit}
 use Rattle.zarr_sharding_decoder.specs.Pairs.{index_length}
 use Rattle.zarr_sharding_decoder.specs.Shards.{ShardOf, chain_of}
-use Rattle.zarr_sharding_places.specs.Locating.{inside_of, subchunk_of}
+use Rattle.zarr_sharding_places.specs.Locating.{inside_of, part_shape, subchunk_of}
 use Rattle.zarr_sharding_state.specs.Held.{shard_length}
 use Rattle.zarr_sharding_cells.specs.Tables.{Held, IsTold, held_as}
 use Rattle.zarr_sharding_cells.proofs.Known.{told_of}
@@ -39,15 +38,16 @@ pub told_total : (s : ShardOf) (held : Held) (total : ℕ) → IsTold s held →
 told_total s held total told is = total_of s held.contents held.pairs held.end total (told_of s held told) is
 
 -- where no subchunk is present, each place has the fill value
-filled_cells : (inner : Chain) (elements : Elements) (shape subchunk : List ℕ) (pairs : List Pair) (numbers : List ℕ) → can_cut shape subchunk ≡ true → divides shape subchunk ≡ true → length pairs ≡ length (parts_of shape subchunk) → ((k : ℕ) → get_or pairs k absent_pair ≡ absent_pair)
+filled_cells : (inner : Chain) (elements : Elements) (shape subchunk : List ℕ) (pairs : List Pair) (numbers : List ℕ) → can_cut shape subchunk ≡ true → length pairs ≡ length (parts_of shape subchunk) → ((k : ℕ) → get_or pairs k absent_pair ≡ absent_pair)
     → list_all (λ n. nat_lt n (product shape)) numbers ≡ true → shard_cells inner elements shape subchunk [] pairs numbers ≡ Some (map (λ n. elements.fill) numbers)
-filled_cells inner elements shape subchunk pairs [] cuts even many absent below = refl
-filled_cells inner elements shape subchunk pairs (n ∷ ns) cuts even many absent below =
+filled_cells inner elements shape subchunk pairs [] cuts many absent below = refl
+filled_cells inner elements shape subchunk pairs (n ∷ ns) cuts many absent below =
     let both = and_parts (nat_lt n (product shape)) (list_all (λ m. nat_lt m (product shape)) ns) below in
     let here : shard_cell inner elements shape subchunk [] pairs n ≡ Some elements.fill =
-    shard_place inner elements shape subchunk [] pairs n cuts even many (ltb-true n (product shape) both.0) ∙ ap (λ (p : Pair). place_decoded inner elements [] subchunk p (inside_of shape subchunk n)) (absent (subchunk_of shape subchunk n)) in
+    shard_place inner elements shape subchunk [] pairs n cuts many (ltb-true n (product shape) both.0)
+    ∙ ap (λ (p : Pair). place_decoded inner elements [] (part_shape shape subchunk (subchunk_of shape subchunk n)) p (inside_of shape subchunk n)) (absent (subchunk_of shape subchunk n)) in
     ap (λ (o : Option Cell). option_and_then (λ x. option_map (λ xs. x ∷ xs) (shard_cells inner elements shape subchunk [] pairs ns)) o) here
-    ∙ ap (option_map (λ xs. elements.fill ∷ xs)) (filled_cells inner elements shape subchunk pairs ns cuts even many absent both.1)
+    ∙ ap (option_map (λ xs. elements.fill ∷ xs)) (filled_cells inner elements shape subchunk pairs ns cuts many absent both.1)
 
 -- the elements at places that are asked for, by what is known of the shard
 module _ (s : ShardOf) (numbers : List ℕ) (asked : Asked) (fit : fits (chain_of s) s.elements.type s.shape ≡ true) (inside : are_inside s.shape asked ≡ true) (are : numbers ≡ numbers_asked s.shape asked)
@@ -72,8 +72,7 @@ module _ (s : ShardOf) (numbers : List ℕ) (asked : Asked) (fit : fits (chain_o
   by_contents None pairs end result count told read =
       let absent : (k : ℕ) → get_or pairs k absent_pair ≡ absent_pair = λ k. ap (λ (ps : List Pair). get_or ps k absent_pair) told.0 ∙ absent_at (length (parts_of s.shape s.subchunk)) k in
       let cuts = (fitted s.subchunk s.inner s.index s.location s.elements s.shape fit).cuts in
-      let even = divides_fit s.subchunk s.inner s.index s.location s.elements.type s.shape fit in
-      nothing_read pairs result (filled_cells s.inner s.elements s.shape s.subchunk pairs numbers cuts even count absent below) read
+      nothing_read pairs result (filled_cells s.inner s.elements s.shape s.subchunk pairs numbers cuts count absent below) read
   by_contents (Some value) pairs end result count told read =
       part_found s.subchunk s.inner s.index s.location s.elements s.shape value pairs numbers asked result fit inside are (record { is = told.0; many = index_product s.shape s.subchunk ∙ ap (λ n. 2 * n) (sym count) }) read
 

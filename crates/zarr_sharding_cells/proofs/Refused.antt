@@ -1,7 +1,5 @@
 -- Why new cells are not put.
-use Rattle.std.proofs.Common.{◌≡◌, inl, inr, ℕ, List, subst, Bool, IfErr, Result, Ok, Err}
-use Rattle.zarr_grids_boxes.specs.Boxes.{product}
-use Rattle.zarr_codecs_meaning.specs.Types.{IsTooLarge}
+use Rattle.std.proofs.Common.{inl, inr, ℕ, List, Bool, IfErr, Result, Ok, Err}
 use Rattle.zarr_codecs_arrays.specs.declared.error.CodecError.{CodecError}
 use Rattle.zarr_codecs_arrays.specs.declared.error.CodecError.TheVariants as error
 use Rattle.zarr_codecs_meaning.specs.Chains.{Chain, Location}
@@ -15,14 +13,13 @@ use Rattle.zarr_sharding_cells.specs.Puts.{IsRefusedUnwritten, NotWritten}
 use Rattle.zarr_sharding_cells.specs.Tables.{Held, stored_of}
 
 -- the subchunks that are met are not encoded anew
-pub unchanged : (s : ShardOf) (exact : Bool) (new_cells : Put) (held : Held) (e : CodecError) → new_cells.subchunk ≡ s.subchunk → UpdatesSlices (stored_of s exact held) new_cells (Err e) → NotWritten s exact new_cells held e
-unchanged s exact new_cells held error.Damage is why = why
-unchanged s exact new_cells held error.Codec is why = inl why
-unchanged s exact new_cells held error.Size is (inl large) = inl (inl (subst (λ (shape : List ℕ). IsTooLarge s.elements.type (product shape)) is large.0))
-unchanged s exact new_cells held error.Size is (inr why) = inl (inr why)
-unchanged s exact new_cells held error.Source is why = tt
-unchanged s exact new_cells held error.Memory is why = tt
-unchanged s exact new_cells held e is why = absurd why
+pub unchanged : (s : ShardOf) (exact : Bool) (new_cells : Put) (held : Held) (e : CodecError) → UpdatesSlices (stored_of s exact held) new_cells (Err e) → NotWritten s exact new_cells held e
+unchanged s exact new_cells held error.Damage why = why
+unchanged s exact new_cells held error.Codec why = inl why
+unchanged s exact new_cells held error.Size why = inl why
+unchanged s exact new_cells held error.Source why = tt
+unchanged s exact new_cells held error.Memory why = tt
+unchanged s exact new_cells held e why = absurd why
 
 -- their slices are not written
 pub unwritten : (A : Type 0) (s : ShardOf) (exact : Bool) (new_cells : Put) (held : Held) (changes : List Change) (e : CodecError) → AreChanged (stored_of s exact held) new_cells changes

@@ -20,7 +20,7 @@ use Rattle.zarr_sharding_state.specs.Written.{IsChanged}
 use Rattle.zarr_sharding_state.proofs.Counts.{changed_count}
 use Rattle.zarr_sharding_state.proofs.Reopened.{reopened}
 use Rattle.zarr_sharding_codec.specs.Appending.{IsTestedPart}
-use Rattle.zarr_sharding_codec.specs.PartWriting.{AreUpdated, HasChange, IsMet, Put, Stored, cells_held, cells_put}
+use Rattle.zarr_sharding_codec.specs.PartWriting.{AreUpdated, HasChange, IsMet, Put, Stored, cells_held, cells_put, shape_in}
 use Rattle.zarr_sharding_codec.specs.Slices.{IsPieceStored}
 use Rattle.zarr_sharding_codec.proofs.ChangedPairs.{IsPairNew, pair_cases}
 use Rattle.zarr_sharding_codec.proofs.PartStands.{IsAppended}
@@ -112,9 +112,9 @@ module _ (s : ShardOf) (exact one : Bool) (asked : Asked) (payload : Payload) (c
             let is = are_at (stored_of s exact old) (put_of s asked cells) n.front n.back n.change (subst (AreUpdated (stored_of s exact old) (put_of s asked cells)) n.all w.changed.are) in
             record {
               before = is.before;
-              held = ap (cells_held (stored_of s exact old) s.subchunk) (sym n.number) ∙ is.held;
+              held = ap (λ j. cells_held (stored_of s exact old) (shape_in (put_of s asked cells) j) j) (sym n.number) ∙ is.held;
               slice = n.change.1;
-              stored = subst (λ j. IsPieceStored s.inner exact s.elements (s.subchunk, cells_put (put_of s asked cells) j is.before) n.change.1) n.number is.slice;
+              stored = subst (λ j. IsPieceStored s.inner exact s.elements (shape_in (put_of s asked cells) j, cells_put (put_of s asked cells) j is.before) n.change.1) n.number is.slice;
               has = new_slice k low n n.change.1 refl;
             }
         | inr kept ↦ absurd (kept.none has)

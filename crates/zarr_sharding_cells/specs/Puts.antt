@@ -1,6 +1,5 @@
 -- What putting new cells at places of an array makes of its shard.
 use Rattle.std.specs.Prelude.{◌≡◌, ◌⊎◌, ℕ, ◌+◌, ◌^◌, ◌<◌, ◌≤◌, List, [], ◌∷◌, length, map, get_or, Bool, Option, None, Some, unwrap_or, true, false}
-use Rattle.zarr_grids_boxes.specs.Boxes.{product}
 use Rattle.zarr_codecs_arrays.specs.Outcomes.{IsInvalid, IsValid}
 use Rattle.zarr_codecs_arrays.specs.declared.error.CodecError.{CodecError}
 use Rattle.zarr_codecs_arrays.specs.declared.error.CodecError.TheVariants as error
@@ -11,11 +10,11 @@ use Rattle.zarr_codecs_meaning.specs.Fits.{is_lossless}
 use Rattle.zarr_codecs_meaning.specs.Payloads.{Payload}
 use Rattle.zarr_codecs_meaning.specs.Places.{index_shape}
 use Rattle.zarr_codecs_meaning.specs.Refusals.{CodecRefuses, PassesIndex}
-use Rattle.zarr_codecs_meaning.specs.Types.{Cell, Elements, uint64, zero_filled, IsTooLarge}
+use Rattle.zarr_codecs_meaning.specs.Types.{Cell, Elements, uint64, zero_filled}
 use Rattle.zarr_codecs_traits.specs.Indexers.{Asked, are_inside, numbers_asked, put}
 use Rattle.zarr_codecs_traits.specs.PartWriting.{IsEncodedInto}
 use Rattle.zarr_sharding_changes.specs.Changes.{Change, appended, pairs_after}
-use Rattle.zarr_sharding_codec.specs.PartWriting.{AreChanged, IsLostAt, IsMet, IsRefusedAt, Put, cells_held, cells_put}
+use Rattle.zarr_sharding_codec.specs.PartWriting.{AreChanged, IsLostAt, IsMet, IsRefusedAt, IsTooLargeAt, Put, cells_held, cells_put, shape_in}
 use Rattle.zarr_sharding_codec.specs.Slices.{IsPieceStored}
 use Rattle.zarr_sharding_decoder.specs.Pairs.{index_length}
 use Rattle.zarr_sharding_decoder.specs.Shards.{ShardOf, chain_of}
@@ -65,9 +64,9 @@ pub record IsKept (old new : Held) (k : ℕ) : Type 0 where
 -- a subchunk has the cells that it had, with the new ones put over them, and is encoded anew and whole; it is absent where all of them are the fill value
 pub record IsPut (s : ShardOf) (exact : Bool) (new_cells : Put) (old new : Held) (k : ℕ) : Type 0 where
   pub before : List Cell
-  pub held : cells_held (stored_of s exact old) s.subchunk k ≡ Some before
+  pub held : cells_held (stored_of s exact old) (shape_in new_cells k) k ≡ Some before
   pub slice : Option (List ℕ)
-  pub stored : IsPieceStored s.inner exact s.elements (s.subchunk, cells_put new_cells k before) slice
+  pub stored : IsPieceStored s.inner exact s.elements (shape_in new_cells k, cells_put new_cells k before) slice
   pub has : HasSlice new.contents (get_or new.pairs k absent_pair) slice
 
 -- new cells were put at the places that are asked for: of the array's table, and of the shard subchunk by subchunk
@@ -101,7 +100,7 @@ abbrev pub NotWritten : ShardOf → Bool → Put → Held → CodecError → Typ
 NotWritten s exact new_cells held error.Damage = IsLostAt (stored_of s exact held) new_cells
 NotWritten s exact new_cells held error.Codec = IsRefusedAt CodecRefuses (stored_of s exact held) new_cells ⊎ IsIndexRefused CodecRefuses s exact new_cells held
 NotWritten s exact new_cells held error.Size =
-    (IsTooLarge s.elements.type (product s.subchunk) ⊎ IsRefusedAt PassesIndex (stored_of s exact held) new_cells)
+    (IsTooLargeAt (stored_of s exact held) new_cells ⊎ IsRefusedAt PassesIndex (stored_of s exact held) new_cells)
     ⊎ (IsIndexRefused PassesIndex s exact new_cells held ⊎ IsTooLong s exact new_cells held)
 NotWritten s exact new_cells held error.Source = Unit {0}
 NotWritten s exact new_cells held error.Memory = Unit {0}

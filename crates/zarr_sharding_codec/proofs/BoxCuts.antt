@@ -1,7 +1,6 @@
 -- A box cut by the subchunks that it meets.
-use Rattle.std.proofs.Common.{◌≡◌, ◌∙◌, ℕ, suc, ◌+◌, ◌-◌, ◌*◌, ◌<◌, List, [], ◌∷◌, length, get_or, replicate, ap, sym, refl, arith, Bool, true, ◌&&◌}
+use Rattle.std.proofs.Common.{◌≡◌, ◌∙◌, ℕ, suc, ◌+◌, ◌-◌, ◌*◌, ◌<◌, List, [], ◌∷◌, length, get_or, ap, sym, refl, arith, Bool, true, ◌&&◌}
 use Rattle.std.proofs.lemmas.Bool.{and_parts}
-use Rattle.std.proofs.lemmas.List.{length-map}
 use Rattle.zarr_grids_boxes.specs.Boxes.{Region, product, place_at, ravel, each2, is_in_box, IsIndex}
 use Rattle.zarr_grids_boxes.specs.Cuts.{ends, overlapped, relative}
 use Rattle.zarr_grids_boxes.proofs.Dimensions.{ravel_below}
@@ -10,16 +9,17 @@ use Rattle.zarr_grids_boxes.proofs.Lawful.{overlap_shared}
 use Rattle.zarr_grids_boxes.proofs.Places.{in_box_below, length-place_at, place_at-ravel}
 use Rattle.zarr_grids_boxes.proofs.Walking.{start_in_box}
 use Rattle.zarr_codecs_meaning.specs.Fits.{can_cut}
-use Rattle.zarr_codecs_meaning.specs.Places.{grid_of}
-use Rattle.zarr_codecs_meaning.proofs.Covers.{place_ravel, zeros}
-use Rattle.zarr_codecs_meaning.proofs.Parts.{block, length-parts, same_length}
+use Rattle.zarr_codecs_meaning.specs.Places.{box_of, grid_of}
+use Rattle.zarr_codecs_meaning.proofs.Covers.{length-zeros, place_ravel, zeros}
+use Rattle.zarr_codecs_meaning.proofs.Parts.{block, box_lengths, length-parts, same_length}
 use Rattle.zarr_codecs_regions.proofs.InsideArray.{each_place, ends_at_most, inside_places, inside_rank}
 use Rattle.zarr_codecs_traits.specs.Indexers.{shape_has, numbers_of}
-use Rattle.zarr_sharding_places.specs.Locating.{inside_of, subchunk_of}
+use Rattle.zarr_sharding_places.specs.Locating.{inside_of, part_shape, subchunk_box, subchunk_of}
 use Rattle.zarr_sharding_codec.specs.BoxReading.{AreMet, HasNumber, StandIn}
-use Rattle.zarr_sharding_codec.proofs.BoxInSubchunk.{IsAround, box_lies, inside_index, moved_place, number_at, numbers_many, starts_at}
-use Rattle.zarr_sharding_codec.proofs.LocatedParts.{lies_even}
-use Rattle.zarr_sharding_codec.proofs.MetBox.{block_has, cut_as, met_has, numbers_rise, place_in}
+use Rattle.zarr_sharding_codec.proofs.BoxInSubchunk.{IsAround, box_lies, inside_index, moved_place, number_at, numbers_many}
+use Rattle.zarr_sharding_codec.proofs.NumberedParts.{grid_long}
+use Rattle.zarr_sharding_codec.proofs.LocatedParts.{box_has, lies_in}
+use Rattle.zarr_sharding_codec.proofs.MetBox.{cut_as, met_has, numbers_rise, place_in}
 
 -- ---- the subchunks that a box meets
 
@@ -77,59 +77,45 @@ box_met shape subchunk region met is =
 
 -- ---- what of a box lies in one of them
 
--- a box of this start and shape
-abbrev pub region_at : List ℕ → List ℕ → Region
-region_at start shape = record { start = start; shape = shape }
-
 -- a box's part in a subchunk: the overlap of both, as it stands in either
 pub record IsPiece (shape subchunk : List ℕ) (region cut moved target : Region) (k : ℕ) : Type 0 where
   pub around : IsAround shape subchunk cut moved k
   pub inside : shape_has shape region ≡ true
   pub same : length region.shape ≡ length region.start
   pub some : 0 < product cut.shape
-  pub overlap : cut ≡ overlapped region (record { start = each2 (λ i edge. i * edge) (place_at (zeros (grid_of shape subchunk)) (grid_of shape subchunk) k) subchunk; shape = subchunk })
+  pub overlap : cut ≡ overlapped region (subchunk_box shape subchunk k)
   pub target_is : target ≡ relative cut region.start
   pub target_long : length target.shape ≡ length target.start
   pub target_in : shape_has region.shape target ≡ true
-
--- the box of a subchunk, as calls tell it
-pub overlap_is : (shape subchunk grid edges start lengths : List ℕ) (n : ℕ) → grid ≡ grid_of shape subchunk → edges ≡ subchunk → start ≡ each2 (λ i edge. i * edge) (place_at (replicate (length grid) 0) grid n) edges → lengths ≡ edges
-    → region_at start lengths ≡ region_at (each2 (λ i edge. i * edge) (place_at (zeros (grid_of shape subchunk)) (grid_of shape subchunk) n) subchunk) subchunk
-overlap_is shape subchunk grid edges start lengths n is_grid is_edges is_start is_lengths =
-    ap (λ s. region_at s lengths) (starts_at shape subchunk grid edges start n is_grid is_edges is_start)
-    ∙ ap (region_at (each2 (λ i edge. i * edge) (place_at (zeros (grid_of shape subchunk)) (grid_of shape subchunk) n) subchunk)) (is_lengths ∙ is_edges)
 
 module _ (shape subchunk : List ℕ) (region cut moved target : Region) (k : ℕ) (is : IsPiece shape subchunk region cut moved target k) where
   abbrev grid : List ℕ
   grid = grid_of shape subchunk
 
-  abbrev corner : List ℕ
-  corner = each2 (λ i edge. i * edge) (place_at (zeros grid) grid k) subchunk
+  abbrev box : Region
+  box = subchunk_box shape subchunk k
 
-  ranks : length corner ≡ length subchunk
-  ranks = length_each (place_at (zeros grid) grid k) subchunk (length-place_at (zeros grid) grid k (length-map grid (λ size. 0)) ∙ (length-map grid (λ size. 0) ∙ length_grid shape subchunk (same_length shape subchunk is.around.cuts))) where
-    length_each : (xs ys : List ℕ) → length xs ≡ length ys → length (each2 (λ i edge. i * edge) xs ys) ≡ length ys
-    length_each [] [] l = refl
-    length_each [] (y ∷ ys) l = absurd (omega (arith, l))
-    length_each (x ∷ xs) [] l = absurd (omega (arith, l))
-    length_each (x ∷ xs) (y ∷ ys) l = ap suc (length_each xs ys (omega (arith, l)))
-
-    length_grid : (xs ys : List ℕ) → length xs ≡ length ys → length (grid_of xs ys) ≡ length ys
-    length_grid [] [] l = refl
-    length_grid [] (y ∷ ys) l = absurd (omega (arith, l))
-    length_grid (x ∷ xs) [] l = absurd (omega (arith, l))
-    length_grid (x ∷ xs) (y ∷ ys) l = ap suc (length_grid xs ys (omega (arith, l)))
+  ranks : length box.start ≡ length subchunk
+  ranks =
+      let same = same_length shape subchunk is.around.cuts in
+      length_each (place_at (zeros grid) grid k) subchunk (length-place_at (zeros grid) grid k (length-zeros grid) ∙ (length-zeros grid ∙ (grid_long shape subchunk same ∙ same))) where
+        length_each : (xs ys : List ℕ) → length xs ≡ length ys → length (each2 (λ i edge. i * edge) xs ys) ≡ length ys
+        length_each [] [] l = refl
+        length_each [] (y ∷ ys) l = absurd (omega (arith, l))
+        length_each (x ∷ xs) [] l = absurd (omega (arith, l))
+        length_each (x ∷ xs) (y ∷ ys) l = ap suc (length_each xs ys (omega (arith, l)))
 
   -- the places of the cut are those of both boxes
-  shared : (p : List ℕ) → is_in_box cut.start cut.shape p ≡ (is_in_box region.start region.shape p && is_in_box corner subchunk p)
+  shared : (p : List ℕ) → is_in_box cut.start cut.shape p ≡ (is_in_box region.start region.shape p && is_in_box box.start box.shape p)
   shared p =
       let rank = inside_rank shape region is.inside in
       let dims = same_length shape subchunk is.around.cuts in
       let corners = ranks in
-      ap (λ (r : Region). is_in_box r.start r.shape p) is.overlap ∙ overlap_shared region.start region.shape corner subchunk p is.same (sym corners) (omega (arith, rank, dims, corners))
+      let sides = box_lengths shape subchunk (place_at (zeros grid) grid k) dims in
+      ap (λ (r : Region). is_in_box r.start r.shape p) is.overlap ∙ overlap_shared region.start region.shape box.start box.shape p is.same (sym sides) (omega (arith, rank, dims, corners))
 
   begins : is_in_box region.start region.shape cut.start ≡ true
-  begins = (and_parts (is_in_box region.start region.shape cut.start) (is_in_box corner subchunk cut.start) (sym (shared cut.start) ∙ start_in_box cut.start cut.shape is.around.same is.some)).0
+  begins = (and_parts (is_in_box region.start region.shape cut.start) (is_in_box box.start box.shape cut.start) (sym (shared cut.start) ∙ start_in_box cut.start cut.shape is.around.same is.some)).0
 
   target_shape : target.shape ≡ cut.shape
   target_shape = ap (λ (r : Region). r.shape) is.target_is
@@ -164,13 +150,12 @@ module _ (shape subchunk : List ℕ) (region cut moved target : Region) (k : ℕ
   found_there t low one =
       let x = place_at region.start region.shape t in
       let index = inside_index shape region t is.same is.inside low in
-      let lies = lies_even shape subchunk x is.around.cuts index in
+      let lies = lies_in shape subchunk x is.around.cuts index in
       let number : ravel (block x subchunk) grid ≡ k = sym (place_in shape subchunk x is.around.cuts index) ∙ (sym (ap (subchunk_of shape subchunk) (number_at shape region t is.same low)) ∙ one) in
       let g : place_at (zeros grid) grid k ≡ block x subchunk = ap (place_at (zeros grid) grid) (sym number) ∙ place_ravel grid (block x subchunk) lies.grid in
-      let cuts = cut_as subchunk shape x is.around.cuts index.same in
-      let within : is_in_box corner subchunk x ≡ true = ap (λ q. is_in_box (each2 (λ i edge. i * edge) q subchunk) subchunk x) g ∙ block_has subchunk x cuts in
+      let within : is_in_box box.start box.shape x ≡ true = ap (λ q. is_in_box (box_of shape subchunk q).start (box_of shape subchunk q).shape x) g ∙ box_has shape subchunk x is.around.cuts index in
       let here = in_box-place_at region.start region.shape t (sym is.same) low in
-      let among : is_in_box cut.start cut.shape x ≡ true = shared x ∙ (ap (λ (b : Bool). b && is_in_box corner subchunk x) here ∙ within) in
+      let among : is_in_box cut.start cut.shape x ≡ true = shared x ∙ (ap (λ (b : Bool). b && is_in_box box.start box.shape x) here ∙ within) in
       let at_ = ravel (each2 (λ p s. p - s) x cut.start) cut.shape in
       let below = ravel_below (each2 (λ p s. p - s) x cut.start) cut.shape (in_box_below cut.start cut.shape x among) in
       let size = sizes in
@@ -186,7 +171,7 @@ module _ (shape subchunk : List ℕ) (region cut moved target : Region) (k : ℕ
             ∙ (ap (λ p. ravel (each2 (λ p s. p - s) p region.start) region.shape) back ∙ ravel-place_at region.start region.shape t (sym is.same) low));
       }
 
-  pub piece_stands : StandIn shape subchunk (numbers_of shape region) (numbers_of region.shape target) (numbers_of subchunk moved) k
+  pub piece_stands : StandIn shape subchunk (numbers_of shape region) (numbers_of region.shape target) (numbers_of (part_shape shape subchunk k) moved) k
   piece_stands =
       let lie = box_lies shape subchunk cut moved k is.around in
       let size = sizes in

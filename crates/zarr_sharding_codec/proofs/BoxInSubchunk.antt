@@ -1,5 +1,5 @@
 -- A box of an array that lies in one of its subchunks.
-use Rattle.std.proofs.Common.{◌≡◌, ◌∙◌, ℕ, zero, ◌+◌, ◌-◌, ◌*◌, ◌/◌, ◌%◌, ◌<◌, ◌≤◌, suc, List, [], ◌∷◌, length, map, get_or, replicate, ap, sym, refl, arith, subst, Bool, true, ◌&&◌, ◌==◌, if◌then◌else◌, Result, Ok, Err}
+use Rattle.std.proofs.Common.{◌≡◌, ◌∙◌, ℕ, zero, ◌+◌, ◌-◌, ◌/◌, ◌%◌, ◌<◌, ◌≤◌, suc, List, [], ◌∷◌, length, map, get_or, ap, sym, refl, arith, subst, Bool, true, ◌&&◌, ◌==◌, if◌then◌else◌, Result, Ok, Err}
 use Rattle.std.specs.Prelude.{nat_le, nat_lt}
 use Rattle.std.proofs.lemmas.Bool.{and_parts, eq-eqb, leb-true, ltb-true}
 use Rattle.std.proofs.lemmas.List.{get_or-map, length-map}
@@ -10,9 +10,9 @@ use Rattle.zarr_grids_boxes.proofs.InBox.{length-places}
 use Rattle.zarr_grids_boxes.proofs.Walking.{get_or-places, place_index}
 use Rattle.zarr_codecs_meaning.specs.Decoding.{all_there}
 use Rattle.zarr_codecs_meaning.specs.Encoding.{absent_pair}
-use Rattle.zarr_codecs_meaning.specs.Fits.{can_cut, divides}
-use Rattle.zarr_codecs_meaning.specs.Places.{Part, box_of, grid_of, parts_of}
-use Rattle.zarr_codecs_meaning.proofs.Covers.{box_places_at, place_is_index, zeros}
+use Rattle.zarr_codecs_meaning.specs.Fits.{can_cut}
+use Rattle.zarr_codecs_meaning.specs.Places.{Part, grid_of, parts_of}
+use Rattle.zarr_codecs_meaning.proofs.Covers.{box_places_at, zeros}
 use Rattle.zarr_codecs_meaning.proofs.Lists.{each_passes}
 use Rattle.zarr_codecs_meaning.proofs.Parts.{box_lengths, length-parts, no_part, same_length}
 use Rattle.zarr_codecs_meaning.proofs.PartsOnce.{number_in}
@@ -22,13 +22,13 @@ use Rattle.zarr_codecs_traits.specs.Indexers.{shape_has, numbers_of}
 use Rattle.zarr_codecs_arrays.specs.declared.array_bytes.ArrayBytes.{ArrayBytes}
 use Rattle.zarr_codecs_arrays.specs.declared.error.CodecError.{CodecError}
 use Rattle.zarr_codecs_arrays.specs.declared.error.CodecError.TheVariants as error
-use Rattle.zarr_sharding_places.specs.Locating.{inside_of, subchunk_of}
+use Rattle.zarr_sharding_places.specs.Locating.{inside_of, numbered, part_shape, subchunk_box, subchunk_of}
 use Rattle.zarr_sharding_places.proofs.PartPlaces.{IsPlace, place_below, places_apart}
 use Rattle.zarr_sharding_state.specs.States.{slice_length}
 use Rattle.zarr_sharding_codec.specs.BoxReading.{LieInside}
 use Rattle.zarr_sharding_codec.specs.BytesMet.{bytes_met, is_met, met_length}
 use Rattle.zarr_sharding_codec.specs.Reading.{ListsRead, place_decoded, places_decoded, shard_cells}
-use Rattle.zarr_sharding_codec.proofs.EvenParts.{part_at, part_fewer, part_number, whole_box, zeros_are}
+use Rattle.zarr_sharding_codec.proofs.NumberedParts.{part_fewer, part_number}
 use Rattle.zarr_sharding_codec.proofs.GivenSoFar.{sum_least, sum_next}
 use Rattle.zarr_sharding_codec.proofs.GroupsRead.{AskedShard, IsAskable, cell_of}
 use Rattle.zarr_sharding_codec.proofs.LocatedParts.{located_place}
@@ -73,14 +73,13 @@ inside_index shape region t l inside low =
 -- a box of an array begins in the subchunk with a number, and as it is seen from there it lies in it
 pub record IsAround (shape subchunk : List ℕ) (region moved : Region) (n : ℕ) : Type 0 where
   pub cuts : can_cut shape subchunk ≡ true
-  pub even : divides shape subchunk ≡ true
   pub below : n < product (grid_of shape subchunk)
-  pub begins : is_in_box (each2 (λ i edge. i * edge) (place_at (zeros (grid_of shape subchunk)) (grid_of shape subchunk) n) subchunk) subchunk region.start ≡ true
+  pub begins : is_in_box (subchunk_box shape subchunk n).start (subchunk_box shape subchunk n).shape region.start ≡ true
   pub same : length region.shape ≡ length region.start
-  pub start : moved.start ≡ each2 (λ s o. s - o) region.start (each2 (λ i edge. i * edge) (place_at (zeros (grid_of shape subchunk)) (grid_of shape subchunk) n) subchunk)
+  pub start : moved.start ≡ each2 (λ s o. s - o) region.start (subchunk_box shape subchunk n).start
   pub shape_is : moved.shape ≡ region.shape
   pub long : length moved.shape ≡ length moved.start
-  pub inside : shape_has subchunk moved ≡ true
+  pub inside : shape_has (part_shape shape subchunk n) moved ≡ true
 
 -- a place of the box is that place of the subchunk
 record IsThere (shape subchunk : List ℕ) (n i number : ℕ) : Type 0 where
@@ -88,45 +87,41 @@ record IsThere (shape subchunk : List ℕ) (n i number : ℕ) : Type 0 where
   pub here : number_in (parts_of shape subchunk) n i ≡ number
 
 place_there : (shape subchunk : List ℕ) (region moved : Region) (n t : ℕ) → IsAround shape subchunk region moved n → t < product region.shape
-    → IsThere shape subchunk n (ravel (place_at moved.start moved.shape t) subchunk) (ravel (place_at region.start region.shape t) shape)
+    → IsThere shape subchunk n (ravel (place_at moved.start moved.shape t) (part_shape shape subchunk n)) (ravel (place_at region.start region.shape t) shape)
 place_there shape subchunk region moved n t is low =
-    let grid = grid_of shape subchunk in
-    let g = place_at (zeros grid) grid n in
-    let box = box_of shape subchunk g in
+    let box = subchunk_box shape subchunk n in
     let y = place_at moved.start moved.shape t in
     let size = ap product is.shape_is in
-    let index = inside_index subchunk moved t is.long is.inside (omega (arith, low, size)) in
-    let whole = whole_box shape subchunk g is.cuts is.even (place_is_index grid n is.below) in
-    let within = subst (λ (s : List ℕ). IsIndex y s) (sym whole) index in
-    let found = box_places_at (λ place. ravel place shape) box.start box.shape y 0 (box_lengths shape subchunk g (same_length shape subchunk is.cuts)) within in
+    let within = inside_index box.shape moved t is.long is.inside (omega (arith, low, size)) in
+    let found = box_places_at (λ place. ravel place shape) box.start box.shape y 0 (box_lengths shape subchunk (numbered (grid_of shape subchunk) n) (same_length shape subchunk is.cuts)) within in
     let part = part_number shape subchunk n no_part is.below in
-    let at_ : ravel y box.shape ≡ ravel y subchunk = ap (ravel y) whole in
     let same : y ≡ place_at (each2 (λ s o. s - o) region.start box.start) region.shape t = ap (λ s. place_at s moved.shape t) is.start ∙ ap (λ s. place_at (each2 (λ s o. s - o) region.start box.start) s t) is.shape_is in
-    let back : each2 (λ s i. s + i) box.start y ≡ place_at region.start region.shape t = ap (each2 (λ s i. s + i) box.start) same ∙ sym (moved_place box.start subchunk region.start region.shape t is.begins is.same) in
+    let back : each2 (λ s i. s + i) box.start y ≡ place_at region.start region.shape t = ap (each2 (λ s i. s + i) box.start) same ∙ sym (moved_place box.start box.shape region.start region.shape t is.begins is.same) in
     let below = is.below in
     let many = length-parts shape subchunk in
     record {
-      place = record { part = omega (arith, below, many); place = subst (λ (p : Part). ravel y subchunk < length p.places) (sym part) (subst (λ k. k < length (part_at shape subchunk n).places) at_ found.0) };
-      here = ap (λ (p : Part). get_or p.places (ravel y subchunk) 0) part ∙ (ap (λ k. get_or (part_at shape subchunk n).places k 0) (sym at_) ∙ (found.1 ∙ ap (λ place. ravel place shape) back));
+      place = record { part = omega (arith, below, many); place = subst (λ (p : Part). ravel y box.shape < length p.places) (sym part) found.0 };
+      here = ap (λ (p : Part). get_or p.places (ravel y box.shape) 0) part ∙ (found.1 ∙ ap (λ place. ravel place shape) back);
     }
 
-pub box_lies : (shape subchunk : List ℕ) (region moved : Region) (n : ℕ) → IsAround shape subchunk region moved n → LieInside shape subchunk (numbers_of shape region) (numbers_of subchunk moved) n
+pub box_lies : (shape subchunk : List ℕ) (region moved : Region) (n : ℕ) → IsAround shape subchunk region moved n → LieInside shape subchunk (numbers_of shape region) (numbers_of (part_shape shape subchunk n) moved) n
 box_lies shape subchunk region moved n is =
+    let edges = part_shape shape subchunk n in
     let below = is.below in
     let many = length-parts shape subchunk in
     let one = numbers_many shape region is.same in
-    let two = numbers_many subchunk moved is.long in
+    let two = numbers_many edges moved is.long in
     let size = ap product is.shape_is in
-    let apart : (t : ℕ) → t < length (numbers_of shape region) → (subchunk_of shape subchunk (get_or (numbers_of shape region) t 0) ≡ n) × (inside_of shape subchunk (get_or (numbers_of shape region) t 0) ≡ get_or (numbers_of subchunk moved) t 0) =
+    let apart : (t : ℕ) → t < length (numbers_of shape region) → (subchunk_of shape subchunk (get_or (numbers_of shape region) t 0) ≡ n) × (inside_of shape subchunk (get_or (numbers_of shape region) t 0) ≡ get_or (numbers_of edges moved) t 0) =
     λ t low.
     let number = ravel (place_at region.start region.shape t) shape in
-    let i = ravel (place_at moved.start moved.shape t) subchunk in
+    let i = ravel (place_at moved.start moved.shape t) edges in
     let there = place_there shape subchunk region moved n t is (omega (arith, low, one)) in
     let under = subst (λ k. k < product shape) there.here (place_below shape subchunk n i is.cuts there.place) in
-    let found = located_place shape subchunk number is.cuts is.even under in
+    let found = located_place shape subchunk number is.cuts under in
     let same = places_apart shape subchunk (subchunk_of shape subchunk number) (inside_of shape subchunk number) n i is.cuts (record { part = found.part; place = found.place }) there.place (found.here ∙ sym there.here) in
     let at_ = number_at shape region t is.same (omega (arith, low, one)) in
-    (ap (subchunk_of shape subchunk) at_ ∙ same.0, ap (inside_of shape subchunk) at_ ∙ (same.1 ∙ sym (number_at subchunk moved t is.long (omega (arith, low, one, size))))) in
+    (ap (subchunk_of shape subchunk) at_ ∙ same.0, ap (inside_of shape subchunk) at_ ∙ (same.1 ∙ sym (number_at edges moved t is.long (omega (arith, low, one, size))))) in
     record {
       below = omega (arith, below, many);
       many = omega (arith, one, two, size);
@@ -134,32 +129,19 @@ box_lies shape subchunk region moved n is =
       place = λ t low. (apart t low).1;
     }
 
--- where the subchunk with a number begins, as calls tell it
-pub starts_at : (shape subchunk grid edges start : List ℕ) (n : ℕ) → grid ≡ grid_of shape subchunk → edges ≡ subchunk → start ≡ each2 (λ i edge. i * edge) (place_at (replicate (length grid) 0) grid n) edges
-    → start ≡ each2 (λ i edge. i * edge) (place_at (zeros (grid_of shape subchunk)) (grid_of shape subchunk) n) subchunk
-starts_at shape subchunk grid edges start n is_grid is_edges is_start =
-    let whole = grid_of shape subchunk in
-    is_start
-    ∙ (ap (λ (g : List ℕ). each2 (λ i edge. i * edge) (place_at (replicate (length g) 0) g n) edges) is_grid
-    ∙ (ap (λ (z : List ℕ). each2 (λ i edge. i * edge) (place_at z whole n) edges) (zeros_are whole) ∙ ap (each2 (λ i edge. i * edge) (place_at (zeros whole) whole n)) is_edges))
-
 -- what calls tell of a box and of the subchunk around it
-pub is_around : (shape subchunk grid edges start lengths : List ℕ) (region moved : Region) (n : ℕ) → can_cut shape subchunk ≡ true → divides shape subchunk ≡ true → n < product (grid_of shape subchunk) → grid ≡ grid_of shape subchunk → edges ≡ subchunk
-    → start ≡ each2 (λ i edge. i * edge) (place_at (replicate (length grid) 0) grid n) edges → lengths ≡ edges → is_in_box start lengths region.start ≡ true → length region.shape ≡ length region.start → moved ≡ relative region start
-    → length moved.shape ≡ length moved.start → shape_has edges moved ≡ true → IsAround shape subchunk region moved n
-is_around shape subchunk grid edges start lengths region moved n cuts even below is_grid is_edges is_start is_lengths begins same is_moved long inside =
-    let begin = starts_at shape subchunk grid edges start n is_grid is_edges is_start in
-    record {
-      cuts = cuts;
-      even = even;
-      below = below;
-      begins = ap (λ s. is_in_box s subchunk region.start) (sym begin) ∙ (ap (λ l. is_in_box start l region.start) (sym (is_lengths ∙ is_edges)) ∙ begins);
-      same = same;
-      start = ap (λ (r : Region). r.start) is_moved ∙ ap (each2 (λ s o. s - o) region.start) begin;
-      shape_is = ap (λ (r : Region). r.shape) is_moved;
-      long = long;
-      inside = ap (λ e. shape_has e moved) (sym is_edges) ∙ inside;
-    }
+pub is_around : (shape subchunk : List ℕ) (around region moved : Region) (n : ℕ) → can_cut shape subchunk ≡ true → n < product (grid_of shape subchunk) → around ≡ subchunk_box shape subchunk n → is_in_box around.start around.shape region.start ≡ true
+    → length region.shape ≡ length region.start → moved ≡ relative region around.start → length moved.shape ≡ length moved.start → shape_has around.shape moved ≡ true → IsAround shape subchunk region moved n
+is_around shape subchunk around region moved n cuts below is_box begins same is_moved long inside = record {
+  cuts = cuts;
+  below = below;
+  begins = ap (λ (box : Region). is_in_box box.start box.shape region.start) (sym is_box) ∙ begins;
+  same = same;
+  start = ap (λ (r : Region). r.start) is_moved ∙ ap (λ (box : Region). each2 (λ s o. s - o) region.start box.start) is_box;
+  shape_is = ap (λ (r : Region). r.shape) is_moved;
+  long = long;
+  inside = ap (λ (box : Region). shape_has box.shape moved) (sym is_box) ∙ inside;
+}
 
 pub some_place : (n : ℕ) → (n ≡ 0 → ⊥) → 0 < n
 some_place zero none = absurd (none refl)
@@ -179,25 +161,29 @@ module _ (s : AskedShard) (insides : List ℕ) (k : ℕ) (can : IsAskable s) (li
   number_low t low = ltb-true (get_or s.numbers t 0) (product s.shape) (each_at (λ n. nat_lt n (product s.shape) ≡ true) s.numbers t 0 (each_passes (λ n. nat_lt n (product s.shape)) s.numbers can.below) low)
 
   -- the cells are those of the subchunk
-  inside_cells : shard_cells s.inner s.elements s.shape s.subchunk s.value s.pairs s.numbers ≡ places_decoded s.inner s.elements s.value s.subchunk (get_or s.pairs k absent_pair) insides
+  inside_cells : shard_cells s.inner s.elements s.shape s.subchunk s.value s.pairs s.numbers ≡ places_decoded s.inner s.elements s.value (part_shape s.shape s.subchunk k) (get_or s.pairs k absent_pair) insides
   inside_cells =
-      ap all_there (maps_alike (cell_of s) (place_decoded s.inner s.elements s.value s.subchunk (get_or s.pairs k absent_pair)) s.numbers insides lie.many (λ t low.
+      ap all_there (maps_alike (cell_of s) (place_decoded s.inner s.elements s.value (part_shape s.shape s.subchunk k) (get_or s.pairs k absent_pair)) s.numbers insides lie.many (λ t low.
       let n = get_or s.numbers t 0 in
-      shard_place s.inner s.elements s.shape s.subchunk s.value s.pairs n can.cuts can.even can.many (number_low t low)
-      ∙ (ap (λ j. place_decoded s.inner s.elements s.value s.subchunk (get_or s.pairs j absent_pair) (inside_of s.shape s.subchunk n)) (lie.part t low)
-      ∙ ap (place_decoded s.inner s.elements s.value s.subchunk (get_or s.pairs k absent_pair)) (lie.place t low))))
+      shard_place s.inner s.elements s.shape s.subchunk s.value s.pairs n can.cuts can.many (number_low t low)
+      ∙ (ap (λ j. place_decoded s.inner s.elements s.value (part_shape s.shape s.subchunk j) (get_or s.pairs j absent_pair) (inside_of s.shape s.subchunk n)) (lie.part t low)
+      ∙ ap (place_decoded s.inner s.elements s.value (part_shape s.shape s.subchunk k) (get_or s.pairs k absent_pair)) (lie.place t low))))
 
-  pub inside_read : (result : Result ArrayBytes CodecError) → ListsRead s.elements s.subchunk (places_decoded s.inner s.elements s.value s.subchunk (get_or s.pairs k absent_pair) insides) result
+  pub inside_read : (edges : List ℕ) (result : Result ArrayBytes CodecError) → edges ≡ part_shape s.shape s.subchunk k → ListsRead s.elements edges (places_decoded s.inner s.elements s.value edges (get_or s.pairs k absent_pair) insides) result
       → ListsRead s.elements s.shape (shard_cells s.inner s.elements s.shape s.subchunk s.value s.pairs s.numbers) result
-  inside_read (Ok bytes) h = record { cells = h.cells; is = inside_cells ∙ h.is; lists = h.lists }
-  inside_read (Err error.Damage) h = inside_cells ∙ h
-  inside_read (Err error.Size) h =
-      let low = lie.below in
-      let many = length-parts s.shape s.subchunk in
-      too_large s.elements.type (product s.subchunk) (product s.shape) (part_fewer s.shape s.subchunk k can.cuts can.even (omega (arith, low, many))) h
-  inside_read (Err error.Source) h = tt
-  inside_read (Err error.Memory) h = tt
-  inside_read (Err e) h = absurd h
+  inside_read edges result is read =
+      listed result (subst (λ (e : List ℕ). ListsRead s.elements e (places_decoded s.inner s.elements s.value e (get_or s.pairs k absent_pair) insides) result) is read) where
+        shape : List ℕ
+        shape = part_shape s.shape s.subchunk k
+
+        listed : (result : Result ArrayBytes CodecError) → ListsRead s.elements shape (places_decoded s.inner s.elements s.value shape (get_or s.pairs k absent_pair) insides) result
+            → ListsRead s.elements s.shape (shard_cells s.inner s.elements s.shape s.subchunk s.value s.pairs s.numbers) result
+        listed (Ok bytes) h = record { cells = h.cells; is = inside_cells ∙ h.is; lists = h.lists }
+        listed (Err error.Damage) h = inside_cells ∙ h
+        listed (Err error.Size) h = too_large s.elements.type (product shape) (product s.shape) (part_fewer s.shape s.subchunk k can.cuts) h
+        listed (Err error.Source) h = tt
+        listed (Err error.Memory) h = tt
+        listed (Err e) h = absurd h
 
   -- no other slice is read
   pub inside_given : (before after : ℕ) → 0 < length s.numbers → after ≤ before + slice_length (get_or s.pairs k absent_pair) → after ≤ before + bytes_met s.shape s.subchunk s.numbers s.pairs

@@ -8,32 +8,28 @@ use Rattle.zarr_grids_boxes.specs.Boxes.{product}
 use Rattle.zarr_codecs_meaning.specs.Encoding.{absent_pair}
 use Rattle.zarr_codecs_meaning.specs.Types.{Cell}
 use Rattle.zarr_codecs_meaning.proofs.Lists.{each_passes}
-use Rattle.zarr_codecs_meaning.proofs.Parts.{length-parts}
 use Rattle.zarr_codecs_meaning.proofs.Positions.{each_at}
 use Rattle.zarr_codecs_regions.specs.Updates.{put}
 use Rattle.zarr_codecs_arrays.specs.declared.array_bytes.ArrayBytes.{ArrayBytes}
 use Rattle.zarr_codecs_arrays.specs.declared.error.CodecError.{CodecError}
 use Rattle.zarr_codecs_arrays.specs.declared.error.CodecError.TheVariants as error
 use Rattle.zarr_sharding_places.specs.Boxed.{ShowsBoxes}
-use Rattle.zarr_sharding_places.specs.Locating.{inside_of, subchunk_of}
+use Rattle.zarr_sharding_places.specs.Locating.{inside_of, part_shape, subchunk_of}
 use Rattle.zarr_sharding_places.specs.declared.boxed.BoxedElements.{BoxedElements}
 use Rattle.zarr_sharding_places.proofs.PutPlaces.{length-put, put_cases}
 use Rattle.zarr_sharding_state.specs.States.{slice_length}
 use Rattle.zarr_sharding_codec.specs.BoxReading.{AreMet, StandIn}
 use Rattle.zarr_sharding_codec.specs.BytesMet.{bytes_met, is_met, met_length}
-use Rattle.zarr_sharding_codec.specs.Reading.{ListsRead, place_decoded, places_decoded, shard_cells}
+use Rattle.zarr_sharding_codec.specs.Reading.{ListsRead, places_decoded, shard_cells}
 use Rattle.zarr_sharding_codec.proofs.AllThere.{all_found, length-there, lost_one, one_lost, there_at}
-use Rattle.zarr_sharding_codec.proofs.EvenParts.{part_fewer}
+use Rattle.zarr_sharding_codec.proofs.NumberedParts.{part_fewer}
 use Rattle.zarr_sharding_codec.proofs.GivenSoFar.{met_before, sum_least, sum_next}
-use Rattle.zarr_sharding_codec.proofs.GroupsRead.{AskedShard, IsAskable, cell_of}
+use Rattle.zarr_sharding_codec.proofs.GroupsRead.{AskedShard, IsAskable, cell_of, piece_cell, piece_cells}
 use Rattle.zarr_sharding_codec.proofs.PlaceCells.{shard_place}
 use Rattle.zarr_sharding_codec.proofs.StoredLoop.{too_large}
 
 abbrev pub number_at : AskedShard → ℕ → ℕ
 number_at s t = get_or s.numbers t 0
-
-abbrev pub pair_cells : AskedShard → ℕ → List ℕ → Option (List Cell)
-pair_cells s k insides = places_decoded s.inner s.elements s.value s.subchunk (get_or s.pairs k absent_pair) insides
 
 -- the cells that stand in the first of the subchunks were put
 pub record BoxSoFar (s : AskedShard) (met : List ℕ) (all : BoxedElements) (j : ℕ) : Type 0 where
@@ -60,29 +56,28 @@ box_done s met all j are past so_far =
     so_far.read t has.at_ low (omega (arith, below, past)) (sym has.is))
 
 -- what is read is the same where the source holds the same as before
-pub box_before : (s : AskedShard) (one other : Option (List ℕ)) (k : ℕ) (insides : List ℕ) (result : Result ArrayBytes CodecError) → one ≡ other
-    → ListsRead s.elements s.subchunk (places_decoded s.inner s.elements (unwrap_or other []) s.subchunk (get_or s.pairs k absent_pair) insides) result
-    → ListsRead s.elements s.subchunk (places_decoded s.inner s.elements (unwrap_or one []) s.subchunk (get_or s.pairs k absent_pair) insides) result
-box_before s one other k insides result same read =
-    subst (λ (o : Option (List ℕ)). ListsRead s.elements s.subchunk (places_decoded s.inner s.elements (unwrap_or o []) s.subchunk (get_or s.pairs k absent_pair) insides) result) (sym same) read
+pub box_before : (s : AskedShard) (one other : Option (List ℕ)) (edges : List ℕ) (k : ℕ) (insides : List ℕ) (result : Result ArrayBytes CodecError) → one ≡ other → edges ≡ part_shape s.shape s.subchunk k
+    → ListsRead s.elements edges (places_decoded s.inner s.elements (unwrap_or other []) edges (get_or s.pairs k absent_pair) insides) result
+    → ListsRead s.elements (part_shape s.shape s.subchunk k) (places_decoded s.inner s.elements (unwrap_or one []) (part_shape s.shape s.subchunk k) (get_or s.pairs k absent_pair) insides) result
+box_before s one other edges k insides result same is read =
+    subst (λ (o : Option (List ℕ)). ListsRead s.elements (part_shape s.shape s.subchunk k) (places_decoded s.inner s.elements (unwrap_or o []) (part_shape s.shape s.subchunk k) (get_or s.pairs k absent_pair) insides) result) (sym same)
+    (subst (λ (e : List ℕ). ListsRead s.elements e (places_decoded s.inner s.elements (unwrap_or other []) e (get_or s.pairs k absent_pair) insides) result) is read)
 
 -- ---- one subchunk
 
 module _ (s : AskedShard) (positions insides : List ℕ) (k : ℕ) (can : IsAskable s) (stand : StandIn s.shape s.subchunk s.numbers positions insides k) where
   -- the cell at a position is that of its subchunk
-  cell_there : (i : ℕ) → i < length positions → cell_of s (number_at s (get_or positions i 0)) ≡ place_decoded s.inner s.elements s.value s.subchunk (get_or s.pairs k absent_pair) (get_or insides i 0)
+  cell_there : (i : ℕ) → i < length positions → cell_of s (number_at s (get_or positions i 0)) ≡ piece_cell s k (get_or insides i 0)
   cell_there i low =
       let t = get_or positions i 0 in
       let n = number_at s t in
       let below = ltb-true n (product s.shape) (each_at (λ m. nat_lt m (product s.shape) ≡ true) s.numbers t 0 (each_passes (λ m. nat_lt m (product s.shape)) s.numbers can.below) (stand.low i low)) in
-      shard_place s.inner s.elements s.shape s.subchunk s.value s.pairs n can.cuts can.even can.many below
-      ∙ (ap (λ m. place_decoded s.inner s.elements s.value s.subchunk (get_or s.pairs m absent_pair) (inside_of s.shape s.subchunk n)) (stand.part i low)
-      ∙ ap (place_decoded s.inner s.elements s.value s.subchunk (get_or s.pairs k absent_pair)) (stand.place i low))
+      shard_place s.inner s.elements s.shape s.subchunk s.value s.pairs n can.cuts can.many below ∙ (ap (λ m. piece_cell s m (inside_of s.shape s.subchunk n)) (stand.part i low) ∙ ap (piece_cell s k) (stand.place i low))
 
-  pub piece_many : (piece : List Cell) → pair_cells s k insides ≡ Some piece → length piece ≡ length positions
-  piece_many piece read = length-there (place_decoded s.inner s.elements s.value s.subchunk (get_or s.pairs k absent_pair)) insides piece read ∙ stand.many
+  pub piece_many : (piece : List Cell) → piece_cells s k insides ≡ Some piece → length piece ≡ length positions
+  piece_many piece read = length-there (piece_cell s k) insides piece read ∙ stand.many
 
-  pub box_more : (met : List ℕ) (before after : BoxedElements) (j : ℕ) (piece : List Cell) → get_or met j 0 ≡ k → (so_far : BoxSoFar s met before j) → pair_cells s k insides ≡ Some piece
+  pub box_more : (met : List ℕ) (before after : BoxedElements) (j : ℕ) (piece : List Cell) → get_or met j 0 ≡ k → (so_far : BoxSoFar s met before j) → piece_cells s k insides ≡ Some piece
       → ((cells : List Cell) → ShowsBoxes s.elements before cells → length piece ≡ length positions → ShowsBoxes s.elements after (put positions piece cells)) → BoxSoFar s met after (j + 1)
   box_more met before after j piece here so_far read law =
       let fill = s.elements.fill in
@@ -100,7 +95,7 @@ module _ (s : AskedShard) (positions insides : List ℕ) (k : ℕ) (can : IsAska
                   let count = stand.many in
                   ap (λ u. cell_of s (number_at s u)) (sym was.there)
                   ∙ (cell_there was.at_ was.below
-                  ∙ (there_at (place_decoded s.inner s.elements s.value s.subchunk (get_or s.pairs k absent_pair)) insides piece was.at_ fill read (omega (arith, under, count)) ∙ ap Some (sym was.is)))
+                  ∙ (there_at (piece_cell s k) insides piece was.at_ fill read (omega (arith, under, count)) ∙ ap Some (sym was.is)))
               | inr kept ↦
                   elim (cases_lt i j) [
                     | inl earlier ↦ so_far.read t i low earlier same ∙ ap Some (sym kept.is)
@@ -113,20 +108,17 @@ module _ (s : AskedShard) (positions insides : List ℕ) (k : ℕ) (can : IsAska
       }
 
   -- a subchunk that isn't read
-  pub box_unread : (e : CodecError) → k < length s.pairs → ListsRead s.elements s.subchunk (pair_cells s k insides) (Err e) → ListsRead s.elements s.shape (shard_cells s.inner s.elements s.shape s.subchunk s.value s.pairs s.numbers) (Err e)
-  box_unread error.Damage below lost =
-      let one = lost_one (place_decoded s.inner s.elements s.value s.subchunk (get_or s.pairs k absent_pair)) insides lost in
+  pub box_unread : (e : CodecError) → ListsRead s.elements (part_shape s.shape s.subchunk k) (piece_cells s k insides) (Err e) → ListsRead s.elements s.shape (shard_cells s.inner s.elements s.shape s.subchunk s.value s.pairs s.numbers) (Err e)
+  box_unread error.Damage lost =
+      let one = lost_one (piece_cell s k) insides lost in
       let under = one.below in
       let count = stand.many in
       let low : one.at_ < length positions = omega (arith, under, count) in
       one_lost (cell_of s) s.numbers (get_or positions one.at_ 0) (stand.low one.at_ low) (cell_there one.at_ low ∙ one.is)
-  box_unread error.Size below large =
-      let many = can.many in
-      let parts = length-parts s.shape s.subchunk in
-      too_large s.elements.type (product s.subchunk) (product s.shape) (part_fewer s.shape s.subchunk k can.cuts can.even (omega (arith, below, many, parts))) large
-  box_unread error.Source below h = tt
-  box_unread error.Memory below h = tt
-  box_unread e below h = absurd h
+  box_unread error.Size large = too_large s.elements.type (product (part_shape s.shape s.subchunk k)) (product s.shape) (part_fewer s.shape s.subchunk k can.cuts) large
+  box_unread error.Source h = tt
+  box_unread error.Memory h = tt
+  box_unread e h = absurd h
 
 -- ---- how many bytes were given
 

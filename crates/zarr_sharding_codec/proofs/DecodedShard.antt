@@ -13,19 +13,20 @@ use Rattle.zarr_codecs_arrays.specs.declared.error.CodecError.{CodecError}
 use Rattle.zarr_codecs_arrays.specs.declared.error.CodecError.TheVariants as error
 use Rattle.zarr_codecs_traits.specs.Outcomes.{Decodes}
 use Rattle.zarr_sharding_index.specs.Held.{DecodesIndex, IsIndexHeld}
+use Rattle.zarr_sharding_places.specs.Locating.{part_shape}
 use Rattle.zarr_sharding_places.specs.Pieces.{piece_decoded, shard_decoded}
 use Rattle.zarr_sharding_places.proofs.PutPlaces.{length-put}
 use Rattle.zarr_sharding_places.proofs.ReadPieces.{ShowsPieces, lost_shard, piece_count, show_more}
 use Rattle.zarr_sharding_codec.specs.Fitting.{Suits}
 use Rattle.zarr_sharding_codec.specs.Reading.{DecodesPieces, Lists}
-use Rattle.zarr_sharding_codec.proofs.EvenParts.{part_at, part_fewer, part_number, whole_part}
+use Rattle.zarr_sharding_codec.proofs.NumberedParts.{part_at, part_fewer, part_is, part_number}
 use Rattle.zarr_sharding_codec.proofs.StoredLoop.{IsSubchunk, too_large}
 
 subchunk_number : (shape subchunk : List ℕ) (n : ℕ) → IsSubchunk shape subchunk n → n < length (parts_of shape subchunk)
 subchunk_number shape subchunk n is = let count = length-parts shape subchunk in let below = is.below in omega (arith, count, below)
 
-subchunk_shape : (shape subchunk : List ℕ) (n : ℕ) → IsSubchunk shape subchunk n → (get_or (parts_of shape subchunk) n no_part).shape ≡ subchunk
-subchunk_shape shape subchunk n is = ap (λ (part : Part). part.shape) (part_number shape subchunk n no_part is.below) ∙ whole_part shape subchunk n is.cuts is.even is.below
+subchunk_shape : (shape subchunk : List ℕ) (n : ℕ) → IsSubchunk shape subchunk n → (get_or (parts_of shape subchunk) n no_part).shape ≡ part_shape shape subchunk n
+subchunk_shape shape subchunk n is = part_is shape subchunk n no_part (subchunk_number shape subchunk n is)
 
 -- an array that a shard suits
 pub suits_fit : (chain : Chain) (type : DataType) (shape : List ℕ) (found : Option ℕ) (size : ℕ) → found ≡ Some size → Suits chain type shape found → fits chain type shape ≡ true
@@ -39,7 +40,7 @@ pub record IsStep (inner : Chain) (elements : Elements) (shape subchunk value : 
   pub shows : ShowsPieces inner elements value (parts_of shape subchunk) pairs (put numbers piece cells) (n + 1)
 
 pub decode_step : (inner : Chain) (elements : Elements) (shape subchunk value : List ℕ) (pairs : List Pair) (n : ℕ) (numbers : List ℕ) (cells piece : List Cell) → IsSubchunk shape subchunk n → numbers ≡ (part_at shape subchunk n).places
-    → piece_decoded inner elements value subchunk (get_or pairs n absent_pair) ≡ Some piece → length cells ≡ product shape → ShowsPieces inner elements value (parts_of shape subchunk) pairs cells n → IsStep inner elements shape subchunk value pairs n numbers cells piece
+    → piece_decoded inner elements value (part_shape shape subchunk n) (get_or pairs n absent_pair) ≡ Some piece → length cells ≡ product shape → ShowsPieces inner elements value (parts_of shape subchunk) pairs cells n → IsStep inner elements shape subchunk value pairs n numbers cells piece
 decode_step inner elements shape subchunk value pairs n numbers cells piece is are read whole shows =
     let parts = parts_of shape subchunk in
     let low = subchunk_number shape subchunk n is in
@@ -54,11 +55,11 @@ decode_step inner elements shape subchunk value pairs n numbers cells piece is a
     }
 
 -- a subchunk that isn't decoded
-pub decode_lost : (inner : Chain) (elements : Elements) (shape subchunk value : List ℕ) (pairs : List Pair) (n : ℕ) (e : CodecError) → IsSubchunk shape subchunk n → Lists elements subchunk (piece_decoded inner elements value subchunk (get_or pairs n absent_pair)) (Err e)
+pub decode_lost : (inner : Chain) (elements : Elements) (shape subchunk value : List ℕ) (pairs : List Pair) (n : ℕ) (e : CodecError) → IsSubchunk shape subchunk n → Lists elements (part_shape shape subchunk n) (piece_decoded inner elements value (part_shape shape subchunk n) (get_or pairs n absent_pair)) (Err e)
     → DecodesPieces inner elements shape subchunk value pairs (Err e)
 decode_lost inner elements shape subchunk value pairs n error.Damage is lost =
     lost_shard inner elements shape subchunk value pairs n (subchunk_number shape subchunk n is) (ap (λ (s : List ℕ). piece_decoded inner elements value s (get_or pairs n absent_pair)) (subchunk_shape shape subchunk n is) ∙ lost)
-decode_lost inner elements shape subchunk value pairs n error.Size is large = too_large elements.type (product subchunk) (product shape) (part_fewer shape subchunk n is.cuts is.even is.below) large
+decode_lost inner elements shape subchunk value pairs n error.Size is large = too_large elements.type (product (part_shape shape subchunk n)) (product shape) (part_fewer shape subchunk n is.cuts) large
 decode_lost inner elements shape subchunk value pairs n error.Memory is h = tt
 decode_lost inner elements shape subchunk value pairs n error.Fit is h = h
 decode_lost inner elements shape subchunk value pairs n error.Codec is h = h

@@ -6,7 +6,7 @@ use Rattle.std.proofs.lemmas.List.{length-map}
 use Rattle.zarr_grids_boxes.specs.Boxes.{product}
 use Rattle.zarr_codecs_meaning.specs.Chains.{BytesRepresentation, Chain, Location, sharded, at_start, at_end, fixed_size, bounded_size, unbounded_size}
 use Rattle.zarr_codecs_meaning.specs.Encoding.{Piece, base_of, encoded, index_size, joined, joined_slices, pair_cells, pairs_from, piece_of, pieces_of, shard_of, stored_pieces}
-use Rattle.zarr_codecs_meaning.specs.Fits.{bound_of, can_cut, divides, fits, fixed_of, is_bound_within, is_lossless, is_size_as, representation_of, sum_of_bounds}
+use Rattle.zarr_codecs_meaning.specs.Fits.{bound_of, fits, fixed_of, is_bound_within, is_lossless, is_size_as, representation_of, sum_of_bounds}
 use Rattle.zarr_codecs_meaning.specs.Laws.{IsLawfulChain}
 use Rattle.zarr_codecs_meaning.specs.Payloads.{Payload}
 use Rattle.zarr_codecs_meaning.specs.Places.{Part, index_shape, parts_of}
@@ -22,7 +22,7 @@ use Rattle.zarr_codecs_arrays.specs.declared.error.CodecError.TheVariants as err
 use Rattle.zarr_codecs_traits.specs.Outcomes.{Encodes, IsEncoded}
 use Rattle.zarr_sharding_index.specs.Stored.{index_fits}
 use Rattle.zarr_sharding_index.proofs.StoredIndex.{index_below}
-use Rattle.zarr_sharding_codec.proofs.EvenParts.{is_plain_type, parts_fit}
+use Rattle.zarr_sharding_codec.proofs.FitParts.{index_fit}
 use Rattle.zarr_sharding_codec.specs.Assembled.{Assembles, IsAssembled}
 use Rattle.zarr_sharding_codec.specs.Slices.{ArePiecesStored, IsSlice, StoresPieces}
 
@@ -63,12 +63,7 @@ base_small at_end size = omega arith
 
 -- the index of a shard that fits can be written
 pub index_part : (subchunk : List ℕ) (inner index : Chain) (location : Location) (elements : Elements) (shape : List ℕ) → fits (sharded subchunk inner index location) elements.type shape ≡ true → index_fits index (index_shape shape subchunk) ≡ true
-index_part subchunk inner index location elements shape fit =
-    let last = index_fits index (index_shape shape subchunk) in
-    let both = fits inner elements.type subchunk && parts_fit inner elements.type shape subchunk in
-    let cut = can_cut shape subchunk in
-    let plain = is_plain_type elements.type in
-    (and_parts both last (and_parts cut (both && last) (and_parts plain (cut && (both && last)) (and_parts (divides shape subchunk) (plain && (cut && (both && last))) fit).1).1).1).1
+index_part subchunk inner index location elements shape fit = index_fit subchunk inner index location elements.type shape fit
 
 known_long : (known : BytesRepresentation) (size long : ℕ) → fixed_of known ≡ Some size → long ≡ size → is_size_as known long ≡ true
 known_long (fixed_size n) size long is same = eq-eqb long n (same ∙ sym (some_same is))

@@ -1,5 +1,5 @@
 -- The places that are asked of a shard, read subchunk by subchunk.
-use Rattle.std.proofs.Common.{◌≡◌, ◌≢◌, ◌∙◌, inl, inr, ℕ, ◌<◌, List, [], ◌∷◌, ◌++◌, length, map, get_or, ap, sym, refl, arith, subst, Bool, true, ◌&&◌, Option, Some, None}
+use Rattle.std.proofs.Common.{◌≡◌, ◌≢◌, ◌∙◌, inl, inr, ℕ, suc, ◌<◌, List, [], ◌∷◌, ◌++◌, length, map, get_or, ap, sym, refl, arith, subst, Bool, true, ◌&&◌, Option, Some, None}
 use Rattle.std.specs.Prelude.{nat_lt}
 use Rattle.std.specs.List.{list_all}
 use Rattle.std.specs.List.Sorted.{IsPermutation}
@@ -10,7 +10,7 @@ use Rattle.std.proofs.lemmas.List.FromFn.{get_or-map-range_with_len, length-map-
 use Rattle.zarr_grids_boxes.specs.Boxes.{product}
 use Rattle.zarr_codecs_meaning.specs.Chains.{Chain}
 use Rattle.zarr_codecs_meaning.specs.Encoding.{Pair, absent_pair}
-use Rattle.zarr_codecs_meaning.specs.Fits.{can_cut, divides}
+use Rattle.zarr_codecs_meaning.specs.Fits.{can_cut}
 use Rattle.zarr_codecs_meaning.specs.Places.{parts_of}
 use Rattle.zarr_codecs_meaning.specs.Types.{Cell, Elements}
 use Rattle.zarr_codecs_meaning.proofs.Lists.{Each, each_append, each_passes, each_weaker}
@@ -19,10 +19,11 @@ use Rattle.zarr_codecs_regions.specs.Updates.{put}
 use Rattle.zarr_sharding_places.specs.Locating.{asked_place, asked_places}
 use Rattle.zarr_sharding_places.specs.declared.locating.AskedPlace.{AskedPlace}
 use Rattle.zarr_sharding_codec.specs.Reading.{place_decoded, places_decoded, shard_cell, shard_cells}
+use Rattle.zarr_sharding_places.specs.Groups as groups
 use Rattle.zarr_sharding_places.specs.Groups.{no_place}
-use Rattle.zarr_sharding_places.specs.Locating.{subchunk_of}
+use Rattle.zarr_sharding_places.specs.Locating.{inside_of, part_shape, subchunk_of}
 use Rattle.zarr_sharding_places.proofs.PutPlaces.{length-put, put_cases}
-use Rattle.zarr_sharding_codec.proofs.EvenParts.{each_from}
+use Rattle.zarr_sharding_codec.proofs.NumberedParts.{each_from}
 use Rattle.zarr_sharding_codec.proofs.AllThere.{all_found, length-there, lost_one, one_lost, there_at}
 use Rattle.zarr_sharding_codec.proofs.LocatedParts.{located_place}
 use Rattle.zarr_sharding_codec.proofs.PlaceCells.{inside_below, shard_place}
@@ -37,10 +38,9 @@ pub record AskedShard : Type 0 where
   pub pairs : List Pair
   pub numbers : List ℕ
 
--- the subchunks divide the array, each has a pair, and the places are the array's
+-- the array is cut into subchunks, each has a pair, and the places are the array's
 pub record IsAskable (s : AskedShard) : Type 0 where
   pub cuts : can_cut s.shape s.subchunk ≡ true
-  pub even : divides s.shape s.subchunk ≡ true
   pub many : length s.pairs ≡ length (parts_of s.shape s.subchunk)
   pub below : list_all (λ n. nat_lt n (product s.shape)) s.numbers ≡ true
 
@@ -59,37 +59,53 @@ number_below : (s : AskedShard) (place : AskedPlace) → IsAskable s → IsAsked
 number_below s place can asked =
     ltb-true (number_of s place) (product s.shape) (each_at (λ n. nat_lt n (product s.shape) ≡ true) s.numbers place.position 0 (each_passes (λ n. nat_lt n (product s.shape)) s.numbers can.below) asked.below)
 
+-- the cell at a place of the subchunk with a number, and the cells at some of them
+abbrev pub piece_cell : AskedShard → ℕ → ℕ → Option Cell
+piece_cell s k place = place_decoded s.inner s.elements s.value (part_shape s.shape s.subchunk k) (get_or s.pairs k absent_pair) place
+
+abbrev pub piece_cells : AskedShard → ℕ → List ℕ → Option (List Cell)
+piece_cells s k places = places_decoded s.inner s.elements s.value (part_shape s.shape s.subchunk k) (get_or s.pairs k absent_pair) places
+
 -- the cell at a place is that of its subchunk
-asked_cell : (s : AskedShard) (place : AskedPlace) → IsAskable s → IsAsked s place → cell_of s (number_of s place) ≡ place_decoded s.inner s.elements s.value s.subchunk (get_or s.pairs place.subchunk absent_pair) place.inside
+asked_cell : (s : AskedShard) (place : AskedPlace) → IsAskable s → IsAsked s place → cell_of s (number_of s place) ≡ piece_cell s place.subchunk place.inside
 asked_cell s place can asked =
-    shard_place s.inner s.elements s.shape s.subchunk s.value s.pairs (number_of s place) can.cuts can.even can.many (number_below s place can asked)
-    ∙ ap (λ (p : AskedPlace). place_decoded s.inner s.elements s.value s.subchunk (get_or s.pairs p.subchunk absent_pair) p.inside) (sym asked.is)
+    shard_place s.inner s.elements s.shape s.subchunk s.value s.pairs (number_of s place) can.cuts can.many (number_below s place can asked)
+    ∙ ap (λ (p : AskedPlace). piece_cell s p.subchunk p.inside) (sym asked.is)
 
 -- there is a pair for it, and it is a place of its subchunk
 pub subchunk_below : (s : AskedShard) (place : AskedPlace) → IsAskable s → IsAsked s place → place.subchunk < length s.pairs
 subchunk_below s place can asked =
-    let located = located_place s.shape s.subchunk (number_of s place) can.cuts can.even (number_below s place can asked) in
+    let located = located_place s.shape s.subchunk (number_of s place) can.cuts (number_below s place can asked) in
     let low = located.part in
     let many = can.many in
     let here : place.subchunk ≡ subchunk_of s.shape s.subchunk (number_of s place) = ap (λ (p : AskedPlace). p.subchunk) asked.is in
     omega (arith, low, many, here)
 
-asked_inside : (s : AskedShard) (place : AskedPlace) → IsAskable s → IsAsked s place → nat_lt place.inside (product s.subchunk) ≡ true
+asked_inside : (s : AskedShard) (place : AskedPlace) → IsAskable s → IsAsked s place → nat_lt place.inside (product (part_shape s.shape s.subchunk place.subchunk)) ≡ true
 asked_inside s place can asked =
-    ap (λ (p : AskedPlace). nat_lt p.inside (product s.subchunk)) asked.is
-    ∙ lt-ltb (asked_place s.shape s.subchunk s.numbers place.position).inside (product s.subchunk) (inside_below s.shape s.subchunk (number_of s place) can.cuts can.even (number_below s place can asked))
+    let n = number_of s place in
+    ap (λ (p : AskedPlace). nat_lt p.inside (product (part_shape s.shape s.subchunk p.subchunk))) asked.is
+    ∙ lt-ltb (inside_of s.shape s.subchunk n) (product (part_shape s.shape s.subchunk (subchunk_of s.shape s.subchunk n))) (inside_below s.shape s.subchunk n can.cuts (number_below s place can asked))
 
-pub insides_below : (s : AskedShard) (group : List AskedPlace) → IsAskable s → Each (IsAsked s) group → list_all (λ n. nat_lt n (product s.subchunk)) (map (λ (p : AskedPlace). p.inside) group) ≡ true
-insides_below s [] can asked = refl
-insides_below s (place ∷ group) can asked =
-    ap (λ (b : Bool). b && list_all (λ n. nat_lt n (product s.subchunk)) (map (λ (p : AskedPlace). p.inside) group)) (asked_inside s place can asked.0) ∙ insides_below s group can asked.1
+all_inside : (s : AskedShard) (k : ℕ) (group : List AskedPlace) → IsAskable s → Each (IsAsked s) group → ((i : ℕ) → i < length group → (get_or group i no_place).subchunk ≡ k)
+    → list_all (λ n. nat_lt n (product (part_shape s.shape s.subchunk k))) (map (λ (p : AskedPlace). p.inside) group) ≡ true
+all_inside s k [] can asked alike = refl
+all_inside s k (place ∷ group) can asked alike =
+    let count = product (part_shape s.shape s.subchunk k) in
+    let here : nat_lt place.inside count ≡ true = ap (λ j. nat_lt place.inside (product (part_shape s.shape s.subchunk j))) (sym (alike 0 (omega arith))) ∙ asked_inside s place can asked.0 in
+    ap (λ (b : Bool). b && list_all (λ n. nat_lt n count) (map (λ (p : AskedPlace). p.inside) group)) here ∙ all_inside s k group can asked.1 (λ i below. alike (suc i) (omega (arith, below)))
+
+-- places of one subchunk are places of its shape
+pub insides_below : (s : AskedShard) (group : List AskedPlace) → IsAskable s → Each (IsAsked s) group → groups.IsGroup group
+    → list_all (λ n. nat_lt n (product (part_shape s.shape s.subchunk (get_or group 0 no_place).subchunk))) (map (λ (p : AskedPlace). p.inside) group) ≡ true
+insides_below s group can asked one = all_inside s (get_or group 0 no_place).subchunk group can asked one
 
 -- ---- places of one subchunk
 
--- places of one subchunk, of which this is the pair
-pub record IsGroup (s : AskedShard) (pair : Pair) (group : List AskedPlace) : Type 0 where
+-- places of one subchunk, of which this is the number
+pub record IsGroup (s : AskedShard) (k : ℕ) (group : List AskedPlace) : Type 0 where
   pub asked : Each (IsAsked s) group
-  pub alike : (i : ℕ) → i < length group → get_or s.pairs (get_or group i no_place).subchunk absent_pair ≡ pair
+  pub alike : (i : ℕ) → i < length group → (get_or group i no_place).subchunk ≡ k
 
 abbrev pub positions : List AskedPlace → List ℕ
 positions group = map (λ (p : AskedPlace). p.position) group
@@ -98,13 +114,11 @@ abbrev pub insides : List AskedPlace → List ℕ
 insides group = map (λ (p : AskedPlace). p.inside) group
 
 -- the cell at a place of the group
-group_cell : (s : AskedShard) (pair : Pair) (group : List AskedPlace) (i : ℕ) → IsAskable s → IsGroup s pair group → i < length group
-    → cell_of s (number_of s (get_or group i no_place)) ≡ place_decoded s.inner s.elements s.value s.subchunk pair (get_or (insides group) i 0)
-group_cell s pair group i can is below =
+group_cell : (s : AskedShard) (k : ℕ) (group : List AskedPlace) (i : ℕ) → IsAskable s → IsGroup s k group → i < length group → cell_of s (number_of s (get_or group i no_place)) ≡ piece_cell s k (get_or (insides group) i 0)
+group_cell s k group i can is below =
     let place = get_or group i no_place in
     asked_cell s place can (each_at (IsAsked s) group i no_place is.asked below)
-    ∙ (ap (λ (q : Pair). place_decoded s.inner s.elements s.value s.subchunk q place.inside) (is.alike i below)
-    ∙ ap (place_decoded s.inner s.elements s.value s.subchunk pair) (sym (get_or-map (λ (p : AskedPlace). p.inside) group i no_place 0 below)))
+    ∙ (ap (λ j. piece_cell s j place.inside) (is.alike i below) ∙ ap (piece_cell s k) (sym (get_or-map (λ (p : AskedPlace). p.inside) group i no_place 0 below)))
 
 -- cells have what a place asks for at its position
 pub record IsRead (s : AskedShard) (cells : List Cell) (place : AskedPlace) : Type 0 where
@@ -112,16 +126,16 @@ pub record IsRead (s : AskedShard) (cells : List Cell) (place : AskedPlace) : Ty
   pub cell : cell_of s (number_of s place) ≡ Some (get_or cells place.position s.elements.fill)
 
 -- what is put at a position is the cell that it asks for
-read_put : (s : AskedShard) (pair : Pair) (group : List AskedPlace) (cells piece : List Cell) (place : AskedPlace) → IsAskable s → IsGroup s pair group → length cells ≡ length s.numbers
-    → places_decoded s.inner s.elements s.value s.subchunk pair (insides group) ≡ Some piece → IsAsked s place
+read_put : (s : AskedShard) (k : ℕ) (group : List AskedPlace) (cells piece : List Cell) (place : AskedPlace) → IsAskable s → IsGroup s k group → length cells ≡ length s.numbers
+    → piece_cells s k (insides group) ≡ Some piece → IsAsked s place
     → (((i : ℕ) → i < length group → (get_or group i no_place).position ≢ place.position) → cell_of s (number_of s place) ≡ Some (get_or cells place.position s.elements.fill))
     → IsRead s (put (positions group) piece cells) place
-read_put s pair group cells piece place can is whole read asked kept_cell =
+read_put s k group cells piece place can is whole read asked kept_cell =
     let fill = s.elements.fill in
     let ats = positions group in
     let many : length ats ≡ length group = length-map group (λ (p : AskedPlace). p.position) in
     let count : length (insides group) ≡ length group = length-map group (λ (p : AskedPlace). p.inside) in
-    let long = length-there (place_decoded s.inner s.elements s.value s.subchunk pair) (insides group) piece read in
+    let long = length-there (piece_cell s k) (insides group) piece read in
     let low = asked.below in
     record {
       asked = asked;
@@ -131,8 +145,8 @@ read_put s pair group cells piece place can is whole read asked kept_cell =
             let below : was.at_ < length group = omega (arith, under, many) in
             let there : (get_or group was.at_ no_place).position ≡ place.position = sym (get_or-map (λ (p : AskedPlace). p.position) group was.at_ no_place 0 below) ∙ was.there in
             ap (λ t. cell_of s (get_or s.numbers t 0)) (sym there)
-            ∙ (group_cell s pair group was.at_ can is below
-            ∙ (there_at (place_decoded s.inner s.elements s.value s.subchunk pair) (insides group) piece was.at_ fill read (omega (arith, below, count)) ∙ ap Some (sym was.is)))
+            ∙ (group_cell s k group was.at_ can is below
+            ∙ (there_at (piece_cell s k) (insides group) piece was.at_ fill read (omega (arith, below, count)) ∙ ap Some (sym was.is)))
         | inr kept ↦
             kept_cell (λ i below same. kept.none i (omega (arith, below, many)) (get_or-map (λ (p : AskedPlace). p.position) group i no_place 0 below ∙ same)) ∙ ap Some (sym kept.is)
       ];
@@ -140,34 +154,34 @@ read_put s pair group cells piece place can is whole read asked kept_cell =
 
 -- ---- one group more
 
-pub group_put : (s : AskedShard) (pair : Pair) (cells piece : List Cell) (done group : List AskedPlace) → IsAskable s → IsGroup s pair group → length cells ≡ length s.numbers
-    → places_decoded s.inner s.elements s.value s.subchunk pair (insides group) ≡ Some piece → Each (IsRead s cells) done → Each (IsRead s (put (positions group) piece cells)) (done ++ group)
-group_put s pair cells piece done group can is whole read before =
+pub group_put : (s : AskedShard) (k : ℕ) (cells piece : List Cell) (done group : List AskedPlace) → IsAskable s → IsGroup s k group → length cells ≡ length s.numbers
+    → piece_cells s k (insides group) ≡ Some piece → Each (IsRead s cells) done → Each (IsRead s (put (positions group) piece cells)) (done ++ group)
+group_put s k cells piece done group can is whole read before =
     let after = put (positions group) piece cells in
     each_append (IsRead s after) done group
-    (each_weaker (IsRead s cells) (IsRead s after) done (λ place old. read_put s pair group cells piece place can is whole read old.asked (λ none. old.cell)) before)
+    (each_weaker (IsRead s cells) (IsRead s after) done (λ place old. read_put s k group cells piece place can is whole read old.asked (λ none. old.cell)) before)
     (each_from (IsRead s after) group no_place (λ i below.
     let place = get_or group i no_place in
-    read_put s pair group cells piece place can is whole read (each_at (IsAsked s) group i no_place is.asked below) (λ none. absurd (none i below refl))))
+    read_put s k group cells piece place can is whole read (each_at (IsAsked s) group i no_place is.asked below) (λ none. absurd (none i below refl))))
 
 pub put_whole : (s : AskedShard) (cells piece : List Cell) (group : List AskedPlace) → length cells ≡ length s.numbers → length (put (positions group) piece cells) ≡ length s.numbers
 put_whole s cells piece group whole = length-put (positions group) piece cells ∙ whole
 
-pub piece_many : (s : AskedShard) (pair : Pair) (piece : List Cell) (group : List AskedPlace) → places_decoded s.inner s.elements s.value s.subchunk pair (insides group) ≡ Some piece → length piece ≡ length (positions group)
-piece_many s pair piece group read =
-    length-there (place_decoded s.inner s.elements s.value s.subchunk pair) (insides group) piece read ∙ (length-map group (λ (p : AskedPlace). p.inside) ∙ sym (length-map group (λ (p : AskedPlace). p.position)))
+pub piece_many : (s : AskedShard) (k : ℕ) (piece : List Cell) (group : List AskedPlace) → piece_cells s k (insides group) ≡ Some piece → length piece ≡ length (positions group)
+piece_many s k piece group read =
+    length-there (piece_cell s k) (insides group) piece read ∙ (length-map group (λ (p : AskedPlace). p.inside) ∙ sym (length-map group (λ (p : AskedPlace). p.position)))
 
 -- where a place of a group has no cell, the places have none together
-pub group_lost : (s : AskedShard) (pair : Pair) (group : List AskedPlace) → IsAskable s → IsGroup s pair group → places_decoded s.inner s.elements s.value s.subchunk pair (insides group) ≡ None
+pub group_lost : (s : AskedShard) (k : ℕ) (group : List AskedPlace) → IsAskable s → IsGroup s k group → piece_cells s k (insides group) ≡ None
     → shard_cells s.inner s.elements s.shape s.subchunk s.value s.pairs s.numbers ≡ None
-group_lost s pair group can is lost =
-    let one = lost_one (place_decoded s.inner s.elements s.value s.subchunk pair) (insides group) lost in
+group_lost s k group can is lost =
+    let one = lost_one (piece_cell s k) (insides group) lost in
     let count : length (insides group) ≡ length group = length-map group (λ (p : AskedPlace). p.inside) in
     let low = one.below in
     let below : one.at_ < length group = omega (arith, low, count) in
     let place = get_or group one.at_ no_place in
     let asked = each_at (IsAsked s) group one.at_ no_place is.asked below in
-    one_lost (cell_of s) s.numbers place.position asked.below (group_cell s pair group one.at_ can is below ∙ one.is)
+    one_lost (cell_of s) s.numbers place.position asked.below (group_cell s k group one.at_ can is below ∙ one.is)
 
 -- ---- all places
 

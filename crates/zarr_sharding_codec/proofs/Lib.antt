@@ -1,5 +1,7 @@
 pub mod Configured
-pub mod EvenParts
+pub mod NumberedParts
+pub mod PartShapes
+pub mod FitParts
 pub mod TakenStretches
 pub mod StoredParts
 pub mod StoredLoop

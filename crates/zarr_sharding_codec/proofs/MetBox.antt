@@ -24,34 +24,6 @@ quotient_is x p g some low high =
     let least : g ≤ x / p = (le-div_iff_mul-le {k = p} {x = g} {y = x} some).1 low in
     omega (arith, below, least)
 
--- a place in the box of a subchunk
-pub block_is : (es gs xs : List ℕ) → can_cut xs es ≡ true → is_in_box (each2 (λ i edge. i * edge) gs es) es xs ≡ true → length gs ≡ length es → block xs es ≡ gs
-block_is [] [] [] cuts h l = refl
-block_is [] [] (x ∷ xs) cuts h l = cc
-block_is [] (g ∷ gs) xs cuts h l = absurd (omega (arith, l))
-block_is (e ∷ es) [] xs cuts h l = absurd (omega (arith, l))
-block_is (e ∷ es) (g ∷ gs) [] cuts h l = cc
-block_is (e ∷ es) (g ∷ gs) (x ∷ xs) cuts h l =
-    let positive = and_parts (nat_lt 0 e) (can_cut xs es) cuts in
-    let both = and_parts (nat_le (g * e) x && nat_lt x (g * e + e)) (is_in_box (each2 (λ i edge. i * edge) gs es) es xs) h in
-    let here = and_parts (nat_le (g * e) x) (nat_lt x (g * e + e)) both.0 in
-    ap (λ k. k ∷ block xs es) (quotient_is x e g (ltb-true 0 e positive.0) (leb-true (g * e) x here.0) (ltb-true x (g * e + e) here.1))
-    ∙ ap (λ ks. g ∷ ks) (block_is es gs xs positive.1 both.1 (omega (arith, l)))
-
-pub block_has : (es xs : List ℕ) → can_cut xs es ≡ true → is_in_box (each2 (λ i edge. i * edge) (block xs es) es) es xs ≡ true
-block_has [] [] cuts = refl
-block_has [] (x ∷ xs) cuts = cc
-block_has (e ∷ es) [] cuts = cc
-block_has (e ∷ es) (x ∷ xs) cuts =
-    let positive = and_parts (nat_lt 0 e) (can_cut xs es) cuts in
-    let some = ltb-true 0 e positive.0 in
-    let split : e * (x / e) + x % e ≡ x = omega (arith, some) in
-    let turn : x / e * e ≡ e * (x / e) = grind arith in
-    let less : x % e < e = omega (arith, some) in
-    let a = le-leb (x / e * e) x (omega (arith, split, turn)) in
-    let b = lt-ltb x (x / e * e + e) (omega (arith, split, turn, less)) in
-    rw (a, b, block_has es xs positive.1) refl
-
 -- ---- places of a box by their numbers in a larger one
 
 -- numbers rise with those of the places

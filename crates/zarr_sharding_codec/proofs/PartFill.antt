@@ -7,7 +7,7 @@ use Rattle.zarr_grids_boxes.specs.Boxes.{product}
 use Rattle.zarr_codecs_arrays.proofs.Copies.{fill_decides}
 use Rattle.zarr_codecs_meaning.specs.Decoding.{is_absent}
 use Rattle.zarr_codecs_meaning.specs.Encoding.{Pair, Piece, absent_pair, piece_of, pieces_of}
-use Rattle.zarr_codecs_meaning.specs.Fits.{can_cut, divides}
+use Rattle.zarr_codecs_meaning.specs.Fits.{can_cut}
 use Rattle.zarr_codecs_meaning.specs.Places.{Part, gather, parts_of}
 use Rattle.zarr_codecs_meaning.specs.Standing.{PiecesStand}
 use Rattle.zarr_codecs_meaning.specs.Types.{Cell, is_fill}
@@ -45,16 +45,16 @@ pieces_fill fill cells (part ∷ parts) filled =
     and_from (is_fill fill (gather fill cells part.places)) (list_all (λ (piece : Piece). is_fill fill piece.1) (pieces_of fill cells parts)) (piece_fill fill cells part.places filled) (pieces_fill fill cells parts filled)
 
 -- an array whose subchunks are all fill is
-pub whole_fill : (fill : Cell) (shape subchunk : List ℕ) (cells : List Cell) → can_cut shape subchunk ≡ true → divides shape subchunk ≡ true → length cells ≡ product shape → list_all (λ (piece : Piece). is_fill fill piece.1) (pieces_of fill cells (parts_of shape subchunk)) ≡ true
+pub whole_fill : (fill : Cell) (shape subchunk : List ℕ) (cells : List Cell) → can_cut shape subchunk ≡ true → length cells ≡ product shape → list_all (λ (piece : Piece). is_fill fill piece.1) (pieces_of fill cells (parts_of shape subchunk)) ≡ true
     → is_fill fill cells ≡ true
-whole_fill fill shape subchunk cells cuts even long all =
+whole_fill fill shape subchunk cells cuts long all =
     let test = λ (piece : Piece). is_fill fill piece.1 in
     let pieces = pieces_of fill cells (parts_of shape subchunk) in
     let count = length-map (parts_of shape subchunk) (piece_of fill cells) in
     let same = same_seen fill shape subchunk cells (replicate (product shape) fill) cuts long (length-replicate {A = Cell} (product shape) fill) (λ k there.
     let places = places_at shape subchunk k in
     let one = each_at (λ (piece : Piece). test piece ≡ true) pieces k no_piece (each_passes test pieces all) (omega (arith, there, count)) in
-    let here : is_fill fill (gather fill cells places) ≡ true = ap test (sym (piece_there fill cells shape subchunk k cuts even there)) ∙ one in
+    let here : is_fill fill (gather fill cells places) ≡ true = ap test (sym (piece_there fill cells shape subchunk k cuts there)) ∙ one in
     fill_is_replicate fill (gather fill cells places) here
     ∙ (ap (λ n. replicate n fill) (length-map places (λ n. get_or cells n fill)) ∙ sym (gathered_fill fill (replicate (product shape) fill) places (λ n. replicate_at (product shape) n fill)))) in
     ap (is_fill fill) same ∙ replicate_fill fill (product shape)

@@ -7,7 +7,7 @@ use Rattle.std.proofs.lemmas.List.{ext_get_or, get_or-set_same, get_or-set_other
 use Rattle.zarr_grids_boxes.specs.Boxes.{product}
 use Rattle.zarr_codecs_meaning.specs.Chains.{Chain}
 use Rattle.zarr_codecs_meaning.specs.Encoding.{Piece, piece_of, pieces_of}
-use Rattle.zarr_codecs_meaning.specs.Fits.{can_cut, divides, is_lossless}
+use Rattle.zarr_codecs_meaning.specs.Fits.{can_cut, is_lossless}
 use Rattle.zarr_codecs_meaning.specs.Places.{Part, gather, grid_of, parts_of}
 use Rattle.zarr_codecs_meaning.specs.Standing.{SliceStands, Slices}
 use Rattle.zarr_codecs_meaning.specs.Standing.Slices.{standing_slices, encoded_slices}
@@ -15,40 +15,41 @@ use Rattle.zarr_codecs_meaning.specs.Types.{Cell, Elements}
 use Rattle.zarr_codecs_meaning.proofs.Parts.{length-parts, no_part}
 use Rattle.zarr_codecs_traits.specs.Indexers.{put}
 use Rattle.zarr_sharding_changes.specs.Changes.{Change, ChangesStand, SliceStandsBy, pieces_after}
-use Rattle.zarr_sharding_codec.specs.PartWriting.{AreChanged, AreUpdated, HasChange, IsUpdated, Put, Stored, cells_held, cells_put, given_in, numbers_in}
+use Rattle.zarr_sharding_places.specs.Locating.{part_shape}
+use Rattle.zarr_sharding_codec.specs.PartWriting.{AreChanged, AreUpdated, HasChange, IsUpdated, Put, Stored, cells_held, cells_put, given_in, numbers_in, shape_in}
 use Rattle.zarr_sharding_codec.specs.Slices.{IsPieceStored}
-use Rattle.zarr_sharding_codec.proofs.EvenParts.{part_number}
+use Rattle.zarr_sharding_codec.proofs.NumberedParts.{part_number}
 use Rattle.zarr_sharding_codec.proofs.PutPieces.{given_is, met_or_none, places_at, put_seen}
 use Rattle.zarr_sharding_codec.proofs.StoredLoop.{no_piece, piece_number}
 
 -- ---- what is put, in one subchunk
 
 -- a subchunk's cells after new ones were put at places of the array
-pub put_gathered : (fill : Cell) (shape subchunk : List ℕ) (k : ℕ) (ns : List ℕ) (cells whole : List Cell) → can_cut shape subchunk ≡ true → divides shape subchunk ≡ true → k < length (parts_of shape subchunk)
+pub put_gathered : (fill : Cell) (shape subchunk : List ℕ) (k : ℕ) (ns : List ℕ) (cells whole : List Cell) → can_cut shape subchunk ≡ true → k < length (parts_of shape subchunk)
     → list_all (λ n. nat_lt n (product shape)) ns ≡ true → length whole ≡ product shape
     → gather fill (put ns cells whole) (places_at shape subchunk k) ≡ put (numbers_in shape subchunk k ns) (given_in shape subchunk k ns cells) (gather fill whole (places_at shape subchunk k))
-put_gathered fill shape subchunk k ns cells whole cuts even there below long =
-    put_seen fill shape subchunk k cuts even there ns cells whole below long
-    ∙ ap (λ (xs : List Cell). put (numbers_in shape subchunk k ns) xs (gather fill whole (places_at shape subchunk k))) (given_is fill shape subchunk k cuts even there ns cells)
+put_gathered fill shape subchunk k ns cells whole cuts there below long =
+    put_seen fill shape subchunk k cuts there ns cells whole below long
+    ∙ ap (λ (xs : List Cell). put (numbers_in shape subchunk k ns) xs (gather fill whole (places_at shape subchunk k))) (given_is fill shape subchunk k cuts there ns cells)
 
 -- where no place lies in the subchunk, it keeps its cells
-pub kept_gathered : (fill : Cell) (shape subchunk : List ℕ) (k : ℕ) (ns : List ℕ) (cells whole : List Cell) → can_cut shape subchunk ≡ true → divides shape subchunk ≡ true → k < length (parts_of shape subchunk)
+pub kept_gathered : (fill : Cell) (shape subchunk : List ℕ) (k : ℕ) (ns : List ℕ) (cells whole : List Cell) → can_cut shape subchunk ≡ true → k < length (parts_of shape subchunk)
     → list_all (λ n. nat_lt n (product shape)) ns ≡ true → length whole ≡ product shape → numbers_in shape subchunk k ns ≡ []
     → gather fill (put ns cells whole) (places_at shape subchunk k) ≡ gather fill whole (places_at shape subchunk k)
-kept_gathered fill shape subchunk k ns cells whole cuts even there below long none =
-    put_gathered fill shape subchunk k ns cells whole cuts even there below long
+kept_gathered fill shape subchunk k ns cells whole cuts there below long none =
+    put_gathered fill shape subchunk k ns cells whole cuts there below long
     ∙ ap (λ (ms : List ℕ). put ms (given_in shape subchunk k ns cells) (gather fill whole (places_at shape subchunk k))) none
 
 -- ---- pieces
 
 -- the piece of a subchunk
-pub piece_there : (fill : Cell) (cells : List Cell) (shape subchunk : List ℕ) (k : ℕ) → can_cut shape subchunk ≡ true → divides shape subchunk ≡ true → k < length (parts_of shape subchunk)
-    → get_or (pieces_of fill cells (parts_of shape subchunk)) k no_piece ≡ (subchunk, gather fill cells (places_at shape subchunk k))
-piece_there fill cells shape subchunk k cuts even there =
+pub piece_there : (fill : Cell) (cells : List Cell) (shape subchunk : List ℕ) (k : ℕ) → can_cut shape subchunk ≡ true → k < length (parts_of shape subchunk)
+    → get_or (pieces_of fill cells (parts_of shape subchunk)) k no_piece ≡ (part_shape shape subchunk k, gather fill cells (places_at shape subchunk k))
+piece_there fill cells shape subchunk k cuts there =
     let count = length-parts shape subchunk in
     let low : k < product (grid_of shape subchunk) = omega (arith, there, count) in
-    piece_number fill cells shape subchunk k (record { cuts = cuts; even = even; below = low })
-    ∙ ap (λ (part : Part). (subchunk, gather fill cells part.places)) (sym (part_number shape subchunk k no_part low))
+    piece_number fill cells shape subchunk k (record { cuts = cuts; below = low })
+    ∙ ap (λ (part : Part). (part_shape shape subchunk k, gather fill cells part.places)) (sym (part_number shape subchunk k no_part low))
 
 wanted_or_later : (wanted : List Piece) (changes : List Change) (pieces : List Piece) (n k : ℕ) → k < length pieces → (b : Bool) → (n == k) ≡ b → ((n ≡ k) ⊎ HasChange k changes) ⊎ (get_or pieces k no_piece ≡ get_or wanted k no_piece)
     → HasChange k changes ⊎ (get_or (set pieces n (get_or wanted n no_piece)) k no_piece ≡ get_or wanted k no_piece)
@@ -75,12 +76,11 @@ pieces_wanted wanted (change ∷ changes) pieces same law =
 -- a change is of a subchunk that the array has, whose cells are known
 pub record IsGathered (stored : Stored) (new : Put) (whole : List Cell) (changes : List Change) : Type 0 where
   pub cuts : can_cut new.shape new.subchunk ≡ true
-  pub even : divides new.shape new.subchunk ≡ true
   pub many : length stored.pairs ≡ length (parts_of new.shape new.subchunk)
   pub below : list_all (λ n. nat_lt n (product new.shape)) new.numbers ≡ true
   pub long : length whole ≡ product new.shape
   pub changed : AreChanged stored new changes
-  pub held : (k : ℕ) (before : List Cell) → k < length stored.pairs → cells_held stored new.subchunk k ≡ Some before → gather stored.elements.fill whole (places_at new.shape new.subchunk k) ≡ before
+  pub held : (k : ℕ) (before : List Cell) → k < length stored.pairs → cells_held stored (shape_in new k) k ≡ Some before → gather stored.elements.fill whole (places_at new.shape new.subchunk k) ≡ before
 
 -- the pieces of the array, before and after
 abbrev pub pieces_before : Stored → Put → List Cell → List Piece
@@ -91,15 +91,15 @@ pieces_put stored new whole = pieces_of stored.elements.fill (put new.numbers ne
 
 -- the piece of a changed subchunk
 pub changed_piece : (stored : Stored) (new : Put) (whole : List Cell) (changes : List Change) (change : Change) → IsGathered stored new whole changes → (is : IsUpdated stored new change)
-    → get_or (pieces_put stored new whole) change.0 no_piece ≡ (new.subchunk, cells_put new change.0 is.before)
+    → get_or (pieces_put stored new whole) change.0 no_piece ≡ (shape_in new change.0, cells_put new change.0 is.before)
 changed_piece stored new whole changes change h is =
     let k = change.0 in
     let many = h.many in
     let low = is.below in
     let there : k < length (parts_of new.shape new.subchunk) = omega (arith, many, low) in
     let fill = stored.elements.fill in
-    piece_there fill (put new.numbers new.cells whole) new.shape new.subchunk k h.cuts h.even there
-    ∙ ap (λ (cs : List Cell). (new.subchunk, cs)) (put_gathered fill new.shape new.subchunk k new.numbers new.cells whole h.cuts h.even there h.below h.long
+    piece_there fill (put new.numbers new.cells whole) new.shape new.subchunk k h.cuts there
+    ∙ ap (λ (cs : List Cell). (shape_in new k, cs)) (put_gathered fill new.shape new.subchunk k new.numbers new.cells whole h.cuts there h.below h.long
     ∙ ap (put (numbers_in new.shape new.subchunk k new.numbers) (given_in new.shape new.subchunk k new.numbers new.cells)) (h.held k is.before is.below is.held))
 
 -- new slices can be what encoding writes where what the codecs make depends on the elements alone
@@ -122,7 +122,7 @@ changes_stand slices stored new whole all (change ∷ changes) can lossless h ar
     let many = h.many in
     let low = is.below in
     let count = length-map (parts_of new.shape new.subchunk) (piece_of stored.elements.fill (put new.numbers new.cells whole)) in
-    let one = piece_stands slices stored.inner stored.exact stored.elements (new.subchunk, cells_put new change.0 is.before) change.1 can lossless is.slice in (
+    let one = piece_stands slices stored.inner stored.exact stored.elements (shape_in new change.0, cells_put new change.0 is.before) change.1 can lossless is.slice in (
       omega (arith, many, low, count),
       subst (λ (piece : Piece). SliceStands (SliceStandsBy slices stored.inner stored.elements) stored.elements.fill piece change.1) (sym (changed_piece stored new whole all change h is)) one,
       changes_stand slices stored new whole all changes can lossless h are.1,
@@ -133,7 +133,7 @@ changed_or_kept : (stored : Stored) (new : Put) (whole : List Cell) (changes : L
     → HasChange k changes ⊎ (gather stored.elements.fill (put new.numbers new.cells whole) (places_at new.shape new.subchunk k) ≡ gather stored.elements.fill whole (places_at new.shape new.subchunk k))
 changed_or_kept stored new whole changes k h there = elim (met_or_none new.shape new.subchunk k new.numbers) [
   | inl met ↦ inl (subst (λ j. HasChange j changes) met.is (h.changed.all met.at_ met.below))
-  | inr none ↦ inr (kept_gathered stored.elements.fill new.shape new.subchunk k new.numbers new.cells whole h.cuts h.even there h.below h.long none)
+  | inr none ↦ inr (kept_gathered stored.elements.fill new.shape new.subchunk k new.numbers new.cells whole h.cuts there h.below h.long none)
 ]
 
 -- the pieces after the changes are those of the array
@@ -148,6 +148,6 @@ pieces_are stored new whole changes h =
     elim (changed_or_kept stored new whole changes k h there) [
       | inl has ↦ inl has
       | inr same ↦
-          inr (piece_there fill whole new.shape new.subchunk k h.cuts h.even there
-          ∙ (ap (λ (cs : List Cell). (new.subchunk, cs)) (sym same) ∙ sym (piece_there fill (put new.numbers new.cells whole) new.shape new.subchunk k h.cuts h.even there)))
+          inr (piece_there fill whole new.shape new.subchunk k h.cuts there
+          ∙ (ap (λ (cs : List Cell). (shape_in new k, cs)) (sym same) ∙ sym (piece_there fill (put new.numbers new.cells whole) new.shape new.subchunk k h.cuts there)))
     ])

@@ -7,21 +7,21 @@ use Rattle.zarr_grids_boxes.specs.Boxes.{product}
 use Rattle.zarr_codecs_meaning.specs.Chains.{Chain, Location, sharded}
 use Rattle.zarr_codecs_meaning.specs.Decoding.{decoded, is_absent, pairs_in, slice_at}
 use Rattle.zarr_codecs_meaning.specs.Encoding.{Pair, absent_pair, index_size}
-use Rattle.zarr_codecs_meaning.specs.Fits.{can_cut, divides}
+use Rattle.zarr_codecs_meaning.specs.Fits.{can_cut}
 use Rattle.zarr_codecs_meaning.specs.Places.{Part, index_shape, parts_of, position_of}
 use Rattle.zarr_codecs_meaning.specs.Types.{Cell, Elements, uint64, zero_filled}
 use Rattle.zarr_codecs_meaning.proofs.Lists.{some_same}
 use Rattle.zarr_codecs_meaning.proofs.Parts.{no_part}
 use Rattle.zarr_codecs_meaning.proofs.PartsOnce.{number_in}
-use Rattle.zarr_codecs_meaning.proofs.Positions.{among_at, each_at, position_found, position_read}
+use Rattle.zarr_codecs_meaning.proofs.Positions.{among_at, position_found, position_read}
 use Rattle.zarr_codecs_regions.proofs.Puts.{number_below}
 use Rattle.zarr_codecs_traits.specs.PartWriting.{IsLostAmong, MeetsLost, is_met}
 use Rattle.zarr_sharding_changes.specs.Changes.{Change}
-use Rattle.zarr_sharding_places.specs.Locating.{inside_of, subchunk_of}
+use Rattle.zarr_sharding_places.specs.Locating.{inside_of, part_shape, subchunk_of}
 use Rattle.zarr_sharding_places.specs.Pieces.{piece_decoded}
 use Rattle.zarr_sharding_state.specs.Held.{IsOpened}
 use Rattle.zarr_sharding_codec.specs.PartWriting.{AreChanged, AreUpdated, HasChange, IsLostAt, IsUpdated, Put, Stored, put_at, stored_in}
-use Rattle.zarr_sharding_codec.proofs.EvenParts.{whole_parts}
+use Rattle.zarr_sharding_codec.proofs.NumberedParts.{part_is}
 use Rattle.zarr_sharding_codec.proofs.LocatedParts.{located_place}
 use Rattle.zarr_sharding_codec.proofs.PutPieces.{place_tells}
 
@@ -63,9 +63,9 @@ changed_at stored new (change ∷ changes) k are (inl same) = (change, same, are
 changed_at stored new (change ∷ changes) k are (inr has) = changed_at stored new changes k are.1 has
 
 each_met : (subchunk : List ℕ) (inner index : Chain) (location : Location) (exact : Bool) (elements : Elements) (shape numbers : List ℕ) (cells : List Cell) (value : List ℕ) (pairs : List Pair) (changes : List Change)
-    → can_cut shape subchunk ≡ true → divides shape subchunk ≡ true → AreChanged (stored_in inner exact elements (Some value) pairs) (put_at shape subchunk numbers cells) changes
+    → can_cut shape subchunk ≡ true → AreChanged (stored_in inner exact elements (Some value) pairs) (put_at shape subchunk numbers cells) changes
     → pairs_in (decoded index (zero_filled uint64) (index_shape shape subchunk)) location (index_size index (index_shape shape subchunk)) value ≡ Some pairs → MeetsLost (sharded subchunk inner index location) elements shape value numbers → ⊥
-each_met subchunk inner index location exact elements shape numbers cells value pairs changes cuts even changed read meets =
+each_met subchunk inner index location exact elements shape numbers cells value pairs changes cuts changed read meets =
     let parts = parts_of shape subchunk in
     let same : meets.0 ≡ pairs = some_same (sym meets.1 ∙ read) in
     let lost = lost_part (decoded inner elements) value numbers parts pairs (subst (λ (ps : List Pair). IsLostAmong (decoded inner elements) value numbers parts ps) same meets.2) in
@@ -76,22 +76,23 @@ each_met subchunk inner index location exact elements shape numbers cells value 
     let i = position_of n part.places in
     let low : i < length part.places = ltb-true i (length part.places) by.inside in
     let here : number_in parts lost.k i ≡ n = position_read n 0 part.places low in
-    let tells = place_tells shape subchunk lost.k i cuts even (record { part = lost.part; place = low }) in
+    let tells = place_tells shape subchunk lost.k i cuts (record { part = lost.part; place = low }) in
     let number : subchunk_of shape subchunk n ≡ lost.k = ap (subchunk_of shape subchunk) (sym here) ∙ tells.part in
     let change = changed_at (stored_in inner exact elements (Some value) pairs) (put_at shape subchunk numbers cells) changes lost.k changed.are (subst (λ (k : ℕ). HasChange k changes) number (changed.all by.at_ by.below)) in
-    let whole : part.shape ≡ subchunk = each_at (λ (p : Part). p.shape ≡ subchunk) parts lost.k no_part (whole_parts shape subchunk cuts even) lost.part in
-    let held : piece_decoded inner elements value subchunk pair ≡ Some change.2.before = ap (λ (k : ℕ). piece_decoded inner elements value subchunk (get_or pairs k absent_pair)) (sym change.1) ∙ change.2.held in
-    let is : option_and_then (decoded inner elements subchunk) (slice_at value pair) ≡ Some change.2.before =
-    ap (λ (b : Bool). if b then Some (replicate (product subchunk) elements.fill) else option_and_then (decoded inner elements subchunk) (slice_at value pair)) (sym lost.there) ∙ held in
-    let none : option_and_then (decoded inner elements subchunk) (slice_at value pair) ≡ None = ap (λ (s : List ℕ). option_and_then (decoded inner elements s) (slice_at value pair)) (sym whole) ∙ lost.lost in cc
+    let size = part_shape shape subchunk lost.k in
+    let whole : part.shape ≡ size = part_is shape subchunk lost.k no_part lost.part in
+    let held : piece_decoded inner elements value size pair ≡ Some change.2.before = ap (λ (k : ℕ). piece_decoded inner elements value (part_shape shape subchunk k) (get_or pairs k absent_pair)) (sym change.1) ∙ change.2.held in
+    let is : option_and_then (decoded inner elements size) (slice_at value pair) ≡ Some change.2.before =
+    ap (λ (b : Bool). if b then Some (replicate (product size) elements.fill) else option_and_then (decoded inner elements size) (slice_at value pair)) (sym lost.there) ∙ held in
+    let none : option_and_then (decoded inner elements size) (slice_at value pair) ≡ None = ap (λ (s : List ℕ). option_and_then (decoded inner elements s) (slice_at value pair)) (sym whole) ∙ lost.lost in cc
 
 -- what is written in part was read where the places lie
 pub part_intact : (subchunk : List ℕ) (inner index : Chain) (location : Location) (exact : Bool) (elements : Elements) (shape numbers : List ℕ) (cells : List Cell) (count end : ℕ) (old : Option (List ℕ)) (pairs : List Pair) (changes : List Change)
-    → can_cut shape subchunk ≡ true → divides shape subchunk ≡ true → AreChanged (stored_in inner exact elements old pairs) (put_at shape subchunk numbers cells) changes → IsOpened index location (index_shape shape subchunk) count old pairs end
+    → can_cut shape subchunk ≡ true → AreChanged (stored_in inner exact elements old pairs) (put_at shape subchunk numbers cells) changes → IsOpened index location (index_shape shape subchunk) count old pairs end
     → MatchOption old (Unit {0}) (λ value. ¬ MeetsLost (sharded subchunk inner index location) elements shape value numbers)
-part_intact subchunk inner index location exact elements shape numbers cells count end None pairs changes cuts even changed opened = tt
-part_intact subchunk inner index location exact elements shape numbers cells count end (Some value) pairs changes cuts even changed opened =
-    λ meets. each_met subchunk inner index location exact elements shape numbers cells value pairs changes cuts even changed opened.0 meets
+part_intact subchunk inner index location exact elements shape numbers cells count end None pairs changes cuts changed opened = tt
+part_intact subchunk inner index location exact elements shape numbers cells count end (Some value) pairs changes cuts changed opened =
+    λ meets. each_met subchunk inner index location exact elements shape numbers cells value pairs changes cuts changed opened.0 meets
 
 -- ---- a subchunk that isn't decoded is one that the write meets
 
@@ -114,10 +115,10 @@ unread_there true fill read lost = absurd (cc)
 unread_there false fill read lost = (refl, lost)
 
 pub lost_meets : (subchunk : List ℕ) (inner index : Chain) (location : Location) (exact : Bool) (elements : Elements) (shape numbers : List ℕ) (cells : List Cell) (value : List ℕ) (pairs : List Pair)
-    → can_cut shape subchunk ≡ true → divides shape subchunk ≡ true → length pairs ≡ length (parts_of shape subchunk) → list_all (λ n. nat_lt n (product shape)) numbers ≡ true
+    → can_cut shape subchunk ≡ true → length pairs ≡ length (parts_of shape subchunk) → list_all (λ n. nat_lt n (product shape)) numbers ≡ true
     → pairs_in (decoded index (zero_filled uint64) (index_shape shape subchunk)) location (index_size index (index_shape shape subchunk)) value ≡ Some pairs → IsLostAt (stored_in inner exact elements (Some value) pairs) (put_at shape subchunk numbers cells)
     → MeetsLost (sharded subchunk inner index location) elements shape value numbers
-lost_meets subchunk inner index location exact elements shape numbers cells value pairs cuts even many below read lost =
+lost_meets subchunk inner index location exact elements shape numbers cells value pairs cuts many below read lost =
     let parts = parts_of shape subchunk in
     let k = lost.number in
     let low = lost.below in
@@ -126,14 +127,15 @@ lost_meets subchunk inner index location exact elements shape numbers cells valu
     let pair = get_or pairs k absent_pair in
     let t = lost.met.at_ in
     let n = get_or numbers t 0 in
-    let located = located_place shape subchunk n cuts even (number_below (product shape) numbers t below lost.met.below) in
+    let located = located_place shape subchunk n cuts (number_below (product shape) numbers t below lost.met.below) in
     let i = inside_of shape subchunk n in
     let same : subchunk_of shape subchunk n ≡ k = lost.met.is in
     let in_part : i < length part.places = subst (λ (j : ℕ). i < length (get_or parts j no_part).places) same located.place in
     let here : get_or part.places i 0 ≡ n = subst (λ (j : ℕ). get_or (get_or parts j no_part).places i 0 ≡ n) same located.here in
     let inside = position_found n part.places (among_at part.places i n in_part here) in
-    let unread = unread_there (is_absent pair) (replicate (product subchunk) elements.fill) (option_and_then (decoded inner elements subchunk) (slice_at value pair)) lost.lost in
-    let whole : part.shape ≡ subchunk = each_at (λ (p : Part). p.shape ≡ subchunk) parts k no_part (whole_parts shape subchunk cuts even) there in (
+    let size = part_shape shape subchunk k in
+    let unread = unread_there (is_absent pair) (replicate (product size) elements.fill) (option_and_then (decoded inner elements size) (slice_at value pair)) lost.lost in
+    let whole : part.shape ≡ size = part_is shape subchunk k no_part there in (
       pairs,
       read,
       among_lost (decoded inner elements) value numbers parts pairs k there low (meets_part numbers part t lost.met.below (lt-ltb (position_of n part.places) (length part.places) inside)) unread.0

@@ -6,7 +6,7 @@ use Rattle.zarr_grids_boxes.specs.Boxes.{product}
 use Rattle.zarr_codecs_meaning.specs.Chains.{Chain, Location, sharded}
 use Rattle.zarr_codecs_meaning.specs.Decoding.{cell_at, decoded, is_absent, slice_at}
 use Rattle.zarr_codecs_meaning.specs.Encoding.{Pair, absent_pair, base_of, index_size, pair_at, slice_bytes}
-use Rattle.zarr_codecs_meaning.specs.Fits.{can_cut, divides, is_lossless}
+use Rattle.zarr_codecs_meaning.specs.Fits.{can_cut, is_lossless}
 use Rattle.zarr_codecs_meaning.specs.Laws.{AreCells}
 use Rattle.zarr_codecs_meaning.specs.Places.{index_shape, parts_of}
 use Rattle.zarr_codecs_meaning.specs.Standing.{HasSlice}
@@ -20,7 +20,7 @@ use Rattle.zarr_codecs_traits.specs.PartWriting.{cells_shown}
 use Rattle.zarr_sharding_changes.specs.Changes.{Change, appended, pairs_after}
 use Rattle.zarr_sharding_changes.specs.Compaction.{data_in}
 use Rattle.zarr_sharding_changes.proofs.Appending.{slice_grown}
-use Rattle.zarr_sharding_places.specs.Locating.{subchunk_of}
+use Rattle.zarr_sharding_places.specs.Locating.{part_shape, subchunk_of}
 use Rattle.zarr_sharding_places.specs.Pieces.{piece_decoded}
 use Rattle.zarr_sharding_places.proofs.PutPlaces.{length-put}
 use Rattle.zarr_sharding_state.specs.Held.{IsOpened, are_absent, lies_between}
@@ -30,12 +30,11 @@ use Rattle.zarr_sharding_codec.specs.PartWriting.{AreUpdated, HasChange, IsUpdat
 use Rattle.zarr_sharding_codec.specs.Reading.{place_decoded}
 use Rattle.zarr_sharding_codec.specs.Slices.{IsPieceStored}
 use Rattle.zarr_sharding_codec.proofs.ChangedPairs.{IsPairKept, IsPairNew, appended_split, pair_cases}
+use Rattle.zarr_sharding_codec.proofs.NumberedParts.{part_fits}
 use Rattle.zarr_sharding_codec.proofs.GroupWritten.{held_cells}
 use Rattle.zarr_sharding_codec.proofs.PartShown.{IsShardOpened, absent_at, alone, piece_shown, pieces_alike, shown_count}
 use Rattle.zarr_sharding_codec.proofs.PartStands.{IsAppended, shard_opened}
 use Rattle.zarr_sharding_codec.proofs.PutPieces.{met_or_none, new_in, places_at, put_seen, same_seen, taken}
-use Rattle.zarr_sharding_codec.proofs.ShardSizes.{divides_fit}
-use Rattle.zarr_sharding_codec.proofs.StoredLoop.{inner_fit}
 
 lies_at : (base end : ℕ) (pairs : List Pair) (k : ℕ) → AllLie base end pairs → k < length pairs → lies_between base end (get_or pairs k absent_pair) ≡ true
 lies_at base end [] k all low = absurd (omega (arith, low))
@@ -57,13 +56,13 @@ given_values test shape subchunk k (n ∷ ns) (c ∷ cs) all =
       by_test true one rest = and_from (test c) (list_all test (given_in shape subchunk k ns cs)) one rest
       by_test false one rest = rest
 
-new_in_map : (shape subchunk : List ℕ) (k : ℕ) (cuts : can_cut shape subchunk ≡ true) (even : divides shape subchunk ≡ true) (there : k < length (parts_of shape subchunk)) (ns : List ℕ) (cells : List Cell)
-    → new_in {X = Option (List Cell)} None shape subchunk k cuts even there ns (map alone cells) ≡ map alone (given_in shape subchunk k ns cells)
-new_in_map shape subchunk k cuts even there [] cells = refl
-new_in_map shape subchunk k cuts even there (n ∷ ns) [] = refl
-new_in_map shape subchunk k cuts even there (n ∷ ns) (c ∷ cs) = by_test (subchunk_of shape subchunk n == k) (new_in_map shape subchunk k cuts even there ns cs) where
-  by_test : (b : Bool) → new_in {X = Option (List Cell)} None shape subchunk k cuts even there ns (map alone cs) ≡ map alone (given_in shape subchunk k ns cs)
-      → (if b then alone c ∷ new_in {X = Option (List Cell)} None shape subchunk k cuts even there ns (map alone cs) else new_in {X = Option (List Cell)} None shape subchunk k cuts even there ns (map alone cs))
+new_in_map : (shape subchunk : List ℕ) (k : ℕ) (cuts : can_cut shape subchunk ≡ true) (there : k < length (parts_of shape subchunk)) (ns : List ℕ) (cells : List Cell)
+    → new_in {X = Option (List Cell)} None shape subchunk k cuts there ns (map alone cells) ≡ map alone (given_in shape subchunk k ns cells)
+new_in_map shape subchunk k cuts there [] cells = refl
+new_in_map shape subchunk k cuts there (n ∷ ns) [] = refl
+new_in_map shape subchunk k cuts there (n ∷ ns) (c ∷ cs) = by_test (subchunk_of shape subchunk n == k) (new_in_map shape subchunk k cuts there ns cs) where
+  by_test : (b : Bool) → new_in {X = Option (List Cell)} None shape subchunk k cuts there ns (map alone cs) ≡ map alone (given_in shape subchunk k ns cs)
+      → (if b then alone c ∷ new_in {X = Option (List Cell)} None shape subchunk k cuts there ns (map alone cs) else new_in {X = Option (List Cell)} None shape subchunk k cuts there ns (map alone cs))
       ≡ map alone (if b then c ∷ given_in shape subchunk k ns cs else given_in shape subchunk k ns cs)
   by_test true e = ap (λ (xs : List (Option (List Cell))). alone c ∷ xs) e
   by_test false e = e
@@ -89,8 +88,7 @@ module _ (subchunk : List ℕ) (inner index : Chain) (location : Location) (exac
   pub opened_after : IsShardOpened subchunk inner index location elements shape new made
   opened_after = record {
     cuts = (fitted subchunk inner index location elements shape h.fit).cuts;
-    even = divides_fit subchunk inner index location elements.type shape h.fit;
-    fit = inner_fit subchunk inner index location elements shape h.fit;
+    fit = λ k low. part_fits subchunk inner index location elements shape k h.fit low;
     many = changed_count h.end h.changes h.pairs ∙ h.count;
     count = length (parts_of shape subchunk);
     end = h.ended;
@@ -146,22 +144,27 @@ module _ (subchunk : List ℕ) (inner index : Chain) (location : Location) (exac
 
   -- so its places are read as before
   kept_place : (k i : ℕ) → k < length h.pairs → IsPairKept h.changes h.pairs made k → (b : Bool) → is_absent (get_or h.pairs k absent_pair) ≡ b
-      → place_decoded inner elements (unwrap_or new []) subchunk (get_or made k absent_pair) i ≡ place_decoded inner elements (unwrap_or old []) subchunk (get_or h.pairs k absent_pair) i
+      → place_decoded inner elements (unwrap_or new []) (part_shape shape subchunk k) (get_or made k absent_pair) i ≡ place_decoded inner elements (unwrap_or old []) (part_shape shape subchunk k) (get_or h.pairs k absent_pair) i
   kept_place k i low kept true e =
       let there : is_absent (get_or made k absent_pair) ≡ true = ap is_absent kept.is ∙ e in
-      ap (λ (b : Bool). if b then Some elements.fill else option_and_then (λ slice. cell_at inner elements subchunk slice i) (slice_at (unwrap_or new []) (get_or made k absent_pair))) there
-      ∙ sym (ap (λ (b : Bool). if b then Some elements.fill else option_and_then (λ slice. cell_at inner elements subchunk slice i) (slice_at (unwrap_or old []) (get_or h.pairs k absent_pair))) e)
+      ap (λ (b : Bool). if b then Some elements.fill else option_and_then (λ slice. cell_at inner elements (part_shape shape subchunk k) slice i) (slice_at (unwrap_or new []) (get_or made k absent_pair))) there
+      ∙ sym (ap (λ (b : Bool). if b then Some elements.fill else option_and_then (λ slice. cell_at inner elements (part_shape shape subchunk k) slice i) (slice_at (unwrap_or old []) (get_or h.pairs k absent_pair))) e)
   kept_place k i low kept false e =
       let there : is_absent (get_or made k absent_pair) ≡ false = ap is_absent kept.is ∙ e in
-      ap (λ (b : Bool). if b then Some elements.fill else option_and_then (λ slice. cell_at inner elements subchunk slice i) (slice_at (unwrap_or new []) (get_or made k absent_pair))) there
-      ∙ (ap (option_and_then (λ slice. cell_at inner elements subchunk slice i)) (slice_stays k low kept.is e)
-      ∙ sym (ap (λ (b : Bool). if b then Some elements.fill else option_and_then (λ slice. cell_at inner elements subchunk slice i) (slice_at (unwrap_or old []) (get_or h.pairs k absent_pair))) e))
+      ap (λ (b : Bool). if b then Some elements.fill else option_and_then (λ slice. cell_at inner elements (part_shape shape subchunk k) slice i) (slice_at (unwrap_or new []) (get_or made k absent_pair))) there
+      ∙ (ap (option_and_then (λ slice. cell_at inner elements (part_shape shape subchunk k) slice i)) (slice_stays k low kept.is e)
+      ∙ sym (ap (λ (b : Bool). if b then Some elements.fill else option_and_then (λ slice. cell_at inner elements (part_shape shape subchunk k) slice i) (slice_at (unwrap_or old []) (get_or h.pairs k absent_pair))) e))
+
+  -- there is a subchunk for each pair
+  part_below : (k : ℕ) → k < length h.pairs → k < length (parts_of shape subchunk)
+  part_below k low = let count = h.count in omega (arith, count, low)
 
   -- the cells of a changed subchunk
-  put_are : (k : ℕ) (before : List Cell) → piece_decoded inner elements (unwrap_or old []) subchunk (get_or h.pairs k absent_pair) ≡ Some before → AreCells elements subchunk (cells_put (put_at shape subchunk numbers cells) k before)
-  put_are k before held =
-      put_cells elements subchunk (numbers_in shape subchunk k numbers) (given_in shape subchunk k numbers cells) before (given_values (is_value elements.type) shape subchunk k numbers cells h.values)
-      (held_cells inner elements (unwrap_or old []) subchunk (get_or h.pairs k absent_pair) before (inner_fit subchunk inner index location elements shape h.fit) h.fill held)
+  put_are : (k : ℕ) (before : List Cell) → k < length h.pairs → piece_decoded inner elements (unwrap_or old []) (part_shape shape subchunk k) (get_or h.pairs k absent_pair) ≡ Some before
+      → AreCells elements (part_shape shape subchunk k) (cells_put (put_at shape subchunk numbers cells) k before)
+  put_are k before low held =
+      put_cells elements (part_shape shape subchunk k) (numbers_in shape subchunk k numbers) (given_in shape subchunk k numbers cells) before (given_values (is_value elements.type) shape subchunk k numbers cells h.values)
+      (held_cells inner elements (unwrap_or old []) (part_shape shape subchunk k) (get_or h.pairs k absent_pair) before (part_fits subchunk inner index location elements shape k h.fit (part_below k low)) h.fill held)
 
   new_has : (new_is : (k : ℕ) × IsPairNew h.end h.changes made k) (slice : List ℕ) → new_is.1.change.1 ≡ Some slice → HasSlice base (kept_data ++ appended h.changes) (h.end + length (appended new_is.1.front), length slice) slice
   new_has new_is slice is =
@@ -186,30 +189,31 @@ module _ (subchunk : List ℕ) (inner index : Chain) (location : Location) (exac
 
   -- a changed subchunk is decoded to the updated cells
   new_held : (k : ℕ) → k < length h.pairs → (n : IsPairNew h.end h.changes made k) → (is : IsUpdated (stored_in inner exact elements old h.pairs) (put_at shape subchunk numbers cells) n.change) → (slice : Option (List ℕ)) → n.change.1 ≡ slice
-      → piece_decoded inner elements (unwrap_or new []) subchunk (get_or made k absent_pair) ≡ Some (cells_put (put_at shape subchunk numbers cells) k is.before)
+      → piece_decoded inner elements (unwrap_or new []) (part_shape shape subchunk k) (get_or made k absent_pair) ≡ Some (cells_put (put_at shape subchunk numbers cells) k is.before)
   new_held k low n is None none =
-      let held = ap (λ j. piece_decoded inner elements (unwrap_or old []) subchunk (get_or h.pairs j absent_pair)) (sym n.number) ∙ is.held in
+      let held = ap (λ j. piece_decoded inner elements (unwrap_or old []) (part_shape shape subchunk j) (get_or h.pairs j absent_pair)) (sym n.number) ∙ is.held in
       let after = cells_put (put_at shape subchunk numbers cells) k is.before in
-      let are = put_are k is.before held in
-      let stored = subst (λ (o : Option (List ℕ)). IsPieceStored inner exact elements (subchunk, cells_put (put_at shape subchunk numbers cells) n.change.0 is.before) o) none is.slice in
+      let are = put_are k is.before low held in
+      let stored = subst (λ (o : Option (List ℕ)). IsPieceStored inner exact elements (part_shape shape subchunk n.change.0, cells_put (put_at shape subchunk numbers cells) n.change.0 is.before) o) none is.slice in
       let filled : is_fill elements.fill after ≡ true = ap (λ j. is_fill elements.fill (cells_put (put_at shape subchunk numbers cells) j is.before)) (sym n.number) ∙ stored in
       let pair : get_or made k absent_pair ≡ absent_pair = n.is ∙ ap (pair_at (h.end + length (appended n.front))) none in
-      ap (λ (p : Pair). piece_decoded inner elements (unwrap_or new []) subchunk p) pair ∙ ap Some (sym (fill_is_replicate elements.fill after filled ∙ ap (λ m. replicate m elements.fill) are.whole))
+      ap (λ (p : Pair). piece_decoded inner elements (unwrap_or new []) (part_shape shape subchunk k) p) pair ∙ ap Some (sym (fill_is_replicate elements.fill after filled ∙ ap (λ m. replicate m elements.fill) are.whole))
   new_held k low n is (Some slice) some =
-      let held = ap (λ j. piece_decoded inner elements (unwrap_or old []) subchunk (get_or h.pairs j absent_pair)) (sym n.number) ∙ is.held in
+      let held = ap (λ j. piece_decoded inner elements (unwrap_or old []) (part_shape shape subchunk j) (get_or h.pairs j absent_pair)) (sym n.number) ∙ is.held in
       let after = cells_put (put_at shape subchunk numbers cells) k is.before in
-      let are = put_are k is.before held in
-      let stored = subst (λ (o : Option (List ℕ)). IsPieceStored inner exact elements (subchunk, cells_put (put_at shape subchunk numbers cells) n.change.0 is.before) o) some is.slice in
-      let moved = subst (λ j. IsPieceStored inner exact elements (subchunk, cells_put (put_at shape subchunk numbers cells) j is.before) (Some slice)) n.number stored in
+      let are = put_are k is.before low held in
+      let stored = subst (λ (o : Option (List ℕ)). IsPieceStored inner exact elements (part_shape shape subchunk n.change.0, cells_put (put_at shape subchunk numbers cells) n.change.0 is.before) o) some is.slice in
+      let moved = subst (λ j. IsPieceStored inner exact elements (part_shape shape subchunk j, cells_put (put_at shape subchunk numbers cells) j is.before) (Some slice)) n.number stored in
       let stands = moved.stands both.0 in
-      let read : decoded inner elements subchunk slice ≡ Some after = stands_decoded inner elements subchunk slice after h.lawful.0 (inner_fit subchunk inner index location elements shape h.fit) both.0 are stands in
+      let shape_k = part_shape shape subchunk k in
+      let read : decoded inner elements shape_k slice ≡ Some after = stands_decoded inner elements shape_k slice after h.lawful.0 (part_fits subchunk inner index location elements shape k h.fit (part_below k low)) both.0 are stands in
       let pair : get_or made k absent_pair ≡ (h.end + length (appended n.front), length slice) = n.is ∙ ap (pair_at (h.end + length (appended n.front))) some in
       let has = subst (λ (p : Pair). HasSlice base (kept_data ++ appended h.changes) p slice) (sym pair) (new_has (k, n) slice some) in
       let count = changed_count h.end h.changes h.pairs in
       let found = slice_after k slice (omega (arith, low, count)) has in
       let there = is_present base (kept_data ++ appended h.changes) (get_or made k absent_pair) slice has in
-      ap (λ (b : Bool). if b then Some (replicate (product subchunk) elements.fill) else option_and_then (decoded inner elements subchunk) (slice_at (unwrap_or new []) (get_or made k absent_pair))) there
-      ∙ (ap (option_and_then (decoded inner elements subchunk)) found ∙ read)
+      ap (λ (b : Bool). if b then Some (replicate (product shape_k) elements.fill) else option_and_then (decoded inner elements shape_k) (slice_at (unwrap_or new []) (get_or made k absent_pair))) there
+      ∙ (ap (option_and_then (decoded inner elements shape_k)) found ∙ read)
 
   -- ---- all places
 
@@ -219,17 +223,16 @@ module _ (subchunk : List ℕ) (inner index : Chain) (location : Location) (exac
       let count = h.count in
       let low : k < length h.pairs = omega (arith, there, count) in
       let cuts = (fitted subchunk inner index location elements shape h.fit).cuts in
-      let even = divides_fit subchunk inner index location elements.type shape h.fit in
       let shown = cells_shown (sharded subchunk inner index location) elements shape old in
       let first = shard_opened subchunk inner index location exact one elements shape numbers cells old new h in
       let given = given_in shape subchunk k numbers cells in
       let seen : taken None (put numbers (map alone cells) shown) (places_at shape subchunk k) ≡ put (numbers_in shape subchunk k numbers) (map alone given) (taken None shown (places_at shape subchunk k)) =
-      put_seen None shape subchunk k cuts even there numbers (map alone cells) shown h.below (shown_count subchunk inner index location elements shape old)
-      ∙ ap (λ (xs : List (Option (List Cell))). put (numbers_in shape subchunk k numbers) xs (taken None shown (places_at shape subchunk k))) (new_in_map shape subchunk k cuts even there numbers cells) in
+      put_seen None shape subchunk k cuts there numbers (map alone cells) shown h.below (shown_count subchunk inner index location elements shape old)
+      ∙ ap (λ (xs : List (Option (List Cell))). put (numbers_in shape subchunk k numbers) xs (taken None shown (places_at shape subchunk k))) (new_in_map shape subchunk k cuts there numbers cells) in
       elim (pair_cases h.changes h.end h.pairs k low) [
         | inl n ↦
             let is = are_at (stored_in inner exact elements old h.pairs) (put_at shape subchunk numbers cells) n.front n.back n.change (subst (AreUpdated (stored_in inner exact elements old h.pairs) (put_at shape subchunk numbers cells)) n.all h.changed.are) in
-            let held = ap (λ j. piece_decoded inner elements (unwrap_or old []) subchunk (get_or h.pairs j absent_pair)) (sym n.number) ∙ is.held in
+            let held = ap (λ j. piece_decoded inner elements (unwrap_or old []) (part_shape shape subchunk j) (get_or h.pairs j absent_pair)) (sym n.number) ∙ is.held in
             let before = piece_shown subchunk inner index location elements shape old h.pairs k is.before first there held in
             let after = piece_shown subchunk inner index location elements shape new made k (cells_put (put_at shape subchunk numbers cells) k is.before) opened_after there (new_held k low n is n.change.1 refl) in
             after ∙ (map_put alone (numbers_in shape subchunk k numbers) given is.before ∙ (ap (put (numbers_in shape subchunk k numbers) (map alone given)) (sym before) ∙ sym seen))

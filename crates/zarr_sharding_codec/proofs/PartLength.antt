@@ -20,7 +20,7 @@ use Rattle.zarr_sharding_changes.specs.Changes.{Change, appended}
 use Rattle.zarr_sharding_state.specs.Held.{IsOpened, shard_length}
 use Rattle.zarr_sharding_state.proofs.Reopened.{opened_length}
 use Rattle.zarr_sharding_codec.specs.Appending.{AppendsChanges, AppendsPart, IsTestedPart, LacksRoom}
-use Rattle.zarr_sharding_codec.specs.PartWriting.{AreChanged, AreUpdated, IsUpdated, Put, Stored, cells_put, number_at, put_at, stored_in}
+use Rattle.zarr_sharding_codec.specs.PartWriting.{AreChanged, AreUpdated, IsUpdated, Put, Stored, cells_put, number_at, put_at, shape_in, stored_in}
 use Rattle.zarr_sharding_codec.specs.Slices.{IsPieceStored}
 use Rattle.zarr_sharding_codec.proofs.ChangedSlices.{AllChanges, AreRising, are_slices, each_slice, slice_among, slices_joined}
 use Rattle.zarr_sharding_codec.proofs.PartShown.{IsShardOpened}
@@ -72,7 +72,7 @@ module _ (subchunk : List ℕ) (inner index : Chain) (location : Location) (exac
   updated_made change is =
       let new = put_at shape subchunk numbers tested.cells in
       let here = after_piece ℕ subchunk inner index location exact elements shape asked payload size numbers old pairs tested opened tested.below change.0 is.before is.below is.held in
-      subst (λ (piece : Piece). MatchOption change.1 (Unit {0}) (IsMade inner elements piece.0 piece.1)) (sym here) (stored_made inner exact elements (subchunk, cells_put new change.0 is.before) change.1 lossless is.slice)
+      subst (λ (piece : Piece). MatchOption change.1 (Unit {0}) (IsMade inner elements piece.0 piece.1)) (sym here) (stored_made inner exact elements (shape_in new change.0, cells_put new change.0 is.before) change.1 lossless is.slice)
 
   all_made : (changes : List Change) → AreUpdated (stored_in inner exact elements old pairs) (put_at shape subchunk numbers tested.cells) changes → AllChanges IsMadeAt changes
   all_made [] are = tt

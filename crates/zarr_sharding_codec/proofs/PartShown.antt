@@ -9,25 +9,24 @@ use Rattle.zarr_codecs_meaning.specs.Chains.{Chain, Location, sharded}
 use Rattle.zarr_codecs_meaning.specs.Chunks.{chunk_part}
 use Rattle.zarr_codecs_meaning.specs.Decoding.{all_there, cell_at, decoded, is_absent, opens, slice_at}
 use Rattle.zarr_codecs_meaning.specs.Encoding.{Pair, absent_pair}
-use Rattle.zarr_codecs_meaning.specs.Fits.{can_cut, divides, fits}
+use Rattle.zarr_codecs_meaning.specs.Fits.{can_cut, fits}
 use Rattle.zarr_codecs_meaning.specs.Places.{gather, index_shape, parts_of}
 use Rattle.zarr_codecs_meaning.specs.Types.{Cell, Elements}
 use Rattle.zarr_codecs_meaning.proofs.Lists.{bind_some, if_some, some_same}
-use Rattle.zarr_codecs_meaning.proofs.Parts.{index_product, no_part, part_counts}
+use Rattle.zarr_codecs_meaning.proofs.Parts.{index_product, no_part}
 use Rattle.zarr_codecs_meaning.proofs.PartReading.{part_read}
 use Rattle.zarr_codecs_traits.specs.PartWriting.{cells_shown, only_cell}
-use Rattle.zarr_sharding_places.specs.Locating.{inside_of, subchunk_of}
+use Rattle.zarr_sharding_places.specs.Locating.{inside_of, part_shape, subchunk_of}
 use Rattle.zarr_sharding_places.specs.Pieces.{piece_decoded}
 use Rattle.zarr_sharding_places.proofs.PartPlaces.{place_below}
 use Rattle.zarr_sharding_places.proofs.ReadPieces.{piece_count}
 use Rattle.zarr_sharding_state.specs.Held.{IsOpened}
 use Rattle.zarr_sharding_codec.specs.Reading.{place_decoded, shard_cell}
-use Rattle.zarr_sharding_codec.proofs.EvenParts.{whole_parts}
+use Rattle.zarr_sharding_codec.proofs.NumberedParts as numbered
+use Rattle.zarr_sharding_codec.proofs.NumberedParts.{part_count}
 use Rattle.zarr_sharding_codec.proofs.PartsRead.{part_is}
 use Rattle.zarr_sharding_codec.proofs.PlaceCells.{shard_place}
 use Rattle.zarr_sharding_codec.proofs.PutPieces.{place_tells, places_at, taken}
-use Rattle.zarr_codecs_meaning.proofs.Positions.{each_at}
-use Rattle.zarr_codecs_meaning.specs.Places.{Part}
 
 -- one cell as a part of its own
 abbrev pub alone : Cell → Option (List Cell)
@@ -65,82 +64,79 @@ held_place inner elements value shape pair before i fit low held = held_true inn
 
 -- ---- an array whose shard was opened
 
--- what is known of the shard of an array that the subchunks divide
+-- what is known of the shard of an array
 pub record IsShardOpened (subchunk : List ℕ) (inner index : Chain) (location : Location) (elements : Elements) (shape : List ℕ) (stored : Option (List ℕ)) (pairs : List Pair) : Type 0 where
   pub cuts : can_cut shape subchunk ≡ true
-  pub even : divides shape subchunk ≡ true
-  pub fit : fits inner elements.type subchunk ≡ true
+  pub fit : (k : ℕ) → k < length (parts_of shape subchunk) → fits inner elements.type (part_shape shape subchunk k) ≡ true
   pub many : length pairs ≡ length (parts_of shape subchunk)
   pub count : ℕ
   pub end : ℕ
   pub opened : IsOpened index location (index_shape shape subchunk) count stored pairs end
 
 -- how many places a subchunk has
-pub places_size : (shape subchunk : List ℕ) (k : ℕ) → can_cut shape subchunk ≡ true → divides shape subchunk ≡ true → k < length (parts_of shape subchunk) → length (places_at shape subchunk k) ≡ product subchunk
-places_size shape subchunk k cuts even there =
-    let whole = each_at (λ (part : Part). part.shape ≡ subchunk) (parts_of shape subchunk) k no_part (whole_parts shape subchunk cuts even) there in
-    each_at (λ (part : Part). length part.places ≡ product part.shape) (parts_of shape subchunk) k no_part (part_counts shape subchunk cuts) there ∙ ap product whole
+pub places_size : (shape subchunk : List ℕ) (k : ℕ) → can_cut shape subchunk ≡ true → k < length (parts_of shape subchunk) → length (places_at shape subchunk k) ≡ product (part_shape shape subchunk k)
+places_size shape subchunk k cuts there = part_count shape subchunk k no_part cuts there
 
 module _ (subchunk : List ℕ) (inner index : Chain) (location : Location) (elements : Elements) (shape : List ℕ) where
   -- each place is read by its subchunk's pair
   place_read : (stored : Option (List ℕ)) (pairs : List Pair) (n : ℕ) → IsShardOpened subchunk inner index location elements shape stored pairs → n < product shape
       → chunk_part (sharded subchunk inner index location) elements shape stored (n ∷ [])
-      ≡ option_and_then alone (place_decoded inner elements (unwrap_or stored []) subchunk (get_or pairs (subchunk_of shape subchunk n) absent_pair) (inside_of shape subchunk n))
+      ≡ option_and_then alone (place_decoded inner elements (unwrap_or stored []) (part_shape shape subchunk (subchunk_of shape subchunk n)) (get_or pairs (subchunk_of shape subchunk n) absent_pair) (inside_of shape subchunk n))
   place_read None pairs n is low =
       let k = subchunk_of shape subchunk n in
       let none : get_or pairs k absent_pair ≡ absent_pair = ap (λ (ps : List Pair). get_or ps k absent_pair) is.opened.0 ∙ absent_at is.count k in
-      sym (ap (λ (p : Pair). option_and_then alone (place_decoded inner elements [] subchunk p (inside_of shape subchunk n))) none)
+      sym (ap (λ (p : Pair). option_and_then alone (place_decoded inner elements [] (part_shape shape subchunk k) p (inside_of shape subchunk n))) none)
   place_read (Some value) pairs n is low =
       let two = index_product shape subchunk in
       let many = is.many in
       part_is subchunk inner index location elements shape value pairs (n ∷ []) (record { is = is.opened.0; many = omega (arith, two, many) })
-      ∙ (one_there (shard_cell inner elements shape subchunk value pairs n) ∙ ap (option_and_then alone) (shard_place inner elements shape subchunk value pairs n is.cuts is.even is.many low))
+      ∙ (one_there (shard_cell inner elements shape subchunk value pairs n) ∙ ap (option_and_then alone) (shard_place inner elements shape subchunk value pairs n is.cuts is.many low))
 
   pub place_shown : (stored : Option (List ℕ)) (pairs : List Pair) (n : ℕ) → IsShardOpened subchunk inner index location elements shape stored pairs → n < product shape
       → get_or (cells_shown (sharded subchunk inner index location) elements shape stored) n None
-      ≡ option_and_then alone (place_decoded inner elements (unwrap_or stored []) subchunk (get_or pairs (subchunk_of shape subchunk n) absent_pair) (inside_of shape subchunk n))
+      ≡ option_and_then alone (place_decoded inner elements (unwrap_or stored []) (part_shape shape subchunk (subchunk_of shape subchunk n)) (get_or pairs (subchunk_of shape subchunk n) absent_pair) (inside_of shape subchunk n))
   place_shown stored pairs n is low =
       get_or-map-range_with_len (λ m. chunk_part (sharded subchunk inner index location) elements shape stored (m ∷ [])) 0 (product shape) n n None low (omega arith) ∙ place_read stored pairs n is low
 
   -- as many cells as a subchunk has places
   pub held_count : (stored : Option (List ℕ)) (pairs : List Pair) (k : ℕ) (before : List Cell) → IsShardOpened subchunk inner index location elements shape stored pairs → k < length (parts_of shape subchunk)
-      → piece_decoded inner elements (unwrap_or stored []) subchunk (get_or pairs k absent_pair) ≡ Some before → length before ≡ length (places_at shape subchunk k)
+      → piece_decoded inner elements (unwrap_or stored []) (part_shape shape subchunk k) (get_or pairs k absent_pair) ≡ Some before → length before ≡ length (places_at shape subchunk k)
   held_count stored pairs k before is there held =
-      let whole = each_at (λ (part : Part). part.shape ≡ subchunk) (parts_of shape subchunk) k no_part (whole_parts shape subchunk is.cuts is.even) there in
-      piece_count inner elements shape subchunk (unwrap_or stored []) pairs before k is.cuts there (ap (λ (s : List ℕ). piece_decoded inner elements (unwrap_or stored []) s (get_or pairs k absent_pair)) whole ∙ held)
+      piece_count inner elements shape subchunk (unwrap_or stored []) pairs before k is.cuts there
+      (ap (λ (s : List ℕ). piece_decoded inner elements (unwrap_or stored []) s (get_or pairs k absent_pair)) (numbered.part_is shape subchunk k no_part there) ∙ held)
 
   -- a place of a subchunk
   subchunk_shown : (stored : Option (List ℕ)) (pairs : List Pair) (k i : ℕ) → IsShardOpened subchunk inner index location elements shape stored pairs → k < length (parts_of shape subchunk) → i < length (places_at shape subchunk k)
       → get_or (taken None (cells_shown (sharded subchunk inner index location) elements shape stored) (places_at shape subchunk k)) i None
-      ≡ option_and_then alone (place_decoded inner elements (unwrap_or stored []) subchunk (get_or pairs k absent_pair) i)
+      ≡ option_and_then alone (place_decoded inner elements (unwrap_or stored []) (part_shape shape subchunk k) (get_or pairs k absent_pair) i)
   subchunk_shown stored pairs k i is there low =
       let shown = cells_shown (sharded subchunk inner index location) elements shape stored in
       let n = get_or (places_at shape subchunk k) i 0 in
-      let tells = place_tells shape subchunk k i is.cuts is.even (record { part = there; place = low }) in
+      let tells = place_tells shape subchunk k i is.cuts (record { part = there; place = low }) in
       get_or-map (λ m. get_or shown m None) (places_at shape subchunk k) i 0 None low
       ∙ (place_shown stored pairs n is (place_below shape subchunk k i is.cuts (record { part = there; place = low }))
-      ∙ (ap (λ j. option_and_then alone (place_decoded inner elements (unwrap_or stored []) subchunk (get_or pairs j absent_pair) (inside_of shape subchunk n))) tells.part
-      ∙ ap (λ j. option_and_then alone (place_decoded inner elements (unwrap_or stored []) subchunk (get_or pairs k absent_pair) j)) tells.place))
+      ∙ (ap (λ j. option_and_then alone (place_decoded inner elements (unwrap_or stored []) (part_shape shape subchunk j) (get_or pairs j absent_pair) (inside_of shape subchunk n))) tells.part
+      ∙ ap (λ j. option_and_then alone (place_decoded inner elements (unwrap_or stored []) (part_shape shape subchunk k) (get_or pairs k absent_pair) j)) tells.place))
 
   -- a subchunk that is decoded
   pub piece_shown : (stored : Option (List ℕ)) (pairs : List Pair) (k : ℕ) (before : List Cell) → IsShardOpened subchunk inner index location elements shape stored pairs → k < length (parts_of shape subchunk)
-      → piece_decoded inner elements (unwrap_or stored []) subchunk (get_or pairs k absent_pair) ≡ Some before
+      → piece_decoded inner elements (unwrap_or stored []) (part_shape shape subchunk k) (get_or pairs k absent_pair) ≡ Some before
       → taken None (cells_shown (sharded subchunk inner index location) elements shape stored) (places_at shape subchunk k) ≡ map alone before
   piece_shown stored pairs k before is there held =
       let shown = cells_shown (sharded subchunk inner index location) elements shape stored in
       let places = places_at shape subchunk k in
       let many = held_count stored pairs k before is there held in
       let seen : length (taken None shown places) ≡ length places = length-map places (λ n. get_or shown n None) in
-      let size = places_size shape subchunk k is.cuts is.even there in
+      let size = places_size shape subchunk k is.cuts there in
       ext_get_or None (taken None shown places) (map alone before) (seen ∙ (sym many ∙ sym (length-map before alone))) (λ i low.
       let within : i < length places = omega (arith, low, seen) in
       subchunk_shown stored pairs k i is there within
-      ∙ (ap (option_and_then alone) (held_place inner elements (unwrap_or stored []) subchunk (get_or pairs k absent_pair) before i is.fit (omega (arith, within, size)) held)
+      ∙ (ap (option_and_then alone) (held_place inner elements (unwrap_or stored []) (part_shape shape subchunk k) (get_or pairs k absent_pair) before i (is.fit k there) (omega (arith, within, size)) held)
       ∙ sym (get_or-map alone before i elements.fill None (omega (arith, within, many)))))
 
   -- subchunks whose places are read alike
   pub pieces_alike : (old new : Option (List ℕ)) (pairs made : List Pair) (k : ℕ) → IsShardOpened subchunk inner index location elements shape old pairs → IsShardOpened subchunk inner index location elements shape new made → k < length (parts_of shape subchunk)
-      → ((i : ℕ) → place_decoded inner elements (unwrap_or new []) subchunk (get_or made k absent_pair) i ≡ place_decoded inner elements (unwrap_or old []) subchunk (get_or pairs k absent_pair) i)
+      → ((i : ℕ) → place_decoded inner elements (unwrap_or new []) (part_shape shape subchunk k) (get_or made k absent_pair) i ≡ place_decoded inner elements (unwrap_or old []) (part_shape shape subchunk k) (get_or pairs k absent_pair) i)
       → taken None (cells_shown (sharded subchunk inner index location) elements shape new) (places_at shape subchunk k) ≡ taken None (cells_shown (sharded subchunk inner index location) elements shape old) (places_at shape subchunk k)
   pieces_alike old new pairs made k one other there same =
       let places = places_at shape subchunk k in
@@ -171,7 +167,7 @@ shown_back other (c ∷ cs) = ap (λ xs. c ∷ xs) (shown_back other cs)
 
 -- the cells of a subchunk that is decoded are those that the array is taken to have there
 pub piece_gathered : (subchunk : List ℕ) (inner index : Chain) (location : Location) (elements : Elements) (shape : List ℕ) (stored : Option (List ℕ)) (pairs : List Pair) (k : ℕ) (before : List Cell) → IsShardOpened subchunk inner index location elements shape stored pairs
-    → k < length (parts_of shape subchunk) → piece_decoded inner elements (unwrap_or stored []) subchunk (get_or pairs k absent_pair) ≡ Some before
+    → k < length (parts_of shape subchunk) → piece_decoded inner elements (unwrap_or stored []) (part_shape shape subchunk k) (get_or pairs k absent_pair) ≡ Some before
     → gather elements.fill (map (only_cell elements.fill) (cells_shown (sharded subchunk inner index location) elements shape stored)) (places_at shape subchunk k) ≡ before
 piece_gathered subchunk inner index location elements shape stored pairs k before is there held =
     taken_map (only_cell elements.fill) None (cells_shown (sharded subchunk inner index location) elements shape stored) (places_at shape subchunk k)

@@ -7,7 +7,7 @@ use Rattle.zarr_grids_boxes.specs.Boxes.{product}
 use Rattle.zarr_codecs_meaning.specs.Chains.{Chain, Location, sharded}
 use Rattle.zarr_codecs_meaning.specs.Chunks.{chunk_decoded}
 use Rattle.zarr_codecs_meaning.specs.Encoding.{Pair, Piece, base_of, index_size, pieces_of}
-use Rattle.zarr_codecs_meaning.specs.Fits.{can_cut, divides, fits, is_lossless}
+use Rattle.zarr_codecs_meaning.specs.Fits.{can_cut, fits, is_lossless}
 use Rattle.zarr_codecs_meaning.specs.Laws.{AreCells, IsLawfulChain}
 use Rattle.zarr_codecs_meaning.specs.Places.{gather, index_shape, parts_of}
 use Rattle.zarr_codecs_meaning.specs.Standing.{ChunkStands, PiecesStand, Slices, StandsBy}
@@ -22,12 +22,11 @@ use Rattle.zarr_sharding_state.specs.Held.{HoldsPieces, IsOpened, are_absent}
 use Rattle.zarr_sharding_state.specs.Written.{IsChanged}
 use Rattle.zarr_sharding_state.proofs.Stands.{changed_holds, nothing_left, opened_holds}
 use Rattle.zarr_sharding_codec.specs.PartWriting.{AreChanged, put_at, stored_in}
+use Rattle.zarr_sharding_codec.proofs.NumberedParts.{part_fits}
 use Rattle.zarr_sharding_codec.proofs.PartFill.{all_absent, filled_stand, none_present, pieces_fill, whole_fill}
 use Rattle.zarr_sharding_codec.proofs.PartHolds.{CanBe, IsGathered, changes_stand, pieces_are}
 use Rattle.zarr_sharding_codec.proofs.PartShown.{IsShardOpened, piece_gathered, shown_back}
 use Rattle.zarr_sharding_codec.proofs.PutPieces.{places_at}
-use Rattle.zarr_sharding_codec.proofs.ShardSizes.{divides_fit}
-use Rattle.zarr_sharding_codec.proofs.StoredLoop.{inner_fit}
 
 -- new cells were put at places of an array, and the changes of its subchunks were written into its shard
 pub record IsAppended (subchunk : List ℕ) (inner index : Chain) (location : Location) (exact one : Bool) (elements : Elements) (shape numbers : List ℕ) (cells : List Cell) (old new : Option (List ℕ)) : Type 0 where
@@ -55,14 +54,10 @@ module _ (subchunk : List ℕ) (inner index : Chain) (location : Location) (exac
   cuts : can_cut shape subchunk ≡ true
   cuts = (fitted subchunk inner index location elements shape h.fit).cuts
 
-  even : divides shape subchunk ≡ true
-  even = divides_fit subchunk inner index location elements.type shape h.fit
-
   pub shard_opened : IsShardOpened subchunk inner index location elements shape old h.pairs
   shard_opened = record {
     cuts = cuts;
-    even = even;
-    fit = inner_fit subchunk inner index location elements shape h.fit;
+    fit = λ k low. part_fits subchunk inner index location elements shape k h.fit low;
     many = h.count;
     count = length (parts_of shape subchunk);
     end = h.end;
@@ -76,7 +71,6 @@ module _ (subchunk : List ℕ) (inner index : Chain) (location : Location) (exac
   pub gathered : (whole : List Cell) → taken_cells ≡ whole → length whole ≡ product shape → IsGathered (stored_in inner exact elements old h.pairs) (put_at shape subchunk numbers cells) whole h.changes
   gathered whole same long = record {
     cuts = cuts;
-    even = even;
     many = h.count;
     below = h.below;
     long = long;
@@ -135,7 +129,7 @@ module _ (subchunk : List ℕ) (inner index : Chain) (location : Location) (exac
         by_stored : (o : Option (List ℕ)) → HoldsPieces (SliceStandsBy slices inner elements) elements.fill index location (index_shape shape subchunk) (pieces_of elements.fill (put numbers cells before) (parts_of shape subchunk)) o (pairs_after h.end h.changes h.pairs) h.ended
             → ChunkBy slices (sharded subchunk inner index location) elements shape o (put numbers cells before)
         by_stored None holds =
-            whole_fill elements.fill shape subchunk (put numbers cells before) cuts even after.whole
+            whole_fill elements.fill shape subchunk (put numbers cells before) cuts after.whole
             (nothing_left (SliceStandsBy slices inner elements) elements.fill (base_of location (index_size index (index_shape shape subchunk))) holds.«data» (pieces_of elements.fill (put numbers cells before) (parts_of shape subchunk)) (pairs_after h.end h.changes h.pairs) holds.stand holds.held.1)
         by_stored (Some value) holds = (pairs_after h.end h.changes h.pairs, holds.«data», holds.held, holds.stand)
 

@@ -15,10 +15,11 @@ use Rattle.zarr_codecs_meaning.specs.Places.{gather, index_shape, parts_of}
 use Rattle.zarr_codecs_meaning.specs.Refusals.{CodecRefuses, IsMade, PassesIndex, PieceRefused}
 use Rattle.zarr_codecs_meaning.specs.Types.{Cell, Elements, is_fill, is_value}
 use Rattle.zarr_codecs_meaning.proofs.Fitting.{fitted}
-use Rattle.zarr_codecs_meaning.proofs.Parts.{index_product, length-parts}
+use Rattle.zarr_codecs_meaning.proofs.Parts.{index_product}
 use Rattle.zarr_codecs_traits.specs.Indexers.{Asked, numbers_asked, put}
 use Rattle.zarr_codecs_traits.specs.PartWriting.{AreSlices, IsDamaged, IsEncodedInto, IsRefusedInto, MeetsLost, NotEncodedInto, PassesLength, cells_after, cells_shown, only_cell}
 use Rattle.zarr_sharding_changes.specs.Changes.{Change, appended, pairs_after}
+use Rattle.zarr_sharding_places.specs.Locating.{part_shape}
 use Rattle.zarr_sharding_places.specs.Pieces.{piece_decoded}
 use Rattle.zarr_sharding_state.specs.Held.{IsOpened, are_absent}
 use Rattle.zarr_sharding_state.specs.Written.{IsChanged}
@@ -26,17 +27,16 @@ use Rattle.zarr_sharding_state.proofs.Reopened.{opened_length}
 use Rattle.zarr_sharding_state.specs.Opened as opening
 use Rattle.zarr_sharding_codec.specs.Appending.{ChangesUnwritten, IsTestedPart}
 use Rattle.zarr_sharding_codec.specs.PartWriting.{AreChanged, IsLostAt, IsOf, IsRefusedAt, UpdatesSlices, cells_put, given_in, numbers_in, put_at, stored_in}
-use Rattle.zarr_sharding_codec.proofs.EvenParts.{part_fewer}
+use Rattle.zarr_sharding_codec.proofs.NumberedParts.{part_fewer, part_fits}
 use Rattle.zarr_sharding_codec.proofs.PartFill.{none_present}
 use Rattle.zarr_sharding_codec.proofs.PartHolds.{piece_there, put_gathered}
 use Rattle.zarr_sharding_codec.proofs.PartIntact.{lost_meets, part_intact}
-use Rattle.zarr_sharding_codec.proofs.ShardSizes.{divides_fit}
 use Rattle.zarr_sharding_codec.proofs.PartKept.{shown_put}
 use Rattle.zarr_sharding_codec.proofs.PartShown.{IsShardOpened, absent_at, piece_gathered, shown_count}
 use Rattle.zarr_sharding_codec.proofs.PartStands.{IsAppended, absent_put, stands_put, tight_put}
 use Rattle.zarr_sharding_codec.proofs.PartPlaced.{damaged_value}
 use Rattle.zarr_sharding_codec.proofs.PutPieces.{places_at}
-use Rattle.zarr_sharding_codec.proofs.StoredLoop.{inner_fit, no_piece, too_large}
+use Rattle.zarr_sharding_codec.proofs.StoredLoop.{no_piece, too_large}
 use Rattle.zarr_sharding_codec.proofs.StoredParts.{refused_at}
 
 -- what was opened can be read
@@ -56,7 +56,7 @@ part_encoded subchunk inner index location exact one whole elements shape asked 
       fit = tested.fit;
       inside = tested.inside;
       opened = opened_opens subchunk inner index location elements shape (length (parts_of shape subchunk)) h.end old h.pairs h.opened;
-      none_lost = part_intact subchunk inner index location exact elements shape ns tested.cells (length (parts_of shape subchunk)) h.end old h.pairs h.changes (fitted subchunk inner index location elements shape h.fit).cuts (divides_fit subchunk inner index location elements.type shape h.fit) h.changed h.opened;
+      none_lost = part_intact subchunk inner index location exact elements shape ns tested.cells (length (parts_of shape subchunk)) h.end old h.pairs h.changes (fitted subchunk inner index location elements shape h.fit).cuts h.changed h.opened;
       stands = λ lossless before are stands. stands_put subchunk inner index location exact one elements shape ns tested.cells old new h before lossless are stands;
       tight = λ e lossless before are tight. tight_put subchunk inner index location exact one elements shape ns tested.cells old new h before (to_exact e) lossless are tight;
       absent = λ no lossless before are stands filled. absent_put subchunk inner index location exact one elements shape ns tested.cells old new h before lossless are stands filled;
@@ -102,17 +102,17 @@ module _ (A : Type 0) (subchunk : List ℕ) (inner index : Chain) (location : Lo
   after = cells_after (sharded subchunk inner index location) elements shape old (numbers_asked shape asked) tested.cells
 
   -- those of a subchunk that is decoded
-  pub after_piece : (k : ℕ) (before : List Cell) → k < length pairs → piece_decoded inner elements (unwrap_or old []) subchunk (get_or pairs k absent_pair) ≡ Some before
-      → get_or (pieces_of elements.fill after (parts_of shape subchunk)) k no_piece ≡ (subchunk, cells_put (put_at shape subchunk numbers tested.cells) k before)
+  pub after_piece : (k : ℕ) (before : List Cell) → k < length pairs → piece_decoded inner elements (unwrap_or old []) (part_shape shape subchunk k) (get_or pairs k absent_pair) ≡ Some before
+      → get_or (pieces_of elements.fill after (parts_of shape subchunk)) k no_piece ≡ (part_shape shape subchunk k, cells_put (put_at shape subchunk numbers tested.cells) k before)
   after_piece k before low held =
       let many = opened.many in
       let there : k < length (parts_of shape subchunk) = omega (arith, low, many) in
       let shown = map (only_cell elements.fill) (cells_shown (sharded subchunk inner index location) elements shape old) in
       let long = length-map (cells_shown (sharded subchunk inner index location) elements shape old) (only_cell elements.fill) ∙ shown_count subchunk inner index location elements shape old in
-      piece_there elements.fill after shape subchunk k opened.cuts opened.even there
-      ∙ ap (λ (cs : List Cell). (subchunk, cs))
+      piece_there elements.fill after shape subchunk k opened.cuts there
+      ∙ ap (λ (cs : List Cell). (part_shape shape subchunk k, cs))
       (ap (λ (ns : List ℕ). gather elements.fill (put ns tested.cells shown) (places_at shape subchunk k)) (sym tested.numbers_are)
-      ∙ (put_gathered elements.fill shape subchunk k numbers tested.cells shown opened.cuts opened.even there below long
+      ∙ (put_gathered elements.fill shape subchunk k numbers tested.cells shown opened.cuts there below long
       ∙ ap (put (numbers_in shape subchunk k numbers) (given_in shape subchunk k numbers tested.cells)) (piece_gathered subchunk inner index location elements shape old pairs k before opened there held)))
 
   after_refused : (refuses : Chain → Elements → List ℕ → List Cell → Type 0) → IsRefusedAt refuses (stored_in inner exact elements old pairs) (put_at shape subchunk numbers tested.cells) → PieceRefused (refuses inner elements) elements.fill (pieces_of elements.fill after (parts_of shape subchunk))
@@ -129,10 +129,11 @@ module _ (A : Type 0) (subchunk : List ℕ) (inner index : Chain) (location : Lo
       → IsDamaged (sharded subchunk inner index location) elements shape o (numbers_asked shape asked)
   lost_stops None is lost =
       let pair : get_or pairs lost.number absent_pair ≡ absent_pair = ap (λ (ps : List Pair). get_or ps lost.number absent_pair) is.opened.0 ∙ absent_at is.count lost.number in
-      let some : piece_decoded inner elements [] subchunk absent_pair ≡ None = ap (piece_decoded inner elements [] subchunk) (sym pair) ∙ lost.lost in
+      let shape_k = part_shape shape subchunk lost.number in
+      let some : piece_decoded inner elements [] shape_k absent_pair ≡ None = ap (piece_decoded inner elements [] shape_k) (sym pair) ∙ lost.lost in
       absurd (cc)
   lost_stops (Some value) is lost =
-      let meets = lost_meets subchunk inner index location exact elements shape numbers tested.cells value pairs is.cuts is.even is.many below is.opened.0 lost in
+      let meets = lost_meets subchunk inner index location exact elements shape numbers tested.cells value pairs is.cuts is.many below is.opened.0 lost in
       inr (inl (subst (λ (ns : List ℕ). MeetsLost (sharded subchunk inner index location) elements shape value ns) tested.numbers_are meets))
 
   pub part_not_updated : (e : CodecError) → UpdatesSlices (stored_in inner exact elements old pairs) (put_at shape subchunk numbers tested.cells) (Err e) → NotEncodedInto {A = A} (sharded subchunk inner index location) elements shape asked payload old (Err e)
@@ -140,10 +141,7 @@ module _ (A : Type 0) (subchunk : List ℕ) (inner index : Chain) (location : Lo
   part_not_updated error.Codec why =
       refused_tested (sharded subchunk inner index location) elements shape asked payload size numbers old (CodecRefuses (sharded subchunk inner index location) elements shape) tested (inl (after_refused CodecRefuses why))
   part_not_updated error.Size (inl large) =
-      let many = opened.many in
-      let count = length-parts shape subchunk in
-      let some = large.1 in
-      inl (too_large elements.type (product subchunk) (product shape) (part_fewer shape subchunk 0 opened.cuts opened.even (omega (arith, many, count, some))) large.0)
+      inl (too_large elements.type (product (part_shape shape subchunk large.number)) (product shape) (part_fewer shape subchunk large.number opened.cuts) large.is)
   part_not_updated error.Size (inr why) =
       inr (refused_tested (sharded subchunk inner index location) elements shape asked payload size numbers old
       (λ cells. PassesIndex (sharded subchunk inner index location) elements shape cells ⊎ PassesLength (sharded subchunk inner index location) elements shape old cells) tested (inl (inl (after_refused PassesIndex why))))
@@ -206,8 +204,7 @@ pub ready_opened : (subchunk : List ℕ) (inner index : Chain) (location : Locat
     → IsShardOpened subchunk inner index location elements shape old pairs
 ready_opened subchunk inner index location elements shape asked payload size numbers old pairs end tested count opened = record {
   cuts = (fitted subchunk inner index location elements shape tested.fit).cuts;
-  even = divides_fit subchunk inner index location elements.type shape tested.fit;
-  fit = inner_fit subchunk inner index location elements shape tested.fit;
+  fit = λ k low. part_fits subchunk inner index location elements shape k tested.fit low;
   many = count;
   count = product (index_shape shape subchunk) / 2;
   end = end;

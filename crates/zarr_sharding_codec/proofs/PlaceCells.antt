@@ -6,16 +6,16 @@ use Rattle.zarr_grids_boxes.specs.Boxes.{product}
 use Rattle.zarr_codecs_meaning.specs.Chains.{Chain}
 use Rattle.zarr_codecs_meaning.specs.Decoding.{cell_at, cell_of_part, is_absent, slice_at}
 use Rattle.zarr_codecs_meaning.specs.Encoding.{Pair, absent_pair}
-use Rattle.zarr_codecs_meaning.specs.Fits.{can_cut, divides}
+use Rattle.zarr_codecs_meaning.specs.Fits.{can_cut}
 use Rattle.zarr_codecs_meaning.specs.Places.{Part, parts_of, position_of}
 use Rattle.zarr_codecs_meaning.specs.Types.{Cell, Elements}
-use Rattle.zarr_codecs_meaning.proofs.Parts.{no_part, part_counts}
+use Rattle.zarr_codecs_meaning.proofs.Parts.{no_part}
 use Rattle.zarr_codecs_meaning.proofs.PartsOnce.{number_in}
-use Rattle.zarr_codecs_meaning.proofs.Positions.{among_at, each_at, position_found, position_read}
+use Rattle.zarr_codecs_meaning.proofs.Positions.{among_at, position_found, position_read}
 use Rattle.zarr_sharding_places.proofs.PartPlaces.{IsPlace, places_apart}
-use Rattle.zarr_sharding_places.specs.Locating.{inside_of, subchunk_of}
+use Rattle.zarr_sharding_places.specs.Locating.{inside_of, part_shape, subchunk_of}
 use Rattle.zarr_sharding_codec.specs.Reading.{place_decoded, shard_cell}
-use Rattle.zarr_sharding_codec.proofs.EvenParts.{whole_parts}
+use Rattle.zarr_sharding_codec.proofs.NumberedParts.{part_count, part_is}
 use Rattle.zarr_sharding_codec.proofs.LocatedParts.{located_place}
 
 -- a place is found first in this part, where it stands so far
@@ -68,23 +68,22 @@ first_here shape subchunk n k i cuts is here =
           let k_is_j = same.0 in omega (arith, low, k_is_j));
     }
 
-pub shard_place : (inner : Chain) (elements : Elements) (shape subchunk value : List ℕ) (pairs : List Pair) (n : ℕ) → can_cut shape subchunk ≡ true → divides shape subchunk ≡ true → length pairs ≡ length (parts_of shape subchunk) → n < product shape
-    → shard_cell inner elements shape subchunk value pairs n ≡ place_decoded inner elements value subchunk (get_or pairs (subchunk_of shape subchunk n) absent_pair) (inside_of shape subchunk n)
-shard_place inner elements shape subchunk value pairs n cuts even same below =
+pub shard_place : (inner : Chain) (elements : Elements) (shape subchunk value : List ℕ) (pairs : List Pair) (n : ℕ) → can_cut shape subchunk ≡ true → length pairs ≡ length (parts_of shape subchunk) → n < product shape
+    → shard_cell inner elements shape subchunk value pairs n
+    ≡ place_decoded inner elements value (part_shape shape subchunk (subchunk_of shape subchunk n)) (get_or pairs (subchunk_of shape subchunk n) absent_pair) (inside_of shape subchunk n)
+shard_place inner elements shape subchunk value pairs n cuts same below =
     let k = subchunk_of shape subchunk n in
     let i = inside_of shape subchunk n in
-    let located = located_place shape subchunk n cuts even below in
+    let located = located_place shape subchunk n cuts below in
     let is = first_here shape subchunk n k i cuts (record { part = located.part; place = located.place }) located.here in
-    let whole = each_at (λ (part : Part). part.shape ≡ subchunk) (parts_of shape subchunk) k no_part (whole_parts shape subchunk cuts even) located.part in
-    met_cell (cell_at inner elements) elements.fill value n (parts_of shape subchunk) pairs k i same is ∙ ap (λ (s : List ℕ). place_decoded inner elements value s (get_or pairs k absent_pair) i) whole
+    met_cell (cell_at inner elements) elements.fill value n (parts_of shape subchunk) pairs k i same is
+    ∙ ap (λ (s : List ℕ). place_decoded inner elements value s (get_or pairs k absent_pair) i) (part_is shape subchunk k no_part located.part)
 
 -- a place is one of its subchunk's
-pub inside_below : (shape subchunk : List ℕ) (n : ℕ) → can_cut shape subchunk ≡ true → divides shape subchunk ≡ true → n < product shape → inside_of shape subchunk n < product subchunk
-inside_below shape subchunk n cuts even below =
+pub inside_below : (shape subchunk : List ℕ) (n : ℕ) → can_cut shape subchunk ≡ true → n < product shape → inside_of shape subchunk n < product (part_shape shape subchunk (subchunk_of shape subchunk n))
+inside_below shape subchunk n cuts below =
     let k = subchunk_of shape subchunk n in
-    let located = located_place shape subchunk n cuts even below in
+    let located = located_place shape subchunk n cuts below in
     let low = located.place in
-    let whole = each_at (λ (part : Part). part.shape ≡ subchunk) (parts_of shape subchunk) k no_part (whole_parts shape subchunk cuts even) located.part in
-    let count = each_at (λ (part : Part). length part.places ≡ product part.shape) (parts_of shape subchunk) k no_part (part_counts shape subchunk cuts) located.part in
-    let size = ap product whole in
-    omega (arith, low, count, size)
+    let count = part_count shape subchunk k no_part cuts located.part in
+    omega (arith, low, count)

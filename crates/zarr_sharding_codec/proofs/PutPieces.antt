@@ -5,7 +5,7 @@ use Rattle.std.specs.List.{list_all, range_with_len}
 use Rattle.std.proofs.lemmas.Bool.{and_parts, eqb-true, eq-eqb, ltb-true}
 use Rattle.std.proofs.lemmas.List.{ext_get_or, get_or-map, get_or-set_same, get_or-set_other, length-set}
 use Rattle.zarr_grids_boxes.specs.Boxes.{product}
-use Rattle.zarr_codecs_meaning.specs.Fits.{can_cut, divides}
+use Rattle.zarr_codecs_meaning.specs.Fits.{can_cut}
 use Rattle.zarr_codecs_meaning.specs.Places.{parts_of}
 use Rattle.zarr_codecs_meaning.specs.Types.{Cell}
 use Rattle.zarr_codecs_meaning.proofs.Parts.{no_part}
@@ -33,10 +33,10 @@ pub record Tells (shape subchunk : List ℕ) (k i n : ℕ) : Type 0 where
   pub part : subchunk_of shape subchunk n ≡ k
   pub place : inside_of shape subchunk n ≡ i
 
-pub place_tells : (shape subchunk : List ℕ) (k i : ℕ) → can_cut shape subchunk ≡ true → divides shape subchunk ≡ true → IsPlace (parts_of shape subchunk) k i → Tells shape subchunk k i (number_in (parts_of shape subchunk) k i)
-place_tells shape subchunk k i cuts even is =
+pub place_tells : (shape subchunk : List ℕ) (k i : ℕ) → can_cut shape subchunk ≡ true → IsPlace (parts_of shape subchunk) k i → Tells shape subchunk k i (number_in (parts_of shape subchunk) k i)
+place_tells shape subchunk k i cuts is =
     let n = number_in (parts_of shape subchunk) k i in
-    let located = located_place shape subchunk n cuts even (place_below shape subchunk k i cuts is) in
+    let located = located_place shape subchunk n cuts (place_below shape subchunk k i cuts is) in
     let both = places_apart shape subchunk (subchunk_of shape subchunk n) (inside_of shape subchunk n) k i cuts (record { part = located.part; place = located.place }) is located.here in
     record { part = both.0; place = both.1 }
 
@@ -58,11 +58,11 @@ taken_here d xs n x (m ∷ ms) (suc i) below low here once =
     ∙ ap (λ ys. get_or xs m d ∷ ys) (taken_here d xs n x ms i below (omega (arith, low)) here (λ j less same. let is = once (suc j) (omega (arith, less)) same in omega (arith, is)))
 
 -- an element of the array, seen from a subchunk
-module _ {X : Type 0} (d : X) (shape subchunk : List ℕ) (k : ℕ) (cuts : can_cut shape subchunk ≡ true) (even : divides shape subchunk ≡ true) (there : k < length (parts_of shape subchunk)) where
+module _ {X : Type 0} (d : X) (shape subchunk : List ℕ) (k : ℕ) (cuts : can_cut shape subchunk ≡ true) (there : k < length (parts_of shape subchunk)) where
   set_seen : (xs : List X) (n : ℕ) (x : X) (b : Bool) → (subchunk_of shape subchunk n == k) ≡ b → n < product shape → length xs ≡ product shape
       → taken d (set xs n x) (places_at shape subchunk k) ≡ (if b then set (taken d xs (places_at shape subchunk k)) (inside_of shape subchunk n) x else taken d xs (places_at shape subchunk k))
   set_seen xs n x true e below long =
-      let located = located_place shape subchunk n cuts even below in
+      let located = located_place shape subchunk n cuts below in
       let same : subchunk_of shape subchunk n ≡ k = eqb-true (subchunk_of shape subchunk n) k e in
       let low : inside_of shape subchunk n < length (places_at shape subchunk k) = let low_there = located.place in let is = ap (λ j. length (places_at shape subchunk j)) same in omega (arith, low_there, is) in
       let here : get_or (places_at shape subchunk k) (inside_of shape subchunk n) 0 ≡ n = ap (λ j. get_or (places_at shape subchunk j) (inside_of shape subchunk n) 0) (sym same) ∙ located.here in
@@ -70,7 +70,7 @@ module _ {X : Type 0} (d : X) (shape subchunk : List ℕ) (k : ℕ) (cuts : can_
       (λ j less is. (places_apart shape subchunk k j k (inside_of shape subchunk n) cuts (record { part = there; place = less }) (record { part = there; place = low }) (is ∙ sym here)).1)
   set_seen xs n x false e below long =
       taken_elsewhere d xs n x (places_at shape subchunk k) (λ j less is.
-      let tells = place_tells shape subchunk k j cuts even (record { part = there; place = less }) in
+      let tells = place_tells shape subchunk k j cuts (record { part = there; place = less }) in
       let same : subchunk_of shape subchunk n ≡ k = ap (subchunk_of shape subchunk) (sym is) ∙ tells.part in
       let yes = eq-eqb (subchunk_of shape subchunk n) k same in cc)
 
@@ -102,12 +102,12 @@ module _ {X : Type 0} (d : X) (shape subchunk : List ℕ) (k : ℕ) (cuts : can_
       ∙ seen_step ns xs (taken d ys (places_at shape subchunk k)) n x (subchunk_of shape subchunk n == k))
 
 -- of cells this is what the specification says
-pub given_is : (d : Cell) (shape subchunk : List ℕ) (k : ℕ) (cuts : can_cut shape subchunk ≡ true) (even : divides shape subchunk ≡ true) (there : k < length (parts_of shape subchunk)) (ns : List ℕ) (cells : List Cell)
-    → new_in d shape subchunk k cuts even there ns cells ≡ given_in shape subchunk k ns cells
-given_is d shape subchunk k cuts even there [] cells = refl
-given_is d shape subchunk k cuts even there (n ∷ ns) [] = refl
-given_is d shape subchunk k cuts even there (n ∷ ns) (c ∷ cs) =
-    ap (λ (xs : List Cell). if subchunk_of shape subchunk n == k then c ∷ xs else xs) (given_is d shape subchunk k cuts even there ns cs)
+pub given_is : (d : Cell) (shape subchunk : List ℕ) (k : ℕ) (cuts : can_cut shape subchunk ≡ true) (there : k < length (parts_of shape subchunk)) (ns : List ℕ) (cells : List Cell)
+    → new_in d shape subchunk k cuts there ns cells ≡ given_in shape subchunk k ns cells
+given_is d shape subchunk k cuts there [] cells = refl
+given_is d shape subchunk k cuts there (n ∷ ns) [] = refl
+given_is d shape subchunk k cuts there (n ∷ ns) (c ∷ cs) =
+    ap (λ (xs : List Cell). if subchunk_of shape subchunk n == k then c ∷ xs else xs) (given_is d shape subchunk k cuts there ns cs)
 
 -- ---- which subchunks are met
 

@@ -1,18 +1,18 @@
 -- What is told of the size of a shard.
-use Rattle.std.proofs.Common.{◌≡◌, ◌∙◌, inl, inr, ℕ, ◌+◌, ◌*◌, ◌^◌, ◌<◌, ◌≤◌, List, ◌∷◌, length, map, replicate, ap, sym, refl, arith, Bool, true, false, ◌||◌, Option, Some, None, option_map, IsTrue, Result, Ok, Err, not, is_some, ◌&&◌}
+use Rattle.std.proofs.Common.{◌≡◌, ◌∙◌, inl, inr, ℕ, ◌+◌, ◌-◌, ◌^◌, ◌<◌, ◌≤◌, min, List, [], ◌∷◌, ◌++◌, length, map, get_or, ap, sym, refl, subst, arith, Bool, true, false, ◌||◌, Option, Some, None, option_map, IsTrue, Result, Ok, Err}
 use Rattle.std.specs.List.{list_any}
+use Rattle.std.proofs.lemmas.List.{get_or-map, length-map}
 use Rattle.std.proofs.lemmas.List.Folds.{list_any_at}
-use Rattle.std.proofs.lemmas.Bool.{and_parts, le-leb}
+use Rattle.std.proofs.lemmas.Bool.{le-leb}
 use Rattle.zarr_grids_boxes.specs.Boxes.{product}
-use Rattle.zarr_codecs_meaning.specs.Types.{DataType, inner_type, uint64, zero_filled}
+use Rattle.zarr_codecs_meaning.specs.Types.{DataType, uint64, zero_filled}
 use Rattle.zarr_codecs_meaning.specs.Chains as chains
 use Rattle.zarr_codecs_meaning.specs.Chains.{Chain, Location, sharded}
 use Rattle.zarr_codecs_meaning.specs.Encoding.{index_size}
-use Rattle.zarr_codecs_meaning.specs.Fits.{at_most, bound_of, can_cut, divides, fits, fixed_of, is_too_long, representation_of, sum_of_bounds, tells_too_long}
-use Rattle.zarr_codecs_meaning.specs.Places.{Part, grid_of, index_shape, parts_of}
+use Rattle.zarr_codecs_meaning.specs.Fits.{at_most, bound_of, can_cut, fits, fixed_of, is_too_long, representation_of, sum_of_bounds, tells_too_long}
+use Rattle.zarr_codecs_meaning.specs.Places.{Part, index_shape, parts_of}
 use Rattle.zarr_codecs_meaning.proofs.Fitting.{fitted}
-use Rattle.zarr_codecs_meaning.proofs.Parts.{length-parts, no_part}
-use Rattle.zarr_codecs_meaning.proofs.Positions.{each_at}
+use Rattle.zarr_codecs_meaning.proofs.Parts.{no_part}
 use Rattle.zarr_codecs_arrays.specs.declared.error.CodecError.{CodecError}
 use Rattle.zarr_codecs_arrays.specs.declared.error.CodecError.TheVariants as error
 use Rattle.zarr_codecs_traits.specs.Representations.{Represents, RepresentsArray}
@@ -20,24 +20,24 @@ use Rattle.zarr_codecs_traits.specs.declared.bytes_representation.BytesRepresent
 use Rattle.zarr_codecs_traits.specs.declared.bytes_representation.BytesRepresentation.TheVariants as size_told
 use Rattle.zarr_sharding_index.specs.Stored.{index_fits}
 use Rattle.zarr_sharding_index.proofs.StoredIndex.{index_below}
-use Rattle.zarr_sharding_codec.proofs.EncodedShard.{index_part}
-use Rattle.zarr_sharding_codec.proofs.EvenParts.{part_fewer, parts_fit, whole_parts}
-use Rattle.zarr_sharding_codec.proofs.ShardBounds.{none_bounds, part_bounds, sum_alike}
-use Rattle.zarr_sharding_codec.proofs.StoredLoop.{is_subchunk, too_large}
+use Rattle.zarr_sharding_places.specs.Locating.{part_shape}
+use Rattle.zarr_sharding_codec.specs.Fitting.{BoundsShapes, behind, bound_of_shapes, capped, shapes_behind}
+use Rattle.zarr_sharding_codec.proofs.FitParts.{index_fit}
+use Rattle.zarr_sharding_codec.proofs.NumberedParts.{part_fewer, part_is}
+use Rattle.zarr_sharding_codec.proofs.PartShapes.{behind_are, no_shapes}
+use Rattle.zarr_sharding_codec.proofs.ShardBounds.{bounds_all, is_told, none_told}
+use Rattle.zarr_sharding_codec.proofs.StoredLoop.{too_large}
 
 -- ---- the sum
 
-pub none_told : (size count : ℕ) → 0 < count → chains.BytesRepresentation.unbounded_size ≡ at_most (sum_of_bounds (Some size ∷ replicate count None))
-none_told size count some = sym (ap (λ (o : Option ℕ). at_most (option_map (λ m. size + m) o)) (none_bounds count some))
+-- the slices together, as they are told, and an index
+pub sum_told : (size sum told all : ℕ) → told ≡ capped sum → (told ≡ 2 ^ 64 - 1 → ⊥) → all ≡ told + size → chains.BytesRepresentation.bounded_size all ≡ at_most (Some (size + sum))
+sum_told size sum told all is short added =
+    let turned : all ≡ size + sum = omega (arith, is, short, added) in
+    ap chains.BytesRepresentation.bounded_size turned
 
-pub sum_told : (size count bound all : ℕ) → all ≡ count * bound + size → chains.BytesRepresentation.bounded_size all ≡ at_most (sum_of_bounds (Some size ∷ replicate count (Some bound)))
-sum_told size count bound all is =
-    let turned : all ≡ size + count * bound = omega (arith, is) in
-    ap chains.BytesRepresentation.bounded_size turned ∙ sym (ap (λ (o : Option ℕ). at_most (option_map (λ m. size + m) o)) (sum_alike count bound))
-
-pub sum_long : (size count bound : ℕ) → 2 ^ 63 ≤ count * bound + size → IsTrue (is_too_long (at_most (sum_of_bounds (Some size ∷ replicate count (Some bound)))))
-sum_long size count bound long =
-    ap (λ (o : Option ℕ). is_too_long (at_most (option_map (λ m. size + m) o))) (sum_alike count bound) ∙ le-leb (2 ^ 63) (size + count * bound) (omega (arith, long))
+pub sum_long : (size sum : ℕ) → 2 ^ 63 ≤ size + sum → IsTrue (is_too_long (at_most (Some (size + sum))))
+sum_long size sum long = le-leb (2 ^ 63) (size + sum) long
 
 -- ---- the shard
 
@@ -46,15 +46,14 @@ index_bound (chains.BytesRepresentation.fixed_size n) size is = is
 index_bound (chains.BytesRepresentation.bounded_size n) size is = cc
 index_bound chains.BytesRepresentation.unbounded_size size is = cc
 
--- what is told of a shard's size is the sum
-shard_sum : (subchunk : List ℕ) (inner index : Chain) (location : Location) (type : DataType) (shape : List ℕ) (size : ℕ) → can_cut shape subchunk ≡ true → divides shape subchunk ≡ true → index_fits index (index_shape shape subchunk) ≡ true
-    → size ≡ index_size index (index_shape shape subchunk)
-    → representation_of (sharded subchunk inner index location) type shape ≡ at_most (sum_of_bounds (Some size ∷ replicate (product (grid_of shape subchunk)) (bound_of (representation_of inner type subchunk))))
-shard_sum subchunk inner index location type shape size cuts even fit is =
+-- what is told of a shard's size is the index and the slices together
+shard_sum : (subchunk : List ℕ) (inner index : Chain) (location : Location) (type : DataType) (shape : List ℕ) (size : ℕ) → index_fits index (index_shape shape subchunk) ≡ true → size ≡ index_size index (index_shape shape subchunk)
+    → representation_of (sharded subchunk inner index location) type shape ≡ at_most (option_map (λ m. size + m) (bound_of_shapes inner type (behind [] shape subchunk)))
+shard_sum subchunk inner index location type shape size fit is =
     let known = index_below index (index_shape shape subchunk) fit in
     let bounds = map (λ (part : Part). bound_of (representation_of inner type part.shape)) (parts_of shape subchunk) in
     ap (λ (o : Option ℕ). at_most (sum_of_bounds (o ∷ bounds))) (index_bound (representation_of index uint64 (index_shape shape subchunk)) (index_size index (index_shape shape subchunk)) known.0 ∙ ap Some (sym is))
-    ∙ ap (λ (os : List (Option ℕ)). at_most (sum_of_bounds (Some size ∷ os))) (part_bounds inner type shape subchunk cuts even)
+    ∙ ap (λ (os : List (Option ℕ)). at_most (sum_of_bounds (Some size ∷ os))) (bounds_all inner type (parts_of shape subchunk))
 
 third : (a b c : Bool) → c ≡ true → (a || (b || c)) ≡ true
 third true b c h = refl
@@ -66,46 +65,54 @@ second true b c h = refl
 second false true c h = refl
 second false false c h = cc
 
-pub divides_fit : (subchunk : List ℕ) (inner index : Chain) (location : Location) (type : DataType) (shape : List ℕ) → fits (sharded subchunk inner index location) type shape ≡ true → divides shape subchunk ≡ true
-divides_fit subchunk inner index location type shape fit =
-    (and_parts (divides shape subchunk) (not (is_some (inner_type type)) && (can_cut shape subchunk && ((fits inner type subchunk && parts_fit inner type shape subchunk) && index_fits index (index_shape shape subchunk)))) fit).0
+module _ (subchunk : List ℕ) (inner index : Chain) (location : Location) (type : DataType) (shape : List ℕ) (fit : fits (sharded subchunk inner index location) type shape ≡ true) where
+  cuts : can_cut shape subchunk ≡ true
+  cuts = (fitted subchunk inner index location (zero_filled type) shape fit).cuts
 
-pub shard_told : (subchunk : List ℕ) (inner index : Chain) (location : Location) (type : DataType) (shape : List ℕ) (size : ℕ) (result : Result BytesRepresentation CodecError) → fits (sharded subchunk inner index location) type shape ≡ true
-    → size ≡ index_size index (index_shape shape subchunk) → Represents (at_most (sum_of_bounds (Some size ∷ replicate (product (grid_of shape subchunk)) (bound_of (representation_of inner type subchunk))))) result
-    → RepresentsArray (sharded subchunk inner index location) type shape result
-shard_told subchunk inner index location type shape size (Ok known) fit is told =
-    let cuts = (fitted subchunk inner index location (zero_filled type) shape fit).cuts in
-    record {
-      fit = fit;
-      is = told ∙ sym (shard_sum subchunk inner index location type shape size cuts (divides_fit subchunk inner index location type shape fit) (index_part subchunk inner index location (zero_filled type) shape fit) is);
-    }
-shard_told subchunk inner index location type shape size (Err error.Size) fit is told =
-    let cuts = (fitted subchunk inner index location (zero_filled type) shape fit).cuts in
-    let same = shard_sum subchunk inner index location type shape size cuts (divides_fit subchunk inner index location type shape fit) (index_part subchunk inner index location (zero_filled type) shape fit) is in
-    inr (third (tells_too_long index uint64 (index_shape shape subchunk)) (list_any (λ (part : Part). tells_too_long inner type part.shape) (parts_of shape subchunk)) (is_too_long (representation_of (sharded subchunk inner index location) type shape))
-    (ap is_too_long same ∙ told))
-shard_told subchunk inner index location type shape size (Err e) fit is told = absurd told
+  pub shard_told : (size : ℕ) (result : Result BytesRepresentation CodecError) → size ≡ index_size index (index_shape shape subchunk)
+      → Represents (at_most (option_map (λ m. size + m) (bound_of_shapes inner type (behind [] shape subchunk)))) result → RepresentsArray (sharded subchunk inner index location) type shape result
+  shard_told size (Ok known) is told = record { fit = fit; is = told ∙ sym (shard_sum subchunk inner index location type shape size (index_fit subchunk inner index location type shape fit) is) }
+  shard_told size (Err error.Size) is told =
+      let same = shard_sum subchunk inner index location type shape size (index_fit subchunk inner index location type shape fit) is in
+      inr (third (tells_too_long index uint64 (index_shape shape subchunk)) (list_any (λ (part : Part). tells_too_long inner type part.shape) (parts_of shape subchunk)) (is_too_long (representation_of (sharded subchunk inner index location) type shape))
+      (ap is_too_long same ∙ told))
+  shard_told size (Err e) is told = absurd told
 
--- where there is no subchunk, it is the index alone
-pub index_told : (subchunk : List ℕ) (inner index : Chain) (location : Location) (type : DataType) (shape : List ℕ) (size count : ℕ) → fits (sharded subchunk inner index location) type shape ≡ true → size ≡ index_size index (index_shape shape subchunk)
-    → count ≡ product (grid_of shape subchunk) → count ≡ 0 → RepresentsArray (sharded subchunk inner index location) type shape (Ok (size_told.BoundedSize size))
-index_told subchunk inner index location type shape size count fit is counted none =
-    let bound = bound_of (representation_of inner type subchunk) in
-    let whole : size + 0 ≡ size = omega arith in
-    shard_told subchunk inner index location type shape size (Ok (size_told.BoundedSize size)) fit is
-    (ap chains.BytesRepresentation.bounded_size (sym whole) ∙ ap (λ k. at_most (sum_of_bounds (Some size ∷ replicate k bound))) (sym none ∙ counted))
+  -- where there is no place, it is the index alone
+  pub index_told : (size : ℕ) → size ≡ index_size index (index_shape shape subchunk) → product shape ≡ 0 → RepresentsArray (sharded subchunk inner index location) type shape (Ok (size_told.BoundedSize size))
+  index_told size is none =
+      let no_part_there : shapes_behind (behind [] shape subchunk) ≡ [] = behind_are [] (parts_of shape subchunk) ∙ ap (map (λ s. [] ++ s)) (no_shapes shape subchunk cuts none) in
+      let whole : size ≡ size + 0 = omega arith in
+      shard_told size (Ok (size_told.BoundedSize size)) is
+      (ap chains.BytesRepresentation.bounded_size whole ∙ sym (ap (λ (ss : List (List ℕ)). at_most (option_map (λ m. size + m) (sum_of_bounds (map (λ (s : List ℕ). bound_of (representation_of inner type s)) ss)))) no_part_there))
 
--- where a subchunk is too long, the shard is
-pub slice_too_long : (subchunk : List ℕ) (inner index : Chain) (location : Location) (type : DataType) (shape : List ℕ) (count : ℕ) → fits (sharded subchunk inner index location) type shape ≡ true → count ≡ product (grid_of shape subchunk) → 0 < count
-    → RepresentsArray inner type subchunk (Err error.Size) → RepresentsArray (sharded subchunk inner index location) type shape (Err error.Size)
-slice_too_long subchunk inner index location type shape count fit counted some (inl large) =
-    let is = is_subchunk subchunk inner index location (zero_filled type) shape 0 fit (omega (arith, counted, some)) in
-    inl (too_large type (product subchunk) (product shape) (part_fewer shape subchunk 0 is.cuts is.even is.below) large)
-slice_too_long subchunk inner index location type shape count fit counted some (inr long) =
-    let is = is_subchunk subchunk inner index location (zero_filled type) shape 0 fit (omega (arith, counted, some)) in
-    let parts = parts_of shape subchunk in
-    let many = length-parts shape subchunk in
-    let below : 0 < length parts = omega (arith, counted, some, many) in
-    let whole = each_at (λ (part : Part). part.shape ≡ subchunk) parts 0 no_part (whole_parts shape subchunk is.cuts is.even) below in
-    inr (second (tells_too_long index uint64 (index_shape shape subchunk)) (list_any (λ (part : Part). tells_too_long inner type part.shape) parts) (is_too_long (representation_of (sharded subchunk inner index location) type shape))
-    (list_any_at (λ (part : Part). tells_too_long inner type part.shape) parts 0 no_part below (ap (tells_too_long inner type) whole ∙ long)))
+  -- where the slices have a bound together
+  pub slices_told : (size slices : ℕ) (result : Result BytesRepresentation CodecError) → size ≡ index_size index (index_shape shape subchunk) → Some slices ≡ option_map capped (bound_of_shapes inner type (behind [] shape subchunk))
+      → ((sum : ℕ) → slices ≡ capped sum → Represents (at_most (Some (size + sum))) result) → RepresentsArray (sharded subchunk inner index location) type shape result
+  slices_told size slices result is bounds law =
+      let told = is_told (bound_of_shapes inner type (behind [] shape subchunk)) slices bounds in
+      shard_told size result is (subst (λ (o : Option ℕ). Represents (at_most (option_map (λ m. size + m) o)) result) (sym told.is) (law told.number told.as_told))
+
+  -- where they have none
+  pub slices_unknown : (size : ℕ) → size ≡ index_size index (index_shape shape subchunk) → None ≡ option_map capped (bound_of_shapes inner type (behind [] shape subchunk)) → RepresentsArray (sharded subchunk inner index location) type shape (Ok size_told.UnboundedSize)
+  slices_unknown size is none = shard_told size (Ok size_told.UnboundedSize) is (sym (ap (λ (o : Option ℕ). at_most (option_map (λ m. size + m) o)) (none_told (bound_of_shapes inner type (behind [] shape subchunk)) none)))
+
+  -- where a subchunk is too long, the shard is
+  slice_too_long : (k : ℕ) → k < length (parts_of shape subchunk) → RepresentsArray inner type (part_shape shape subchunk k) (Err error.Size) → RepresentsArray (sharded subchunk inner index location) type shape (Err error.Size)
+  slice_too_long k below (inl large) = inl (too_large type (product (part_shape shape subchunk k)) (product shape) (part_fewer shape subchunk k cuts) large)
+  slice_too_long k below (inr long) =
+      let parts = parts_of shape subchunk in
+      inr (second (tells_too_long index uint64 (index_shape shape subchunk)) (list_any (λ (part : Part). tells_too_long inner type part.shape) parts) (is_too_long (representation_of (sharded subchunk inner index location) type shape))
+      (list_any_at (λ (part : Part). tells_too_long inner type part.shape) parts k no_part below (ap (tells_too_long inner type) (part_is shape subchunk k no_part below) ∙ long)))
+
+  pub slices_refused : (e : CodecError) → BoundsShapes inner type (behind [] shape subchunk) (Err e) → RepresentsArray (sharded subchunk inner index location) type shape (Err e)
+  slices_refused error.Size long =
+      let parts = parts_of shape subchunk in
+      let count = length-map parts (λ (part : Part). [] ++ part.shape) in
+      let low = long.below in
+      let below : long.number < length parts = omega (arith, low, count) in
+      let here : get_or (shapes_behind (behind [] shape subchunk)) long.number [] ≡ part_shape shape subchunk long.number =
+      get_or-map (λ (part : Part). [] ++ part.shape) parts long.number no_part [] below ∙ part_is shape subchunk long.number no_part below in
+      slice_too_long long.number below (subst (λ (s : List ℕ). RepresentsArray inner type s (Err error.Size)) here (long.is []))
+  slices_refused error.Memory why = tt
+  slices_refused e why = absurd why

@@ -1,5 +1,5 @@
 -- The places of some subchunks of a shard were read.
-use Rattle.std.proofs.Common.{◌≡◌, ◌∙◌, ◌<◌, ◌≤◌, List, [], ◌∷◌, ◌++◌, length, get_or, replicate, ap, sym, refl, arith, subst, ℕ, Option, Some, true, Result, Err, unwrap_or, append_assoc, append-nil}
+use Rattle.std.proofs.Common.{◌≡◌, ◌∙◌, ◌≤◌, List, [], ◌∷◌, ◌++◌, length, get_or, replicate, ap, sym, refl, arith, subst, ℕ, Option, Some, true, Result, Err, unwrap_or, append_assoc, append-nil}
 use Rattle.std.specs.Prelude.{nat_lt}
 use Rattle.std.specs.List.{list_all}
 use Rattle.std.specs.List.Sorted.{IsPermutation}
@@ -12,22 +12,30 @@ use Rattle.zarr_codecs_meaning.specs.Places.{parts_of}
 use Rattle.zarr_codecs_meaning.specs.Types.{Cell}
 use Rattle.zarr_codecs_meaning.proofs.Fitting.{fitted}
 use Rattle.zarr_codecs_meaning.proofs.Lists.{Each}
-use Rattle.zarr_codecs_meaning.proofs.Parts.{length-parts}
 use Rattle.zarr_codecs_arrays.specs.declared.array_bytes.ArrayBytes.{ArrayBytes}
 use Rattle.zarr_codecs_arrays.specs.declared.error.CodecError.{CodecError}
 use Rattle.zarr_codecs_arrays.specs.declared.error.CodecError.TheVariants as error
 use Rattle.zarr_codecs_regions.specs.Updates.{put}
 use Rattle.zarr_sharding_places.specs.Groups.{IsGroup, no_place}
-use Rattle.zarr_sharding_places.specs.Locating.{asked_places}
+use Rattle.zarr_sharding_places.specs.Locating.{asked_places, part_shape}
 use Rattle.zarr_sharding_places.specs.Placed.{Shows}
 use Rattle.zarr_sharding_places.specs.declared.locating.AskedPlace.{AskedPlace}
 use Rattle.zarr_sharding_places.specs.declared.placed.PlacedElements.{PlacedElements}
 use Rattle.zarr_sharding_codec.specs.Reading.{ListsRead, places_decoded, shard_cells}
-use Rattle.zarr_sharding_codec.proofs.EvenParts.{part_fewer}
+use Rattle.zarr_sharding_codec.proofs.NumberedParts.{part_fewer}
 use Rattle.zarr_sharding_codec.proofs.GroupsRead as groups
-use Rattle.zarr_sharding_codec.proofs.GroupsRead.{AskedShard, IsAskable, IsAsked, IsRead, all_asked, all_read, group_lost, group_put, insides, piece_many, positions, put_whole, subchunk_below}
-use Rattle.zarr_sharding_codec.proofs.ShardSizes.{divides_fit}
+use Rattle.zarr_sharding_codec.proofs.GroupsRead.{AskedShard, IsAskable, IsAsked, IsRead, all_asked, all_read, group_lost, group_put, insides, piece_cells, piece_many, positions, put_whole}
 use Rattle.zarr_sharding_codec.proofs.StoredLoop.{too_large}
+
+-- the number of the first place's subchunk, its pair and its shape
+abbrev pub number_at : List AskedPlace → ℕ
+number_at group = (get_or group 0 no_place).subchunk
+
+abbrev pub pair_at : AskedShard → List AskedPlace → Pair
+pair_at s group = get_or s.pairs (number_at group) absent_pair
+
+abbrev pub shape_at : AskedShard → List AskedPlace → List ℕ
+shape_at s group = part_shape s.shape s.subchunk (number_at group)
 
 -- the first places were read, and these are left
 pub record ReadSoFar (s : AskedShard) (all : PlacedElements) (places rest : List AskedPlace) : Type 0 where
@@ -54,11 +62,12 @@ each_middle P [] (x ∷ xs) after are = (are.0, each_middle P [] xs after are.1)
 each_middle P (y ∷ ys) here after are = each_middle P ys here after are.1
 
 -- what is read of a group is the same where the source holds the same as before
-pub read_before : (s : AskedShard) (one other : Option (List ℕ)) (group : List AskedPlace) (result : Result ArrayBytes CodecError) → one ≡ other
-    → ListsRead s.elements s.subchunk (places_decoded s.inner s.elements (unwrap_or other []) s.subchunk (get_or s.pairs (get_or group 0 no_place).subchunk absent_pair) (insides group)) result
-    → ListsRead s.elements s.subchunk (places_decoded s.inner s.elements (unwrap_or one []) s.subchunk (get_or s.pairs (get_or group 0 no_place).subchunk absent_pair) (insides group)) result
-read_before s one other group result same read =
-    subst (λ (o : Option (List ℕ)). ListsRead s.elements s.subchunk (places_decoded s.inner s.elements (unwrap_or o []) s.subchunk (get_or s.pairs (get_or group 0 no_place).subchunk absent_pair) (insides group)) result) (sym same) read
+pub read_before : (s : AskedShard) (one other : Option (List ℕ)) (edges : List ℕ) (group : List AskedPlace) (result : Result ArrayBytes CodecError) → one ≡ other → edges ≡ shape_at s group
+    → ListsRead s.elements edges (places_decoded s.inner s.elements (unwrap_or other []) edges (pair_at s group) (insides group)) result
+    → ListsRead s.elements (shape_at s group) (places_decoded s.inner s.elements (unwrap_or one []) (shape_at s group) (pair_at s group) (insides group)) result
+read_before s one other edges group result same is read =
+    subst (λ (o : Option (List ℕ)). ListsRead s.elements (shape_at s group) (places_decoded s.inner s.elements (unwrap_or o []) (shape_at s group) (pair_at s group) (insides group)) result) (sym same)
+    (subst (λ (e : List ℕ). ListsRead s.elements e (places_decoded s.inner s.elements (unwrap_or other []) e (pair_at s group) (insides group)) result) is read)
 
 -- the places that are left are some of all
 pub record IsLeft (places rest : List AskedPlace) : Type 0 where
@@ -72,15 +81,11 @@ pub group_asked : (s : AskedShard) (places rest group others : List AskedPlace) 
 group_asked s places rest group others moved left cut =
     each_middle (IsAsked s) left.done group others (subst (λ ps. Each (IsAsked s) ps) (sym (ap (λ ps. left.done ++ ps) cut ∙ left.split)) (all_asked s places moved))
 
--- the pair of the first place's subchunk
-abbrev pub pair_at : AskedShard → List AskedPlace → Pair
-pair_at s group = get_or s.pairs (get_or group 0 no_place).subchunk absent_pair
-
-is_group : (s : AskedShard) (group : List AskedPlace) → Each (IsAsked s) group → IsGroup group → groups.IsGroup s (pair_at s group) group
-is_group s group asked one = record { asked = asked; alike = λ i below. ap (λ k. get_or s.pairs k absent_pair) (one i below) }
+is_group : (s : AskedShard) (group : List AskedPlace) → Each (IsAsked s) group → IsGroup group → groups.IsGroup s (number_at group) group
+is_group s group asked one = record { asked = asked; alike = one }
 
 pub so_far_more : (s : AskedShard) (before after : PlacedElements) (places rest group others : List AskedPlace) (piece : List Cell) → IsAskable s → IsPermutation (asked_places s.shape s.subchunk s.numbers) places
-    → ReadSoFar s before places rest → group ++ others ≡ rest → IsGroup group → places_decoded s.inner s.elements s.value s.subchunk (pair_at s group) (insides group) ≡ Some piece
+    → ReadSoFar s before places rest → group ++ others ≡ rest → IsGroup group → piece_cells s (number_at group) (insides group) ≡ Some piece
     → ((cells : List Cell) → Shows s.elements before cells → length piece ≡ length (positions group) → Shows s.elements after (put (positions group) piece cells)) → ReadSoFar s after places others
 so_far_more s before after places rest group others piece can moved so_far cut one read law =
     let asked = group_asked s places rest group others moved (record { done = so_far.done; split = so_far.split }) cut in
@@ -88,11 +93,11 @@ so_far_more s before after places rest group others piece can moved so_far cut o
     let made = put (positions group) piece so_far.cells in
     record {
       cells = made;
-      shows = law so_far.cells so_far.shows (piece_many s (pair_at s group) piece group read);
+      shows = law so_far.cells so_far.shows (piece_many s (number_at group) piece group read);
       whole = put_whole s so_far.cells piece group so_far.whole;
       done = so_far.done ++ group;
       split = append_assoc so_far.done group others ∙ (ap (λ ps. so_far.done ++ ps) cut ∙ so_far.split);
-      read = group_put s (pair_at s group) so_far.cells piece so_far.done group can is so_far.whole read so_far.read;
+      read = group_put s (number_at group) so_far.cells piece so_far.done group can is so_far.whole read so_far.read;
     }
 
 -- all places were read
@@ -104,24 +109,18 @@ so_far_all s all places [] moved so_far none =
     all_read s places so_far.cells moved so_far.whole (subst (λ ps. Each (IsRead s so_far.cells) ps) e so_far.read)
 
 -- a group that isn't read
-pub group_unread : (s : AskedShard) (group : List AskedPlace) (e : CodecError) → IsAskable s → Each (IsAsked s) group → IsGroup group → 0 < length group
-    → ListsRead s.elements s.subchunk (places_decoded s.inner s.elements s.value s.subchunk (pair_at s group) (insides group)) (Err e) → ListsRead s.elements s.shape (shard_cells s.inner s.elements s.shape s.subchunk s.value s.pairs s.numbers) (Err e)
-group_unread s group error.Damage can asked one some lost = group_lost s (pair_at s group) group can (is_group s group asked one) lost
-group_unread s [] error.Size can asked one some large = absurd (omega (arith, some))
-group_unread s (place ∷ group) error.Size can asked one some large =
-    let low = subchunk_below s place can asked.0 in
-    let many = can.many in
-    let count = length-parts s.shape s.subchunk in
-    too_large s.elements.type (product s.subchunk) (product s.shape) (part_fewer s.shape s.subchunk place.subchunk can.cuts can.even (omega (arith, low, many, count))) large
-group_unread s group error.Source can asked one some h = tt
-group_unread s group error.Memory can asked one some h = tt
-group_unread s group e can asked one some h = absurd h
+pub group_unread : (s : AskedShard) (group : List AskedPlace) (e : CodecError) → IsAskable s → Each (IsAsked s) group → IsGroup group → ListsRead s.elements (shape_at s group) (piece_cells s (number_at group) (insides group)) (Err e)
+    → ListsRead s.elements s.shape (shard_cells s.inner s.elements s.shape s.subchunk s.value s.pairs s.numbers) (Err e)
+group_unread s group error.Damage can asked one lost = group_lost s (number_at group) group can (is_group s group asked one) lost
+group_unread s group error.Size can asked one large = too_large s.elements.type (product (shape_at s group)) (product s.shape) (part_fewer s.shape s.subchunk (number_at group) can.cuts) large
+group_unread s group error.Source can asked one h = tt
+group_unread s group error.Memory can asked one h = tt
+group_unread s group e can asked one h = absurd h
 
 -- what may be asked of a shard that fits
 pub askable : (s : AskedShard) (index : Chain) (location : Location) → fits (sharded s.subchunk s.inner index location) s.elements.type s.shape ≡ true → length s.pairs ≡ length (parts_of s.shape s.subchunk) → list_all (λ n. nat_lt n (product s.shape)) s.numbers ≡ true → IsAskable s
 askable s index location fit many below = record {
   cuts = (fitted s.subchunk s.inner index location s.elements s.shape fit).cuts;
-  even = divides_fit s.subchunk s.inner index location s.elements.type s.shape fit;
   many = many;
   below = below;
 }

@@ -20,7 +20,7 @@ use Rattle.zarr_codecs_arrays.specs.declared.error.CodecError.{CodecError}
 use Rattle.zarr_codecs_arrays.specs.declared.error.CodecError.TheVariants as error
 use Rattle.zarr_sharding_changes.specs.Changes.{Change}
 use Rattle.zarr_sharding_places.specs.Groups.{IsGroup, no_place, places_in}
-use Rattle.zarr_sharding_places.specs.Locating.{asked_place, asked_places, inside_of, subchunk_of}
+use Rattle.zarr_sharding_places.specs.Locating.{asked_place, asked_places, inside_of, part_shape, subchunk_of}
 use Rattle.zarr_sharding_places.specs.Pieces.{piece_decoded}
 use Rattle.zarr_sharding_places.specs.declared.locating.AskedPlace.{AskedPlace}
 use Rattle.zarr_sharding_state.specs.Views.{is_below}
@@ -205,24 +205,24 @@ module _ (s : AskedShard) (exact : Bool) (cells : List Cell) (places rest group 
   put_is : (before : List Cell) → group_put s.elements.fill group cells before ≡ cells_put (put_as s cells) (number_of group) before
   put_is before = ap (λ ns. put ns (gather s.elements.fill cells (positions group)) before) insides_are ∙ ap (λ (cs : List Cell). put (numbers_in s.shape s.subchunk (number_of group) s.numbers) cs before) given_are
 
-  pub group_updated : (change : Change) → IsGroupUpdated (stored_as s exact) s.subchunk (number_of group) group cells change → IsUpdated (stored_as s exact) (put_as s cells) change
+  pub group_updated : (change : Change) → IsGroupUpdated (stored_as s exact) (part_shape s.shape s.subchunk (number_of group)) (number_of group) group cells change → IsUpdated (stored_as s exact) (put_as s cells) change
   group_updated change is =
       let low = number_below in
       let number = is.number in
       let place = ap (λ (p : AskedPlace). p.subchunk) first_asked.is in
-      let same = put_is is.before ∙ ap (λ k. cells_put (put_as s cells) k is.before) (sym number) in
+      let here = subst (λ (cs : List Cell). IsPieceStored s.inner exact s.elements (part_shape s.shape s.subchunk (number_of group), cs) change.1) (put_is is.before) is.slice in
       record {
         below = omega (arith, low, number);
         met = record { at_ = (get_or group 0 no_place).position; below = first_asked.below; is = sym place ∙ sym number };
         before = is.before;
-        held = ap (λ k. piece_decoded s.inner s.elements s.value s.subchunk (get_or s.pairs k absent_pair)) number ∙ is.held;
-        slice = subst (λ (cs : List Cell). IsPieceStored s.inner exact s.elements (s.subchunk, cs) change.1) same is.slice;
+        held = ap (λ k. piece_decoded s.inner s.elements s.value (part_shape s.shape s.subchunk k) (get_or s.pairs k absent_pair)) number ∙ is.held;
+        slice = subst (λ (k : ℕ). IsPieceStored s.inner exact s.elements (part_shape s.shape s.subchunk k, cells_put (put_as s cells) k is.before) change.1) (sym number) here;
       }
 
   group_met : IsMet (put_as s cells) (number_of group)
   group_met = record { at_ = (get_or group 0 no_place).position; below = first_asked.below; is = sym (ap (λ (p : AskedPlace). p.subchunk) first_asked.is) }
 
-  pub group_unwritten : (e : CodecError) → UpdatesGroup (stored_as s exact) s.subchunk (number_of group) group cells (Err e) → UpdatesSlices (stored_as s exact) (put_as s cells) (Err e)
+  pub group_unwritten : (e : CodecError) → UpdatesGroup (stored_as s exact) (part_shape s.shape s.subchunk (number_of group)) (number_of group) group cells (Err e) → UpdatesSlices (stored_as s exact) (put_as s cells) (Err e)
   group_unwritten error.Damage why = record { number = number_of group; below = number_below; met = group_met; lost = why }
   group_unwritten error.Codec why = record {
     number = number_of group;
@@ -231,9 +231,9 @@ module _ (s : AskedShard) (exact : Bool) (cells : List Cell) (places rest group 
     before = why.before;
     held = why.held;
     some = subst (λ (cs : List Cell). is_fill s.elements.fill cs ≡ false) (put_is why.before) why.some;
-    is = subst (CodecRefuses s.inner s.elements s.subchunk) (put_is why.before) why.is;
+    is = subst (CodecRefuses s.inner s.elements (part_shape s.shape s.subchunk (number_of group))) (put_is why.before) why.is;
   }
-  group_unwritten error.Size (inl large) = let low = number_below in inl (large, omega (arith, low))
+  group_unwritten error.Size (inl large) = inl (record { number = number_of group; below = number_below; met = group_met; is = large })
   group_unwritten error.Size (inr why) =
       inr (record {
         number = number_of group;
@@ -242,7 +242,7 @@ module _ (s : AskedShard) (exact : Bool) (cells : List Cell) (places rest group 
         before = why.before;
         held = why.held;
         some = subst (λ (cs : List Cell). is_fill s.elements.fill cs ≡ false) (put_is why.before) why.some;
-        is = subst (PassesIndex s.inner s.elements s.subchunk) (put_is why.before) why.is;
+        is = subst (PassesIndex s.inner s.elements (part_shape s.shape s.subchunk (number_of group))) (put_is why.before) why.is;
       })
   group_unwritten error.Memory why = tt
   group_unwritten error.Source why = tt
@@ -277,7 +277,7 @@ number_last : (changes : List Change) (change : Change) → number_at (changes +
 number_last changes change = ap (λ (c : Change). c.0) (get_or-append-add changes (change ∷ []) 0 (0, None))
 
 pub updated_more : (s : AskedShard) (exact : Bool) (cells : List Cell) (places rest group others : List AskedPlace) (changes : List Change) (change : Change) → IsWriting s cells places → IsFront places rest group others → UpdatedSoFar s exact cells places rest changes
-    → IsGroupUpdated (stored_as s exact) s.subchunk (number_of group) group cells change → UpdatedSoFar s exact cells places others (changes ++ change ∷ [])
+    → IsGroupUpdated (stored_as s exact) (part_shape s.shape s.subchunk (number_of group)) (number_of group) group cells change → UpdatedSoFar s exact cells places others (changes ++ change ∷ [])
 updated_more s exact cells places rest group others changes change writing front so_far is = record {
   done = so_far.done ++ group;
   split = append_assoc so_far.done group others ∙ (ap (λ ps. so_far.done ++ ps) front.all ∙ so_far.split);

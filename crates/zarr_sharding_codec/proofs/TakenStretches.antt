@@ -14,7 +14,7 @@ use Rattle.zarr_codecs_meaning.specs.Types.{Cell}
 use Rattle.zarr_codecs_meaning.proofs.Covers.{zeros}
 use Rattle.zarr_codecs_regions.proofs.Extracts.{array_laid, bytes_of_place, element_bytes, elements_are, gathered_box, place_width}
 use Rattle.zarr_codecs_traits.specs.Indexers.{shape_has, numbers_of}
-use Rattle.zarr_sharding_codec.proofs.EvenParts.{zeros_are}
+use Rattle.zarr_sharding_codec.proofs.NumberedParts.{zeros_are}
 
 -- an array is put over bytes of a box that are as many as its elements take
 pub record IsTaken (width : ℕ) (bytes shape : List ℕ) (region : Region) (start ss es before after : List ℕ) : Type 0 where

@@ -10,8 +10,8 @@ use Rattle.zarr_codecs_traits.specs.Indexers.{numbers_of, shape_has}
 use Rattle.zarr_sharding_codec.specs.BoxReading.{LieInside}
 use Rattle.zarr_sharding_codec.specs.PartWriting.{AreSubchunk}
 use Rattle.zarr_sharding_codec.proofs.BoxInSubchunk.{number_at, numbers_many}
+use Rattle.zarr_sharding_codec.proofs.NumberedParts.{part_some}
 use Rattle.zarr_sharding_codec.proofs.GroupsRead.{AskedShard, IsAskable}
-use Rattle.zarr_sharding_codec.proofs.WholeRead.{some_places}
 use Rattle.zarr_sharding_codec.proofs.WholeSubchunk.{located, whole_count}
 
 -- a box that ends no further than its lengths begins at the origin
@@ -43,19 +43,18 @@ whole_numbers shape region some same inside is =
     ∙ sym (fill_by_all (λ t. t) (place_numbers shape) (product shape) 0 long (λ t low. get_or-range_with_len 0 (product shape) t 0 low ∙ omega arith))
 
 -- the places of a box that is a subchunk lie in it, each where it stands
-pub whole_lies : (s : AskedShard) (k : ℕ) → IsAskable s → AreSubchunk s.shape s.subchunk s.numbers k → LieInside s.shape s.subchunk s.numbers (place_numbers s.subchunk) k
-whole_lies s k can whole =
-    let count = whole_count s k can whole in
-    let long = length-range_with_len 0 (product s.subchunk) in
+pub whole_lies : (s : AskedShard) (edges : List ℕ) (k : ℕ) → IsAskable s → AreSubchunk s.shape s.subchunk s.numbers k → product edges ≡ length s.numbers → LieInside s.shape s.subchunk s.numbers (place_numbers edges) k
+whole_lies s edges k can whole count =
+    let long = length-range_with_len 0 (product edges) in
     record {
       below = whole.below;
       many = omega (arith, count, long);
       part = λ t low. (located s k can whole t low).0;
-      place = λ t low. (located s k can whole t low).1 ∙ sym (get_or-range_with_len 0 (product s.subchunk) t 0 (omega (arith, low, count)) ∙ omega arith);
+      place = λ t low. (located s k can whole t low).1 ∙ sym (get_or-range_with_len 0 (product edges) t 0 (omega (arith, low, count)) ∙ omega arith);
     }
 
 pub whole_some : (s : AskedShard) (k : ℕ) → IsAskable s → AreSubchunk s.shape s.subchunk s.numbers k → 0 < length s.numbers
 whole_some s k can whole =
     let count = whole_count s k can whole in
-    let one = some_places s.shape s.subchunk can.cuts in
+    let one = part_some s.shape s.subchunk k can.cuts whole.below in
     omega (arith, count, one)

@@ -2,15 +2,14 @@
 use Rattle.std.proofs.Common.{◌≡◌, ◌∙◌, ◌⊎◌, inl, inr, ℕ, zero, suc, ◌+◌, ◌-◌, ◌*◌, ◌<◌, ◌≤◌, List, [], ◌∷◌, length, map, get_or, slice_get, replicate, ap, sym, refl, arith, Option, Some, None, option_and_then, option_map, Bool, true, false, ◌&&◌, if◌then◌else◌, Result, Ok, Err}
 use Rattle.std.specs.Prelude.{nat_lt, nat_le}
 use Rattle.std.specs.List.{list_all, range_with_len}
-use Rattle.std.proofs.Math.Nat.{mul-le-mul}
-use Rattle.std.proofs.lemmas.Bool.{and_parts, lt-ltb, ltb-true}
+use Rattle.std.proofs.lemmas.Bool.{and_parts, lt-ltb}
 use Rattle.std.proofs.lemmas.List.FromFn.{fill_by_all, get_or-range_with_len, length-range_with_len}
 use Rattle.zarr_grids_boxes.specs.Boxes.{product}
 use Rattle.zarr_codecs_meaning.specs.Chains.{Chain, Location}
 use Rattle.zarr_codecs_meaning.specs.Chains.Chain.{bytes, packbits, vlen, optional, after_array_codec, then_bytes, sharded}
 use Rattle.zarr_codecs_meaning.specs.Decoding.{all_there, cell_at, cell_of_part, decoded, element_at, index_bytes, is_absent, is_whole, opens, pairs_in, pairs_of_cells, pieces_decoded, slice_at}
 use Rattle.zarr_codecs_meaning.specs.Encoding.{Pair, absent_pair, index_size}
-use Rattle.zarr_codecs_meaning.specs.Fits.{array_codec_fits, can_cut, divides, fits}
+use Rattle.zarr_codecs_meaning.specs.Fits.{array_codec_fits, can_cut, fits}
 use Rattle.zarr_codecs_meaning.specs.Keeping.{arranged}
 use Rattle.zarr_codecs_meaning.specs.Places.{Part, encoded_shape, gather, index_shape, parts_of, place_numbers, source_places, undone_places}
 use Rattle.zarr_codecs_meaning.specs.Types.{Cell, Elements, uint64, zero_filled}
@@ -21,22 +20,19 @@ use Rattle.zarr_codecs_meaning.proofs.Fitting.{fitted}
 use Rattle.zarr_codecs_meaning.proofs.Lists.{if_some, map_some}
 use Rattle.zarr_codecs_meaning.proofs.Once.{array_codec_once, covering_long}
 use Rattle.zarr_codecs_meaning.proofs.PartReading.{part_read}
-use Rattle.zarr_codecs_meaning.proofs.Parts.{index_product, no_part, part_counts}
+use Rattle.zarr_codecs_meaning.proofs.Parts.{index_product, no_part}
 use Rattle.zarr_codecs_meaning.proofs.PartsOnce.{number_in}
-use Rattle.zarr_codecs_meaning.proofs.Positions.{each_at}
 use Rattle.zarr_codecs_arrays.specs.declared.array_bytes.ArrayBytes.{ArrayBytes}
 use Rattle.zarr_codecs_arrays.specs.declared.error.CodecError.{CodecError}
 use Rattle.zarr_codecs_arrays.specs.declared.error.CodecError.TheVariants as error
 use Rattle.zarr_codecs_traits.specs.Outcomes.{Decodes}
-use Rattle.zarr_sharding_places.specs.Locating.{inside_of, subchunk_of}
+use Rattle.zarr_sharding_places.specs.Locating.{inside_of, part_shape, subchunk_of}
 use Rattle.zarr_sharding_places.proofs.PartPlaces.{IsPlace, place_below, places_apart}
 use Rattle.zarr_sharding_codec.specs.Reading.{Lists, place_decoded, slice_cells}
 use Rattle.zarr_sharding_codec.proofs.AllThere.{lost_one, one_lost}
-use Rattle.zarr_sharding_codec.proofs.EvenParts.{whole_parts}
+use Rattle.zarr_sharding_codec.proofs.NumberedParts.{part_count, part_fits, part_is, part_some}
 use Rattle.zarr_sharding_codec.proofs.LocatedParts.{located_place}
 use Rattle.zarr_sharding_codec.proofs.PlaceCells.{shard_place}
-use Rattle.zarr_sharding_codec.proofs.StoredLoop.{inner_fit}
-use Rattle.zarr_sharding_codec.proofs.ShardSizes.{divides_fit}
 
 -- one of so many places has no cell
 abbrev pub Loses : ℕ → (ℕ → Option Cell) → Type 0
@@ -62,16 +58,6 @@ element_lost true read count all are some h =
 element_lost false read count all are some h = (0, some, refl)
 
 -- ---- shards
-
--- a subchunk shape has a place
-pub some_places : (shape subchunk : List ℕ) → can_cut shape subchunk ≡ true → 1 ≤ product subchunk
-some_places [] [] cuts = omega arith
-some_places [] (p ∷ ps) cuts = cc
-some_places (n ∷ ns) [] cuts = cc
-some_places (n ∷ ns) (p ∷ ps) cuts =
-    let both = and_parts (nat_lt 0 p) (can_cut ns ps) cuts in
-    let one : 1 ≤ p = let low = ltb-true 0 p both.0 in omega (arith, low) in
-    mul-le-mul one (some_places ns ps both.1)
 
 in_pairs : (cells : List Cell) (n : ℕ) → length cells ≡ 2 * n → length (pairs_of_cells cells) ≡ n
 in_pairs [] n is = omega (arith, is)
@@ -114,34 +100,32 @@ inside_lost : (absent : Bool) (decode : List ℕ → Option (List Cell)) (cell :
 inside_lost true decode cell fill all count slice some law h = absurd (cc)
 inside_lost false decode cell fill all count slice some law h = lost_behind slice decode cell count some (λ s is lost. law s lost) h
 
-shard_lost : (inner : Chain) (elements : Elements) (shape subchunk value : List ℕ) (ps : List Pair) → can_cut shape subchunk ≡ true → divides shape subchunk ≡ true → length ps ≡ length (parts_of shape subchunk)
-    → ((slice : List ℕ) → decoded inner elements subchunk slice ≡ None → Loses (product subchunk) (cell_at inner elements subchunk slice)) → pieces_decoded (decoded inner elements) elements.fill value (parts_of shape subchunk) ps ≡ None
-    → Loses (product shape) (λ n. cell_of_part (cell_at inner elements) elements.fill value n (parts_of shape subchunk) ps)
-shard_lost inner elements shape subchunk value ps cuts even many law h =
+shard_lost : (inner : Chain) (elements : Elements) (shape subchunk value : List ℕ) (ps : List Pair) → can_cut shape subchunk ≡ true → length ps ≡ length (parts_of shape subchunk)
+    → ((k : ℕ) → k < length (parts_of shape subchunk) → (slice : List ℕ) → decoded inner elements (part_shape shape subchunk k) slice ≡ None → Loses (product (part_shape shape subchunk k)) (cell_at inner elements (part_shape shape subchunk k) slice))
+    → pieces_decoded (decoded inner elements) elements.fill value (parts_of shape subchunk) ps ≡ None → Loses (product shape) (λ n. cell_of_part (cell_at inner elements) elements.fill value n (parts_of shape subchunk) ps)
+shard_lost inner elements shape subchunk value ps cuts many law h =
     let parts = parts_of shape subchunk in
     let fill = elements.fill in
     let piece = piece_lost (decoded inner elements) fill value parts ps many h in
     let k = piece.0 in
     let pair = get_or ps k absent_pair in
-    let whole = each_at (λ (part : Part). part.shape ≡ subchunk) parts k no_part (whole_parts shape subchunk cuts even) piece.1 in
-    let count = each_at (λ (part : Part). length part.places ≡ product part.shape) parts k no_part (part_counts shape subchunk cuts) piece.1 in
-    let lost : (if is_absent pair then Some (replicate (product subchunk) fill) else option_and_then (decoded inner elements subchunk) (slice_at value pair)) ≡ None =
-    ap (λ (s : List ℕ). if is_absent pair then Some (replicate (product s) fill) else option_and_then (decoded inner elements s) (slice_at value pair)) (sym whole) ∙ piece.2 in
-    let one = some_places shape subchunk cuts in
-    let found = inside_lost (is_absent pair) (decoded inner elements subchunk) (cell_at inner elements subchunk) fill (replicate (product subchunk) fill) (product subchunk) (slice_at value pair) (omega (arith, one)) law lost in
+    let edges = part_shape shape subchunk k in
+    let count = part_count shape subchunk k no_part cuts piece.1 in
+    let lost : (if is_absent pair then Some (replicate (product edges) fill) else option_and_then (decoded inner elements edges) (slice_at value pair)) ≡ None =
+    ap (λ (s : List ℕ). if is_absent pair then Some (replicate (product s) fill) else option_and_then (decoded inner elements s) (slice_at value pair)) (sym (part_is shape subchunk k no_part piece.1)) ∙ piece.2 in
+    let found = inside_lost (is_absent pair) (decoded inner elements edges) (cell_at inner elements edges) fill (replicate (product edges) fill) (product edges) (slice_at value pair) (part_some shape subchunk k cuts piece.1) (law k piece.1) lost in
     let i = found.0 in
     let low = found.1 in
-    let size = ap product whole in
-    let place : IsPlace parts k i = record { part = piece.1; place = omega (arith, low, count, size) } in
+    let place : IsPlace parts k i = record { part = piece.1; place = omega (arith, low, count) } in
     let n = number_in parts k i in
     let below = place_below shape subchunk k i cuts place in
-    let located = located_place shape subchunk n cuts even below in
+    let located = located_place shape subchunk n cuts below in
     let same = places_apart shape subchunk (subchunk_of shape subchunk n) (inside_of shape subchunk n) k i cuts (record { part = located.part; place = located.place }) place located.here in (
       n,
       below,
-      shard_place inner elements shape subchunk value ps n cuts even many below
-          ∙ (ap (λ j. place_decoded inner elements value subchunk (get_or ps j absent_pair) (inside_of shape subchunk n)) same.0
-          ∙ (ap (place_decoded inner elements value subchunk pair) same.1 ∙ found.2)),
+      shard_place inner elements shape subchunk value ps n cuts many below
+          ∙ (ap (λ j. place_decoded inner elements value (part_shape shape subchunk j) (get_or ps j absent_pair) (inside_of shape subchunk n)) same.0
+          ∙ (ap (place_decoded inner elements value edges pair) same.1 ∙ found.2)),
     )
 
 -- ---- chains
@@ -172,12 +156,10 @@ undecoded_loses (sharded subchunk inner index location) elements shape value fit
     let arrange = λ (pieces : List (List Cell)). map (arranged fill parts pieces) (place_numbers shape) in
     let pieces = λ (ps : List Pair). pieces_decoded (decoded inner elements) fill value parts ps in
     let f = fitted subchunk inner index location elements shape fit in
-    let even = divides_fit subchunk inner index location elements.type shape fit in
-    let inner_fits = inner_fit subchunk inner index location elements shape fit in
-    let one = some_places shape subchunk f.cuts in
     lost_behind (pairs_in (decoded index (zero_filled uint64) pairs_shape) location (index_size index pairs_shape) value) (λ ps. option_map arrange (pieces ps)) (λ ps n. cell_of_part (cell_at inner elements) fill value n parts ps) (product shape) some
     (λ ps is lost.
-    shard_lost inner elements shape subchunk value ps f.cuts even (pairs_many index location shape subchunk value ps is) (λ slice gone. undecoded_loses inner elements subchunk slice inner_fits (omega (arith, one)) gone) (unmapped arrange (pieces ps) lost)) h
+    shard_lost inner elements shape subchunk value ps f.cuts (pairs_many index location shape subchunk value ps is)
+    (λ k below slice gone. undecoded_loses inner elements (part_shape shape subchunk k) slice (part_fits subchunk inner index location elements shape k fit below) (part_some shape subchunk k f.cuts below) gone) (unmapped arrange (pieces ps) lost)) h
 
 all_low : (a n bound : ℕ) → a + n ≤ bound → list_all (λ m. nat_lt m bound) (range_with_len a n) ≡ true
 all_low a zero bound h = refl

@@ -9,27 +9,26 @@ use Rattle.std.proofs.lemmas.List.FromFn.{get_or-map-range_with_len, length-map-
 use Rattle.std.proofs.lemmas.List.Sorted.{IsPermutation-refl}
 use Rattle.zarr_grids_boxes.specs.Boxes.{product}
 use Rattle.zarr_codecs_meaning.specs.Encoding.{absent_pair}
-use Rattle.zarr_codecs_meaning.specs.Places.{Part, gather, parts_of}
+use Rattle.zarr_codecs_meaning.specs.Places.{gather}
 use Rattle.zarr_codecs_meaning.specs.Types.{Cell}
 use Rattle.zarr_codecs_meaning.proofs.Lists.{each_passes}
-use Rattle.zarr_codecs_meaning.proofs.Parts.{no_part, part_counts}
+use Rattle.zarr_codecs_meaning.proofs.Parts.{no_part}
 use Rattle.zarr_codecs_meaning.proofs.Positions.{each_at}
 use Rattle.zarr_codecs_traits.specs.Indexers.{put}
 use Rattle.zarr_codecs_arrays.specs.declared.error.CodecError.{CodecError}
 use Rattle.zarr_sharding_changes.specs.Changes.{Change}
 use Rattle.zarr_sharding_places.specs.Groups.{no_place}
-use Rattle.zarr_sharding_places.specs.Locating.{asked_place, asked_places, inside_of, subchunk_of}
+use Rattle.zarr_sharding_places.specs.Locating.{asked_place, asked_places, inside_of, part_shape, subchunk_of}
 use Rattle.zarr_sharding_places.specs.declared.locating.AskedPlace.{AskedPlace}
 use Rattle.zarr_sharding_places.proofs.PartPlaces.{places_apart}
 use Rattle.zarr_sharding_state.specs.States.{slice_length}
 use Rattle.zarr_sharding_codec.specs.BytesMet.{bytes_met}
 use Rattle.zarr_sharding_codec.specs.PartWriting.{AreChanged, IsGroupUpdated, AreSubchunk, PutsAll, UpdatesGroup, UpdatesSlices, insides, positions}
-use Rattle.zarr_sharding_codec.proofs.EvenParts.{whole_parts}
+use Rattle.zarr_sharding_codec.proofs.NumberedParts.{part_count, part_some}
 use Rattle.zarr_sharding_codec.proofs.GivenSoFar.{given_refused, none_given}
 use Rattle.zarr_sharding_codec.proofs.GroupsRead.{AskedShard, IsAskable}
 use Rattle.zarr_sharding_codec.proofs.LocatedParts.{located_place}
 use Rattle.zarr_sharding_codec.proofs.SoFarWritten.{IsFront, IsWriting, front_asked, group_unwritten, nothing_cut, nothing_updated, number_of, put_as, stored_as, updated_all, updated_more}
-use Rattle.zarr_sharding_codec.proofs.WholeRead.{some_places}
 
 -- ---- lists
 
@@ -73,19 +72,14 @@ module _ (s : AskedShard) (k : ℕ) (can : IsAskable s) (whole : AreSubchunk s.s
   abbrev f : ℕ → AskedPlace
   f t = asked_place s.shape s.subchunk s.numbers t
 
-  pub whole_count : length s.numbers ≡ product s.subchunk
-  whole_count =
-      let parts = parts_of s.shape s.subchunk in
-      let is = ap (λ (ns : List ℕ). length ns) (whole.is no_part) in
-      let count = each_at (λ (part : Part). length part.places ≡ product part.shape) parts k no_part (part_counts s.shape s.subchunk can.cuts) whole.below in
-      let size = each_at (λ (part : Part). part.shape ≡ s.subchunk) parts k no_part (whole_parts s.shape s.subchunk can.cuts can.even) whole.below in
-      sym is ∙ (count ∙ ap product size)
+  pub whole_count : length s.numbers ≡ product (part_shape s.shape s.subchunk k)
+  whole_count = sym (ap (λ (ns : List ℕ). length ns) (whole.is no_part)) ∙ part_count s.shape s.subchunk k no_part can.cuts whole.below
 
   pub located : (t : ℕ) → t < length s.numbers → (subchunk_of s.shape s.subchunk (get_or s.numbers t 0) ≡ k) × (inside_of s.shape s.subchunk (get_or s.numbers t 0) ≡ t)
   located t low =
       let n = get_or s.numbers t 0 in
       let below = ltb-true n (product s.shape) (each_at (λ m. nat_lt m (product s.shape) ≡ true) s.numbers t 0 (each_passes (λ m. nat_lt m (product s.shape)) s.numbers can.below) low) in
-      let found = located_place s.shape s.subchunk n can.cuts can.even below in
+      let found = located_place s.shape s.subchunk n can.cuts below in
       let is = whole.is no_part in
       let long = ap (λ (ns : List ℕ). length ns) is in
       places_apart s.shape s.subchunk (subchunk_of s.shape s.subchunk n) (inside_of s.shape s.subchunk n) k t can.cuts (record { part = found.part; place = found.place }) (record { part = whole.below; place = omega (arith, low, long) })
@@ -101,7 +95,7 @@ module _ (s : AskedShard) (k : ℕ) (can : IsAskable s) (whole : AreSubchunk s.s
   subchunk_is i d low = ap (λ (p : AskedPlace). p.subchunk) (place_is i d low) ∙ (located i low).0
 
   some : 0 < length s.numbers
-  some = let count = whole_count in let one = some_places s.shape s.subchunk can.cuts in omega (arith, count, one)
+  some = let count = whole_count in let one = part_some s.shape s.subchunk k can.cuts whole.below in omega (arith, count, one)
 
   pub whole_first : number_of (asked_of_shard s) ≡ k
   whole_first = subchunk_is 0 no_place some
@@ -140,7 +134,7 @@ module _ (s : AskedShard) (k : ℕ) (can : IsAskable s) (whole : AreSubchunk s.s
     writing = record { can = can; many = many; moved = IsPermutation-refl (asked_of_shard s); stable = λ j. refl }
 
     -- what is put at all of its places is there afterwards
-    pub whole_puts : PutsAll s.subchunk s.elements.fill (asked_of_shard s) cells
+    pub whole_puts : PutsAll (part_shape s.shape s.subchunk k) s.elements.fill (asked_of_shard s) cells
     whole_puts before same =
         let count = whole_count in
         let numbers = ap (λ n. range_with_len 0 n) (sym many) in
@@ -150,13 +144,13 @@ module _ (s : AskedShard) (k : ℕ) (can : IsAskable s) (whole : AreSubchunk s.s
         ∙ (ap (λ ns. put (range_with_len 0 (length cells)) (gather s.elements.fill cells ns) before) two
         ∙ (ap (λ cs. put (range_with_len 0 (length cells)) cs before) (gathered_from s.elements.fill cells [] 0 refl) ∙ put_from cells before [] 0 refl (omega (arith, same, count, many))))
 
-    pub whole_updated : (change : Change) → IsGroupUpdated (stored_as s exact) s.subchunk k (asked_of_shard s) cells change → AreChanged (stored_as s exact) (put_as s cells) (change ∷ [])
+    pub whole_updated : (change : Change) → IsGroupUpdated (stored_as s exact) (part_shape s.shape s.subchunk k) k (asked_of_shard s) cells change → AreChanged (stored_as s exact) (put_as s cells) (change ∷ [])
     whole_updated change is =
         let ps = asked_of_shard s in
         updated_all s exact cells ps [] (change ∷ []) writing
-        (updated_more s exact cells ps ps ps [] [] change writing front (nothing_updated s exact cells ps) (subst (λ n. IsGroupUpdated (stored_as s exact) s.subchunk n ps cells change) (sym whole_first) is)) (omega arith)
+        (updated_more s exact cells ps ps ps [] [] change writing front (nothing_updated s exact cells ps) (subst (λ n. IsGroupUpdated (stored_as s exact) (part_shape s.shape s.subchunk n) n ps cells change) (sym whole_first) is)) (omega arith)
 
-    pub whole_unwritten : (e : CodecError) → UpdatesGroup (stored_as s exact) s.subchunk k (asked_of_shard s) cells (Err e) → UpdatesSlices (stored_as s exact) (put_as s cells) (Err e)
+    pub whole_unwritten : (e : CodecError) → UpdatesGroup (stored_as s exact) (part_shape s.shape s.subchunk k) k (asked_of_shard s) cells (Err e) → UpdatesSlices (stored_as s exact) (put_as s cells) (Err e)
     whole_unwritten e why =
         let ps = asked_of_shard s in
-        group_unwritten s exact cells ps ps ps [] writing front e (subst (λ n. UpdatesGroup (stored_as s exact) s.subchunk n ps cells (Err e)) (sym whole_first) why)
+        group_unwritten s exact cells ps ps ps [] writing front e (subst (λ n. UpdatesGroup (stored_as s exact) (part_shape s.shape s.subchunk n) n ps cells (Err e)) (sym whole_first) why)

@@ -6,7 +6,7 @@ use Rattle.zarr_grids_boxes.specs.Boxes.{Region, product}
 use Rattle.zarr_grids_boxes.specs.Subsets.{region_of}
 use Rattle.zarr_sharding_codec.specs.declared.box_reading.BoxCut.{BoxCut}
 use Rattle.zarr_sharding_codec.specs.declared.box_reading.BoxInside.{BoxInside}
-use Rattle.zarr_sharding_places.specs.Locating.{inside_of, subchunk_of}
+use Rattle.zarr_sharding_places.specs.Locating.{inside_of, part_shape, subchunk_of}
 
 -- the places with these numbers all lie in one subchunk, and there have those numbers
 pub record LieInside (shape subchunk numbers insides : List ℕ) (k : ℕ) : Type 0 where
@@ -17,9 +17,10 @@ pub record LieInside (shape subchunk numbers insides : List ℕ) (k : ℕ) : Typ
 
 -- a box with places, which are these, is a box of one subchunk
 pub record IsBoxInside (shape subchunk numbers : List ℕ) (found : BoxInside) : Type 0 where
-  pub inside : shape_has subchunk (region_of found.region) ≡ true
+  pub edges : found.shape.items ≡ part_shape shape subchunk found.number
+  pub inside : shape_has found.shape.items (region_of found.region) ≡ true
   pub some : 0 < product (region_of found.region).shape
-  pub lie : LieInside shape subchunk numbers (numbers_of subchunk (region_of found.region)) found.number
+  pub lie : LieInside shape subchunk numbers (numbers_of found.shape.items (region_of found.region)) found.number
 
 -- one of several numbers is this one
 pub record HasNumber (ns : List ℕ) (n : ℕ) : Type 0 where
@@ -44,6 +45,7 @@ pub record StandIn (shape subchunk numbers positions insides : List ℕ) (k : �
 -- what of a box lies in the subchunk with this number: a box with places, as it stands there, and as it stands in the whole one
 pub record IsCutOut (shape subchunk : List ℕ) (region : Region) (k : ℕ) (cut : BoxCut) : Type 0 where
   pub number : cut.inside.number ≡ k
-  pub inside : shape_has subchunk (region_of cut.inside.region) ≡ true
+  pub edges : cut.inside.shape.items ≡ part_shape shape subchunk k
+  pub inside : shape_has cut.inside.shape.items (region_of cut.inside.region) ≡ true
   pub some : 0 < product (region_of cut.inside.region).shape
-  pub stand : StandIn shape subchunk (numbers_of shape region) (numbers_of region.shape (region_of cut.target)) (numbers_of subchunk (region_of cut.inside.region)) k
+  pub stand : StandIn shape subchunk (numbers_of shape region) (numbers_of region.shape (region_of cut.target)) (numbers_of cut.inside.shape.items (region_of cut.inside.region)) k

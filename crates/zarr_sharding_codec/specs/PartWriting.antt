@@ -12,7 +12,7 @@ use Rattle.zarr_codecs_arrays.specs.declared.error.CodecError.TheVariants as err
 use Rattle.zarr_codecs_traits.specs.Indexers.{put}
 use Rattle.zarr_sharding_changes.specs.Changes.{Change}
 use Rattle.zarr_sharding_codec.specs.Slices.{IsPieceStored}
-use Rattle.zarr_sharding_places.specs.Locating.{inside_of, subchunk_of}
+use Rattle.zarr_sharding_places.specs.Locating.{inside_of, part_shape, subchunk_of}
 use Rattle.zarr_sharding_places.specs.Pieces.{piece_decoded}
 use Rattle.zarr_sharding_places.specs.declared.locating.AskedPlace.{AskedPlace}
 use Rattle.zarr_sharding_state.specs.Held.{are_absent, shard_length}
@@ -74,7 +74,11 @@ IsOf location size (Some value) pairs end = length value ≡ shard_length locati
 
 -- the cells of a subchunk of this shape: the fill value where it is absent, else what its slice is decoded to
 abbrev pub cells_held : Stored → List ℕ → ℕ → Option (List Cell)
-cells_held stored subchunk k = piece_decoded stored.inner stored.elements stored.value subchunk (get_or stored.pairs k absent_pair)
+cells_held stored shape k = piece_decoded stored.inner stored.elements stored.value shape (get_or stored.pairs k absent_pair)
+
+-- the shape of the subchunk with this number, of the array that new cells are put in
+abbrev pub shape_in : Put → ℕ → List ℕ
+shape_in new k = part_shape new.shape new.subchunk k
 
 -- ---- what is written
 
@@ -83,8 +87,8 @@ pub record IsUpdated (stored : Stored) (new : Put) (change : Change) : Type 0 wh
   pub below : change.0 < length stored.pairs
   pub met : IsMet new change.0
   pub before : List Cell
-  pub held : cells_held stored new.subchunk change.0 ≡ Some before
-  pub slice : IsPieceStored stored.inner stored.exact stored.elements (new.subchunk, cells_put new change.0 before) change.1
+  pub held : cells_held stored (shape_in new change.0) change.0 ≡ Some before
+  pub slice : IsPieceStored stored.inner stored.exact stored.elements (shape_in new change.0, cells_put new change.0 before) change.1
 
 -- each of several changes
 abbrev pub AreUpdated : Stored → Put → List Change → Type 0
@@ -112,23 +116,30 @@ pub record IsRefusedAt (refuses : Chain → Elements → List ℕ → List Cell 
   pub below : number < length stored.pairs
   pub met : IsMet new number
   pub before : List Cell
-  pub held : cells_held stored new.subchunk number ≡ Some before
+  pub held : cells_held stored (shape_in new number) number ≡ Some before
   pub some : is_fill stored.elements.fill (cells_put new number before) ≡ false
-  pub is : refuses stored.inner stored.elements new.subchunk (cells_put new number before)
+  pub is : refuses stored.inner stored.elements (shape_in new number) (cells_put new number before)
 
 -- a subchunk that one of the places lies in is damaged
 pub record IsLostAt (stored : Stored) (new : Put) : Type 0 where
   pub number : ℕ
   pub below : number < length stored.pairs
   pub met : IsMet new number
-  pub lost : cells_held stored new.subchunk number ≡ None
+  pub lost : cells_held stored (shape_in new number) number ≡ None
+
+-- a subchunk that one of the places lies in has too many places
+pub record IsTooLargeAt (stored : Stored) (new : Put) : Type 0 where
+  pub number : ℕ
+  pub below : number < length stored.pairs
+  pub met : IsMet new number
+  pub is : IsTooLarge stored.elements.type (product (shape_in new number))
 
 -- the changes of the subchunks that the places lie in, or why there are none
 abbrev pub UpdatesSlices : Stored → Put → Result (Vec SliceChange Global) CodecError → Type 0
 UpdatesSlices stored new (Ok changes) = AreChanged stored new (changes_of changes.items)
 UpdatesSlices stored new (Err error.Damage) = IsLostAt stored new
 UpdatesSlices stored new (Err error.Codec) = IsRefusedAt CodecRefuses stored new
-UpdatesSlices stored new (Err error.Size) = (IsTooLarge stored.elements.type (product new.subchunk) × (0 < length stored.pairs)) ⊎ IsRefusedAt PassesIndex stored new
+UpdatesSlices stored new (Err error.Size) = IsTooLargeAt stored new ⊎ IsRefusedAt PassesIndex stored new
 UpdatesSlices stored new (Err error.Source) = Unit {0}
 UpdatesSlices stored new (Err error.Memory) = Unit {0}
 UpdatesSlices stored new (Err e) = ⊥
@@ -147,35 +158,35 @@ positions group = map (λ (place : AskedPlace). place.position) group
 abbrev pub group_put : Cell → List AskedPlace → List Cell → List Cell → List Cell
 group_put fill group given before = put (insides group) (gather fill given (positions group)) before
 
--- what is put at these places of a subchunk is all that is there afterwards
+-- what is put at these places of a subchunk of this shape is all that is there afterwards
 abbrev pub PutsAll : List ℕ → Cell → List AskedPlace → List Cell → Type 0
-PutsAll subchunk fill group given = (before : List Cell) → length before ≡ product subchunk → group_put fill group given before ≡ given
+PutsAll shape fill group given = (before : List Cell) → length before ≡ product shape → group_put fill group given before ≡ given
 
 -- places are all those of one subchunk, in its order: of the one with this number
 pub record AreSubchunk (shape subchunk numbers : List ℕ) (k : ℕ) : Type 0 where
   pub below : k < length (parts_of shape subchunk)
   pub is : (d : Part) → (get_or (parts_of shape subchunk) k d).places ≡ numbers
 
--- what is stored of the cells of a subchunk after the new ones were put
-pub record IsGroupUpdated (stored : Stored) (subchunk : List ℕ) (k : ℕ) (group : List AskedPlace) (given : List Cell) (change : Change) : Type 0 where
+-- what is stored of the cells of a subchunk of this shape after the new ones were put
+pub record IsGroupUpdated (stored : Stored) (shape : List ℕ) (k : ℕ) (group : List AskedPlace) (given : List Cell) (change : Change) : Type 0 where
   pub number : change.0 ≡ k
   pub before : List Cell
-  pub held : cells_held stored subchunk k ≡ Some before
-  pub slice : IsPieceStored stored.inner stored.exact stored.elements (subchunk, group_put stored.elements.fill group given before) change.1
+  pub held : cells_held stored shape k ≡ Some before
+  pub slice : IsPieceStored stored.inner stored.exact stored.elements (shape, group_put stored.elements.fill group given before) change.1
 
 -- a subchunk that isn't all fill afterwards is refused by its chain
-pub record IsGroupRefused (refuses : Chain → Elements → List ℕ → List Cell → Type 0) (stored : Stored) (subchunk : List ℕ) (k : ℕ) (group : List AskedPlace) (given : List Cell) : Type 0 where
+pub record IsGroupRefused (refuses : Chain → Elements → List ℕ → List Cell → Type 0) (stored : Stored) (shape : List ℕ) (k : ℕ) (group : List AskedPlace) (given : List Cell) : Type 0 where
   pub before : List Cell
-  pub held : cells_held stored subchunk k ≡ Some before
+  pub held : cells_held stored shape k ≡ Some before
   pub some : is_fill stored.elements.fill (group_put stored.elements.fill group given before) ≡ false
-  pub is : refuses stored.inner stored.elements subchunk (group_put stored.elements.fill group given before)
+  pub is : refuses stored.inner stored.elements shape (group_put stored.elements.fill group given before)
 
 -- the change of a subchunk, or why there is none
 abbrev pub UpdatesGroup : Stored → List ℕ → ℕ → List AskedPlace → List Cell → Result SliceChange CodecError → Type 0
-UpdatesGroup stored subchunk k group given (Ok change) = IsGroupUpdated stored subchunk k group given (change_of change)
-UpdatesGroup stored subchunk k group given (Err error.Damage) = cells_held stored subchunk k ≡ None
-UpdatesGroup stored subchunk k group given (Err error.Codec) = IsGroupRefused CodecRefuses stored subchunk k group given
-UpdatesGroup stored subchunk k group given (Err error.Size) = IsTooLarge stored.elements.type (product subchunk) ⊎ IsGroupRefused PassesIndex stored subchunk k group given
-UpdatesGroup stored subchunk k group given (Err error.Source) = Unit {0}
-UpdatesGroup stored subchunk k group given (Err error.Memory) = Unit {0}
-UpdatesGroup stored subchunk k group given (Err e) = ⊥
+UpdatesGroup stored shape k group given (Ok change) = IsGroupUpdated stored shape k group given (change_of change)
+UpdatesGroup stored shape k group given (Err error.Damage) = cells_held stored shape k ≡ None
+UpdatesGroup stored shape k group given (Err error.Codec) = IsGroupRefused CodecRefuses stored shape k group given
+UpdatesGroup stored shape k group given (Err error.Size) = IsTooLarge stored.elements.type (product shape) ⊎ IsGroupRefused PassesIndex stored shape k group given
+UpdatesGroup stored shape k group given (Err error.Source) = Unit {0}
+UpdatesGroup stored shape k group given (Err error.Memory) = Unit {0}
+UpdatesGroup stored shape k group given (Err e) = ⊥

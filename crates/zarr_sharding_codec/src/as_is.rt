@@ -2,7 +2,7 @@
 
 use crate::codec::ShardingCodec;
 use crate::subchunks::whole_width;
-use zarr_codecs_arrays::{Elements, takes_all_bytes};
+use zarr_codecs_arrays::takes_all_bytes;
 use zarr_codecs_traits::{ArrayToBytesCodecTraits, ByteRange, WholeArray};
 use zarr_sharding_index::pair::{is_absent, slice_at};
 
@@ -12,25 +12,24 @@ impl<I: ArrayToBytesCodecTraits, X: ArrayToBytesCodecTraits> ShardingCodec<I, X>
     ghost use Rattle.zarr_codecs_meaning.specs.Decoding.{decoded};
     ghost use Rattle.zarr_codecs_meaning.specs.Fits.{fits};
     ghost use Rattle.zarr_sharding_codec.specs.Reading.{AreBytes};
-    ghost use Rattle.zarr_sharding_codec.specs.Views.{inner_of, subchunk_of};
+    ghost use Rattle.zarr_sharding_codec.specs.Views.{inner_of};
     ghost use Rattle.zarr_sharding_index.specs.Views.{pair_of};
     ghost use Rattle.zarr_sharding_places.specs.Pieces.{piece_decoded};
 
     /// Whether a slice is known to be the elements of its subchunk as they stand in memory, so that
     /// nothing need be decoded: the inner codecs encode elements as they are, all bytes are values
     /// of the data type, and there are as many as the subchunk's elements have.
-    pub(crate) fn is_as_is(&self, slice: &[u8], elements: &Elements) -> bool
-        requires { fits (I.meaning (inner_of self.now)) (elements_of elements.now).type
-            (subchunk_of self.now) ≡ true }
-        ensures { result ≡ true → AreBytes (elements_of elements.now)
-            (decoded (I.meaning (inner_of self.now)) (elements_of elements.now)
-            (subchunk_of self.now) slice.now) slice.now }
+    pub(crate) fn is_as_is(&self, slice: &[u8], subchunk: WholeArray<'_>) -> bool
+        requires { fits (I.meaning (inner_of self.now)) (elements_of subchunk.elements.now).type
+            subchunk.shape.now ≡ true }
+        ensures { result ≡ true → AreBytes (elements_of subchunk.entry.elements.now)
+            (decoded (I.meaning (inner_of self.now)) (elements_of subchunk.entry.elements.now)
+            subchunk.entry.shape.now slice.now) slice.now }
     {
-        if !self.inner_codecs.encodes_as_is() || !takes_all_bytes(elements.data_type()) {
+        if !self.inner_codecs.encodes_as_is() || !takes_all_bytes(subchunk.elements.data_type()) {
             return false;
         }
-        let shape = self.subchunk_shape.as_slice();
-        let Some(_) = whole_width(slice.len(), WholeArray { elements, shape }) else {
+        let Some(_) = whole_width(slice.len(), subchunk) else {
             return false;
         };
         true
@@ -42,13 +41,14 @@ impl<I: ArrayToBytesCodecTraits, X: ArrayToBytesCodecTraits> ShardingCodec<I, X>
         &self,
         value: &'a [u8],
         pair: ByteRange,
-        elements: &Elements,
+        subchunk: WholeArray<'_>,
     ) -> Option<&'a [u8]>
-        requires { fits (I.meaning (inner_of self.now)) (elements_of elements.now).type
-            (subchunk_of self.now) ≡ true }
-        ensures { IfSome result (λ slice. AreBytes (elements_of elements.now)
-            (piece_decoded (I.meaning (inner_of self.now)) (elements_of elements.now) value.now
-            (subchunk_of self.now) (pair_of pair)) slice.now) }
+        requires { fits (I.meaning (inner_of self.now)) (elements_of subchunk.elements.now).type
+            subchunk.shape.now ≡ true }
+        ensures { IfSome result (λ slice. AreBytes (elements_of subchunk.entry.elements.now)
+            (piece_decoded (I.meaning (inner_of self.now))
+            (elements_of subchunk.entry.elements.now) value.now subchunk.entry.shape.now
+            (pair_of pair)) slice.now) }
     {
         if is_absent(pair) {
             return None;
@@ -56,7 +56,7 @@ impl<I: ArrayToBytesCodecTraits, X: ArrayToBytesCodecTraits> ShardingCodec<I, X>
         let Some(slice) = slice_at(value, pair) else {
             return None;
         };
-        if !self.is_as_is(slice, elements) {
+        if !self.is_as_is(slice, subchunk) {
             return None;
         }
         Some(slice)

@@ -1,10 +1,12 @@
 //! Boxes of an array, read from its shard.
 ghost use Rattle.std.specs.Prelude.{◌≡◌, ◌/◌, ◌%◌, ◌++◌, OnOk};
+ghost use Rattle.zarr_codecs_meaning.specs.Places.{box_of};
 ghost use Rattle.zarr_grids_boxes.specs.Boxes.{each2};
 
 use crate::codec::ShardingCodec;
 use crate::partial::{NumberedPlaces, OpenedShard, fill_elements};
-use crate::subchunks::{subchunk_number, subchunk_region};
+use crate::subchunks::{CutArray, subchunk_number, subchunk_region};
+use crate::updating::NumberedSubchunk;
 use std::alloc::{AllocError, Global};
 use zarr_codecs_arrays::{ArrayBytes, CodecError};
 use zarr_codecs_options::CodecOptions;
@@ -31,10 +33,11 @@ pub(crate) struct AskedBox<'a> {
     pub region: &'a ArraySubset,
 }
 
-/// A box of the places of a subchunk, and the subchunk's number.
+/// A box of the places of a subchunk, and the subchunk's number and shape.
 #[derive(Debug, Drop)]
 pub(crate) struct BoxInside {
     pub number: u64,
+    pub shape: Vec<u64>,
     pub region: ArraySubset,
 }
 
@@ -49,7 +52,7 @@ impl<I: ArrayToBytesCodecTraits, X: ArrayToBytesCodecTraits> ShardingCodec<I, X>
     ghost use Rattle.std.specs.Prelude.{◌≡◌, ◌<◌, ◌≤◌, ◌+◌, ◌^◌, [], true, length, get_or, unwrap_or, IsTrue, IfOk, IfSome};
     ghost use Rattle.zarr_codecs_arrays.specs.Views.{elements_of};
     ghost use Rattle.zarr_codecs_meaning.specs.Encoding.{absent_pair};
-    ghost use Rattle.zarr_codecs_meaning.specs.Fits.{can_cut, divides, fits};
+    ghost use Rattle.zarr_codecs_meaning.specs.Fits.{can_cut, fits};
     ghost use Rattle.zarr_codecs_meaning.specs.Places.{parts_of, place_numbers};
     ghost use Rattle.zarr_codecs_traits.specs.Indexers.{are_inside, asked_of, shape_has, numbers_asked, numbers_of};
     ghost use Rattle.zarr_codecs_traits.specs.Sources.{refused_after};
@@ -137,7 +140,11 @@ impl<I: ArrayToBytesCodecTraits, X: ArrayToBytesCodecTraits> ShardingCodec<I, X>
         ensures follows { D.follows source.old source.new }
     {
         if let Some(number) = self.subchunk_of_box(asked.shape, asked.region) {
-            return self.read_whole(alloc, source, shard, number, options);
+            let found = NumberedSubchunk {
+                number: number as usize,
+                shape: asked.region.shape(),
+            };
+            return self.read_whole(alloc, source, shard, found, options);
         }
         match self.subchunk_around(alloc, asked.shape, asked.region)? {
             Some(found) => self.read_inside(alloc, source, shard, &found, options),
@@ -207,17 +214,17 @@ impl<I: ArrayToBytesCodecTraits, X: ArrayToBytesCodecTraits> ShardingCodec<I, X>
         options: &CodecOptions,
     ) -> Result<ArrayBytes, CodecError>
         requires fit { fits (I.meaning (inner_of self.now)) (elements_of shard.elements.now).type
-            (subchunk_of self.now) ≡ true }
+            found.now.shape.items ≡ true }
         requires pair { found.now.number < length (pairs_of shard.index.now) }
-        requires inside { shape_has (subchunk_of self.now) (region_of found.now.region) ≡ true }
+        requires inside { shape_has found.now.shape.items (region_of found.now.region) ≡ true }
         requires some { 0 < product (region_of found.now.region).shape }
         ensures part { IsTrue (D.is_honest source.old) → IsTotalOf (D.contents source.old)
             (pairs_of shard.entry.index.now) shard.entry.total
-            → ListsRead (elements_of shard.entry.elements.now) (subchunk_of self.now)
+            → ListsRead (elements_of shard.entry.elements.now) found.now.shape.items
             (places_decoded (I.meaning (inner_of self.now)) (elements_of shard.entry.elements.now)
-            (unwrap_or (D.contents source.old) []) (subchunk_of self.now)
+            (unwrap_or (D.contents source.old) []) found.now.shape.items
             (get_or (pairs_of shard.entry.index.now) found.now.number absent_pair)
-            (numbers_of (subchunk_of self.now) (region_of found.now.region))) result }
+            (numbers_of found.now.shape.items (region_of found.now.region))) result }
         ensures refused { D.refused_calls source.new ≡
             refused_after (D.refused_calls source.old) result }
         ensures given { IsTrue (D.is_honest source.old) → D.given_bytes source.new
@@ -235,55 +242,53 @@ impl<I: ArrayToBytesCodecTraits, X: ArrayToBytesCodecTraits> ShardingCodec<I, X>
         }
         match fetch_slice(alloc, source, shard.total, pair) {
             Ok(slice) => {
-                self.read_slice(
-                    alloc,
-                    slice,
-                    Indexer::Subset(region),
-                    shard.elements,
-                    options,
-                )
+                let shape = found.shape.as_slice();
+                let indexer = Indexer::Subset(region);
+                self.read_slice(alloc, slice, indexer, shape, shard.elements, options)
             }
             Err(error) => Err(error),
         }
     }
 
     /// The elements of one subchunk of the shard that a source holds, all of them: fill values
-    /// where it is absent, else those of its slice.
-    fn read_whole<D: BytesPartialDecoderTraits>(
+    /// where it is absent, else those of its slice. There is one.
+    fn read_whole<'a, D: BytesPartialDecoderTraits>(
         &self,
         alloc: Global,
         source: &mut D,
-        shard: OpenedShard<'_>,
-        number: u64,
+        shard: OpenedShard<'a>,
+        found: NumberedSubchunk<'a>,
         options: &CodecOptions,
     ) -> Result<ArrayBytes, CodecError>
         requires fit { fits (I.meaning (inner_of self.now)) (elements_of shard.elements.now).type
-            (subchunk_of self.now) ≡ true }
-        requires pair { number < length (pairs_of shard.index.now) }
+            found.shape.now ≡ true }
+        requires pair { found.number < length (pairs_of shard.index.now) }
+        requires some { 0 < product found.shape.now }
         ensures part { IsTrue (D.is_honest source.old) → IsTotalOf (D.contents source.old)
             (pairs_of shard.entry.index.now) shard.entry.total
-            → ListsRead (elements_of shard.entry.elements.now) (subchunk_of self.now)
+            → ListsRead (elements_of shard.entry.elements.now) found.entry.shape.now
             (places_decoded (I.meaning (inner_of self.now)) (elements_of shard.entry.elements.now)
-            (unwrap_or (D.contents source.old) []) (subchunk_of self.now)
-            (get_or (pairs_of shard.entry.index.now) number absent_pair)
-            (place_numbers (subchunk_of self.now))) result }
+            (unwrap_or (D.contents source.old) []) found.entry.shape.now
+            (get_or (pairs_of shard.entry.index.now) found.entry.number absent_pair)
+            (place_numbers found.entry.shape.now)) result }
         ensures refused { D.refused_calls source.new ≡
             refused_after (D.refused_calls source.old) result }
         ensures given { IsTrue (D.is_honest source.old) → D.given_bytes source.new
-            ≤ D.given_bytes source.old
-            + slice_length (get_or (pairs_of shard.entry.index.now) number absent_pair) }
+            ≤ D.given_bytes source.old + slice_length
+            (get_or (pairs_of shard.entry.index.now) found.entry.number absent_pair) }
         ensures follows { D.follows source.old source.new }
     {
-        let edges = self.subchunk_shape.as_slice();
-        let pair = shard.index.get(number as usize);
+        let shape = found.shape;
+        let elements = shard.elements;
+        let pair = shard.index.get(found.number);
         if is_absent(pair) {
-            let Some(count) = count_places(edges) else {
+            let Some(count) = count_places(shape) else {
                 return Err(CodecError::Memory);
             };
-            return Ok(fill_elements(alloc, shard.elements, count as usize)?);
+            return Ok(fill_elements(alloc, elements, count as usize)?);
         }
         match fetch_slice(alloc, source, shard.total, pair) {
-            Ok(slice) => self.decode_slice(alloc, slice, shard.elements, options),
+            Ok(slice) => self.decode_slice(alloc, slice, WholeArray { elements, shape }, options),
             Err(error) => Err(error),
         }
     }
@@ -297,7 +302,6 @@ impl<I: ArrayToBytesCodecTraits, X: ArrayToBytesCodecTraits> ShardingCodec<I, X>
         region: &ArraySubset,
     ) -> Result<Option<BoxInside>, AllocError>
         requires cuts { can_cut shape.now (subchunk_of self.now) ≡ true }
-        requires even { divides shape.now (subchunk_of self.now) ≡ true }
         requires inside { shape_has shape.now (region_of region.now) ≡ true }
         ensures { IfOk result (λ found. IfSome found (IsBoxInside shape.now (subchunk_of self.now)
             (numbers_of shape.now (region_of region.now)))) }
@@ -311,10 +315,16 @@ impl<I: ArrayToBytesCodecTraits, X: ArrayToBytesCodecTraits> ShardingCodec<I, X>
         };
         let mut start = Vec::with_capacity(alloc, edges.len())?;
         push_remainders(region.start(), edges, &mut start)?;
+        let mut around = Vec::with_capacity(alloc, edges.len())?;
+        push_extents(region.start(), shape, edges, &mut around)?;
         let lengths = region.shape().to_vec(alloc)?;
         match ArraySubset::new_with_start_shape(start, lengths) {
-            Ok(region) => if is_inside(edges, &region) {
-                Ok(Some(BoxInside { number, region }))
+            Ok(region) => if is_inside(around.as_slice(), &region) {
+                Ok(Some(BoxInside {
+                    number,
+                    shape: around,
+                    region,
+                }))
             } else {
                 Ok(None)
             },
@@ -363,7 +373,6 @@ impl<I: ArrayToBytesCodecTraits, X: ArrayToBytesCodecTraits> ShardingCodec<I, X>
         number: u64,
     ) -> Result<BoxCut, AllocError>
         requires cuts { can_cut shape.now (subchunk_of self.now) ≡ true }
-        requires even { divides shape.now (subchunk_of self.now) ≡ true }
         requires rank { length shape.now ≡ length (subchunk_of self.now) }
         requires inside { shape_has shape.now (region_of region.now) ≡ true }
         requires below { number < length (parts_of shape.now (subchunk_of self.now)) }
@@ -371,28 +380,36 @@ impl<I: ArrayToBytesCodecTraits, X: ArrayToBytesCodecTraits> ShardingCodec<I, X>
             number) }
     {
         let edges = self.subchunk_shape.as_slice();
-        let grid = grid_of(alloc, shape, &self.subchunk_shape)?;
-        let Some(count) = count_places(grid.as_slice()) else {
+        let counted = grid_of(alloc, shape, &self.subchunk_shape)?;
+        let grid = counted.as_slice();
+        let Some(count) = count_places(grid) else {
             return Err(AllocError);
         };
-        let around = subchunk_region(alloc, edges, grid.as_slice(), count, number)?;
-        let Ok(cut) = region.overlap(alloc, &around) else {
+        let cut = CutArray {
+            shape,
+            edges,
+            grid,
+            count,
+        };
+        let around = subchunk_region(alloc, cut, number)?;
+        let Ok(both) = region.overlap(alloc, &around) else {
             return Err(AllocError);
         };
-        if cut.is_empty() || !around.contains(cut.start()) {
+        if both.is_empty() || !around.contains(both.start()) {
             return Err(AllocError);
         }
-        let Ok(inside) = cut.relative_to(alloc, around.start()) else {
+        let Ok(inside) = both.relative_to(alloc, around.start()) else {
             return Err(AllocError);
         };
-        let Ok(target) = cut.relative_to(alloc, region.start()) else {
+        let Ok(target) = both.relative_to(alloc, region.start()) else {
             return Err(AllocError);
         };
-        if !is_inside(edges, &inside) || !is_inside(region.shape(), &target) {
+        if !is_inside(around.shape(), &inside) || !is_inside(region.shape(), &target) {
             return Err(AllocError);
         }
         let inside = BoxInside {
             number,
+            shape: around.shape,
             region: inside,
         };
         Ok(BoxCut { inside, target })
@@ -433,4 +450,34 @@ fn push_remainders(start: &[u64], edges: &[u64], rests: &mut Vec<u64>) -> Result
     };
     rests.push(rest)?;
     push_remainders(places, edges, rests)
+}
+
+/// Appends how long the subchunk that a place of an array lies in is in each dimension. `Err` also
+/// where the place has no such subchunk.
+fn push_extents(
+    place: &[u64],
+    shape: &[u64],
+    edges: &[u64],
+    extents: &mut Vec<u64>,
+) -> Result<(), AllocError>
+    ensures { OnOk result (extents.new.items ≡ extents.old.items
+        ++ (box_of shape.now edges.now (each2 (λ x edge. x / edge) place.now edges.now)).shape) }
+{
+    let Some((edge, edges)) = edges.split_first() else {
+        return Ok(());
+    };
+    let Some((size, sizes)) = shape.split_first() else {
+        return Ok(());
+    };
+    let Some((along, others)) = place.split_first() else {
+        return Ok(());
+    };
+    let Some(block) = along.checked_div(*edge) else {
+        return Err(AllocError);
+    };
+    let Some(first) = block.checked_mul(*edge) else {
+        return Err(AllocError);
+    };
+    extents.push((*edge).min(size.saturating_sub(first)))?;
+    push_extents(others, sizes, edges, extents)
 }

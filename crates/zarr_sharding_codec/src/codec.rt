@@ -7,11 +7,11 @@ use zarr_sharding_index::ShardingIndexLocation;
 
 /// The codec `sharding_indexed` (Zarr sharding codec): an array is cut into subchunks, each of
 /// which is encoded by the codecs `I`, and an index that the codecs `X` encode tells where each one
-/// stands. A subchunk of the fill value alone isn't stored. It suits arrays whose size is a
-/// multiple of the subchunk's in each dimension, of types that aren't optional, where its codecs
-/// suit the subchunks and the index, and the index always has the same number of bytes, fewer than
-/// 2^63. A part of an array is read from the index and from the slices of the subchunks that it
-/// meets. The codecs of the index have to be an `IndexCodec`.
+/// stands. A subchunk of the fill value alone isn't stored; those at the ends are cut short. It
+/// suits arrays of as many dimensions, of types that aren't optional, where its codecs suit each
+/// subchunk and the index, and the index always has the same number of bytes, fewer than 2^63. A
+/// part of an array is read from the index and from the slices of the subchunks that it meets. The
+/// codecs of the index have to be an `IndexCodec`.
 #[derive(Debug, Drop)]
 pub struct ShardingCodec<I: ArrayToBytesCodecTraits, X: ArrayToBytesCodecTraits> {
     pub(crate) subchunk_shape: ChunkShape,

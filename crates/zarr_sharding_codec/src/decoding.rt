@@ -3,7 +3,7 @@ ghost use Rattle.zarr_codecs_arrays.specs.Views.{elements_of};
 ghost use Rattle.zarr_sharding_codec.specs.Reading.{FillsPiece};
 
 use crate::codec::ShardingCodec;
-use crate::subchunks::{first_place, move_to_subchunk};
+use crate::subchunks::{CutArray, first_place, move_to_subchunk};
 use std::alloc::Global;
 use zarr_codecs_arrays::{ArrayBytes, CodecError, Elements};
 use zarr_codecs_options::CodecOptions;
@@ -115,20 +115,28 @@ impl<I: ArrayToBytesCodecTraits, X: ArrayToBytesCodecTraits> ShardingCodec<I, X>
             shard.entry.value.now (pairs_of shard.entry.index.now) result }
     {
         let edges = self.subchunk_shape.as_slice();
-        let grid = grid_of(alloc, array.shape, &self.subchunk_shape)?;
-        let Some(count) = count_places(grid.as_slice()) else {
+        let counts = grid_of(alloc, array.shape, &self.subchunk_shape)?;
+        let grid = counts.as_slice();
+        let Some(count) = count_places(grid) else {
             return Err(CodecError::Memory);
+        };
+        let shape = array.shape;
+        let cut = CutArray {
+            shape,
+            edges,
+            grid,
+            count,
         };
         let Some(total) = count_places(array.shape) else {
             return Err(CodecError::Size);
         };
         let filled = BoxedElements::new_fill_value(alloc, total as usize, array.elements)?;
         let mut all = filled;
-        let first = first_place(alloc, grid.as_slice())?;
+        let first = first_place(alloc, grid)?;
         let first = first.as_slice();
         let mut region = ArraySubset::new_with_shape(alloc, edges.to_vec(alloc)?)?;
         for n in 0..count {
-            let moved = move_to_subchunk(region, first, grid.as_slice(), count, n)?;
+            let moved = move_to_subchunk(region, first, cut, n)?;
             let place = PiecePlace {
                 array,
                 number: n as usize,
@@ -155,21 +163,25 @@ impl<I: ArrayToBytesCodecTraits, X: ArrayToBytesCodecTraits> ShardingCodec<I, X>
         options: &CodecOptions,
     ) -> Result<BoxedElements, CodecError>
         requires fit { fits (I.meaning (inner_of self.now))
-            (elements_of place.array.elements.now).type (subchunk_of self.now) ≡ true }
+            (elements_of place.array.elements.now).type (region_of place.region.now).shape
+            ≡ true }
         requires below { place.number < length (pairs_of shard.index.now) }
-        ensures { PutsPiece (elements_of place.entry.array.elements.now) (subchunk_of self.now)
+        ensures { PutsPiece (elements_of place.entry.array.elements.now)
+            (region_of place.entry.region.now).shape
             (piece_decoded (I.meaning (inner_of self.now))
             (elements_of place.entry.array.elements.now) shard.entry.value.now
-            (subchunk_of self.now)
+            (region_of place.entry.region.now).shape
             (get_or (pairs_of shard.entry.index.now) place.entry.number absent_pair))
             place.entry.array.shape.now (region_of place.entry.region.now) all result }
     {
         let elements = place.array.elements;
+        let shape = place.region.shape();
+        let subchunk = WholeArray { elements, shape };
         let pair = shard.index.get(place.number);
-        if let Some(slice) = self.slice_as_is(shard.value, pair, elements) {
+        if let Some(slice) = self.slice_as_is(shard.value, pair, subchunk) {
             return Ok(all.put_bytes(alloc, place.array, place.region, slice)?);
         }
-        match self.decode_piece(alloc, shard, place.number, elements, options) {
+        match self.decode_piece(alloc, shard, place.number, subchunk, options) {
             Ok(piece) => Ok(all.put(alloc, place.array, place.region, &piece)?),
             Err(error) => Err(error),
         }
@@ -182,27 +194,29 @@ impl<I: ArrayToBytesCodecTraits, X: ArrayToBytesCodecTraits> ShardingCodec<I, X>
         alloc: Global,
         shard: Shard<'_>,
         n: usize,
-        elements: &Elements,
+        subchunk: WholeArray<'_>,
         options: &CodecOptions,
     ) -> Result<ArrayBytes, CodecError>
-        requires fit { fits (I.meaning (inner_of self.now)) (elements_of elements.now).type
-            (subchunk_of self.now) ≡ true }
+        requires fit { fits (I.meaning (inner_of self.now))
+            (elements_of subchunk.elements.now).type subchunk.shape.now ≡ true }
         requires below { n < length (pairs_of shard.index.now) }
-        ensures { DecodesPiece (I.meaning (inner_of self.now)) (elements_of elements.now)
-            shard.entry.value.now (subchunk_of self.now)
-            (get_or (pairs_of shard.entry.index.now) n absent_pair) result }
+        ensures { DecodesPiece (I.meaning (inner_of self.now))
+            (elements_of subchunk.entry.elements.now) shard.entry.value.now
+            subchunk.entry.shape.now (get_or (pairs_of shard.entry.index.now) n absent_pair)
+            result }
     {
-        let edges = self.subchunk_shape.as_slice();
+        let elements = subchunk.elements;
+        let shape = subchunk.shape;
         let pair = shard.index.get(n);
         if is_absent(pair) {
-            return fill_piece(alloc, elements, edges);
+            return fill_piece(alloc, elements, shape);
         }
         let Some(slice) = slice_at(shard.value, pair) else {
             return Err(CodecError::Damage);
         };
         let slice = slice.to_vec(alloc)?;
         self.inner_codecs
-            .decode(alloc, slice, elements, edges, options)
+            .decode(alloc, slice, elements, shape, options)
     }
 }
 

@@ -34,5 +34,5 @@ pub use index_codec::IndexCodec;
 pub use options::{ShardingCodecOptions, TakesShardingOptions};
 pub use part_writing::TestedPart;
 pub use partial::{NumberedPlaces, OpenedShard};
-pub use updating::{AskedElements, NumberedElements, ShardInSource};
+pub use updating::{AskedElements, NumberedElements, NumberedSubchunk, ShardInSource};
 pub use zarr_sharding_configurations::ShardingCodecConfiguration;

@@ -11,6 +11,7 @@ ghost use Rattle.zarr_sharding_places.specs.Placed.{Shows};
 
 use crate::box_reading::IndexedPlaces;
 use crate::codec::ShardingCodec;
+use crate::subchunks::part_shape;
 use crate::whole_subchunk::are_equal;
 use std::alloc::{AllocError, Global};
 use zarr_codecs_arrays::{ArrayBytes, CodecError, Elements};
@@ -18,6 +19,7 @@ use zarr_codecs_options::CodecOptions;
 use zarr_codecs_regions::count_asked;
 use zarr_codecs_traits::{
     ArrayPart, ArrayToBytesCodecTraits, BytesPartialDecoderTraits, Indexer, MemorySource,
+    WholeArray,
 };
 use zarr_grids_boxes::walk::count_places;
 use zarr_sharding_index::held::{fetch_index, fetch_slice};
@@ -44,6 +46,14 @@ pub struct NumberedPlaces<'a> {
     pub numbers: &'a [u64],
 }
 
+/// Places of one subchunk, and that subchunk's number and shape.
+#[derive(Clone, Copy)]
+struct GroupPlaces<'a> {
+    number: u64,
+    shape: &'a [u64],
+    group: &'a [AskedPlace],
+}
+
 impl<I: ArrayToBytesCodecTraits, X: ArrayToBytesCodecTraits> ShardingCodec<I, X> {
     ghost use Rattle.std.specs.Prelude.{◌≡◌, ◌<◌, ◌≤◌, ◌+◌, ◌^◌, ℕ, List, [], Some, true, length, get_or, map, nat_lt, unwrap_or, IsTrue, IfOk};
     ghost use Rattle.std.specs.List.{list_all};
@@ -62,7 +72,7 @@ impl<I: ArrayToBytesCodecTraits, X: ArrayToBytesCodecTraits> ShardingCodec<I, X>
     ghost use Rattle.zarr_sharding_index.specs.Held.{FetchesIndex};
     ghost use Rattle.zarr_sharding_index.specs.Stored.{index_fits};
     ghost use Rattle.zarr_sharding_index.specs.Views.{pairs_of};
-    ghost use Rattle.zarr_sharding_places.specs.Groups.{IsGroup, no_place, places_in};
+    ghost use Rattle.zarr_sharding_places.specs.Groups.{places_in};
     ghost use Rattle.zarr_sharding_places.specs.Locating.{asked_places};
     ghost use Rattle.zarr_sharding_state.specs.States.{slice_length};
 
@@ -195,7 +205,15 @@ impl<I: ArrayToBytesCodecTraits, X: ArrayToBytesCodecTraits> ShardingCodec<I, X>
         let mut rest = places.as_slice();
         while rest.len() > 0 {
             let (group, others) = leading_group(rest);
-            match self.read_group(alloc, source, shard, group, options) {
+            let number = group[0].subchunk;
+            let edges = part_shape(alloc, asked.shape, &self.subchunk_shape, number)?;
+            let shape = edges.as_slice();
+            let part = GroupPlaces {
+                number,
+                shape,
+                group,
+            };
+            match self.read_group(alloc, source, shard, part, options) {
                 Ok(piece) => all = put_group(alloc, all, group, &piece, shard.elements)?,
                 Err(error) => return Err(error),
             }
@@ -231,68 +249,67 @@ impl<I: ArrayToBytesCodecTraits, X: ArrayToBytesCodecTraits> ShardingCodec<I, X>
         alloc: Global,
         source: &mut D,
         shard: OpenedShard<'_>,
-        group: &[AskedPlace],
+        part: GroupPlaces<'_>,
         options: &CodecOptions,
     ) -> Result<ArrayBytes, CodecError>
         requires fit { fits (I.meaning (inner_of self.now)) (elements_of shard.elements.now).type
-            (subchunk_of self.now) ≡ true }
-        requires some { 0 < length group.now }
-        requires pair { (get_or group.now 0 no_place).subchunk
-            < length (pairs_of shard.index.now) }
-        requires inside { list_all (λ n. nat_lt n (product (subchunk_of self.now)))
-            (map (λ place. place.inside) group.now) ≡ true }
+            part.shape.now ≡ true }
+        requires some { 0 < length part.group.now }
+        requires pair { part.number < length (pairs_of shard.index.now) }
+        requires inside { list_all (λ n. nat_lt n (product part.shape.now))
+            (map (λ place. place.inside) part.group.now) ≡ true }
         ensures part { IsTrue (D.is_honest source.old) → IsTotalOf (D.contents source.old)
             (pairs_of shard.entry.index.now) shard.entry.total
-            → ListsRead (elements_of shard.entry.elements.now) (subchunk_of self.now)
+            → ListsRead (elements_of shard.entry.elements.now) part.entry.shape.now
             (places_decoded (I.meaning (inner_of self.now)) (elements_of shard.entry.elements.now)
-            (unwrap_or (D.contents source.old) []) (subchunk_of self.now)
-            (get_or (pairs_of shard.entry.index.now) (get_or group.now 0 no_place).subchunk
-            absent_pair) (map (λ place. place.inside) group.now)) result }
+            (unwrap_or (D.contents source.old) []) part.entry.shape.now
+            (get_or (pairs_of shard.entry.index.now) part.entry.number absent_pair)
+            (map (λ place. place.inside) part.entry.group.now)) result }
         ensures refused { D.refused_calls source.new ≡
             refused_after (D.refused_calls source.old) result }
         ensures given { IsTrue (D.is_honest source.old) → D.given_bytes source.new
-            ≤ D.given_bytes source.old
-            + slice_length (get_or (pairs_of shard.entry.index.now)
-            (get_or group.now 0 no_place).subchunk absent_pair) }
+            ≤ D.given_bytes source.old + slice_length
+            (get_or (pairs_of shard.entry.index.now) part.entry.number absent_pair) }
         ensures follows { D.follows source.old source.new }
     {
-        let pair = shard.index.get(group[0].subchunk as usize);
+        let elements = shard.elements;
+        let group = part.group;
+        let pair = shard.index.get(part.number as usize);
         if is_absent(pair) {
-            return Ok(fill_elements(alloc, shard.elements, group.len())?);
+            return Ok(fill_elements(alloc, elements, group.len())?);
         }
         match fetch_slice(alloc, source, shard.total, pair) {
             Ok(slice) => {
                 let insides = insides_of(alloc, group)?;
                 let indexer = Indexer::List(insides.as_slice());
-                self.read_slice(alloc, slice, indexer, shard.elements, options)
+                self.read_slice(alloc, slice, indexer, part.shape, elements, options)
             }
             Err(error) => Err(error),
         }
     }
 
-    /// The elements at places of the subchunk that a slice holds. `Damage` where one of them cannot
-    /// be decoded. There is a place.
-    pub(crate) fn read_slice(
+    /// The elements at places of the subchunk of this shape that a slice holds. `Damage` where one
+    /// of them cannot be decoded. There is a place.
+    pub(crate) fn read_slice<'a>(
         &self,
         alloc: Global,
         slice: Vec<u8>,
-        indexer: Indexer<'_>,
-        elements: &Elements,
+        indexer: Indexer<'a>,
+        shape: &'a [u64],
+        elements: &'a Elements,
         options: &CodecOptions,
     ) -> Result<ArrayBytes, CodecError>
         requires fit { fits (I.meaning (inner_of self.now)) (elements_of elements.now).type
-            (subchunk_of self.now) ≡ true }
-        requires some { 0 < length (numbers_asked (subchunk_of self.now) (asked_of indexer)) }
-        requires inside { are_inside (subchunk_of self.now) (asked_of indexer) ≡ true }
-        ensures part { Lists (elements_of elements.now) (subchunk_of self.now)
-            (slice_cells (I.meaning (inner_of self.now)) (elements_of elements.now)
-            (subchunk_of self.now) slice.items
-            (numbers_asked (subchunk_of self.now) (asked_of indexer.entry))) result }
+            shape.now ≡ true }
+        requires some { 0 < length (numbers_asked shape.now (asked_of indexer)) }
+        requires inside { are_inside shape.now (asked_of indexer) ≡ true }
+        ensures part { Lists (elements_of elements.now) shape.now (slice_cells
+            (I.meaning (inner_of self.now)) (elements_of elements.now) shape.now slice.items
+            (numbers_asked shape.now (asked_of indexer.entry))) result }
         ensures no_source { (count : ℕ) → refused_after count result ≡ count }
     {
-        let shape = self.subchunk_shape.as_slice();
         if asks_all(shape, indexer) {
-            return self.decode_slice(alloc, slice, elements, options);
+            return self.decode_slice(alloc, slice, WholeArray { elements, shape }, options);
         }
         let mut source = MemorySource::new(Some(slice));
         let part = ArrayPart {
@@ -305,34 +322,34 @@ impl<I: ArrayToBytesCodecTraits, X: ArrayToBytesCodecTraits> ShardingCodec<I, X>
     }
 
     /// The elements of the subchunk that a slice holds, all of them. `Damage` where one of them
-    /// cannot be decoded.
+    /// cannot be decoded. There is a place.
     pub(crate) fn decode_slice(
         &self,
         alloc: Global,
         slice: Vec<u8>,
-        elements: &Elements,
+        array: WholeArray<'_>,
         options: &CodecOptions,
     ) -> Result<ArrayBytes, CodecError>
-        requires { fits (I.meaning (inner_of self.now)) (elements_of elements.now).type
-            (subchunk_of self.now) ≡ true }
-        ensures part { Lists (elements_of elements.now) (subchunk_of self.now)
-            (slice_cells (I.meaning (inner_of self.now)) (elements_of elements.now)
-            (subchunk_of self.now) slice.items (place_numbers (subchunk_of self.now))) result }
+        requires fit { fits (I.meaning (inner_of self.now)) (elements_of array.elements.now).type
+            array.shape.now ≡ true }
+        requires some { 0 < product array.shape.now }
+        ensures part { Lists (elements_of array.entry.elements.now) array.entry.shape.now
+            (slice_cells (I.meaning (inner_of self.now)) (elements_of array.entry.elements.now)
+            array.entry.shape.now slice.items (place_numbers array.entry.shape.now)) result }
         ensures no_source { (count : ℕ) → refused_after count result ≡ count }
     {
-        let shape = self.subchunk_shape.as_slice();
-        if self.is_as_is(slice.as_slice(), elements) {
+        if self.is_as_is(slice.as_slice(), array) {
             return Ok(ArrayBytes::Fixed(slice));
         }
         self.inner_codecs
-            .decode(alloc, slice, elements, shape, options)
+            .decode(alloc, slice, array.elements, array.shape, options)
     }
 }
 
 /// Whether the places that are asked for, which are the array's, are told to be all of them, in
-/// their order. Of places that are listed it isn't told.
+/// their order, and there is one. Of places that are listed it isn't told.
 fn asks_all(shape: &[u64], indexer: Indexer<'_>) -> bool
-    requires some { 0 < product shape.now }
+    requires some { 0 < length (numbers_asked shape.now (asked_of indexer)) }
     requires inside { are_inside shape.now (asked_of indexer) ≡ true }
     ensures { result ≡ true →
         numbers_asked shape.now (asked_of indexer.entry) ≡ place_numbers shape.now }

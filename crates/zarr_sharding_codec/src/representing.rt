@@ -1,15 +1,18 @@
 //! What a shard tells of its size.
-ghost use Rattle.std.specs.Prelude.{◌≡◌, ◌+◌, ◌*◌, ◌<◌, ◌∷◌, Some, replicate};
-ghost use Rattle.zarr_codecs_meaning.specs.Fits.{at_most, bound_of, sum_of_bounds};
+ghost use Rattle.std.specs.Prelude.{◌≡◌, ◌+◌, ◌<◌, ℕ, Some, length, option_map};
+ghost use Rattle.zarr_codecs_meaning.specs.Fits.{at_most, bound_of};
 ghost use Rattle.zarr_codecs_traits.specs.Representations.{Represents, known_size};
+ghost use Rattle.zarr_codecs_types.specs.Views.{type_of};
+ghost use Rattle.zarr_grids_boxes.specs.Boxes.{product};
+ghost use Rattle.zarr_sharding_codec.specs.Fitting.{BoundsAlone, BoundsShapes, behind, capped};
 
 use crate::codec::ShardingCodec;
+use crate::fitting::with_length;
 use std::alloc::Global;
 use zarr_codecs_arrays::CodecError;
 use zarr_codecs_traits::{ArrayToBytesCodecTraits, BytesRepresentation};
 use zarr_codecs_types::DataType;
-use zarr_grids_boxes::walk::count_places;
-use zarr_sharding_index::shapes::grid_of;
+use zarr_grids_boxes::walk::has_no_place;
 
 impl<I: ArrayToBytesCodecTraits, X: ArrayToBytesCodecTraits> ShardingCodec<I, X> {
     ghost use Rattle.std.specs.Prelude.{◌≡◌, true};
@@ -34,31 +37,107 @@ impl<I: ArrayToBytesCodecTraits, X: ArrayToBytesCodecTraits> ShardingCodec<I, X>
         ensures { RepresentsArray (shard_chain I.meaning X.meaning self.now) (type_of data_type.now)
             shape.now result }
     {
-        let grid = grid_of(alloc, shape, &self.subchunk_shape)?;
-        let Some(count) = count_places(grid.as_slice()) else {
-            return Err(CodecError::Memory);
-        };
-        if count == 0 {
+        if has_no_place(shape) {
             return Ok(BytesRepresentation::BoundedSize(size));
         }
         let edges = self.subchunk_shape.as_slice();
-        match self
-            .inner_codecs
-            .encoded_representation(alloc, data_type, edges)
-        {
-            Ok(slice) => match bound_of(slice) {
-                Some(bound) => bounded(size, count, bound),
-                None => Ok(BytesRepresentation::UnboundedSize),
-            },
-            Err(CodecError::Size) => Err(CodecError::Size),
-            Err(_) => Err(CodecError::Memory),
+        let front = Vec::new(alloc);
+        let front = front.as_slice();
+        match bound_shapes(&self.inner_codecs, alloc, data_type, front, shape, edges) {
+            Ok(Some(slices)) => bounded(size, slices),
+            Ok(None) => Ok(BytesRepresentation::UnboundedSize),
+            Err(error) => Err(error),
         }
+    }
+}
+
+/// The sum of what codecs make at most of each subchunk that begins with these lengths, in the
+/// later dimensions of an array, which have these sizes, or 2^64 - 1 where it is larger; `None`
+/// where there is no bound. `Size` where one of them is too long.
+fn bound_shapes<I: ArrayToBytesCodecTraits>(
+    inner_codecs: &I,
+    alloc: Global,
+    data_type: &DataType,
+    front: &[u64],
+    sizes: &[u64],
+    edges: &[u64],
+) -> Result<Option<u64>, CodecError>
+    requires rank { length sizes.now ≡ length edges.now }
+    requires sizes { 0 < product sizes.now }
+    requires edges { 0 < product edges.now }
+    ensures { BoundsShapes (I.meaning inner_codecs.now) (type_of data_type.now)
+        (behind front.now sizes.now edges.now) result }
+{
+    let Some((size, sizes)) = sizes.split_first() else {
+        return bound_alone(inner_codecs, alloc, data_type, front);
+    };
+    let Some((edge, edges)) = edges.split_first() else {
+        return Err(CodecError::Memory);
+    };
+    if *size < *edge {
+        let longer = with_length(alloc, front, *size)?;
+        return bound_shapes(
+            inner_codecs,
+            alloc,
+            data_type,
+            longer.as_slice(),
+            sizes,
+            edges,
+        );
+    }
+    let whole = with_length(alloc, front, *edge)?;
+    match bound_shapes(
+        inner_codecs,
+        alloc,
+        data_type,
+        whole.as_slice(),
+        sizes,
+        edges,
+    ) {
+        Ok(Some(bound)) => {
+            let all = bound.saturating_mul(*size / *edge);
+            let rest = *size % *edge;
+            if rest == 0 {
+                return Ok(Some(all));
+            }
+            let last = with_length(alloc, front, rest)?;
+            match bound_shapes(
+                inner_codecs,
+                alloc,
+                data_type,
+                last.as_slice(),
+                sizes,
+                edges,
+            ) {
+                Ok(Some(bound)) => Ok(Some(all.saturating_add(bound))),
+                Ok(None) => Ok(None),
+                Err(error) => Err(error),
+            }
+        }
+        Ok(None) => Ok(None),
+        Err(error) => Err(error),
+    }
+}
+
+/// What codecs make at most of one array, where there is a bound. `Size` where that is too long.
+fn bound_alone<I: ArrayToBytesCodecTraits>(
+    inner_codecs: &I,
+    alloc: Global,
+    data_type: &DataType,
+    shape: &[u64],
+) -> Result<Option<u64>, CodecError>
+    ensures { BoundsAlone (I.meaning inner_codecs.now) (type_of data_type.now) shape.now result }
+{
+    match inner_codecs.encoded_representation(alloc, data_type, shape) {
+        Ok(known) => Ok(bound_of(known)),
+        Err(CodecError::Size) => Err(CodecError::Size),
+        Err(_) => Err(CodecError::Memory),
     }
 }
 
 /// The most that a size can be, where there is a bound.
 fn bound_of(size: BytesRepresentation) -> Option<u64>
-    ensures { result ≡ bound_of (known_size size) }
+    ensures { result ≡ option_map capped (bound_of (known_size size)) }
 {
     match size {
         BytesRepresentation::FixedSize(bound) | BytesRepresentation::BoundedSize(bound) => {
@@ -68,17 +147,16 @@ fn bound_of(size: BytesRepresentation) -> Option<u64>
     }
 }
 
-/// At most an index of so many bytes and so many slices of at most so many. `Size` where that is
-/// too large a number.
-fn bounded(size: u64, count: u64, bound: u64) -> Result<BytesRepresentation, CodecError>
-    ensures { Represents (at_most (sum_of_bounds (Some size ∷ replicate count (Some bound))))
-        result }
+/// At most an index of so many bytes and slices of so many together, or of 2^64 - 1 or more. `Size`
+/// where that is too large a number.
+fn bounded(size: u64, slices: u64) -> Result<BytesRepresentation, CodecError>
+    ensures { (sum : ℕ) → slices ≡ capped sum → Represents (at_most (Some (size + sum))) result }
 {
-    match count.checked_mul(bound) {
-        Some(slices) => match slices.checked_add(size) {
-            Some(all) => Ok(BytesRepresentation::BoundedSize(all)),
-            None => Err(CodecError::Size),
-        },
+    if slices == u64::MAX {
+        return Err(CodecError::Size);
+    }
+    match slices.checked_add(size) {
+        Some(all) => Ok(BytesRepresentation::BoundedSize(all)),
         None => Err(CodecError::Size),
     }
 }

@@ -2,7 +2,7 @@
 
 use crate::codec::ShardingCodec;
 use crate::slices::{push_slice, store_piece};
-use crate::subchunks::{first_place, move_to_subchunk, take_box};
+use crate::subchunks::{CutArray, first_place, move_to_subchunk, take_box};
 use std::alloc::Global;
 use zarr_codecs_arrays::{ArrayBytes, CodecError};
 use zarr_codecs_options::CodecOptions;
@@ -47,22 +47,30 @@ impl<I: ArrayToBytesCodecTraits, X: ArrayToBytesCodecTraits> ShardingCodec<I, X>
             (base_of (place_of_index self.now) size) result }
     {
         let edges = self.subchunk_shape.as_slice();
-        let grid = grid_of(alloc, array.shape, &self.subchunk_shape)?;
-        let Some(count) = count_places(grid.as_slice()) else {
+        let counts = grid_of(alloc, array.shape, &self.subchunk_shape)?;
+        let grid = counts.as_slice();
+        let Some(count) = count_places(grid) else {
             return Err(CodecError::Memory);
+        };
+        let shape = array.shape;
+        let cut = CutArray {
+            shape,
+            edges,
+            grid,
+            count,
         };
         let base = self.index_location.base(size);
         let mut data = Vec::with_capacity(alloc, room_for(bytes, size))?;
         let mut index = ShardIndex::new(alloc);
-        let first = first_place(alloc, grid.as_slice())?;
+        let first = first_place(alloc, grid)?;
         let first = first.as_slice();
         let mut region = ArraySubset::new_with_shape(alloc, edges.to_vec(alloc)?)?;
         let mut room = Vec::new(alloc);
         for n in 0..count {
-            let moved = move_to_subchunk(region, first, grid.as_slice(), count, n)?;
+            let moved = move_to_subchunk(region, first, cut, n)?;
             let piece = take_box(alloc, room, bytes, array, &moved)?;
             let inner = &self.inner_codecs;
-            match store_piece(alloc, inner, piece, array.elements, edges, options) {
+            match store_piece(alloc, inner, piece, array.elements, moved.shape(), options) {
                 Ok(slice) => room = push_slice(alloc, base, slice, &mut data, &mut index)?,
                 Err(error) => return Err(error),
             }

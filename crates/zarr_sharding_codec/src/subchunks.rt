@@ -1,8 +1,7 @@
 //! The subchunks of an array, and their elements.
-ghost use Rattle.std.specs.Prelude.{◌≡◌, ◌*◌, ◌/◌, ◌<◌, List, length, replicate, true, Some, IfOk, IfSome, OnOk};
+ghost use Rattle.std.specs.Prelude.{◌≡◌, ◌+◌, ◌-◌, ◌*◌, ◌/◌, ◌<◌, ◌++◌, min, List, length, replicate, true, Some, IfOk, IfSome, OnOk};
 ghost use Rattle.zarr_codecs_arrays.specs.Outcomes.{IsCounted};
 ghost use Rattle.zarr_codecs_arrays.specs.Views.{elements_of, payload_of};
-ghost use Rattle.zarr_codecs_meaning.specs.Fits.{divides};
 ghost use Rattle.zarr_codecs_meaning.specs.Payloads.{cells_in, fixed_cells};
 ghost use Rattle.zarr_codecs_meaning.specs.Places.{gather, grid_of};
 ghost use Rattle.zarr_codecs_meaning.specs.Types.{Cell, byte_width};
@@ -10,32 +9,69 @@ ghost use Rattle.zarr_codecs_traits.specs.Indexers.{shape_has, numbers_of};
 ghost use Rattle.zarr_grids_boxes.specs.Boxes.{each2, place_at, product, ravel};
 ghost use Rattle.zarr_grids_boxes.specs.Subsets.{region_of};
 ghost use Rattle.zarr_grids_overlay.specs.Overlays.{IsOverlaid, extent_of};
+ghost use Rattle.zarr_sharding_places.specs.Locating.{part_shape, subchunk_box};
 
 use std::alloc::{AllocError, Global};
 use zarr_codecs_arrays::ArrayBytes;
 use zarr_codecs_regions::{extract_box, gather_elements, is_inside, numbers_asked};
 use zarr_codecs_traits::{Indexer, WholeArray};
-use zarr_grids_boxes::ArraySubset;
 use zarr_grids_boxes::walk::{count_places, place_into};
+use zarr_grids_boxes::{ArraySubset, ChunkShape};
 use zarr_grids_overlay::{Extent, overlay};
+use zarr_sharding_index::shapes::grid_of;
 
-/// The box of the subchunk with number `n`, row-major, in a grid of `count` subchunks.
+/// An array of this shape that is cut into subchunks of these edges, `count` of them, as many as
+/// the grid says in each dimension. Those at the ends are cut short.
+#[derive(Clone, Copy)]
+pub(crate) struct CutArray<'a> {
+    pub shape: &'a [u64],
+    pub edges: &'a [u64],
+    pub grid: &'a [u64],
+    pub count: u64,
+}
+
+/// The shape of the subchunk with number `n`, row-major, of an array of this shape.
+pub(crate) fn part_shape(
+    alloc: Global,
+    shape: &[u64],
+    subchunk: &ChunkShape,
+    n: u64,
+) -> Result<Vec<u64>, AllocError>
+    requires rank { length shape.now ≡ length subchunk.now }
+    requires below { n < product (grid_of shape.now subchunk.now) }
+    ensures { IfOk result (λ made. made.items ≡ part_shape shape.now subchunk.now n) }
+{
+    let edges = subchunk.as_slice();
+    let counted = grid_of(alloc, shape, subchunk)?;
+    let grid = counted.as_slice();
+    let Some(count) = count_places(grid) else {
+        return Err(AllocError);
+    };
+    let cut = CutArray {
+        shape,
+        edges,
+        grid,
+        count,
+    };
+    let region = subchunk_region(alloc, cut, n)?;
+    Ok(region.shape)
+}
+
+/// The box of the subchunk with number `n`, row-major.
 pub(crate) fn subchunk_region(
     alloc: Global,
-    edges: &[u64],
-    grid: &[u64],
-    count: u64,
+    cut: CutArray<'_>,
     n: u64,
 ) -> Result<ArraySubset, AllocError>
-    requires count { count ≡ product grid.now }
-    requires below { n < product grid.now }
-    ensures start { IfOk result (λ region. region.start.items ≡ each2 (λ i edge. i * edge)
-        (place_at (replicate (length grid.now) 0) grid.now n) edges.now) }
-    ensures shape { IfOk result (λ region. region.shape.items ≡ edges.now) }
+    requires grid { cut.grid.now ≡ grid_of cut.shape.now cut.edges.now }
+    requires count { cut.count ≡ product cut.grid.now }
+    requires below { n < product cut.grid.now }
+    ensures { IfOk result (λ region. region_of region
+        ≡ subchunk_box cut.entry.shape.now cut.entry.edges.now n) }
 {
-    let first = first_place(alloc, grid)?;
-    let region = ArraySubset::new_with_shape(alloc, edges.to_vec(alloc)?)?;
-    move_to_subchunk(region, first.as_slice(), grid, count, n)
+    let first = first_place(alloc, cut.grid)?;
+    let region = ArraySubset::new_with_shape(alloc, cut.edges.to_vec(alloc)?)?;
+    move_to_subchunk(region, first.as_slice(), cut, n)
 }
 
 /// The first place of a grid.
@@ -45,42 +81,62 @@ pub(crate) fn first_place(alloc: Global, grid: &[u64]) -> Result<Vec<u64>, Alloc
     vec![in alloc; 0u64; grid.len()]
 }
 
-/// A box of the shape of a subchunk, put where the one with number `n`, row-major, of `count` is;
-/// of the grid this is the first place. `Err` where the box has not as many dimensions as the grid,
-/// or a number is too large.
+/// The box of the subchunk with number `n`, row-major, in the room of another box; of the grid this
+/// is the first place. `Err` where the box has not as many dimensions as the grid, a number is too
+/// large, or an allocation failed.
 pub(crate) fn move_to_subchunk(
     region: ArraySubset,
     first: &[u64],
-    grid: &[u64],
-    count: u64,
+    cut: CutArray<'_>,
     n: u64,
 ) -> Result<ArraySubset, AllocError>
-    requires first { first.now ≡ replicate (length grid.now) 0 }
-    requires count { count ≡ product grid.now }
-    requires below { n < product grid.now }
-    ensures start { IfOk result (λ moved. moved.start.items ≡ each2 (λ i edge. i * edge)
-        (place_at (replicate (length grid.now) 0) grid.now n) region.shape.items) }
-    ensures shape { IfOk result (λ moved. moved.shape.items ≡ region.shape.items) }
+    requires first { first.now ≡ replicate (length cut.grid.now) 0 }
+    requires grid { cut.grid.now ≡ grid_of cut.shape.now cut.edges.now }
+    requires count { cut.count ≡ product cut.grid.now }
+    requires below { n < product cut.grid.now }
+    ensures { IfOk result (λ moved. region_of moved
+        ≡ subchunk_box cut.entry.shape.now cut.entry.edges.now n) }
 {
-    let shape = region.shape;
-    let mut start = region.start;
-    if start.len() != grid.len() || shape.len() != grid.len() {
-        return Err(AllocError);
-    }
-    place_into(first, grid, count, n, start.as_mut_slice());
-    multiply(start.as_mut_slice(), shape.as_slice())?;
+    let start = subchunk_start(region.start, first, cut.grid, cut.count, n, cut.edges)?;
+    let mut shape = region.shape;
+    shape.clear();
+    push_lengths(start.as_slice(), cut.shape, cut.edges, &mut shape)?;
     match ArraySubset::new_with_start_shape(start, shape) {
         Ok(moved) => Ok(moved),
         Err(_) => Err(AllocError),
     }
 }
 
+/// Where the subchunk of these edges with number `n`, row-major, begins, in the room of other
+/// numbers; of the grid this is the first place. `Err` where there isn't one number for each
+/// dimension, or a number is too large.
+fn subchunk_start(
+    room: Vec<u64>,
+    first: &[u64],
+    grid: &[u64],
+    count: u64,
+    n: u64,
+    edges: &[u64],
+) -> Result<Vec<u64>, AllocError>
+    requires first { first.now ≡ replicate (length grid.now) 0 }
+    requires count { count ≡ product grid.now }
+    requires below { n < product grid.now }
+    ensures { IfOk result (λ start. start.items ≡ each2 (λ i edge. i * edge)
+        (place_at (replicate (length grid.now) 0) grid.now n) edges.now) }
+{
+    let mut start = room;
+    if start.len() != grid.len() || edges.len() != grid.len() {
+        return Err(AllocError);
+    }
+    place_into(first, grid, count, n, start.as_mut_slice());
+    multiply(start.as_mut_slice(), edges)?;
+    Ok(start)
+}
+
 /// The number, row-major, of the subchunk that a place of an array lies in, and how many subchunks
-/// there are, where the edges divide the shape. `None` where one of the two is too large, and where
-/// the place has fewer dimensions than the shape.
-#[tactic(auto, using(crate::proofs::NumberedSubchunks::even_count))]
+/// there are. `None` where one of the two is too large, and where the place has fewer dimensions
+/// than the shape.
 pub(crate) fn subchunk_number(place: &[u64], shape: &[u64], edges: &[u64]) -> Option<(u64, u64)>
-    requires { divides shape.now edges.now ≡ true }
     ensures number { IfSome result (λ found. found.0
         ≡ ravel (each2 (λ x edge. x / edge) place.now edges.now) (grid_of shape.now edges.now)) }
     ensures count { IfSome result (λ found. found.1 ≡ product (grid_of shape.now edges.now)) }
@@ -96,8 +152,20 @@ pub(crate) fn subchunk_number(place: &[u64], shape: &[u64], edges: &[u64]) -> Op
     };
     let (number, count) = subchunk_number(place, sizes, edges)?;
     let before = along.checked_div(*edge)?.checked_mul(count)?;
-    let all = size.checked_div(*edge)?.checked_mul(count)?;
+    let all = count_along(*size, *edge)?.checked_mul(count)?;
     Some((before.checked_add(number)?, all))
+}
+
+/// How many subchunks of this edge there are in a dimension of this size. `None` where the edge is
+/// 0.
+#[tactic(auto, using(zarr_sharding_index::proofs::Grids::rounded_up))]
+fn count_along(size: u64, edge: u64) -> Option<u64>
+    ensures { IfSome result (λ count. count ≡ (size + (edge - 1)) / edge) }
+{
+    if edge == 0 {
+        return None;
+    }
+    Some(size.div_ceil(edge))
 }
 
 /// Multiplies the number of each dimension by the one of an edge. `Err` where one is too large.
@@ -112,6 +180,29 @@ fn multiply(place: &mut [u64], edges: &[u64]) -> Result<(), AllocError>
         }
     }
     Ok(())
+}
+
+/// Appends how long the subchunk of an array that begins at a place is in each dimension.
+fn push_lengths(
+    start: &[u64],
+    shape: &[u64],
+    edges: &[u64],
+    lengths: &mut Vec<u64>,
+) -> Result<(), AllocError>
+    ensures { OnOk result (lengths.new.items ≡ lengths.old.items
+        ++ each2 min edges.now (each2 (λ size begin. size - begin) shape.now start.now)) }
+{
+    let Some((edge, edges)) = edges.split_first() else {
+        return Ok(());
+    };
+    let Some((size, sizes)) = shape.split_first() else {
+        return Ok(());
+    };
+    let Some((first, starts)) = start.split_first() else {
+        return Ok(());
+    };
+    lengths.push((*edge).min(size.saturating_sub(*first)))?;
+    push_lengths(starts, sizes, edges, lengths)
 }
 
 /// The elements at the places of a box of an array, row-major: in stretches where each element has

@@ -12,6 +12,7 @@ use crate::codec::ShardingCodec;
 use crate::decoding::fill_piece;
 use crate::partial::NumberedPlaces;
 use crate::slices::store_piece;
+use crate::subchunks::part_shape;
 use std::alloc::{AllocError, Global};
 use zarr_codecs_arrays::{ArrayBytes, CodecError, Elements};
 use zarr_codecs_options::CodecOptions;
@@ -39,17 +40,26 @@ pub struct NumberedElements<'a> {
     pub bytes: &'a ArrayBytes,
 }
 
-/// New elements for places of an array, and those of its places that lie in one subchunk.
+/// A subchunk of an array: its number, row-major, and its shape.
+#[derive(Clone, Copy)]
+pub struct NumberedSubchunk<'a> {
+    pub number: usize,
+    pub shape: &'a [u64],
+}
+
+/// New elements for places of an array, and those of its places that lie in one subchunk, which has
+/// this shape.
 #[derive(Clone, Copy)]
 struct GroupElements<'a> {
     bytes: &'a ArrayBytes,
     group: &'a [AskedPlace],
+    shape: &'a [u64],
 }
 
-/// All elements of the subchunk with this number, in its order.
+/// All elements of a subchunk, in its order.
 #[derive(Drop)]
-struct SubchunkElements {
-    number: usize,
+struct SubchunkElements<'a> {
+    subchunk: NumberedSubchunk<'a>,
     bytes: ArrayBytes,
 }
 
@@ -125,10 +135,12 @@ impl<I: ArrayToBytesCodecTraits, X: ArrayToBytesCodecTraits> ShardingCodec<I, X>
     {
         match self.whole_subchunk(given.shape, given.indexer) {
             Some(n) => {
-                let whole = SubchunkElements {
-                    number: n as usize,
-                    bytes: given.bytes,
-                };
+                let lengths = part_shape(alloc, given.shape, &self.subchunk_shape, n)?;
+                let shape = lengths.as_slice();
+                let number = n as usize;
+                let subchunk = NumberedSubchunk { number, shape };
+                let bytes = given.bytes;
+                let whole = SubchunkElements { subchunk, bytes };
                 match self.replace_subchunk(alloc, source, shard, whole, options) {
                     Ok(change) => Ok(one_change(alloc, change)?),
                     Err(error) => Err(error),
@@ -193,8 +205,13 @@ impl<I: ArrayToBytesCodecTraits, X: ArrayToBytesCodecTraits> ShardingCodec<I, X>
         let mut rest = places.as_slice();
         while rest.len() > 0 {
             let (group, others) = leading_group(rest);
-            let bytes = given.bytes;
-            let part = GroupElements { bytes, group };
+            let lengths = part_shape(alloc, shape, &self.subchunk_shape, group[0].subchunk)?;
+            let edges = lengths.as_slice();
+            let part = GroupElements {
+                bytes: given.bytes,
+                group,
+                shape: edges,
+            };
             match self.update_group(alloc, source, shard, part, options) {
                 Ok(change) => changes.push(change)?,
                 Err(error) => return Err(error),
@@ -214,7 +231,7 @@ impl<I: ArrayToBytesCodecTraits, X: ArrayToBytesCodecTraits> ShardingCodec<I, X>
         options: &CodecOptions,
     ) -> Result<SliceChange, CodecError>
         requires fit { fits (I.meaning (inner_of self.now)) (elements_of shard.elements.now).type
-            (subchunk_of self.now) ≡ true }
+            given.shape.now ≡ true }
         requires some { 0 < length given.group.now }
         requires pair { (get_or given.group.now 0 no_place).subchunk
             < length (pairs_in shard.known.now) }
@@ -225,11 +242,11 @@ impl<I: ArrayToBytesCodecTraits, X: ArrayToBytesCodecTraits> ShardingCodec<I, X>
             → (cells : List Cell) (count : ℕ) → IsValid (elements_of shard.entry.elements.now).type
             (payload_of given.entry.bytes.now) count cells
             → list_all (λ n. nat_lt n count) (positions given.entry.group.now) ≡ true
-            → list_all (λ n. nat_lt n (product (subchunk_of self.now)))
+            → list_all (λ n. nat_lt n (product given.entry.shape.now))
             (insides given.entry.group.now) ≡ true
             → UpdatesGroup (stored_in (I.meaning (inner_of self.now))
             (I.is_function (inner_of self.now)) (elements_of shard.entry.elements.now)
-            (D.contents source.old) (pairs_in shard.entry.known.now)) (subchunk_of self.now)
+            (D.contents source.old) (pairs_in shard.entry.known.now)) given.entry.shape.now
             (get_or given.entry.group.now 0 no_place).subchunk given.entry.group.now cells result }
         ensures number { IfOk result
             (λ change. change.number ≡ (get_or given.entry.group.now 0 no_place).subchunk) }
@@ -243,11 +260,12 @@ impl<I: ArrayToBytesCodecTraits, X: ArrayToBytesCodecTraits> ShardingCodec<I, X>
     {
         let number = given.group[0].subchunk as usize;
         let elements = shard.elements;
-        let edges = self.subchunk_shape.as_slice();
-        match self.read_subchunk(alloc, source, shard, number, options) {
+        let shape = given.shape;
+        let subchunk = NumberedSubchunk { number, shape };
+        match self.read_subchunk(alloc, source, shard, subchunk, options) {
             Ok(piece) => {
-                let updated = put_given(alloc, piece, edges, given.group, given.bytes, elements)?;
-                match store_piece(alloc, &self.inner_codecs, updated, elements, edges, options) {
+                let updated = put_given(alloc, piece, shape, given.group, given.bytes, elements)?;
+                match store_piece(alloc, &self.inner_codecs, updated, elements, shape, options) {
                     Ok(slice) => Ok(SliceChange { number, slice }),
                     Err(error) => Err(error),
                 }
@@ -263,43 +281,44 @@ impl<I: ArrayToBytesCodecTraits, X: ArrayToBytesCodecTraits> ShardingCodec<I, X>
         alloc: Global,
         source: &mut D,
         shard: ShardInSource<'_>,
-        given: SubchunkElements,
+        given: SubchunkElements<'_>,
         options: &CodecOptions,
     ) -> Result<SliceChange, CodecError>
         requires fit { fits (I.meaning (inner_of self.now)) (elements_of shard.elements.now).type
-            (subchunk_of self.now) ≡ true }
-        requires pair { given.number < length (pairs_in shard.known.now) }
+            given.subchunk.shape.now ≡ true }
+        requires pair { given.subchunk.number < length (pairs_in shard.known.now) }
         requires low { shard.layout.size < 2 ^ 63 }
         ensures change { IsTrue (D.is_honest source.old) → IsOf
             (location_of shard.entry.layout.location) shard.entry.layout.size
             (D.contents source.old) (pairs_in shard.entry.known.now) (end_of shard.entry.known.now)
             → (cells : List Cell) (group : List AskedPlace)
-            → IsValid (elements_of shard.entry.elements.now).type (payload_of given.bytes)
-            (product (subchunk_of self.now)) cells
-            → PutsAll (subchunk_of self.now) (elements_of shard.entry.elements.now).fill group cells
+            → IsValid (elements_of shard.entry.elements.now).type (payload_of given.entry.bytes)
+            (product given.entry.subchunk.shape.now) cells
+            → PutsAll given.entry.subchunk.shape.now (elements_of shard.entry.elements.now).fill
+            group cells
             → UpdatesGroup (stored_in (I.meaning (inner_of self.now))
             (I.is_function (inner_of self.now)) (elements_of shard.entry.elements.now)
-            (D.contents source.old) (pairs_in shard.entry.known.now)) (subchunk_of self.now)
-            given.number group cells result }
-        ensures number { IfOk result (λ change. change.number ≡ given.number) }
+            (D.contents source.old) (pairs_in shard.entry.known.now))
+            given.entry.subchunk.shape.now given.entry.subchunk.number group cells result }
+        ensures number { IfOk result (λ change. change.number ≡ given.entry.subchunk.number) }
         ensures refused { D.refused_calls source.new ≡
             refused_after (D.refused_calls source.old) result }
         ensures given { IsTrue (D.is_honest source.old) → D.given_bytes source.new
-            ≤ D.given_bytes source.old
-            + slice_length (get_or (pairs_in shard.entry.known.now) given.number absent_pair) }
+            ≤ D.given_bytes source.old + slice_length
+            (get_or (pairs_in shard.entry.known.now) given.entry.subchunk.number absent_pair) }
         ensures follows { D.follows source.old source.new }
     {
-        let number = given.number;
+        let subchunk = given.subchunk;
+        let number = subchunk.number;
         let elements = shard.elements;
-        let edges = self.subchunk_shape.as_slice();
-        match self.read_subchunk(alloc, source, shard, number, options) {
+        match self.read_subchunk(alloc, source, shard, subchunk, options) {
             Ok(_old) => {
                 match store_piece(
                     alloc,
                     &self.inner_codecs,
                     given.bytes,
                     elements,
-                    edges,
+                    subchunk.shape,
                     options,
                 ) {
                     Ok(slice) => Ok(SliceChange { number, slice }),
@@ -310,42 +329,43 @@ impl<I: ArrayToBytesCodecTraits, X: ArrayToBytesCodecTraits> ShardingCodec<I, X>
         }
     }
 
-    /// The elements of the subchunk with this number: fill values where it is absent. `Damage`
-    /// where its slice is not one of the inner codecs', and `Source` where the source refuses.
+    /// The elements of a subchunk of this number and shape: fill values where it is absent.
+    /// `Damage` where its slice is not one of the inner codecs', and `Source` where the source
+    /// refuses.
     pub fn read_subchunk<D: BytesPartialDecoderTraits>(
         &self,
         alloc: Global,
         source: &mut D,
         shard: ShardInSource<'_>,
-        number: usize,
+        subchunk: NumberedSubchunk<'_>,
         options: &CodecOptions,
     ) -> Result<ArrayBytes, CodecError>
         requires fit { fits (I.meaning (inner_of self.now)) (elements_of shard.elements.now).type
-            (subchunk_of self.now) ≡ true }
-        requires below { number < length (pairs_in shard.known.now) }
+            subchunk.shape.now ≡ true }
+        requires below { subchunk.number < length (pairs_in shard.known.now) }
         requires low { shard.layout.size < 2 ^ 63 }
         ensures elements { IsTrue (D.is_honest source.old) → IsOf
             (location_of shard.entry.layout.location) shard.entry.layout.size
             (D.contents source.old) (pairs_in shard.entry.known.now) (end_of shard.entry.known.now)
-            → ListsRead (elements_of shard.entry.elements.now) (subchunk_of self.now)
+            → ListsRead (elements_of shard.entry.elements.now) subchunk.entry.shape.now
             (piece_decoded (I.meaning (inner_of self.now)) (elements_of shard.entry.elements.now)
-            (unwrap_or (D.contents source.old) []) (subchunk_of self.now)
-            (get_or (pairs_in shard.entry.known.now) number absent_pair)) result }
+            (unwrap_or (D.contents source.old) []) subchunk.entry.shape.now
+            (get_or (pairs_in shard.entry.known.now) subchunk.entry.number absent_pair)) result }
         ensures refused { D.refused_calls source.new ≡
             refused_after (D.refused_calls source.old) result }
         ensures given { IsTrue (D.is_honest source.old) → D.given_bytes source.new
-            ≤ D.given_bytes source.old
-            + slice_length (get_or (pairs_in shard.entry.known.now) number absent_pair) }
+            ≤ D.given_bytes source.old + slice_length
+            (get_or (pairs_in shard.entry.known.now) subchunk.entry.number absent_pair) }
         ensures follows { D.follows source.old source.new }
     {
-        let edges = self.subchunk_shape.as_slice();
+        let shape = subchunk.shape;
         let known = shard.known;
-        match known.retrieve_subchunk_encoded(alloc, source, shard.layout, number) {
+        match known.retrieve_subchunk_encoded(alloc, source, shard.layout, subchunk.number) {
             Ok(Some(slice)) => {
                 self.inner_codecs
-                    .decode(alloc, slice, shard.elements, edges, options)
+                    .decode(alloc, slice, shard.elements, shape, options)
             }
-            Ok(None) => fill_piece(alloc, shard.elements, edges),
+            Ok(None) => fill_piece(alloc, shard.elements, shape),
             Err(error) => Err(error),
         }
     }

@@ -17,9 +17,8 @@ use Rattle.zarr_codecs_meaning.proofs.Positions.{each_at}
 use Rattle.zarr_sharding_codec.specs.BytesMet.{is_met}
 use Rattle.zarr_sharding_codec.specs.Reading.{shard_cell, shard_cells}
 use Rattle.zarr_sharding_codec.proofs.PlaceCells.{shard_place}
-use Rattle.zarr_sharding_codec.proofs.ShardSizes.{divides_fit}
 use Rattle.zarr_sharding_index.specs.Held.{IsIndexHeld}
-use Rattle.zarr_sharding_places.specs.Locating.{inside_of, subchunk_of}
+use Rattle.zarr_sharding_places.specs.Locating.{inside_of, part_shape, subchunk_of}
 use Rattle.zarr_sharding_decoder.specs.Laws.{MeetAlike, PartIsLocal}
 use Rattle.zarr_sharding_decoder.specs.Shards.{ShardOf, chain_of}
 
@@ -44,15 +43,14 @@ place_alike s numbers value other i fit inside alike below =
     let k = subchunk_of s.shape s.subchunk n in
     let pair = get_or pairs k absent_pair in
     let cuts = (fitted s.subchunk s.inner s.index s.location s.elements s.shape fit).cuts in
-    let even = divides_fit s.subchunk s.inner s.index s.location s.elements.type s.shape fit in
     let two = index_product s.shape s.subchunk in
     let count = alike.first.many in
     let many : length pairs ≡ length (parts_of s.shape s.subchunk) = omega (arith, two, count) in
     let low : n < product s.shape = ltb-true n (product s.shape) (each_at (λ n. nat_lt n (product s.shape) ≡ true) numbers i 0 (each_passes (λ n. nat_lt n (product s.shape)) numbers inside) below) in
     let met : is_met s.shape s.subchunk numbers k ≡ true = list_any_at (λ (number : ℕ). subchunk_of s.shape s.subchunk number == k) numbers i 0 below (eq-eqb k k refl) in
-    shard_place s.inner s.elements s.shape s.subchunk value pairs n cuts even many low
-    ∙ (ap (λ (o : Option (List ℕ)). if is_absent pair then Some s.elements.fill else option_and_then (λ slice. cell_at s.inner s.elements s.subchunk slice (inside_of s.shape s.subchunk n)) o) (alike.slices k met)
-    ∙ sym (shard_place s.inner s.elements s.shape s.subchunk other pairs n cuts even many low))
+    shard_place s.inner s.elements s.shape s.subchunk value pairs n cuts many low
+    ∙ (ap (λ (o : Option (List ℕ)). if is_absent pair then Some s.elements.fill else option_and_then (λ slice. cell_at s.inner s.elements (part_shape s.shape s.subchunk k) slice (inside_of s.shape s.subchunk n)) o) (alike.slices k met)
+    ∙ sym (shard_place s.inner s.elements s.shape s.subchunk other pairs n cuts many low))
 
 pub part_is_local : PartIsLocal
 part_is_local s numbers value other fit inside alike =

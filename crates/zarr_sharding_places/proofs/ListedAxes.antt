@@ -16,7 +16,7 @@ axes_none (size ∷ sizes) (edge ∷ edges) (count ∷ counts) none = absurd (om
 -- the first dimension, put after all later ones, is the first one once they are turned round
 pub axes_whole : (shape edges grid : List ℕ) (listed made whole : List Axis) (first : Axis) → 0 < length grid → length grid ≤ length shape → length grid ≤ length edges
     → listed ≡ reverse (axes_of (drop 1 shape) (drop 1 edges) (drop 1 grid))
-    → first ≡ record { edge = get_or edges 0 0; places = product (drop 1 shape); subchunks = product (drop 1 grid); inside = product (drop 1 edges) }
+    → first ≡ record { size = get_or shape 0 0; edge = get_or edges 0 0; places = product (drop 1 shape); subchunks = product (drop 1 grid) }
     → made ≡ listed ++ first ∷ [] → whole ≡ reverse made → whole ≡ axes_of shape edges grid
 axes_whole shape edges [] listed made whole first some sizes ends are is pushed turned = absurd (omega (arith, some))
 axes_whole [] edges (count ∷ counts) listed made whole first some sizes ends are is pushed turned = absurd (omega (arith, sizes))

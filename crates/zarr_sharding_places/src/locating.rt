@@ -18,20 +18,29 @@ pub struct AskedPlace {
     pub position: u64,
 }
 
-/// What one dimension adds to numbers: the edge of a subchunk, and how many places, subchunks, and
-/// places of a subchunk all later dimensions have.
+/// One dimension of an array that is cut into subchunks: its size, the edge of a subchunk, and how
+/// many places and subchunks all later dimensions have.
 #[derive(Clone, Copy, Debug)]
 pub(crate) struct Axis {
+    pub size: u64,
     pub edge: u64,
     pub places: u64,
     pub subchunks: u64,
+}
+
+/// The numbers of the subchunk that a place lies in and of the place in that subchunk, and how many
+/// places that subchunk has.
+#[derive(Clone, Copy, Debug)]
+pub(crate) struct Located {
+    pub subchunk: u64,
     pub inside: u64,
+    pub count: u64,
 }
 
 /// The places with these numbers in an array, subchunk by subchunk, those of one subchunk in the
 /// order in which they are asked for; the array is cut into subchunks of these edges, as many as
-/// the grid says in each dimension. `Err` where an allocation failed, and where there are 2^63
-/// places or more.
+/// the grid says in each dimension, the last one cut short. `Err` where an allocation failed, and
+/// where there are 2^63 places or more.
 pub fn places_by_subchunk(
     alloc: Global,
     numbers: &[u64],
@@ -73,16 +82,16 @@ fn locate_all(
             return Err(AllocError);
         };
         places.push(AskedPlace {
-            subchunk: found.0,
-            inside: found.1,
+            subchunk: found.subchunk,
+            inside: found.inside,
             position: position as u64,
         })?;
     }
     Ok(places)
 }
 
-/// What each dimension of the grid adds to numbers. It goes from the last dimension to the first,
-/// and multiplies what the later ones have by one size at a time, so it reads each size once.
+/// The dimensions of the grid. It goes from the last one to the first, and multiplies what the
+/// later ones have by one size at a time, so it reads each size once.
 fn list_axes(
     alloc: Global,
     shape: &[u64],
@@ -100,23 +109,21 @@ fn list_axes(
     }
     let mut places = count(&shape[dimensions..])?;
     let mut subchunks = 1;
-    let mut inside = count(&edges[dimensions..])?;
     for k in (1..dimensions).rev() {
         axes.push(Axis {
+            size: shape[k],
             edge: edges[k],
             places,
             subchunks,
-            inside,
         })?;
         places = times(shape[k], places)?;
         subchunks = times(grid[k], subchunks)?;
-        inside = times(edges[k], inside)?;
     }
     axes.push(Axis {
+        size: shape[0],
         edge: edges[0],
         places,
         subchunks,
-        inside,
     })?;
     axes.reverse();
     Ok(axes)
@@ -144,19 +151,27 @@ fn times(size: u64, count: u64) -> Result<u64, AllocError>
 
 /// The numbers of the subchunk that a place lies in and of the place in that subchunk. `None` where
 /// there is no such place, or a number is too large.
-fn locate(axes: &[Axis], n: u64) -> Option<(u64, u64)>
+fn locate(axes: &[Axis], n: u64) -> Option<Located>
     ensures { IfSome result (λ found. found ≡ located axes.now n) }
 {
     let Some((axis, others)) = axes.split_first() else {
-        return Some((0, 0));
+        return Some(Located {
+            subchunk: 0,
+            inside: 0,
+            count: 1,
+        });
     };
     let along = n.checked_div(axis.places)?;
-    let rest = n.checked_rem(axis.places)?;
-    let (subchunk, inside) = locate(others, rest)?;
-    let subchunks = along.checked_div(axis.edge)?.checked_mul(axis.subchunks)?;
-    let insides = along.checked_rem(axis.edge)?.checked_mul(axis.inside)?;
-    Some((
-        subchunks.checked_add(subchunk)?,
-        insides.checked_add(inside)?,
-    ))
+    let rest = locate(others, n.checked_rem(axis.places)?)?;
+    let block = along.checked_div(axis.edge)?;
+    let first = block.checked_mul(axis.edge)?;
+    let within = along.checked_rem(axis.edge)?;
+    let extent = axis.edge.min(axis.size.saturating_sub(first));
+    Some(Located {
+        subchunk: block
+            .checked_mul(axis.subchunks)?
+            .checked_add(rest.subchunk)?,
+        inside: within.checked_mul(rest.count)?.checked_add(rest.inside)?,
+        count: extent.checked_mul(rest.count)?,
+    })
 }

@@ -19,7 +19,6 @@ loop-k-init c =
       listed = c.in_ok-axes.ensures.items ∙ sym (ap reverse (axes_none (drop (length grid) c.args.shape.now) (drop (length grid) c.args.edges.now) (drop (length grid) grid) (ap length none)));
       places = c.in_ok-places.ensures ∙ ap product (take_rest c.args.shape.now (length grid));
       subchunks = sym (ap product none);
-      inside = c.in_ok-inside.ensures ∙ ap product (take_rest c.args.edges.now (length grid));
     }
 
 pub loop-k-preserved : goal.loop-k-preserved
@@ -34,6 +33,5 @@ returns c =
     let listed = rw one at c.loop-k.invariant.listed in
     let places = rw one at c.loop-k.invariant.places in
     let subchunks = rw one at c.loop-k.invariant.subchunks in
-    let inside = rw one at c.loop-k.invariant.inside in
-    let first : Axis = record { edge = get_or edges 0 0; places = c.loop-k.places; subchunks = c.loop-k.subchunks; inside = c.loop-k.inside } in
+    let first : Axis = record { size = get_or shape 0 0; edge = get_or edges 0 0; places = c.loop-k.places; subchunks = c.loop-k.subchunks } in
     axes_whole shape edges grid c.loop-k.axes.items c.push-2.new.self.items c.reverse.new.self.items first (omega arith) c.requires.sizes c.requires.edges listed (cc) c.in_ok-push-2.ensures.items c.reverse.ensures.items

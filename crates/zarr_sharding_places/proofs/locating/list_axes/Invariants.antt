@@ -10,5 +10,4 @@ invariant-loop-k l = record {
   listed : l.axes.items ≡ reverse (axes_of (drop l.k l.shape) (drop l.k l.edges) (drop l.k l.grid));
   places : l.places ≡ product (drop l.k l.shape);
   subchunks : l.subchunks ≡ product (drop l.k l.grid);
-  inside : l.inside ≡ product (drop l.k l.edges);
 }

@@ -191,7 +191,7 @@ returns-in-Err-clause-cause g c = λ honest told cells valid.
     let of : IsOf (location_of c.index_location.result) self.size old.contents old.pairs old.end =
     subst (λ (l : Location). IsOf l self.size old.contents old.pairs old.end) (sym c.index_location.ensures) (subst (λ n. IsOf s.location n old.contents old.pairs old.end) (sym size_is) (told_of s old told)) in
     let exact = g.I.ArrayToBytesCodecTraits.is_function codec.inner_codecs in
-    unchanged s exact (put_at s.shape s.subchunk (numbers_asked s.shape (asked_of c.args.indexer)) cells) old c.in-Err.error refl (c.in-Err.ensures.changes honest of cells valid)
+    unchanged s exact (put_at s.shape s.subchunk (numbers_asked s.shape (asked_of c.args.indexer)) cells) old c.in-Err.error (c.in-Err.ensures.changes honest of cells valid)
 
 pub returns-in-Ok-clause-given : goal.returns-in-Ok-clause-given
 returns-in-Ok-clause-given g c = λ honest.

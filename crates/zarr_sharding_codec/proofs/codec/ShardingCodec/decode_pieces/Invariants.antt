@@ -8,10 +8,9 @@ use Rattle.zarr_sharding_places.specs.Boxed.{ShowsBoxes}
 use Rattle.zarr_sharding_places.proofs.ReadPieces.{ShowsPieces}
 use Rattle.zarr_sharding_codec.proofs.codec.ShardingCodec.decode_pieces.Given as goal
 
--- the cells so far: those of the first subchunks are decoded; and a box of the shape of one
+-- the cells so far: those of the first subchunks are decoded
 abbrev pub invariant-loop-n : goal.invariant-loop-n
 invariant-loop-n g l = record {
-  whole : l.region.shape.items ≡ l.self.subchunk_shape;
   shown : (cells : List Cell) × ShowsBoxes (elements_of l.array.elements.now) l.all cells × (length cells ≡ product l.array.shape.now)
       × ShowsPieces (g.I.ArrayToBytesCodecTraits.meaning l.self.inner_codecs) (elements_of l.array.elements.now) l.shard.value.now (parts_of l.array.shape.now l.self.subchunk_shape) (pairs_of l.shard.index.now) cells l.n;
 }

@@ -1,5 +1,6 @@
 use Rattle.std.proofs.Common.{◌≡◌, ◌∙◌, ◌+◌, IsTrue, Option, List, ℕ, [], Ok, Err, ap, sym, refl, subst, arith, length, replicate, unwrap_or}
 use Rattle.zarr_codecs_arrays.specs.Views.{elements_of}
+use Rattle.zarr_codecs_meaning.specs.Fits.{fits}
 use Rattle.zarr_codecs_meaning.proofs.Fitting.{fitted}
 use Rattle.zarr_codecs_regions.proofs.AskedPlaces as regions
 use Rattle.zarr_codecs_regions.specs.Updates.{put}
@@ -9,14 +10,15 @@ use Rattle.zarr_grids_boxes.specs.Boxes.{product}
 use Rattle.zarr_grids_boxes.specs.Subsets.{region_of}
 use Rattle.zarr_sharding_index.specs.Views.{location_of, pairs_of}
 use Rattle.zarr_sharding_places.specs.Boxed.{ShowsBoxes}
+use Rattle.zarr_sharding_places.specs.Locating.{part_shape}
 use Rattle.zarr_sharding_codec.specs.BoxReading.{AreMet, StandIn}
 use Rattle.zarr_sharding_codec.specs.Reading.{IsTotalOf}
 use Rattle.zarr_sharding_codec.proofs.BoxInSubchunk.{numbers_many}
 use Rattle.zarr_sharding_codec.proofs.BoxRead.{box_before, box_begun, box_done, box_more, box_unread, given_begun, given_done, given_next}
 use Rattle.zarr_sharding_codec.proofs.GroupsRead.{AskedShard}
-use Rattle.zarr_sharding_codec.proofs.ShardSizes.{divides_fit}
+use Rattle.zarr_sharding_codec.proofs.NumberedParts.{part_fits}
 use Rattle.zarr_sharding_codec.proofs.SoFarRead.{askable}
-use Rattle.zarr_sharding_codec.proofs.StoredLoop.{inner_fit, rank_fits}
+use Rattle.zarr_sharding_codec.proofs.StoredLoop.{rank_fits}
 use Rattle.zarr_sharding_codec.proofs.codec.ShardingCodec.read_cuts.Goals as goal
 
 pub subchunks_met-requires-clause-cuts : goal.subchunks_met-requires-clause-cuts
@@ -34,11 +36,6 @@ cut_at-requires-clause-cuts g c =
     let self = c.args.self.now in
     (fitted self.subchunk_shape (g.I.ArrayToBytesCodecTraits.meaning self.inner_codecs) (g.X.ArrayToBytesCodecTraits.meaning self.index_codecs) (location_of self.index_location) (elements_of c.args.shard.elements.now) c.args.asked.shape.now c.requires.fit).cuts
 
-pub cut_at-requires-clause-even : goal.cut_at-requires-clause-even
-cut_at-requires-clause-even g c =
-    let self = c.args.self.now in
-    divides_fit self.subchunk_shape (g.I.ArrayToBytesCodecTraits.meaning self.inner_codecs) (g.X.ArrayToBytesCodecTraits.meaning self.index_codecs) (location_of self.index_location) (elements_of c.args.shard.elements.now).type c.args.asked.shape.now c.requires.fit
-
 pub cut_at-requires-clause-rank : goal.cut_at-requires-clause-rank
 cut_at-requires-clause-rank g c =
     let self = c.args.self.now in
@@ -52,7 +49,11 @@ cut_at-requires-clause-below g c =
 pub read_inside-requires-clause-fit : goal.read_inside-requires-clause-fit
 read_inside-requires-clause-fit g c =
     let self = c.args.self.now in
-    inner_fit self.subchunk_shape (g.I.ArrayToBytesCodecTraits.meaning self.inner_codecs) (g.X.ArrayToBytesCodecTraits.meaning self.index_codecs) (location_of self.index_location) (elements_of c.args.shard.elements.now) c.args.asked.shape.now c.requires.fit
+    let inner = g.I.ArrayToBytesCodecTraits.meaning self.inner_codecs in
+    let elements = elements_of c.args.shard.elements.now in
+    let are = subst (λ (ns : List ℕ). AreMet c.args.asked.shape.now c.args.self.now.subchunk_shape (numbers_of c.args.asked.shape.now (region_of c.args.asked.region.now)) ns) (sym c.as_slice-met.ensures.value) c.in_ok-found.ensures in
+    ap (fits inner elements.type) c.in_ok-cut.ensures.edges
+    ∙ part_fits self.subchunk_shape inner (g.X.ArrayToBytesCodecTraits.meaning self.index_codecs) (location_of self.index_location) elements c.args.asked.shape.now _ c.requires.fit (are.below c.loop-j.j c.loop-j-test.true)
 
 pub read_inside-requires-clause-pair : goal.read_inside-requires-clause-pair
 read_inside-requires-clause-pair g c =
@@ -113,7 +114,8 @@ loop-j-preserved g c =
     let j = c.loop-j.j in
     let k = cut.inside.number in
     let positions = numbers_of region.shape (region_of cut.target) in
-    let insides = numbers_of self.subchunk_shape (region_of cut.inside.region) in
+    let edges = cut.inside.shape.items in
+    let insides = numbers_of edges (region_of cut.inside.region) in
     record {
       follows = laws.goes_on _ _ _ inv.follows c.in-Ok.ensures.follows;
       refused = c.in-Ok.ensures.refused ∙ inv.refused;
@@ -131,7 +133,8 @@ loop-j-preserved g c =
           let stand = subst (λ n. StandIn s.shape s.subchunk s.numbers positions insides n) (sym out.number) out.stand in
           let still = subst IsTrue (laws.honest _ _ inv.follows) honest in
           let same = laws.same _ _ inv.follows in
-          let found = box_before s (g.D.BytesPartialDecoderTraits.contents c.args.source.now) (g.D.BytesPartialDecoderTraits.contents c.loop-j.source) k insides (Ok c.in-Ok.piece) same
+          let is = out.edges ∙ ap (part_shape s.shape s.subchunk) (sym out.number) in
+          let found = box_before s (g.D.BytesPartialDecoderTraits.contents c.args.source.now) (g.D.BytesPartialDecoderTraits.contents c.loop-j.source) edges k insides (Ok c.in-Ok.piece) same is
           (c.in-Ok.ensures.part still (subst (λ (o : Option (List ℕ)). IsTotalOf o s.pairs c.args.shard.total) same told)) in
           let long = numbers_many region.shape (region_of cut.target) cut.target.same in
           box_more s positions insides k can stand met c.loop-j.all c.in_ok-all-in-Ok.all j found.cells (sym out.number) (inv.read honest told) found.is
@@ -150,7 +153,7 @@ loop-j-preserved g c =
           let stand = subst (λ n. StandIn s.shape s.subchunk s.numbers positions insides n) (sym out.number) out.stand in
           let count = g.D.BytesPartialDecoderTraits.given_bytes in
           let some = out.some in
-          let size = numbers_many self.subchunk_shape (region_of cut.inside.region) cut.inside.region.same in
+          let size = numbers_many edges (region_of cut.inside.region) cut.inside.region.same in
           let many = stand.many in
           given_next s met positions insides k (count c.args.source.now) (count c.loop-j.source) (count c.read_inside.new.source) j can are stand (omega (arith, some, size, many)) c.loop-j-test.true (sym out.number) (inv.given honest)
           (c.in-Ok.ensures.given (subst IsTrue (laws.honest _ _ inv.follows) honest));
@@ -169,9 +172,9 @@ returns-in-Err g c =
     let k = cut.inside.number in
     let e = c.in-Err.error in
     let positions = numbers_of region.shape (region_of cut.target) in
-    let insides = numbers_of self.subchunk_shape (region_of cut.inside.region) in
+    let edges = cut.inside.shape.items in
+    let insides = numbers_of edges (region_of cut.inside.region) in
     let are = subst (λ (ns : List ℕ). AreMet c.args.asked.shape.now c.args.self.now.subchunk_shape (numbers_of c.args.asked.shape.now (region_of c.args.asked.region.now)) ns) (sym c.as_slice-met.ensures.value) c.in_ok-found.ensures in
-    let below = are.below j c.loop-j-test.true in
     record {
       part = λ honest told.
           let s : AskedShard = record {
@@ -187,10 +190,9 @@ returns-in-Err g c =
           let stand = subst (λ n. StandIn s.shape s.subchunk s.numbers positions insides n) (sym out.number) out.stand in
           let still = subst IsTrue (laws.honest _ _ inv.follows) honest in
           let same = laws.same _ _ inv.follows in
-          let number = out.number in
-          let pairs = c.requires.many in
-          box_unread s positions insides k can stand e (omega (arith, below, pairs, number))
-          (box_before s (g.D.BytesPartialDecoderTraits.contents c.args.source.now) (g.D.BytesPartialDecoderTraits.contents c.loop-j.source) k insides (Err e) same (c.in-Err.ensures.part still (subst (λ (o : Option (List ℕ)). IsTotalOf o s.pairs c.args.shard.total) same told)));
+          let is = out.edges ∙ ap (part_shape s.shape s.subchunk) (sym out.number) in
+          box_unread s positions insides k can stand e
+          (box_before s (g.D.BytesPartialDecoderTraits.contents c.args.source.now) (g.D.BytesPartialDecoderTraits.contents c.loop-j.source) edges k insides (Err e) same is (c.in-Err.ensures.part still (subst (λ (o : Option (List ℕ)). IsTotalOf o s.pairs c.args.shard.total) same told)));
       refused = c.in-Err.ensures.refused ∙ ap (λ n. refused_after {A = List ℕ} n (Err e)) inv.refused;
       given = λ honest.
           let s : AskedShard = record {
@@ -206,7 +208,7 @@ returns-in-Err g c =
           let stand = subst (λ n. StandIn s.shape s.subchunk s.numbers positions insides n) (sym out.number) out.stand in
           let count = g.D.BytesPartialDecoderTraits.given_bytes in
           let some = out.some in
-          let size = numbers_many self.subchunk_shape (region_of cut.inside.region) cut.inside.region.same in
+          let size = numbers_many edges (region_of cut.inside.region) cut.inside.region.same in
           let many = stand.many in
           given_done s met (count c.args.source.now) (count c.read_inside.new.source) (j + 1)
           (given_next s met positions insides k (count c.args.source.now) (count c.loop-j.source) (count c.read_inside.new.source) j can are stand (omega (arith, some, size, many)) c.loop-j-test.true (sym out.number) (inv.given honest)
@@ -300,7 +302,8 @@ returns-in_err-all-in-Ok-clause-given g c = λ honest.
     let j = c.loop-j.j in
     let k = cut.inside.number in
     let positions = numbers_of region.shape (region_of cut.target) in
-    let insides = numbers_of self.subchunk_shape (region_of cut.inside.region) in
+    let edges = cut.inside.shape.items in
+    let insides = numbers_of edges (region_of cut.inside.region) in
     let s : AskedShard = record {
       inner = g.I.ArrayToBytesCodecTraits.meaning self.inner_codecs;
       elements = elements_of c.args.shard.elements.now;
@@ -314,7 +317,7 @@ returns-in_err-all-in-Ok-clause-given g c = λ honest.
     let stand = subst (λ n. StandIn s.shape s.subchunk s.numbers positions insides n) (sym out.number) out.stand in
     let count = g.D.BytesPartialDecoderTraits.given_bytes in
     let some = out.some in
-    let size = numbers_many self.subchunk_shape (region_of cut.inside.region) cut.inside.region.same in
+    let size = numbers_many edges (region_of cut.inside.region) cut.inside.region.same in
     let many = stand.many in
     given_done s met (count c.args.source.now) (count c.read_inside.new.source) (j + 1)
     (given_next s met positions insides k (count c.args.source.now) (count c.loop-j.source) (count c.read_inside.new.source) j can are stand (omega (arith, some, size, many)) c.loop-j-test.true (sym out.number) (inv.given honest)

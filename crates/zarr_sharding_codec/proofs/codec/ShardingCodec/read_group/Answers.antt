@@ -7,7 +7,6 @@ use Rattle.zarr_codecs_meaning.specs.Types.{Cell}
 use Rattle.zarr_sharding_index.specs.Held.{FetchesSlice}
 use Rattle.zarr_sharding_codec.specs.Reading.{Lists, places_decoded, slice_cells}
 use Rattle.zarr_sharding_index.specs.Views.{pairs_of}
-use Rattle.zarr_sharding_places.specs.Groups.{no_place}
 use Rattle.zarr_sharding_places.specs.declared.locating.AskedPlace.{AskedPlace}
 use Rattle.zarr_sharding_codec.proofs.PartsRead.{absent_places, lists_read, present_places, present_value, slice_unread}
 use Rattle.zarr_sharding_codec.proofs.codec.ShardingCodec.read_group.Goals as goal
@@ -15,25 +14,27 @@ use Rattle.zarr_sharding_codec.proofs.codec.ShardingCodec.read_group.Goals as go
 pub returns-then-is_absent-clause-part : goal.returns-then-is_absent-clause-part
 returns-then-is_absent-clause-part g c = λ honest told.
     let self = c.args.self.now in
+    let shape = c.args.part.shape.now in
     let elements = elements_of c.args.shard.elements.now in
-    let group = c.args.group.now in
-    let pair = get_or (pairs_of c.args.shard.index.now) (get_or group 0 no_place).subchunk absent_pair in
+    let group = c.args.part.group.now in
+    let pair = get_or (pairs_of c.args.shard.index.now) c.args.part.number absent_pair in
     let insides = map (λ (place : AskedPlace). place.inside) group in
     let absent : is_absent pair ≡ true = ap is_absent (sym c.get-pair.ensures) ∙ (sym c.is_absent.ensures ∙ c.if-is_absent.true) in
     record {
       cells = replicate (length group) elements.fill;
-      is = absent_places (g.I.ArrayToBytesCodecTraits.meaning self.inner_codecs) elements (unwrap_or (g.D.BytesPartialDecoderTraits.contents c.args.source.now) []) self.subchunk_shape pair insides absent ∙ ap (λ k. Some (replicate k elements.fill)) (length-map group (λ (place : AskedPlace). place.inside));
+      is = absent_places (g.I.ArrayToBytesCodecTraits.meaning self.inner_codecs) elements (unwrap_or (g.D.BytesPartialDecoderTraits.contents c.args.source.now) []) shape pair insides absent ∙ ap (λ k. Some (replicate k elements.fill)) (length-map group (λ (place : AskedPlace). place.inside));
       lists = c.in_ok-fill_elements.ensures;
     }
 
 pub returns-in_ok-insides-in-Ok-clause-part : goal.returns-in_ok-insides-in-Ok-clause-part
 returns-in_ok-insides-in-Ok-clause-part g c = λ honest told.
     let self = c.args.self.now in
+    let shape = c.args.part.shape.now in
     let inner = g.I.ArrayToBytesCodecTraits.meaning self.inner_codecs in
     let elements = elements_of c.args.shard.elements.now in
-    let group = c.args.group.now in
+    let group = c.args.part.group.now in
     let pairs = pairs_of c.args.shard.index.now in
-    let k = (get_or group 0 no_place).subchunk in
+    let k = c.args.part.number in
     let pair = get_or pairs k absent_pair in
     let insides = map (λ (place : AskedPlace). place.inside) group in
     let contents = g.D.BytesPartialDecoderTraits.contents c.args.source.now in
@@ -44,18 +45,19 @@ returns-in_ok-insides-in-Ok-clause-part g c = λ honest told.
     let at_ : slice_at value pair ≡ Some slice = ap (slice_at value) (sym c.get-pair.ensures) ∙ c.in-Ok.ensures.slice honest value held.0 held.1 in
     let are : c.as_slice.result.now ≡ insides = c.as_slice.ensures.value ∙ c.in_ok-insides-in-Ok.ensures in
     let result = c.read_slice.result in
-    lists_read elements self.subchunk_shape (places_decoded inner elements value self.subchunk_shape pair insides) result
-    (subst (λ (o : Option (List Cell)). Lists elements self.subchunk_shape o result) (sym (present_places inner elements value self.subchunk_shape pair (Some slice) insides there at_))
-    (subst (λ (ns : List ℕ). Lists elements self.subchunk_shape (slice_cells inner elements self.subchunk_shape slice ns) result) are c.read_slice.ensures.part))
+    lists_read elements shape (places_decoded inner elements value shape pair insides) result
+    (subst (λ (o : Option (List Cell)). Lists elements shape o result) (sym (present_places inner elements value shape pair (Some slice) insides there at_))
+    (subst (λ (ns : List ℕ). Lists elements shape (slice_cells inner elements shape slice ns) result) are c.read_slice.ensures.part))
 
 pub returns-in-Err-clause-part : goal.returns-in-Err-clause-part
 returns-in-Err-clause-part g c = λ honest told.
     let self = c.args.self.now in
+    let shape = c.args.part.shape.now in
     let inner = g.I.ArrayToBytesCodecTraits.meaning self.inner_codecs in
     let elements = elements_of c.args.shard.elements.now in
-    let group = c.args.group.now in
+    let group = c.args.part.group.now in
     let pairs = pairs_of c.args.shard.index.now in
-    let k = (get_or group 0 no_place).subchunk in
+    let k = c.args.part.number in
     let pair = get_or pairs k absent_pair in
     let insides = map (λ (place : AskedPlace). place.inside) group in
     let contents = g.D.BytesPartialDecoderTraits.contents c.args.source.now in
@@ -66,4 +68,4 @@ returns-in-Err-clause-part g c = λ honest told.
     let some = c.requires.some in
     let count = length-map group (λ (place : AskedPlace). place.inside) in
     let lost = subst (λ (p : Pair). FetchesSlice value p (Err e)) c.get-pair.ensures (c.in-Err.ensures.slice honest value held.0 held.1) in
-    slice_unread inner elements value self.subchunk_shape pair insides e there (omega (arith, some, count)) lost
+    slice_unread inner elements value shape pair insides e there (omega (arith, some, count)) lost

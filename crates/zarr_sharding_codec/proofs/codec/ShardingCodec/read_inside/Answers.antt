@@ -1,23 +1,31 @@
-use Rattle.std.proofs.Common.{◌≡◌, ◌∙◌, ap, sym, subst, arith, List, [], replicate, length, get_or, unwrap_or, Option, Some, Err, true, false}
+use Rattle.std.proofs.Common.{◌≡◌, ◌∙◌, ap, sym, subst, arith, ℕ, List, [], replicate, length, get_or, unwrap_or, Option, Some, Err, true, false}
 use Rattle.zarr_codecs_arrays.specs.Views.{elements_of}
 use Rattle.zarr_codecs_meaning.specs.Decoding.{is_absent, slice_at}
 use Rattle.zarr_codecs_meaning.specs.Encoding.{Pair, absent_pair}
+use Rattle.zarr_codecs_meaning.specs.Fits.{fits}
 use Rattle.zarr_codecs_meaning.specs.Types.{Cell}
-use Rattle.zarr_codecs_traits.specs.Indexers.{numbers_of}
+use Rattle.zarr_codecs_traits.specs.Indexers.{numbers_of, shape_has}
 use Rattle.zarr_grids_boxes.specs.Boxes.{product}
 use Rattle.zarr_grids_boxes.specs.Subsets.{region_of}
 use Rattle.zarr_sharding_index.specs.Held.{FetchesSlice}
 use Rattle.zarr_sharding_index.specs.Views.{pairs_of}
-use Rattle.zarr_sharding_codec.specs.Reading.{Lists, places_decoded}
+use Rattle.zarr_sharding_codec.specs.Reading.{Lists, places_decoded, slice_cells}
 use Rattle.zarr_sharding_codec.proofs.BoxInSubchunk.{numbers_many}
 use Rattle.zarr_sharding_codec.proofs.PartsRead.{absent_places, lists_read, present_places, present_value, slice_unread}
 use Rattle.zarr_sharding_codec.proofs.codec.ShardingCodec.read_inside.Goals as goal
+
+pub read_slice-requires-clause-fit : goal.read_slice-requires-clause-fit
+read_slice-requires-clause-fit g c =
+    ap (fits (g.I.ArrayToBytesCodecTraits.meaning c.args.self.now.inner_codecs) (elements_of c.args.shard.elements.now).type) c.as_slice-shape.ensures.value ∙ c.requires.fit
+
+pub read_slice-requires-clause-inside : goal.read_slice-requires-clause-inside
+read_slice-requires-clause-inside g c = ap (λ (e : List ℕ). shape_has e (region_of c.args.found.now.region)) c.as_slice-shape.ensures.value ∙ c.requires.inside
 
 pub read_slice-requires-clause-some : goal.read_slice-requires-clause-some
 read_slice-requires-clause-some g c =
     let found = c.args.found.now in
     let some = c.requires.some in
-    let count = numbers_many c.args.self.now.subchunk_shape (region_of found.region) found.region.same in
+    let count = numbers_many c.as_slice-shape.result.now (region_of found.region) found.region.same in
     omega (arith, some, count)
 
 pub returns-then-is_absent-clause-part : goal.returns-then-is_absent-clause-part
@@ -25,13 +33,14 @@ returns-then-is_absent-clause-part g c = λ honest told.
     let self = c.args.self.now in
     let elements = elements_of c.args.shard.elements.now in
     let found = c.args.found.now in
+    let edges = found.shape.items in
     let pair = get_or (pairs_of c.args.shard.index.now) found.number absent_pair in
-    let insides = numbers_of self.subchunk_shape (region_of found.region) in
+    let insides = numbers_of edges (region_of found.region) in
     let absent : is_absent pair ≡ true = ap is_absent (sym c.get-pair.ensures) ∙ (sym c.is_absent.ensures ∙ c.if-is_absent.true) in
-    let count : length insides ≡ c.in-Some.count = numbers_many self.subchunk_shape (region_of found.region) found.region.same ∙ (ap product (sym c.shape.ensures) ∙ sym c.in-Some.ensures.1) in
+    let count : length insides ≡ c.in-Some.count = numbers_many edges (region_of found.region) found.region.same ∙ (ap product (sym c.shape.ensures) ∙ sym c.in-Some.ensures.1) in
     record {
       cells = replicate c.in-Some.count elements.fill;
-      is = absent_places (g.I.ArrayToBytesCodecTraits.meaning self.inner_codecs) elements (unwrap_or (g.D.BytesPartialDecoderTraits.contents c.args.source.now) []) self.subchunk_shape pair insides absent ∙ ap (λ k. Some (replicate k elements.fill)) count;
+      is = absent_places (g.I.ArrayToBytesCodecTraits.meaning self.inner_codecs) elements (unwrap_or (g.D.BytesPartialDecoderTraits.contents c.args.source.now) []) edges pair insides absent ∙ ap (λ k. Some (replicate k elements.fill)) count;
       lists = c.in_ok-fill_elements.ensures;
     }
 
@@ -41,10 +50,11 @@ returns-in-Ok-clause-part g c = λ honest told.
     let inner = g.I.ArrayToBytesCodecTraits.meaning self.inner_codecs in
     let elements = elements_of c.args.shard.elements.now in
     let found = c.args.found.now in
+    let edges = found.shape.items in
     let pairs = pairs_of c.args.shard.index.now in
     let k = found.number in
     let pair = get_or pairs k absent_pair in
-    let insides = numbers_of self.subchunk_shape (region_of found.region) in
+    let insides = numbers_of edges (region_of found.region) in
     let contents = g.D.BytesPartialDecoderTraits.contents c.args.source.now in
     let value = unwrap_or contents [] in
     let there : is_absent pair ≡ false = ap is_absent (sym c.get-pair.ensures) ∙ (sym c.is_absent.ensures ∙ c.if-is_absent.false) in
@@ -52,8 +62,9 @@ returns-in-Ok-clause-part g c = λ honest told.
     let slice = c.in-Ok.slice.items in
     let at_ : slice_at value pair ≡ Some slice = ap (slice_at value) (sym c.get-pair.ensures) ∙ c.in-Ok.ensures.slice honest value held.0 held.1 in
     let result = c.read_slice.result in
-    lists_read elements self.subchunk_shape (places_decoded inner elements value self.subchunk_shape pair insides) result
-    (subst (λ (o : Option (List Cell)). Lists elements self.subchunk_shape o result) (sym (present_places inner elements value self.subchunk_shape pair (Some slice) insides there at_)) c.read_slice.ensures.part)
+    let part = subst (λ (e : List ℕ). Lists elements e (slice_cells inner elements e slice (numbers_of e (region_of found.region))) result) c.as_slice-shape.ensures.value c.read_slice.ensures.part in
+    lists_read elements edges (places_decoded inner elements value edges pair insides) result
+    (subst (λ (o : Option (List Cell)). Lists elements edges o result) (sym (present_places inner elements value edges pair (Some slice) insides there at_)) part)
 
 pub returns-in-Err-clause-part : goal.returns-in-Err-clause-part
 returns-in-Err-clause-part g c = λ honest told.
@@ -61,15 +72,16 @@ returns-in-Err-clause-part g c = λ honest told.
     let inner = g.I.ArrayToBytesCodecTraits.meaning self.inner_codecs in
     let elements = elements_of c.args.shard.elements.now in
     let found = c.args.found.now in
+    let edges = found.shape.items in
     let pairs = pairs_of c.args.shard.index.now in
     let k = found.number in
     let pair = get_or pairs k absent_pair in
-    let insides = numbers_of self.subchunk_shape (region_of found.region) in
+    let insides = numbers_of edges (region_of found.region) in
     let contents = g.D.BytesPartialDecoderTraits.contents c.args.source.now in
     let value = unwrap_or contents [] in
     let there : is_absent pair ≡ false = ap is_absent (sym c.get-pair.ensures) ∙ (sym c.is_absent.ensures ∙ c.if-is_absent.false) in
     let held = present_value contents pairs c.args.shard.total k told c.requires.pair there in
     let some = c.requires.some in
-    let count = numbers_many self.subchunk_shape (region_of found.region) found.region.same in
+    let count = numbers_many edges (region_of found.region) found.region.same in
     let lost = subst (λ (p : Pair). FetchesSlice value p (Err c.in-Err.error)) c.get-pair.ensures (c.in-Err.ensures.slice honest value held.0 held.1) in
-    slice_unread inner elements value self.subchunk_shape pair insides c.in-Err.error there (omega (arith, some, count)) lost
+    slice_unread inner elements value edges pair insides c.in-Err.error there (omega (arith, some, count)) lost

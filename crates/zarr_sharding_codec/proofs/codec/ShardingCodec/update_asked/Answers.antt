@@ -1,23 +1,25 @@
-use Rattle.std.proofs.Common.{◌≡◌, ◌∙◌, ◌+◌, ◌≤◌, ℕ, List, [], Option, IfSome, ap, sym, refl, subst, arith, length, nat_lt, true, unwrap_or}
+use Rattle.std.proofs.Common.{◌≡◌, ◌∙◌, ◌+◌, ◌≤◌, ℕ, List, [], Option, Err, IfSome, ap, sym, refl, subst, arith, length, nat_lt, true, unwrap_or}
 use Rattle.std.specs.List.{list_all}
 use Rattle.zarr_codecs_arrays.specs.Outcomes.{IsValid}
 use Rattle.zarr_codecs_arrays.specs.Views.{elements_of, payload_of}
+use Rattle.zarr_codecs_meaning.specs.Fits.{fits}
 use Rattle.zarr_codecs_meaning.proofs.Fitting.{fitted}
+use Rattle.zarr_codecs_meaning.proofs.Parts.{length-parts}
 use Rattle.zarr_codecs_regions.proofs.AskedPlaces as regions
 use Rattle.zarr_codecs_traits.specs.Indexers.{asked_of, numbers_asked}
 use Rattle.zarr_grids_boxes.specs.Boxes.{product}
 use Rattle.zarr_sharding_index.specs.Views.{location_of}
-use Rattle.zarr_sharding_places.specs.Locating.{asked_places}
+use Rattle.zarr_sharding_places.specs.Locating.{asked_places, part_shape}
 use Rattle.zarr_sharding_state.specs.States.{pairs_in}
 use Rattle.zarr_sharding_state.specs.Views.{change_of, changes_of, is_below}
 use Rattle.zarr_sharding_state.specs.declared.writing.SliceChange.{SliceChange}
 use Rattle.zarr_sharding_codec.specs.BytesMet.{bytes_met}
-use Rattle.zarr_sharding_codec.specs.PartWriting.{AreChanged, AreSubchunk, UpdatesSlices, put_at, stored_in}
+use Rattle.zarr_sharding_codec.specs.PartWriting.{AreChanged, AreSubchunk, IsGroupUpdated, PutsAll, UpdatesGroup, UpdatesSlices, put_at, stored_in}
+use Rattle.zarr_sharding_codec.proofs.NumberedParts.{part_fits}
 use Rattle.zarr_sharding_codec.proofs.GroupsRead.{AskedShard}
-use Rattle.zarr_sharding_codec.proofs.ShardSizes.{divides_fit}
 use Rattle.zarr_sharding_codec.proofs.SoFarRead.{askable}
 use Rattle.zarr_sharding_codec.proofs.SoFarWritten.{below_more, put_as, stored_as}
-use Rattle.zarr_sharding_codec.proofs.StoredLoop.{inner_fit}
+use Rattle.zarr_sharding_codec.proofs.StoredLoop.{rank_fits}
 use Rattle.zarr_sharding_codec.proofs.WholeSubchunk.{whole_count, whole_given, whole_puts, whole_unwritten, whole_updated}
 use Rattle.zarr_sharding_codec.proofs.codec.ShardingCodec.update_asked.Goals as goal
 
@@ -26,15 +28,33 @@ whole_subchunk-requires-clause-cuts g c =
     let self = c.args.self.now in
     (fitted self.subchunk_shape (g.I.ArrayToBytesCodecTraits.meaning self.inner_codecs) (g.X.ArrayToBytesCodecTraits.meaning self.index_codecs) (location_of self.index_location) (elements_of c.args.shard.elements.now) c.args.given.shape.now c.requires.fit).cuts
 
-pub whole_subchunk-requires-clause-even : goal.whole_subchunk-requires-clause-even
-whole_subchunk-requires-clause-even g c =
+pub part_shape-requires-clause-rank : goal.part_shape-requires-clause-rank
+part_shape-requires-clause-rank g c =
     let self = c.args.self.now in
-    divides_fit self.subchunk_shape (g.I.ArrayToBytesCodecTraits.meaning self.inner_codecs) (g.X.ArrayToBytesCodecTraits.meaning self.index_codecs) (location_of self.index_location) (elements_of c.args.shard.elements.now).type c.args.given.shape.now c.requires.fit
+    rank_fits self.subchunk_shape (g.I.ArrayToBytesCodecTraits.meaning self.inner_codecs) (g.X.ArrayToBytesCodecTraits.meaning self.index_codecs) (location_of self.index_location) (elements_of c.args.shard.elements.now) c.args.given.shape.now c.requires.fit
+
+pub part_shape-requires-clause-below : goal.part_shape-requires-clause-below
+part_shape-requires-clause-below g c =
+    let self = c.args.self.now in
+    let shape = c.args.given.shape.now in
+    let numbers = numbers_asked shape (asked_of c.args.given.indexer) in
+    let n = c.in-Some.n in
+    let is = subst (λ (o : Option ℕ). IfSome o (AreSubchunk shape self.subchunk_shape numbers)) c.in-Some.is c.whole_subchunk.ensures in
+    let below = is.below in
+    let count = length-parts shape self.subchunk_shape in
+    omega (arith, below, count)
 
 pub replace_subchunk-requires-clause-fit : goal.replace_subchunk-requires-clause-fit
 replace_subchunk-requires-clause-fit g c =
     let self = c.args.self.now in
-    inner_fit self.subchunk_shape (g.I.ArrayToBytesCodecTraits.meaning self.inner_codecs) (g.X.ArrayToBytesCodecTraits.meaning self.index_codecs) (location_of self.index_location) (elements_of c.args.shard.elements.now) c.args.given.shape.now c.requires.fit
+    let shape = c.args.given.shape.now in
+    let numbers = numbers_asked shape (asked_of c.args.given.indexer) in
+    let n = c.in-Some.n in
+    let is = subst (λ (o : Option ℕ). IfSome o (AreSubchunk shape self.subchunk_shape numbers)) c.in-Some.is c.whole_subchunk.ensures in
+    let inner = g.I.ArrayToBytesCodecTraits.meaning self.inner_codecs in
+    let elements = elements_of c.args.shard.elements.now in
+    ap (λ (es : List ℕ). fits inner elements.type es) (c.as_slice-shape.ensures.value ∙ c.in_ok-lengths-in-Some.ensures)
+    ∙ part_fits self.subchunk_shape inner (g.X.ArrayToBytesCodecTraits.meaning self.index_codecs) (location_of self.index_location) elements shape n c.requires.fit is.below
 
 pub replace_subchunk-requires-clause-pair : goal.replace_subchunk-requires-clause-pair
 replace_subchunk-requires-clause-pair g c =
@@ -70,8 +90,8 @@ returns-in_err-one_change-in-Ok-clause-given g c = λ honest.
     let count = g.D.BytesPartialDecoderTraits.given_bytes in
     whole_given s n can is (count c.args.source.now) (count c.replace_subchunk.new.source) (c.in-Ok.ensures.given honest)
 
-pub returns-in_ok-one_change-in-Ok-clause-given : goal.returns-in_ok-one_change-in-Ok-clause-given
-returns-in_ok-one_change-in-Ok-clause-given g c = λ honest.
+pub returns-in-Ok-clause-given : goal.returns-in-Ok-clause-given
+returns-in-Ok-clause-given g c = λ honest.
     let self = c.args.self.now in
     let shape = c.args.given.shape.now in
     let numbers = numbers_asked shape (asked_of c.args.given.indexer) in
@@ -90,8 +110,8 @@ returns-in_ok-one_change-in-Ok-clause-given g c = λ honest.
     let count = g.D.BytesPartialDecoderTraits.given_bytes in
     whole_given s n can is (count c.args.source.now) (count c.replace_subchunk.new.source) (c.in-Ok.ensures.given honest)
 
-pub returns-in-Err-clause-given : goal.returns-in-Err-clause-given
-returns-in-Err-clause-given g c = λ honest.
+pub returns-in-Some-clause-given : goal.returns-in-Some-clause-given
+returns-in-Some-clause-given g c = λ honest.
     let self = c.args.self.now in
     let shape = c.args.given.shape.now in
     let numbers = numbers_asked shape (asked_of c.args.given.indexer) in
@@ -110,8 +130,8 @@ returns-in-Err-clause-given g c = λ honest.
     let count = g.D.BytesPartialDecoderTraits.given_bytes in
     whole_given s n can is (count c.args.source.now) (count c.replace_subchunk.new.source) (c.in-Err.ensures.given honest)
 
-pub returns-in_ok-one_change-in-Ok-clause-below : goal.returns-in_ok-one_change-in-Ok-clause-below
-returns-in_ok-one_change-in-Ok-clause-below g c =
+pub returns-in-Ok-clause-below : goal.returns-in-Ok-clause-below
+returns-in-Ok-clause-below g c =
     let self = c.args.self.now in
     let shape = c.args.given.shape.now in
     let numbers = numbers_asked shape (asked_of c.args.given.indexer) in
@@ -123,8 +143,8 @@ returns-in_ok-one_change-in-Ok-clause-below g c =
     let count = length (pairs_in c.args.shard.known.now) in
     ap (list_all (is_below count)) c.in_ok-one_change-in-Ok.ensures ∙ below_more count [] c.in-Ok.change refl (omega (arith, below, many, number))
 
-pub returns-in_ok-one_change-in-Ok-clause-changes : goal.returns-in_ok-one_change-in-Ok-clause-changes
-returns-in_ok-one_change-in-Ok-clause-changes g c = λ honest of cells valid.
+pub returns-in-Ok-clause-changes : goal.returns-in-Ok-clause-changes
+returns-in-Ok-clause-changes g c = λ honest of cells valid.
     let self = c.args.self.now in
     let shape = c.args.given.shape.now in
     let numbers = numbers_asked shape (asked_of c.args.given.indexer) in
@@ -141,13 +161,15 @@ returns-in_ok-one_change-in-Ok-clause-changes g c = λ honest of cells valid.
     } in
     let can = askable s (g.X.ArrayToBytesCodecTraits.meaning self.index_codecs) (location_of self.index_location) c.requires.fit c.requires.many (regions.asked_places shape (asked_of c.args.given.indexer) c.requires.inside) in
     let exact = g.I.ArrayToBytesCodecTraits.is_function self.inner_codecs in
-    let new = subst (λ (m : ℕ). IsValid s.elements.type (payload_of c.args.given.bytes) m cells) (whole_count s n can is) valid in
+    let here : c.as_slice-shape.result.now ≡ part_shape shape self.subchunk_shape n = c.as_slice-shape.ensures.value ∙ c.in_ok-lengths-in-Some.ensures in
+    let new = subst (λ (m : ℕ). IsValid s.elements.type (payload_of c.args.given.bytes) m cells) (whole_count s n can is ∙ ap product (sym here)) valid in
     let change = c.in-Ok.change in
-    let made = c.in-Ok.ensures.change honest of cells (asked_places s.shape s.subchunk s.numbers) new (whole_puts s n can is exact cells valid.is.many) in
+    let puts = subst (λ (es : List ℕ). PutsAll es s.elements.fill (asked_places s.shape s.subchunk s.numbers) cells) (sym here) (whole_puts s n can is exact cells valid.is.many) in
+    let made = subst (λ (es : List ℕ). IsGroupUpdated (stored_as s exact) es n (asked_places s.shape s.subchunk s.numbers) cells (change_of change)) here (c.in-Ok.ensures.change honest of cells (asked_places s.shape s.subchunk s.numbers) new puts) in
     subst (λ (cs : List SliceChange). AreChanged (stored_as s exact) (put_as s cells) (changes_of cs)) (sym c.in_ok-one_change-in-Ok.ensures) (whole_updated s n can is exact cells valid.is.many (change_of change) made)
 
-pub returns-in-Err-clause-changes : goal.returns-in-Err-clause-changes
-returns-in-Err-clause-changes g c = λ honest of cells valid.
+pub returns-in-Some-clause-changes : goal.returns-in-Some-clause-changes
+returns-in-Some-clause-changes g c = λ honest of cells valid.
     let self = c.args.self.now in
     let shape = c.args.given.shape.now in
     let numbers = numbers_asked shape (asked_of c.args.given.indexer) in
@@ -164,12 +186,14 @@ returns-in-Err-clause-changes g c = λ honest of cells valid.
     } in
     let can = askable s (g.X.ArrayToBytesCodecTraits.meaning self.index_codecs) (location_of self.index_location) c.requires.fit c.requires.many (regions.asked_places shape (asked_of c.args.given.indexer) c.requires.inside) in
     let exact = g.I.ArrayToBytesCodecTraits.is_function self.inner_codecs in
-    let new = subst (λ (m : ℕ). IsValid s.elements.type (payload_of c.args.given.bytes) m cells) (whole_count s n can is) valid in
-    let why = c.in-Err.ensures.change honest of cells (asked_places s.shape s.subchunk s.numbers) new (whole_puts s n can is exact cells valid.is.many) in
+    let here : c.as_slice-shape.result.now ≡ part_shape shape self.subchunk_shape n = c.as_slice-shape.ensures.value ∙ c.in_ok-lengths-in-Some.ensures in
+    let new = subst (λ (m : ℕ). IsValid s.elements.type (payload_of c.args.given.bytes) m cells) (whole_count s n can is ∙ ap product (sym here)) valid in
+    let puts = subst (λ (es : List ℕ). PutsAll es s.elements.fill (asked_places s.shape s.subchunk s.numbers) cells) (sym here) (whole_puts s n can is exact cells valid.is.many) in
+    let why = subst (λ (es : List ℕ). UpdatesGroup (stored_as s exact) es n (asked_places s.shape s.subchunk s.numbers) cells (Err c.in-Err.error)) here (c.in-Err.ensures.change honest of cells (asked_places s.shape s.subchunk s.numbers) new puts) in
     whole_unwritten s n can is exact cells valid.is.many c.in-Err.error why
 
-pub returns-in_ok-numbers-in-None-clause-changes : goal.returns-in_ok-numbers-in-None-clause-changes
-returns-in_ok-numbers-in-None-clause-changes g c = λ honest of cells valid.
+pub returns-clause-changes : goal.returns-clause-changes
+returns-clause-changes g c = λ honest of cells valid.
     let self = c.args.self.now in
     let elements = elements_of c.args.shard.elements.now in
     let are : c.as_slice.result.now ≡ numbers_asked c.args.given.shape.now (asked_of c.args.given.indexer) = c.as_slice.ensures.value ∙ c.in_ok-numbers-in-None.ensures.numbers in
@@ -177,8 +201,8 @@ returns-in_ok-numbers-in-None-clause-changes g c = λ honest of cells valid.
     subst (λ (ns : List ℕ). UpdatesSlices stored (put_at c.args.given.shape.now self.subchunk_shape ns cells) c.update_slices.result) are
     (c.update_slices.ensures.changes honest of cells (subst (λ (ns : List ℕ). IsValid elements.type (payload_of c.args.given.bytes) (length ns) cells) (sym are) valid))
 
-pub returns-in_ok-numbers-in-None-clause-given : goal.returns-in_ok-numbers-in-None-clause-given
-returns-in_ok-numbers-in-None-clause-given g c = λ honest.
+pub returns-clause-given : goal.returns-clause-given
+returns-clause-given g c = λ honest.
     let count = g.D.BytesPartialDecoderTraits.given_bytes in
     let are : c.as_slice.result.now ≡ numbers_asked c.args.given.shape.now (asked_of c.args.given.indexer) = c.as_slice.ensures.value ∙ c.in_ok-numbers-in-None.ensures.numbers in
     subst (λ (ns : List ℕ). count c.update_slices.new.source ≤ count c.args.source.now + bytes_met c.args.given.shape.now c.args.self.now.subchunk_shape ns (pairs_in c.args.shard.known.now)) are (c.update_slices.ensures.given honest)

@@ -1,17 +1,21 @@
-use Rattle.std.proofs.Common.{◌∙◌, ◌∷◌, ◌<◌, ℕ, List, [], Option, Err, Ok, IsTrue, ap, sym, refl, subst, arith, length, length-append, get_or, unwrap_or}
+use Rattle.std.proofs.Common.{◌≡◌, ◌∙◌, ◌∷◌, ◌<◌, ℕ, List, [], Option, Err, Ok, IsTrue, true, nat_lt, ap, sym, refl, subst, arith, length, length-append, get_or, unwrap_or}
 use Rattle.std.specs.List.{list_all}
 use Rattle.std.specs.List.Sorted.{IsNonDecreasingBy, IsPermutation}
 use Rattle.std.proofs.lemmas.List.{map-append}
 use Rattle.zarr_codecs_arrays.specs.Views.{elements_of}
+use Rattle.zarr_codecs_meaning.specs.Fits.{fits}
+use Rattle.zarr_codecs_meaning.proofs.Parts.{length-parts}
 use Rattle.zarr_codecs_meaning.proofs.Positions.{each_at}
+use Rattle.zarr_grids_boxes.specs.Boxes.{product}
 use Rattle.zarr_sharding_index.specs.Views.{location_of}
 use Rattle.zarr_sharding_places.specs.Groups.{no_place}
-use Rattle.zarr_sharding_places.specs.Locating.{asked_places}
+use Rattle.zarr_sharding_places.specs.Locating.{asked_places, part_shape}
 use Rattle.zarr_sharding_places.specs.declared.locating.AskedPlace.{AskedPlace}
 use Rattle.zarr_sharding_state.specs.States.{end_of, pairs_in}
 use Rattle.zarr_sharding_state.specs.Views.{change_of, changes_of, is_below}
 use Rattle.zarr_sharding_state.specs.declared.writing.SliceChange.{SliceChange}
-use Rattle.zarr_sharding_codec.specs.PartWriting.{IsOf, UpdatesGroup, stored_in}
+use Rattle.zarr_sharding_codec.specs.PartWriting.{IsOf, UpdatesGroup, insides, stored_in}
+use Rattle.zarr_sharding_codec.proofs.NumberedParts.{part_fits}
 use Rattle.zarr_sharding_codec.proofs.GivenSoFar.{GivenSoFar, given_all, given_more, given_refused, none_given, rest_sorted, shard_asked}
 use Rattle.zarr_sharding_codec.proofs.GroupsRead.{AskedShard, IsAsked, insides_below, subchunk_below}
 use Rattle.zarr_sharding_codec.proofs.SoFarRead.{askable, group_asked}
@@ -58,6 +62,65 @@ loop-rest-smaller g c =
     let sum = length-append c.leading_group.result.0.now c.leading_group.result.1.now in
     let some = c.leading_group.ensures.some in
     omega (arith, cut, sum, some)
+
+pub part_shape-requires-clause-rank : goal.part_shape-requires-clause-rank
+part_shape-requires-clause-rank g c =
+    let self = c.args.self.now in
+    rank_fits self.subchunk_shape (g.I.ArrayToBytesCodecTraits.meaning self.inner_codecs) (g.X.ArrayToBytesCodecTraits.meaning self.index_codecs) (location_of self.index_location) (elements_of c.args.shard.elements.now) c.args.given.shape.now c.requires.fit
+
+pub part_shape-requires-clause-below : goal.part_shape-requires-clause-below
+part_shape-requires-clause-below g c =
+    let self = c.args.self.now in
+    let s : AskedShard = record {
+      inner = g.I.ArrayToBytesCodecTraits.meaning self.inner_codecs;
+      elements = elements_of c.args.shard.elements.now;
+      shape = c.args.given.shape.now;
+      subchunk = self.subchunk_shape;
+      value = unwrap_or (g.D.BytesPartialDecoderTraits.contents c.args.source.now) [];
+      pairs = pairs_in c.args.shard.known.now;
+      numbers = c.args.given.numbers.now;
+    } in
+    let can = askable s (g.X.ArrayToBytesCodecTraits.meaning self.index_codecs) (location_of self.index_location) c.requires.fit c.requires.many c.requires.below in
+    let cut = c.loop-rest.invariant.cut in
+    let group = c.leading_group.result.0.now in
+    let moved = subst (λ (ps : List AskedPlace). IsPermutation (asked_places s.shape s.subchunk s.numbers) ps) (sym c.as_slice-rest.ensures.value) c.in_ok-places.ensures.all in
+    let asked = group_asked s c.as_slice-rest.result.now c.loop-rest.rest.now group c.leading_group.result.1.now moved (record { done = cut.done; split = cut.split }) c.leading_group.ensures.all in
+    let below = subchunk_below s (get_or group 0 no_place) can (each_at (IsAsked s) group 0 no_place asked c.leading_group.ensures.some) in
+    let many = c.requires.many in
+    let count = length-parts s.shape s.subchunk in
+    omega (arith, below, many, count)
+
+pub update_group-requires-clause-fit : goal.update_group-requires-clause-fit
+update_group-requires-clause-fit g c =
+    let self = c.args.self.now in
+    let s : AskedShard = record {
+      inner = g.I.ArrayToBytesCodecTraits.meaning self.inner_codecs;
+      elements = elements_of c.args.shard.elements.now;
+      shape = c.args.given.shape.now;
+      subchunk = self.subchunk_shape;
+      value = unwrap_or (g.D.BytesPartialDecoderTraits.contents c.args.source.now) [];
+      pairs = pairs_in c.args.shard.known.now;
+      numbers = c.args.given.numbers.now;
+    } in
+    let can = askable s (g.X.ArrayToBytesCodecTraits.meaning self.index_codecs) (location_of self.index_location) c.requires.fit c.requires.many c.requires.below in
+    let cut = c.loop-rest.invariant.cut in
+    let group = c.leading_group.result.0.now in
+    let moved = subst (λ (ps : List AskedPlace). IsPermutation (asked_places s.shape s.subchunk s.numbers) ps) (sym c.as_slice-rest.ensures.value) c.in_ok-places.ensures.all in
+    let asked = group_asked s c.as_slice-rest.result.now c.loop-rest.rest.now group c.leading_group.result.1.now moved (record { done = cut.done; split = cut.split }) c.leading_group.ensures.all in
+    let below = subchunk_below s (get_or group 0 no_place) can (each_at (IsAsked s) group 0 no_place asked c.leading_group.ensures.some) in
+    let many = c.requires.many in
+    ap (λ (es : List ℕ). fits s.inner s.elements.type es) (c.as_slice-edges.ensures.value ∙ c.in_ok-lengths.ensures)
+    ∙ part_fits s.subchunk s.inner (g.X.ArrayToBytesCodecTraits.meaning self.index_codecs) (location_of self.index_location) s.elements s.shape (get_or group 0 no_place).subchunk c.requires.fit (omega (arith, below, many))
+
+pub returns-in_err-lengths-clause-given : goal.returns-in_err-lengths-clause-given
+returns-in_err-lengths-clause-given g c = λ honest.
+    let self = c.args.self.now in
+    let count = g.D.BytesPartialDecoderTraits.given_bytes in
+    let s = shard_asked (g.I.ArrayToBytesCodecTraits.meaning self.inner_codecs) (elements_of c.args.shard.elements.now) c.args.given.shape.now self.subchunk_shape (pairs_in c.args.shard.known.now) c.args.given.numbers.now in
+    given_all s (count c.args.source.now) (count c.loop-rest.source) c.loop-rest.rest.now (c.loop-rest.invariant.given honest)
+
+pub returns-in_err-lengths-clause-follows : goal.returns-in_err-lengths-clause-follows
+returns-in_err-lengths-clause-follows g c = c.loop-rest.invariant.follows
 
 pub update_group-requires-clause-pair : goal.update_group-requires-clause-pair
 update_group-requires-clause-pair g c =
@@ -109,10 +172,13 @@ returns-in-Err-clause-changes g c = λ honest of cells valid.
     let same = laws.same _ _ inv.follows in
     let still = subst IsTrue (laws.honest _ _ inv.follows) honest in
     let kept = subst (λ (o : Option (List ℕ)). IsOf (location_of c.args.shard.layout.location) c.args.shard.layout.size o (pairs_in c.args.shard.known.now) (end_of c.args.shard.known.now)) same of in
-    let found = c.in-Err.ensures.change still kept cells (length c.args.given.numbers.now) valid (positions_below s group asked) (insides_below s group can asked) in
+    let here : c.as_slice-edges.result.now ≡ part_shape s.shape s.subchunk (number_of group) = c.as_slice-edges.ensures.value ∙ c.in_ok-lengths.ensures in
+    let inside = subst (λ (es : List ℕ). list_all (λ n. nat_lt n (product es)) (insides group) ≡ true) (sym here) (insides_below s group can asked c.leading_group.ensures.one) in
+    let found = c.in-Err.ensures.change still kept cells (length c.args.given.numbers.now) valid (positions_below s group asked) inside in
     let e = c.in-Err.error in
     group_unwritten s exact cells places rest group others writing front e
-    (subst (λ (o : Option (List ℕ)). UpdatesGroup (stored_in s.inner exact s.elements o s.pairs) s.subchunk (number_of group) group cells (Err e)) (sym same) found)
+    (subst (λ (es : List ℕ). UpdatesGroup (stored_in s.inner exact s.elements (g.D.BytesPartialDecoderTraits.contents c.args.source.now) s.pairs) es (number_of group) group cells (Err e)) here
+    (subst (λ (o : Option (List ℕ)). UpdatesGroup (stored_in s.inner exact s.elements o s.pairs) c.as_slice-edges.result.now (number_of group) group cells (Err e)) (sym same) found))
 
 pub loop-rest-preserved : goal.loop-rest-preserved
 loop-rest-preserved g c =
@@ -154,8 +220,11 @@ loop-rest-preserved g c =
           let same = laws.same _ _ inv.follows in
           let still = subst IsTrue (laws.honest _ _ inv.follows) honest in
           let kept = subst (λ (o : Option (List ℕ)). IsOf (location_of c.args.shard.layout.location) c.args.shard.layout.size o (pairs_in c.args.shard.known.now) (end_of c.args.shard.known.now)) same of in
-          let found = c.in-Ok.ensures.change still kept cells (length c.args.given.numbers.now) valid (positions_below s group asked) (insides_below s group can asked) in
-          let is = subst (λ (o : Option (List ℕ)). UpdatesGroup (stored_in s.inner exact s.elements o s.pairs) s.subchunk (number_of group) group cells (Ok change)) (sym same) found in
+          let here : c.as_slice-edges.result.now ≡ part_shape s.shape s.subchunk (number_of group) = c.as_slice-edges.ensures.value ∙ c.in_ok-lengths.ensures in
+          let inside = subst (λ (es : List ℕ). list_all (λ n. nat_lt n (product es)) (insides group) ≡ true) (sym here) (insides_below s group can asked c.leading_group.ensures.one) in
+          let found = c.in-Ok.ensures.change still kept cells (length c.args.given.numbers.now) valid (positions_below s group asked) inside in
+          let is = subst (λ (es : List ℕ). UpdatesGroup (stored_in s.inner exact s.elements (g.D.BytesPartialDecoderTraits.contents c.args.source.now) s.pairs) es (number_of group) group cells (Ok change)) here
+          (subst (λ (o : Option (List ℕ)). UpdatesGroup (stored_in s.inner exact s.elements o s.pairs) c.as_slice-edges.result.now (number_of group) group cells (Ok change)) (sym same) found) in
           let next = updated_more s exact cells places rest group others (changes_of old) (change_of change) writing front (inv.updated honest of cells valid) is in
           subst (λ cs. UpdatedSoFar s exact cells places others cs) (sym (ap changes_of more ∙ map-append change_of old (change ∷ []))) next;
       sorted = rest_sorted rest group others c.leading_group.ensures.all inv.sorted;
