@@ -88,6 +88,10 @@ impl ReadableStorageTraits for MemoryStore {
         Ok(Some(copy))
     }
 
+    fn lend(&self, key: &StoreKey) -> Option<&[u8]> {
+        self.values.get(key.as_str())
+    }
+
     fn get_partial(
         &mut self,
         key: &StoreKey,
@@ -128,6 +132,12 @@ impl WritableStorageTraits for MemoryStore {
     fn set(&mut self, key: &StoreKey, value: &[u8]) -> Result<(), StorageError> {
         let copy = Vec::from_slice(self.alloc, value)?;
         self.values.set(key.as_str(), copy)?;
+        self.accepted = self.accepted.saturating_add(1);
+        Ok(())
+    }
+
+    fn set_owned(&mut self, key: &StoreKey, value: Vec<u8>) -> Result<(), StorageError> {
+        self.values.set(key.as_str(), value)?;
         self.accepted = self.accepted.saturating_add(1);
         Ok(())
     }

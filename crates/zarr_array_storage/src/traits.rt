@@ -1,5 +1,5 @@
 //! What a store promises.
-ghost use Rattle.std.specs.Prelude.{◌≡◌, ℕ, Bool, false, IsTrue, IfOk, OnOk, OnErr, option_map, length};
+ghost use Rattle.std.specs.Prelude.{◌≡◌, ℕ, Bool, false, Some, IsTrue, IfOk, IfSome, OnOk, OnErr, option_map, length};
 ghost use Rattle.std.specs.FinMap as map;
 ghost use Rattle.zarr_array_meaning.specs.StoreMaps.{StoreMap, counted};
 ghost use Rattle.zarr_array_storage.specs.Calls as call;
@@ -14,8 +14,9 @@ use zarr_codecs_traits::{ByteRange, ValuePatch};
 use zarr_grids_keys::StoreKey;
 
 /// A store that can be read (Zarr storage specification, "Abstract store interface"). An honest
-/// one holds what it accepts, and reading changes nothing in what any store holds. Each call takes
-/// the store as `&mut`, so that it can count its refused calls (this project's profile).
+/// one holds what it accepts, and reading changes nothing in what any store holds. Each call but
+/// `lend` takes the store as `&mut`, so that it can count its refused calls (this project's
+/// profile).
 ///
 /// A call answers `Memory` where memory ran out. An honest store answers `InvalidByteRange` only
 /// where the call's description says so. With any other error one more call is counted as refused.
@@ -54,6 +55,15 @@ pub trait ReadableStorageTraits {
         ensures none_given { OnErr result (given_bytes self.new ≡ given_bytes self.old) }
         ensures accepted { accepted_writes self.new ≡ accepted_writes self.old }
         ensures calls { calls self.old (call.get key.now result) self.new };
+
+    /// The value at a key where the store keeps it, to be read without a copy. `None` says nothing:
+    /// then use `get`. Nothing is counted, and nothing is refused.
+    fn lend(&self, key: &StoreKey) -> Option<&[u8]>
+        ensures { IsTrue (is_honest self.now) →
+            IfSome result (λ value. map.get (held self.now) key.now ≡ Some value.now) }
+    {
+        None
+    }
 
     /// The bytes of the value at a key in each range, or `None` where it has no value. It is
     /// refused with `InvalidByteRange` where a range ends past the end of the value.
@@ -133,6 +143,27 @@ pub trait WritableStorageTraits: ReadableStorageTraits {
         ensures none_accepted { OnErr result
             (Self.accepted_writes self.new ≡ Self.accepted_writes self.old) }
         ensures calls { Self.calls self.old (call.set key.now value.now result) self.new };
+
+    /// Puts a value at a key, as `set` does. A store that keeps values in memory may keep this one,
+    /// where `set` has to copy it.
+    fn set_owned(&mut self, key: &StoreKey, value: Vec<u8>) -> Result<(), StorageError>
+        ensures ok { IsTrue (Self.is_honest self.old) → OnOk result
+            (Self.held self.new ≡ map.insert (Self.held self.old) key.now value.items) }
+        ensures err { IsTrue (Self.is_honest self.old) →
+            OnErr result (Self.held self.new ≡ Self.held self.old) }
+        ensures honest { Self.is_honest self.new ≡ Self.is_honest self.old }
+        ensures refused { Self.refused_calls self.new ≡
+            refused_after (Self.refused_calls self.old) result }
+        ensures byte_range { IsTrue (Self.is_honest self.old) → OnByteRange result ⊥ }
+        ensures given { Self.given_bytes self.new ≡ Self.given_bytes self.old }
+        ensures accepted { OnOk result
+            (Self.accepted_writes self.new ≡ counted (Self.accepted_writes self.old) 1) }
+        ensures none_accepted { OnErr result
+            (Self.accepted_writes self.new ≡ Self.accepted_writes self.old) }
+        ensures calls { Self.calls self.old (call.set key.now value.items result) self.new }
+    {
+        self.set(key, value.as_slice())
+    }
 
     /// Writes several ranges into the value at a key, in their order: all, or none where it is
     /// refused. No value counts as empty, and zeros come where a range begins past the end. It is

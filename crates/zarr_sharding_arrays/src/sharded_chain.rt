@@ -224,6 +224,10 @@ impl<B: BytesToBytesCodecTraits, I: InnerCodec> ArrayToBytesCodecTraits for Shar
     ) -> Result<Option<Vec<u8>>, CodecError> {
         let codecs = self.array_to_array.as_slice();
         let array = WholeArray { elements, shape };
+        if self.others.bytes_to_bytes_codecs().is_empty() {
+            let shard = self.others.array_to_bytes_codec();
+            return compact_after(shard, alloc, codecs, value, array, options);
+        }
         compact_after(&self.others, alloc, codecs, value, array, options)
     }
 

@@ -5,7 +5,7 @@ use Rattle.std.specs.List.{list_all}
 use Rattle.std.proofs.lemmas.Bool.{and_parts}
 use Rattle.zarr_codecs_meaning.specs.Chains.{ByteCodec, Chain}
 use Rattle.zarr_codecs_meaning.specs.Chains.Chain.{bytes, packbits, vlen, optional, after_array_codec, then_bytes, sharded}
-use Rattle.zarr_codecs_meaning.specs.Fits.{array_codec_fits, can_cut, divides, fits, is_lossless, is_plain, keeps_indices}
+use Rattle.zarr_codecs_meaning.specs.Fits.{array_codec_fits, can_cut, fits, is_lossless, is_plain, keeps_indices}
 use Rattle.zarr_codecs_meaning.specs.Laws.{IsLawful, IsLawfulChain}
 use Rattle.zarr_codecs_meaning.specs.Places.{Part, encoded_shape, index_shape, parts_of}
 use Rattle.zarr_codecs_meaning.specs.Types.{DataType, inner_type, uint64}
@@ -42,10 +42,10 @@ once_with chain codec shape value made false is lawful once h =
 -- ---- the index of a shard
 
 -- a shard fits where its index does, among others
-shard_index_fits : (subchunk : List ℕ) (index : Chain) (shape : List ℕ) (a b c d : Bool) → a && (b && (c && (d && index_fits index (index_shape shape subchunk)))) ≡ true → index_fits index (index_shape shape subchunk) ≡ true
-shard_index_fits subchunk index shape a b c d h =
+shard_index_fits : (subchunk : List ℕ) (index : Chain) (shape : List ℕ) (b c d : Bool) → b && (c && (d && index_fits index (index_shape shape subchunk))) ≡ true → index_fits index (index_shape shape subchunk) ≡ true
+shard_index_fits subchunk index shape b c d h =
     let last = index_fits index (index_shape shape subchunk) in
-    (and_parts d last (and_parts c (d && last) (and_parts b (c && (d && last)) (and_parts a (b && (c && (d && last))) h).1).1).1).1
+    (and_parts d last (and_parts c (d && last) (and_parts b (c && (d && last)) h).1).1).1
 
 -- ---- chains
 
@@ -60,6 +60,6 @@ chain_compacted_once (after_array_codec codec chain) type shape value made lawfu
 chain_compacted_once (then_bytes chain codec) type shape value made lawful fit keeps h =
     once_with chain codec shape value made (is_plain chain) refl lawful.1 (λ given inside was. chain_compacted_once chain type shape given inside lawful.0 fit keeps was) h
 chain_compacted_once (sharded subchunk inner index location) type shape value made lawful fit keeps h =
-    let index_fit = shard_index_fits subchunk index shape (divides shape subchunk) (not (is_some (inner_type type))) (can_cut shape subchunk)
-    (fits inner type subchunk && list_all (λ (part : Part). fits inner type part.shape) (parts_of shape subchunk)) fit in
+    let index_fit = shard_index_fits subchunk index shape (not (is_some (inner_type type))) (can_cut shape subchunk)
+    (list_all (λ (part : Part). fits inner type part.shape) (parts_of shape subchunk)) fit in
     compacted_once subchunk index location shape value made lawful.1 index_fit (and_parts (keeps_indices inner) (is_lossless index uint64) keeps).1 h

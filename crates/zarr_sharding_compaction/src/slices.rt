@@ -89,6 +89,16 @@ pub fn present_length(sliced: SlicedData<'_>) -> Option<u128>
     Some(total)
 }
 
+/// How many bytes to make room for: those of the present slices, sixteen for each pair, and a few
+/// more, since a checksum may follow these.
+fn room_for(sliced: SlicedData<'_>) -> usize {
+    let index = sliced.index.len().saturating_mul(16).saturating_add(16);
+    match present_length(sliced) {
+        Some(present) => index.saturating_add(present.min(usize::MAX as u128) as usize),
+        None => 0,
+    }
+}
+
 /// The present slices row-major without gaps, and the index of them, where the first begins where
 /// the data part did. `None` where a present pair lies outside the data part.
 pub fn copy_slices(
@@ -99,7 +109,7 @@ pub fn copy_slices(
     ensures { IfOk result (Copies sliced.entry.base sliced.entry.data.now
         (pairs_of sliced.entry.index.now)) }
 {
-    let mut copied = Vec::new(alloc);
+    let mut copied = Vec::with_capacity(alloc, room_for(sliced))?;
     let mut index = ShardIndex::new(alloc);
     for n in 0..sliced.index.len() {
         let Some(stored) = stored_at(sliced, n) else {
