@@ -1,15 +1,15 @@
 -- Tokens of a text, one after another.
-use Rattle.std.proofs.Common.{◌≡◌, ℕ, ◌+◌, ◌<◌, ◌≤◌, List, [], ◌∷◌, ◌++◌, length, take, drop, get_or, true, false, true≢false, Some, refl, sym, ap, ◌∙◌, arith}
+use Rattle.std.proofs.Common.{◌≡◌, ℕ, ◌+◌, ◌<◌, ◌≤◌, List, [], ◌∷◌, ◌++◌, length, take, drop, get_or, Bool, true, false, true≢false, cond, Some, refl, sym, ap, ap₂, ◌∙◌, arith}
 use Rattle.std.proofs.lemmas.List.{drop_all, drop-drop, drop_more, take_more, take-append-drop}
 use Rattle.std.proofs.lemmas.List.Concat.{flat_map-append}
 use Rattle.json.specs.Json.{read_key}
 use Rattle.json.specs.Lex as Lexeme
 use Rattle.json.specs.Lex.{lex, between, in_string, string_token, punctuate, place_token, may_begin, may_close, begins_colon, Place, fresh, after_value, after_comma, after_key}
-use Rattle.json.specs.Print.{escape, escape_byte, IsNumber}
+use Rattle.json.specs.Print.{escape, escape_byte, token_text, IsNumber}
 use Rattle.json.specs.Text.{content, plain}
 use Rattle.json.specs.Token as token
-use Rattle.json.specs.Word.{ends_word}
-use Rattle.json.proofs.Printed.Numbers.{lex-number}
+use Rattle.json.specs.Word.{ends_word, word}
+use Rattle.json.proofs.Printed.Numbers.{lex-number, in_word-ended}
 use Rattle.json.proofs.Printed.Strings.{content-escape, lex-escape, escape_byte_plain}
 use Rattle.zarr_run_commands.specs.Cursors.{place_of, tokens_from}
 use Rattle.zarr_run_commands.specs.declared.cursor.Stand.{Stand}
@@ -118,6 +118,13 @@ text_first s rest after_comma colon may = ap (λ b. place_token after_comma (tok
 text_first s rest after_value colon may = absurd (true≢false (sym may))
 text_first s rest after_key colon may = absurd (true≢false (sym may))
 
+bool_first : (b : Bool) (rest : List Lexeme.Lexeme) (p : Place) → may_begin p ≡ true → punctuate p (Lexeme.token (token.boolean b) ∷ rest) ≡ token.boolean b ∷ punctuate after_value rest
+unfolding punctuate
+bool_first b rest fresh may = refl
+bool_first b rest after_comma may = refl
+bool_first b rest after_value may = absurd (true≢false (sym may))
+bool_first b rest after_key may = absurd (true≢false (sym may))
+
 key_first : (s : List ℕ) (rest : List Lexeme.Lexeme) (p : Place) → may_begin p ≡ true → read_key (punctuate p (Lexeme.token (token.string s) ∷ Lexeme.colon ∷ rest)) ≡ Some (Some s, punctuate fresh rest)
 unfolding punctuate
 key_first s rest fresh may = refl
@@ -134,6 +141,20 @@ number_read s new text bytes from count next may here is ended same =
     let split : drop from text ≡ digits ++ rest = sym here ∙ (sym (take-append-drop count bytes) ∙ ap (λ r. digits ++ r) after) in
     let read = ap (lex between) split ∙ lex-number digits rest is ended in
     ap (punctuate (place_of s)) read ∙ begins_value s new text next (token.number digits) _ (lex between rest) may (number_first digits (lex between rest)) same
+
+lex-bool : (b : Bool) (rest : List ℕ) → ends_word rest ≡ true → lex between (token_text (token.boolean b) ++ rest) ≡ Lexeme.token (token.boolean b) ∷ lex between rest
+unfolding lex word
+lex-bool true rest ended = ap₂ (λ here ls. Lexeme.token (cond here (token.boolean true) token.bad) ∷ ls) ended (in_word-ended rest ended)
+lex-bool false rest ended = ap₂ (λ here ls. Lexeme.token (cond here (token.boolean false) token.bad) ∷ ls) ended (in_word-ended rest ended)
+
+pub bool_read : (s new : Stand) (text bytes : List ℕ) (b : Bool) (from count next : ℕ) → may_begin (place_of s) ≡ true → bytes ≡ drop from text → bytes ≡ token_text (token.boolean b) ++ drop count bytes
+    → ends_word (drop (from + count) text) ≡ true → tokens_from new next text ≡ punctuate after_value (lex between (drop (from + count) text)) → tokens_from s from text ≡ token.boolean b ∷ tokens_from new next text
+bool_read s new text bytes b from count next may here is ended same =
+    let rest = drop (from + count) text in
+    let after : drop count bytes ≡ rest = ap (drop count) here ∙ drop-drop count from text in
+    let split : drop from text ≡ token_text (token.boolean b) ++ rest = sym here ∙ (is ∙ ap (λ r. token_text (token.boolean b) ++ r) after) in
+    let read = ap (lex between) split ∙ lex-bool b rest ended in
+    ap (punctuate (place_of s)) read ∙ begins_value s new text next (token.boolean b) _ (lex between rest) may (bool_first b (lex between rest)) same
 
 -- the lexemes of a text in quotes
 quoted_read : (text s : List ℕ) (from end : ℕ) → drop from text ≡ 34 ∷ drop (from + 1) text → content plain (drop (from + 1) text) ≡ Some s → lex in_string (drop (from + 1) text) ≡ lex between (drop end text)

@@ -5,6 +5,7 @@ pub mod Appended
 pub mod Listed
 pub mod Turns
 pub mod Fields
+pub mod Flags
 pub mod Saying
 pub mod Digits
 pub mod Cursors

@@ -11,7 +11,7 @@ use Rattle.zarr_run_commands.specs.Lines.{Interval, interval_in, region_in, regi
 use Rattle.zarr_run_commands.proofs.Pairs.{after}
 use Rattle.zarr_run_commands.proofs.Turns.{converted_some, converted-array, item_read, items_over}
 
-no_value : {A P : Type 0} (a : A) → None ≡ Some a → P
+pub no_value : {A P : Type 0} (a : A) → None ≡ Some a → P
 no_value a e = absurd (cc)
 
 -- ---- what a value says

@@ -1,5 +1,5 @@
 -- Lines whose members were read one by one.
-use Rattle.std.specs.Prelude.{◌≡◌, ℕ, List, true, ⊤, bytes_eq, codes, string_bytes, Option, Some, None, option_map, option_and_then}
+use Rattle.std.specs.Prelude.{◌≡◌, ℕ, List, true, ⊤, bytes_eq, codes, string_bytes, Option, Some, None, option_map, option_and_then, unwrap_or}
 use Rattle.std.specs.List.{list_any}
 use Rattle.json.specs.Token.{Token}
 use Rattle.json.specs.Json.{value}
@@ -9,7 +9,7 @@ use Rattle.serde_json.specs.Read.{converted, of_json}
 use Rattle.zarr_codecs_json.specs.Numbers.{number_items}
 use Rattle.zarr_grids_boxes.specs.Subsets.{region_of}
 use Rattle.zarr_grids_metadata.specs.Members.{has_only}
-use Rattle.zarr_run_commands.specs.Lines.{operation_of, path_of, box_of, chunk_of}
+use Rattle.zarr_run_commands.specs.Lines.{operation_of, path_of, box_of, chunk_of, line_options_of, no_options}
 use Rattle.zarr_run_commands.specs.declared.tokens.Line.{Line}
 
 -- what the next value of a member says, and what is left after it
@@ -29,11 +29,11 @@ IsNamed names name (Some a) = list_any (bytes_eq name) names ≡ true
 abbrev pub HasFields : Line → Members → Type 0
 HasFields line ms =
     (names : List (List ℕ)) → IsNamed names (codes "op") line.operation → IsNamed names (codes "path") line.path → IsNamed names (codes "box") line.region
-    → IsNamed names (codes "chunk") line.chunk → IsNamed names (codes "cells") line.cells → has_only names ms ≡ true
+    → IsNamed names (codes "chunk") line.chunk → IsNamed names (codes "cells") line.cells → IsNamed names (codes "options") line.options → has_only names ms ≡ true
 
 -- the fields of a line are what the members of an object say
 abbrev pub IsLine : Members → Line → Type 0
 IsLine ms line =
     (operation_of ms ≡ line.operation) × (path_of ms ≡ option_map string_bytes line.path) × (box_of ms ≡ option_map region_of line.region)
     × (chunk_of ms ≡ option_map (λ v. v.items) line.chunk) × (get_member (codes "cells") ms ≡ option_map (λ v. number_list v.items) line.cells)
-    × (get_member (codes "options") ms ≡ None) × HasFields line ms
+    × (line_options_of ms ≡ Some (unwrap_or line.options no_options)) × HasFields line ms

@@ -1,12 +1,12 @@
 //! The tokens of a JSON text, read from the left: brackets, texts without escapes, and whole
-//! numbers of few digits that end right before a comma or a bracket. Where another form comes next,
-//! no token is read.
-ghost use Rattle.std.specs.Prelude.{◌≡◌, ℕ, List, ◌+◌, ◌-◌, ◌<◌, ◌≤◌, ◌∷◌, [], Some, None, true, false, length, take, drop, option_map, IfOk, IfSome, OnSome};
+//! numbers of few digits, `true` and `false`, each of which ends right before a comma or a bracket.
+//! Where another form comes next, no token is read.
+ghost use Rattle.std.specs.Prelude.{◌≡◌, ℕ, List, ◌+◌, ◌-◌, ◌<◌, ◌≤◌, ◌∷◌, ◌++◌, [], Some, None, true, false, length, take, drop, option_map, IfOk, IfSome, OnSome};
 ghost use Rattle.std.specs.Str.Parse.{AllDigits, digits_value};
 ghost use Rattle.json.specs.Json.{read_key};
 ghost use Rattle.json.specs.Lex as lex;
 ghost use Rattle.json.specs.Lex.{begins_colon, lex, between, in_string, punctuate};
-ghost use Rattle.json.specs.Print.{IsNumber};
+ghost use Rattle.json.specs.Print.{IsNumber, token_text};
 ghost use Rattle.json.specs.Text.{content, plain};
 ghost use Rattle.json.specs.Token as token;
 ghost use Rattle.json.specs.Word.{ends_word};
@@ -200,6 +200,22 @@ fn number_at_front(bytes: &[u8]) -> Option<(u64, usize)>
     Some((number, count))
 }
 
+/// Whether `true` stands at the front of a text, or `false`, and how many bytes it has.
+#[inline(always)]
+fn bool_at_front(bytes: &[u8]) -> Option<(bool, usize)>
+    ensures count { IfSome result (λ found. found.1 ≤ length bytes.now) }
+    ensures word { IfSome result (λ found. bytes.now
+        ≡ token_text (token.Token.boolean found.0) ++ drop found.1 bytes.now) }
+{
+    if bytes.starts_with(b"true") {
+        return Some((true, 4));
+    }
+    if bytes.starts_with(b"false") {
+        return Some((false, 5));
+    }
+    None
+}
+
 /// A place in a JSON text. A contract sees the tokens from there on.
 #[derive(Drop)]
 pub(crate) struct Cursor<'a> {
@@ -309,6 +325,22 @@ impl<'a> Cursor<'a> {
         self.at = at;
         self.stand = stand;
         Some(number)
+    }
+
+    /// The next token, where it is `true` or `false`.
+    pub(crate) fn next_bool(&mut self) -> Option<bool>
+        ensures { IfSome result (λ b. self.old ≡ token.Token.boolean b ∷ self.new) }
+    {
+        let (text, from) = (self.text, self.at);
+        if !self.stand.may_begin() || from >= text.len() {
+            return None;
+        }
+        let (_, rest) = text.split_at(from);
+        let (value, count) = bool_at_front(rest)?;
+        let (at, stand) = after_value(text, from + count)?;
+        self.at = at;
+        self.stand = stand;
+        Some(value)
     }
 
     /// The next token, where it is a text without escapes.

@@ -9,6 +9,7 @@ pub mod laws;
 pub mod line;
 mod members;
 mod operation;
+mod options;
 mod tokens;
 
 pub use answer::push_answer;

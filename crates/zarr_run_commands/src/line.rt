@@ -84,13 +84,15 @@ fn command_of_line(line: Line) -> Option<Command>
         region,
         chunk,
         cells,
+        options,
     } = line;
     let (operation, path) = (operation?, path?);
     let cells = match cells {
         Some(numbers) => Some(CommandCells::Numbers(numbers)),
         None => None,
     };
-    let options = field::no_options();
+    let has_options = options.is_some();
+    let options = options.unwrap_or(field::no_options());
     match (operation, region, chunk, cells) {
         (Operation::WriteBox, Some(region), None, Some(cells)) => Some(Command::WriteBox {
             path,
@@ -114,10 +116,9 @@ fn command_of_line(line: Line) -> Option<Command>
             chunk,
             options,
         }),
-        (Operation::EraseChunks, Some(chunks), None, None) => Some(Command::EraseChunks {
-            path,
-            chunks,
-        }),
+        (Operation::EraseChunks, Some(chunks), None, None) if !has_options => Some(
+            Command::EraseChunks { path, chunks },
+        ),
         _ => None,
     }
 }

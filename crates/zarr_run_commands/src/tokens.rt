@@ -1,5 +1,5 @@
-//! Lines read token by token, whose members are an operation, a path, a box or a chunk, and whole
-//! numbers for cells, which take eight bytes each.
+//! Lines read token by token, whose members are an operation, a path, a box or a chunk, options,
+//! and whole numbers for cells, which take eight bytes each.
 ghost use Rattle.std.specs.Prelude.{◌≡◌, ℕ, ◌<◌, ◌≤◌, ◌+◌, ◌^◌, ◌∷◌, length, Some, IfOk, IfSome, OnOk, string_bytes, option_and_then, option_map};
 ghost use Rattle.std.specs.Str.Parse.{AllDigits, digits_value};
 ghost use Rattle.json.specs.Json.{items, members, read_key, value};
@@ -9,12 +9,14 @@ ghost use Rattle.serde_json.specs.Find.{as_str};
 ghost use Rattle.serde_json.specs.Read.{converted, number_of, of_items, of_json, of_members, read as json_of};
 ghost use Rattle.zarr_codecs_json.specs.Numbers.{number_items};
 ghost use Rattle.zarr_grids_boxes.specs.Subsets.{region_of};
-ghost use Rattle.zarr_run_commands.specs.Lines.{interval_in, operation_named, region_in, region_of_pairs};
+ghost use Rattle.zarr_run_commands.specs.Lines.{interval_in, operation_named, options_in, region_in, region_of_pairs};
 ghost use Rattle.zarr_run_commands.specs.LineCells.{IsLine, number_list, reads};
 
 use crate::cursor::Cursor;
 use crate::operation::Operation;
+use crate::options::read_options;
 use std::alloc::{AllocError, AllocFailed, Global};
+use zarr_codecs_options::CodecOptions;
 use zarr_grids_boxes::ArraySubset;
 
 /// A list gets room for so many numbers at first.
@@ -29,6 +31,7 @@ pub(crate) struct Line {
     pub region: Option<ArraySubset>,
     pub chunk: Option<Vec<u64>>,
     pub cells: Option<Vec<u64>>,
+    pub options: Option<CodecOptions>,
 }
 
 /// Why a line is not read here.
@@ -186,6 +189,18 @@ fn read_list(alloc: Global, reader: &mut Cursor<'_>) -> Result<Vec<u64>, NotRead
     }
 }
 
+/// Options.
+fn next_options(reader: &mut Cursor<'_>) -> Result<CodecOptions, NotRead>
+    ensures ok { IfOk result
+        (λ options. reads options_in reader.old ≡ Some (options, reader.new)) }
+    ensures shorter { OnOk result (length reader.new < length reader.old) }
+{
+    match read_options(reader) {
+        Some(options) => Ok(options),
+        None => Err(NotRead::Other),
+    }
+}
+
 /// Reads the value of the member with this name into a line.
 fn read_member(
     alloc: Global,
@@ -204,6 +219,7 @@ fn read_member(
         "box" => line.region = Some(read_region(alloc, reader)?),
         "chunk" => line.chunk = Some(read_list(alloc, reader)?),
         "cells" => line.cells = Some(read_list(alloc, reader)?),
+        "options" => line.options = Some(next_options(reader)?),
         _ => return Err(NotRead::Other),
     }
     Ok(())
@@ -232,6 +248,7 @@ fn read_members(alloc: Global, reader: &mut Cursor<'_>) -> Result<Line, NotRead>
         region: None,
         chunk: None,
         cells: None,
+        options: None,
     };
     'members: while let Some(name) = next_key(reader)? {
         read_member(alloc, reader, name, &mut line)?;
