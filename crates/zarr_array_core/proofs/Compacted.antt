@@ -1,6 +1,7 @@
 -- What compacting one chunk leaves of a store.
-use Rattle.std.proofs.Common.{◌≡◌, ◌∙◌, ℕ, true, false, List, [], ◌∷◌, refl, sym, ap, subst, Option, Some, None, Err}
+use Rattle.std.proofs.Common.{◌≡◌, ◌∙◌, ℕ, true, false, List, [], ◌∷◌, refl, sym, ap, subst, Option, Some, None, Vec, Ok, Err, inl, inr}
 use Rattle.std.specs.FinMap.{insert}
+use Rattle.std.specs.declared.alloc.Global.{Global}
 use Rattle.zarr_grids_boxes.specs.Boxes.{Region}
 use Rattle.zarr_grids_chunks.specs.Grids.{IsInGrid}
 use Rattle.zarr_grids_keys.specs.Keys.{chunk_key}
@@ -13,7 +14,7 @@ use Rattle.zarr_array_meaning.specs.Arrays.{Array, value_at}
 use Rattle.zarr_array_meaning.specs.Chunks.{number_in}
 use Rattle.zarr_array_meaning.specs.Compacting.{CompactsChunk, IsCompacted}
 use Rattle.zarr_array_meaning.specs.StoreMaps.{StoreMap}
-use Rattle.zarr_array_core.specs.Compacting.{CompactsValue, CompactStops}
+use Rattle.zarr_array_core.specs.Compacting.{CompactsStored, CompactsValue, CompactStops}
 use Rattle.zarr_array_core.specs.Outcomes.{IsErasureStop}
 use Rattle.zarr_array_core.specs.declared.error.ChunkError.{ChunkError}
 use Rattle.zarr_array_core.specs.declared.error.ChunkError.TheVariants as error
@@ -70,3 +71,18 @@ store_stops array chunk error.Damage store is = absurd is
 store_stops array chunk error.Codec store is = absurd is
 store_stops array chunk error.Size store is = absurd is
 store_stops array chunk error.Memory store is = tt
+
+-- ---- what is stored, wherever it was read
+pub stored_stops : (array : Array) (chunk : List ℕ) (box : Region) (store : StoreMap) (e : ChunkError) → IsInGrid array.document.grid chunk box → (o : Option (List ℕ)) → value_at array store chunk ≡ o → CompactsStored array.document box.shape o (Err e) → CompactStops array chunk e store
+stored_stops array chunk box store e below None stored h = store_stops array chunk e store h
+stored_stops array chunk box store e below (Some value) stored (inl h) = store_stops array chunk e store h
+stored_stops array chunk box store e below (Some value) stored (inr h) = compact_stops array chunk box value store e below stored h
+
+pub stored_stays : (array : Array) (chunk : List ℕ) (box : Region) (store : StoreMap) → IsInGrid array.document.grid chunk box → (o : Option (List ℕ)) → value_at array store chunk ≡ o → CompactsStored array.document box.shape o (Ok None) → CompactsChunk array chunk false store store
+stored_stays array chunk box store below None stored h = none_compacted array chunk box store below stored
+stored_stays array chunk box store below (Some value) stored h = nothing_gained array chunk box value store below stored h.0 h.1
+
+pub stored_compacted : (array : Array) (chunk : List ℕ) (box : Region) (made : Vec ℕ Global) (store : StoreMap) → IsArray array → IsInGrid array.document.grid chunk box → (o : Option (List ℕ)) → value_at array store chunk ≡ o → CompactsStored array.document box.shape o (Ok (Some made))
+    → CompactsChunk array chunk true store (insert store (chunk_key array.path array.document.keys chunk) made.items)
+stored_compacted array chunk box made store known below None stored h = absurd (cc)
+stored_compacted array chunk box made store known below (Some value) stored h = compacted_chunk array chunk box value made.items store known below stored h.0 h.1

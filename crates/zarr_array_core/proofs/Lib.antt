@@ -5,6 +5,7 @@ pub mod Erased
 pub mod Selected
 pub mod Placed
 pub mod ReadSoFar
+pub mod ReadCounts
 pub mod ChunkPayloads
 pub mod ChunkCells
 pub mod PartBoxes
@@ -21,7 +22,9 @@ pub mod Overlapping
 pub mod InParts
 pub mod PutParts
 pub mod TooMany
+pub mod Turns
 pub mod Rewritten
+pub mod KeyedTurns
 pub mod Compacted
 pub mod LargeKeyed
 pub mod KnownArrays

@@ -243,26 +243,31 @@ pub record SoFar (array : Array) (store_empty : Bool) (chunks : Region) (n appli
 pub so_far_none : (array : Array) (store_empty : Bool) (chunks : Region) (store : StoreMap) → SoFar array store_empty chunks 0 0 store store
 so_far_none array store_empty chunks store = record { rewrote = rewrote_none array store_empty store; many = refl }
 
+-- the next of them is the chunk, where it has a key
+pub next_keyed : (array : Array) (store_empty : Bool) (chunks : Region) (n : ℕ) (chunk : List ℕ) (box : Region) (stored : Option (List ℕ)) (old mid : StoreMap) → IsRewrite array chunks → n < product chunks.shape → chunk ≡ place_at chunks.start chunks.shape n
+    → IsInGrid array.document.grid chunk box → value_at array mid chunk ≡ stored → RewroteChunks array store_empty (first_keyed array old chunks n) old mid → first_keyed array old chunks (n + 1) ≡ first_keyed array old chunks n ++ cond (is_some stored) (chunk ∷ []) []
+next_keyed array store_empty chunks n chunk box stored old mid walk below at here is rewrote =
+    first_keyed-more array old chunks n chunk stored at (sym (untouched array store_empty (first_keyed array old chunks n) chunk box old mid (next_is array old chunks n chunk box walk below at here) rewrote) ∙ is)
+
 pub so_far_next : (array : Array) (store_empty : Bool) (chunks : Region) (n applied more : ℕ) (chunk : List ℕ) (box : Region) (had : Bool) (old mid new : StoreMap) → IsRewrite array chunks → n < product chunks.shape → chunk ≡ place_at chunks.start chunks.shape n
     → IsInGrid array.document.grid chunk box → more ≡ counted_chunk applied had → MatchBool had (RewroteChunks array store_empty (chunk ∷ []) mid new) (IsAbsentAt array chunk mid new) → SoFar array store_empty chunks n applied old mid → SoFar array store_empty chunks (n + 1) more old new
 so_far_next array store_empty chunks n applied more chunk box true old mid new walk below at here is one first =
     let next = next_is array old chunks n chunk box walk below at here in
     let had = one.each chunk box here (one_listed chunk chunk refl) in
-    let keyed = first_keyed-more array old chunks n chunk (Some had.0) at (sym (untouched array store_empty (first_keyed array old chunks n) chunk box old mid next first.rewrote) ∙ had.1) in
+    let keyed = next_keyed array store_empty chunks n chunk box (Some had.0) old mid walk below at here had.1 first.rewrote in
     record {
       rewrote = subst (λ (cs : List (List ℕ)). RewroteChunks array store_empty cs old new) (sym keyed) (rewrote_more array store_empty (first_keyed array old chunks n) chunk box old mid new next first.rewrote one);
       many = is ∙ (ap (λ k. k + 1) first.many ∙ sym (ap (λ (cs : List (List ℕ)). length cs) keyed ∙ length-append (first_keyed array old chunks n) (chunk ∷ [])));
     }
 so_far_next array store_empty chunks n applied more chunk box false old mid new walk below at here is one first =
-    let next = next_is array old chunks n chunk box walk below at here in
-    let keyed = first_keyed-more array old chunks n chunk None at (sym (untouched array store_empty (first_keyed array old chunks n) chunk box old mid next first.rewrote) ∙ one.0) ∙ append-nil (first_keyed array old chunks n) in
+    let keyed = next_keyed array store_empty chunks n chunk box None old mid walk below at here one.0 first.rewrote ∙ append-nil (first_keyed array old chunks n) in
     record {
       rewrote = subst (λ (cs : List (List ℕ)). RewroteChunks array store_empty cs old new) (sym keyed) (subst (λ (m : StoreMap). RewroteChunks array store_empty (first_keyed array old chunks n) old m) (sym one.1) first.rewrote);
       many = is ∙ (first.many ∙ sym (ap (λ (cs : List (List ℕ)). length cs) keyed));
     }
 
 -- all of them
-all_keyed : (array : Array) (store : StoreMap) (chunks : Region) (n : ℕ) → IsRewrite array chunks → n ≡ product chunks.shape → first_keyed array store chunks n ≡ keyed_chunks array store
+pub all_keyed : (array : Array) (store : StoreMap) (chunks : Region) (n : ℕ) → IsRewrite array chunks → n ≡ product chunks.shape → first_keyed array store chunks n ≡ keyed_chunks array store
 all_keyed array store chunks n walk end = ap (filter (has_key array store)) (first_chunks-places chunks n walk.rank end ∙ walk.boxed.listed)
 
 pub so_far_all : (array : Array) (store_empty : Bool) (chunks : Region) (n applied : ℕ) (old now : StoreMap) → IsRewrite array chunks → n ≡ product chunks.shape → SoFar array store_empty chunks n applied old now
@@ -276,6 +281,12 @@ first_of_all : (array : Array) (store : StoreMap) (chunks : Region) (n : ℕ) �
 first_of_all array store chunks n walk h =
     let rest = begins array store chunks n (product chunks.shape - n) in
     (rest.0, sym (all_keyed array store chunks (n + (product chunks.shape - n)) walk (omega arith)) ∙ rest.1)
+
+pub taken_keyed : (array : Array) (store_empty : Bool) (chunks : Region) (n applied : ℕ) (old now : StoreMap) → IsRewrite array chunks → n ≤ product chunks.shape → SoFar array store_empty chunks n applied old now → take applied (keyed_chunks array old) ≡ first_keyed array old chunks n
+taken_keyed array store_empty chunks n applied old now walk h first =
+    let rest = first_of_all array old chunks n walk h in
+    let keyed = first_keyed array old chunks n in
+    ap (λ k. take k (keyed_chunks array old)) first.many ∙ (ap (take (length keyed)) rest.1 ∙ take-append_seam keyed rest.0)
 
 nth_of : (xs : List (List ℕ)) (x : List ℕ) (ys : List (List ℕ)) → slice_get (xs ++ x ∷ ys) (length xs) ≡ Some x
 nth_of [] x ys = refl
@@ -320,7 +331,7 @@ pub so_far_stops : (array : Array) (store_empty : Bool) (chunks : Region) (n app
 so_far_stops array store_empty chunks n applied chunk e old mid new walk below at stops same first =
     let rest = first_of_all array old chunks n walk (omega arith) in
     let keyed = first_keyed array old chunks n in
-    let taken : take applied (keyed_chunks array old) ≡ keyed = ap (λ k. take k (keyed_chunks array old)) first.many ∙ (ap (take (length keyed)) rest.1 ∙ take-append_seam keyed rest.0) in
+    let taken : take applied (keyed_chunks array old) ≡ keyed = taken_keyed array store_empty chunks n applied old mid walk (omega arith) first in
     let long = ap (λ (cs : List (List ℕ)). length cs) rest.1 ∙ length-append keyed rest.0 in
     let many = first.many in
     record {

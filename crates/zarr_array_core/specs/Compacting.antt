@@ -1,5 +1,5 @@
 -- Why a chunk is not compacted.
-use Rattle.std.specs.Prelude.{◌≡◌, ℕ, List, Option, Some, None, true, false, Result, Ok, Err, Vec}
+use Rattle.std.specs.Prelude.{◌≡◌, ◌⊎◌, ℕ, List, Option, Some, None, true, false, Result, Ok, Err, Vec}
 use Rattle.std.specs.declared.alloc.Global.{Global}
 use Rattle.zarr_grids_boxes.specs.Boxes.{Region}
 use Rattle.zarr_grids_chunks.specs.Grids.{IsInGrid}
@@ -9,7 +9,7 @@ use Rattle.zarr_sharding_changes.specs.Refusals.{CompactionRefused, CompactionTo
 use Rattle.zarr_array_meaning.specs.Arrays.{Array, value_at}
 use Rattle.zarr_array_meaning.specs.Documents.{Document}
 use Rattle.zarr_array_meaning.specs.StoreMaps.{StoreMap}
-use Rattle.zarr_array_core.specs.Outcomes.{IsStoreRefusal}
+use Rattle.zarr_array_core.specs.Outcomes.{IsErasureStop, IsStoreRefusal}
 use Rattle.zarr_array_core.specs.declared.error.ChunkError.{ChunkError}
 use Rattle.zarr_array_core.specs.declared.error.ChunkError.TheVariants as error
 
@@ -27,6 +27,13 @@ CompactsValue document shape value (Ok None) = (fits document.chain document.ele
 CompactsValue document shape value (Ok (Some made)) = (fits document.chain document.elements.type shape ≡ true) × (compaction document.chain shape value ≡ compacted_to made.items)
 CompactsValue document shape value (Err error.Memory) = Unit {0}
 CompactsValue document shape value (Err e) = CompactionStops document shape value e
+
+-- what compacting makes of what is stored for a chunk of this shape, if anything is stored and gained, or why it makes nothing: the store may refuse to give it
+abbrev pub CompactsStored : Document → List ℕ → Option (List ℕ) → Result (Option (Vec ℕ Global)) ChunkError → Type 0
+CompactsStored document shape None (Ok made) = made ≡ None
+CompactsStored document shape None (Err e) = IsErasureStop e
+CompactsStored document shape (Some value) (Ok made) = CompactsValue document shape value (Ok made)
+CompactsStored document shape (Some value) (Err e) = IsErasureStop e ⊎ CompactsValue document shape value (Err e)
 
 -- what is stored for a chunk is not compacted
 pub record NotCompacted (array : Array) (chunk : List ℕ) (e : ChunkError) (store : StoreMap) : Type 0 where

@@ -6,6 +6,7 @@ pub mod ChunkValues
 pub mod Calls
 pub mod PartWrites
 pub mod Arrays
+pub mod Turns
 pub mod Compacting
 pub mod Rewriting
 pub mod IntoShards

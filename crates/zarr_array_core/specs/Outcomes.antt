@@ -50,6 +50,12 @@ abbrev pub refused_after : {A : Type 0} → ℕ → Result A ChunkError → ℕ
 refused_after count (Ok value) = count
 refused_after count (Err e) = refused_with e count
 
+-- the count of refused store calls before and after a read: one more where the store refused; with any other error it stays, or one more call was refused and what else was found comes first
+abbrev pub CountsRead : {A : Type 0} → Result A ChunkError → ℕ → ℕ → Type 0
+CountsRead (Ok value) before after = after ≡ before
+CountsRead (Err (error.Storage e)) before after = after ≡ counted before 1
+CountsRead (Err e) before after = (after ≡ before) ⊎ (after ≡ counted before 1)
+
 -- the count of refused store calls after a call over several chunks
 abbrev pub refused_by_many : {A : Type 0} → ℕ → Result A ManyError → ℕ
 refused_by_many count (Ok value) = count

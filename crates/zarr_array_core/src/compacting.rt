@@ -1,14 +1,40 @@
 //! One chunk compacted.
+ghost use Rattle.std.specs.Prelude.{◌≡◌, IsTrue, IfErr, OnErr, OnOk};
+ghost use Rattle.std.specs.FinMap.{insert};
+ghost use Rattle.zarr_array_core.specs.Arrays.{Called};
+ghost use Rattle.zarr_array_core.specs.Outcomes.{IsErasureStop};
+
 use crate::array_core::ArrayCore;
 use crate::error::ChunkError;
 use crate::rooms::ChunkRooms;
-use crate::store_calls::{get, set};
+use crate::store_calls::get;
 use std::alloc::Global;
 use std::thread::Threads;
-use zarr_array_storage::WritableStorageTraits;
+use zarr_array_storage::{ReadableStorageTraits, StorageError, WritableStorageTraits};
 use zarr_codecs_arrays::CodecError;
 use zarr_codecs_options::CodecOptions;
 use zarr_codecs_traits::ArrayToBytesCodecTraits;
+use zarr_grids_keys::StoreKey;
+
+/// Puts a value at a key. The store may keep it without a copy.
+fn set_made<S: WritableStorageTraits>(
+    store: &mut S,
+    key: &StoreKey,
+    value: Vec<u8>,
+) -> Result<(), ChunkError>
+    ensures ok { IsTrue (S.is_honest store.old) → OnOk result
+        (S.held store.new ≡ insert (S.held store.old) key.now value.items) }
+    ensures stops { IsTrue (S.is_honest store.old) → IfErr result IsErasureStop }
+    ensures store { Called S.ReadableStorageTraits 1 store.old store.new result }
+    ensures unwritten { OnErr result (S.accepted_writes store.new ≡ S.accepted_writes store.old) }
+{
+    match store.set_owned(key, value) {
+        Ok(()) => Ok(()),
+        Err(StorageError::Memory) => Err(ChunkError::Memory),
+        Err(StorageError::InvalidByteRange) => Err(ChunkError::Damage),
+        Err(error) => Err(ChunkError::Storage(error)),
+    }
+}
 
 impl<C: ArrayToBytesCodecTraits + Sync> ArrayCore<C> {
     ghost use Rattle.std.specs.Prelude.{IsTrue, IfOk};
@@ -46,23 +72,49 @@ impl<C: ArrayToBytesCodecTraits + Sync> ArrayCore<C> {
             store.old store.new result }
     {
         let key = self.key_of(rooms.alloc(), chunk)?;
-        let Some(value) = get(store, &key)? else {
-            return Ok(false);
-        };
         let own = self.box_of(rooms.take_own(), chunk)?;
-        let made = self.compact_value(rooms.alloc(), value.as_slice(), own.shape(), options)?;
+        let made = self.compact_stored(rooms.alloc(), store, &key, own.shape(), options)?;
         rooms.keep_own(own);
         let Some(made) = made else {
             return Ok(false);
         };
-        set(store, &key, made.as_slice())?;
+        set_made(store, &key, made)?;
         Ok(true)
     }
 }
 
 impl<C: ArrayToBytesCodecTraits> ArrayCore<C> {
-    ghost use Rattle.zarr_array_core.specs.Compacting.{CompactsValue};
+    ghost use Rattle.std.specs.Prelude.{IsTrue};
+    ghost use Rattle.std.specs.FinMap as map;
+    ghost use Rattle.zarr_array_core.specs.Calls.{Reads};
+    ghost use Rattle.zarr_array_core.specs.Compacting.{CompactsStored, CompactsValue};
+    ghost use Rattle.zarr_array_core.specs.Outcomes.{refused_after};
     ghost use Rattle.zarr_array_core.specs.Views.{document_of};
+
+    /// What is stored for a chunk, written anew, or `None` where nothing is stored or nothing is
+    /// gained. A value that the store lends isn't copied.
+    fn compact_stored<S: ReadableStorageTraits>(
+        &self,
+        alloc: Global,
+        store: &mut S,
+        key: &StoreKey,
+        shape: &[u64],
+        options: &CodecOptions,
+    ) -> Result<Option<Vec<u8>>, ChunkError>
+        ensures compacts { IsTrue (S.is_honest store.old) →
+            CompactsStored (document_of C.meaning self.now) shape.now
+            (map.get (S.held store.old) key.now) result }
+        ensures store { Reads S.ReadableStorageTraits store.old store.new
+            (refused_after (S.refused_calls store.old) result) }
+    {
+        if let Some(value) = store.lend(key) {
+            return self.compact_value(alloc, value, shape, options);
+        }
+        let Some(value) = get(store, key)? else {
+            return Ok(None);
+        };
+        self.compact_value(alloc, value.as_slice(), shape, options)
+    }
 
     /// The value of a chunk written anew, or `None` where nothing is gained.
     fn compact_value(

@@ -19,6 +19,7 @@ impl<C: ArrayToBytesCodecTraits> ArrayCore<C> {
     ghost use Rattle.zarr_array_core.specs.Arrays.{array_of, Called, CalledMany, IfHonestErr, OnHonestOk};
     ghost use Rattle.zarr_array_core.specs.Views.{document_of, path_of};
     ghost use Rattle.zarr_array_core.specs.Outcomes.{EraseStops, IsErasureStop};
+    ghost use Rattle.zarr_array_core.specs.Turns.{HadTurns, box_walk};
 
     /// Takes the keys of the chunks of a box of chunk indices away, row-major, each by one writing
     /// call of the store. An empty box makes no call and needs no memory.
@@ -36,9 +37,12 @@ impl<C: ArrayToBytesCodecTraits> ArrayCore<C> {
         ensures err { IfHonestErr S.ReadableStorageTraits store.old store.new result
             (λ stopped before after. EraseStops (array_of C.ArrayToBytesCodecTraits self.now)
             (region_of chunks.now) before after stopped) }
-        // By at most one writing call for each chunk that is erased.
+        // By no more writing calls than chunks are erased, over any store.
         ensures store { CalledMany S.ReadableStorageTraits (product chunks.now.shape.items)
             store.old store.new result }
+        // By at most one for each, in turn, over an honest one.
+        ensures turns { HadTurns S.ReadableStorageTraits (box_walk C.ArrayToBytesCodecTraits
+            self.now (region_of chunks.now)) store.old store.new result }
     {
         let count = count_places(chunks.shape()).unwrap();
         if count == 0 {

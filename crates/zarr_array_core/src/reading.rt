@@ -31,7 +31,7 @@ impl<C: ArrayToBytesCodecTraits + Sync> ArrayCore<C> {
     ghost use Rattle.zarr_grids_cover.specs.Intersecting.{AreIntersecting};
     ghost use Rattle.zarr_codecs_arrays.specs.Views.{payload_of};
     ghost use Rattle.zarr_array_core.specs.Views.{document_of, path_of};
-    ghost use Rattle.zarr_array_core.specs.Outcomes.{GivesBox, ReadStops, IsSmall, refused_after};
+    ghost use Rattle.zarr_array_core.specs.Outcomes.{CountsRead, GivesBox, ReadStops, IsSmall};
 
     /// The elements of a region that is not empty, row-major. Its chunks are read row-major, and
     /// the first that isn't read decides: `Fit` where it has a value and does not fit its codecs,
@@ -59,8 +59,8 @@ impl<C: ArrayToBytesCodecTraits + Sync> ArrayCore<C> {
             (region_of target.entry.region.now)) }
         ensures held { S.held store.new ≡ S.held store.old }
         ensures honest { S.is_honest store.new ≡ S.is_honest store.old }
-        ensures refused { S.refused_calls store.new ≡
-            refused_after (S.refused_calls store.old) result }
+        ensures refused { CountsRead result
+            (S.refused_calls store.old) (S.refused_calls store.new) }
         ensures accepted { S.accepted_writes store.new ≡ S.accepted_writes store.old }
     {
         let RegionChunks { region, chunks } = target;

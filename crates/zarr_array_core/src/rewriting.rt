@@ -34,6 +34,7 @@ impl<C: ArrayToBytesCodecTraits + Sync> ArrayCore<C> {
     ghost use Rattle.zarr_array_meaning.specs.StoreMaps.{CountsUpTo};
     ghost use Rattle.zarr_array_core.specs.Arrays.{array_of, CalledMany, chunks_done, IfHonestErr, OnHonestOk};
     ghost use Rattle.zarr_array_core.specs.Rewriting.{RewriteStops};
+    ghost use Rattle.zarr_array_core.specs.Turns.{HadTurns, keyed_walk};
 
     /// Stores each chunk in the grid anew that has a key, row-major: its cells are read and stored
     /// whole, so a chunk that is all fill loses its key, unless empty chunks are stored. `chunks`
@@ -50,23 +51,23 @@ impl<C: ArrayToBytesCodecTraits + Sync> ArrayCore<C> {
         requires all { AreBoxed (array_of C.ArrayToBytesCodecTraits self.now).document.grid
             (region_of chunks.now) }
         requires few { product chunks.now.shape.items < 2 ^ 63 }
-        // Each chunk that had a key is stored anew, and no other key changes.
+        // Each chunk that had a key is stored anew, or the first `applied`; no other key changes.
         ensures ok { OnHonestOk S.ReadableStorageTraits store.old store.new result
             (λ before after. RewroteChunks (array_of C.ArrayToBytesCodecTraits self.now)
             options.now.store_empty_chunks
             (keyed_chunks (array_of C.ArrayToBytesCodecTraits self.now) before) before after) }
-        // Of the first `applied` of them that is so, and the next one stopped.
         ensures err { IfHonestErr S.ReadableStorageTraits store.old store.new result
             (RewriteStops (array_of C.ArrayToBytesCodecTraits self.now)
             options.now.store_empty_chunks) }
-        // Over any store, no more writing calls than chunks in the grid, or than applied.
+        // By at most one writing call for each, in turn; over any store, by no more than chunks.
         ensures store { CalledMany S.ReadableStorageTraits (product chunks.now.shape.items)
             store.old store.new result }
-        // Over an honest one, by at most one writing call for each of them that is stored anew.
         ensures counts { IsTrue (S.is_honest store.old) → CountsUpTo (chunks_done
             (length (keyed_chunks (array_of C.ArrayToBytesCodecTraits self.now)
             (S.held store.old))) result)
             (S.accepted_writes store.old) (S.accepted_writes store.new) }
+        ensures turns { HadTurns S.ReadableStorageTraits (keyed_walk C.ArrayToBytesCodecTraits
+            self.now (S.held store.old)) store.old store.new result }
     {
         let count = count_places(chunks.shape()).unwrap();
         let mut room = rooms.take_indices();

@@ -1,4 +1,7 @@
 //! Boxes written chunk by chunk.
+ghost use Rattle.std.specs.Prelude.{◌≡◌};
+ghost use Rattle.zarr_array_meaning.specs.Writes.{allowed};
+
 use crate::array_core::ArrayCore;
 use crate::chunk_value::BoxWrite;
 use crate::error::{ChunkError, ManyError};
@@ -12,6 +15,15 @@ use zarr_grids_boxes::ArraySubset;
 use zarr_grids_boxes::walk::{count_places, place_into};
 use zarr_grids_overlay::Extent;
 
+/// The options by which a write over a store goes: it may encode in part only where the store takes
+/// ranges of a value.
+fn allowed_options<S: WritableStorageTraits>(store: &S, options: &CodecOptions) -> CodecOptions
+    ensures { result ≡ allowed S.supports_set_partial options.now }
+{
+    let in_part = store.supports_set_partial() && options.experimental_partial_encoding;
+    options.with_experimental_partial_encoding(in_part)
+}
+
 impl<C: ArrayToBytesCodecTraits + Sync> ArrayCore<C> {
     ghost use Rattle.std.specs.Prelude.{◌<◌, List};
     ghost use Rattle.zarr_grids_boxes.specs.Boxes.{product};
@@ -23,15 +35,17 @@ impl<C: ArrayToBytesCodecTraits + Sync> ArrayCore<C> {
     ghost use Rattle.zarr_codecs_arrays.specs.Views.{payload_of};
     ghost use Rattle.zarr_array_core.specs.Arrays.{CalledMany, IfHonestErr, OnHonestOk};
     ghost use Rattle.zarr_array_core.specs.BoxWrites.{region_write};
+    ghost use Rattle.zarr_array_core.specs.Turns.{HadTurns, region_walk};
     ghost use Rattle.zarr_array_core.specs.Views.{document_of};
     ghost use Rattle.zarr_array_core.specs.Outcomes.{WritesBox, WriteStops, chunks_met, IsSmall};
+    ghost use Rattle.zarr_array_meaning.specs.Writes.{allowed};
 
     /// Writes the elements of a region that is not empty, row-major, chunk by chunk: `bytes` are as
     /// many values of the array's data type as the region has places. A chunk that becomes all fill
-    /// loses its key, unless empty chunks are stored. In all the store accepts at most as many
-    /// writing calls as chunks are written. A chunk that lies in the region is written whatever is
-    /// stored for it, and nothing is fetched for it. With `experimental_partial_encoding` a part is
-    /// put into its chunk's shard.
+    /// loses its key, unless empty chunks are stored. The store accepts at most one writing call
+    /// for each chunk. A chunk that lies in the region is written whatever is stored for it, and
+    /// nothing is fetched for it. With `experimental_partial_encoding`, and a store that takes
+    /// ranges of a value, a part is put into its chunk's shard.
     ///
     /// `Fit` where a chunk does not fit its codecs, `Damage` where a part of a chunk is to stay and
     /// what is stored cannot be decoded or, if that part is put into it, cannot take it, `Codec`
@@ -56,23 +70,26 @@ impl<C: ArrayToBytesCodecTraits + Sync> ArrayCore<C> {
             × IsValid (document_of C.meaning self.now).elements.type
             (payload_of target.bytes.now) (product target.region.now.shape.items) cells }
         ensures ok { OnHonestOk S.ReadableStorageTraits store.old store.new result
-            (WritesBox (region_write C.ArrayToBytesCodecTraits self.now target.entry options.now)
-            (payload_of target.entry.bytes.now)) }
+            (WritesBox (region_write C.ArrayToBytesCodecTraits self.now target.entry
+            (allowed S.supports_set_partial options.now)) (payload_of target.entry.bytes.now)) }
         ensures err { IfHonestErr S.ReadableStorageTraits store.old store.new result
-            (λ stopped before after. WriteStops
-            (region_write C.ArrayToBytesCodecTraits self.now target.entry options.now)
+            (λ stopped before after. WriteStops (region_write C.ArrayToBytesCodecTraits self.now
+            target.entry (allowed S.supports_set_partial options.now))
             (payload_of target.entry.bytes.now) before after stopped) }
         ensures store { CalledMany S.ReadableStorageTraits (chunks_met (document_of C.meaning
             self.now) (region_of target.entry.region.now)) store.old store.new result }
+        ensures turns { HadTurns S.ReadableStorageTraits (region_walk C.ArrayToBytesCodecTraits
+            self.now (region_of target.entry.region.now)) store.old store.new result }
     {
         let (start, shape) = (target.region.start(), target.region.shape());
         let alloc = rooms.alloc();
+        let effective = allowed_options(store, options);
         let write = BoxWrite {
             alloc,
             subset: target.region,
             region: Extent { start, shape },
             bytes: target.bytes,
-            options,
+            options: &effective,
         };
         self.write_chunks(rooms, store, &write, target.chunks)
     }
@@ -92,6 +109,7 @@ impl<C: ArrayToBytesCodecTraits> ArrayCore<C> {
     ghost use Rattle.zarr_array_core.specs.IntoShards.{StopsAt, WritesAt};
     ghost use Rattle.zarr_array_core.specs.BoxWrites.{write_of};
     ghost use Rattle.zarr_array_core.specs.Outcomes.{WritesMet, WriteStops, IsSmall};
+    ghost use Rattle.zarr_array_core.specs.Turns.{HadTurns, box_walk};
     ghost use Rattle.zarr_array_core.specs.Views.{array_cells, AreSoMany, document_of};
 
     /// Writes the elements of a box to each chunk that it intersects.
@@ -120,6 +138,8 @@ impl<C: ArrayToBytesCodecTraits> ArrayCore<C> {
             (payload_of write.now.bytes.now) before after stopped) }
         ensures store { CalledMany S.ReadableStorageTraits (product chunks.now.shape.items)
             store.old store.new result }
+        ensures turns { HadTurns S.ReadableStorageTraits (box_walk C.ArrayToBytesCodecTraits
+            self.now (region_of chunks.now)) store.old store.new result }
     {
         let count = count_places(chunks.shape()).unwrap();
         let mut room = rooms.take_indices();

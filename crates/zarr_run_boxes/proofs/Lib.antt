@@ -3,3 +3,4 @@ mod Writes
 mod Calls
 mod Compactions
 mod Rewrites
+mod ReadCounts

@@ -19,7 +19,7 @@ use Rattle.zarr_run_meaning.specs.declared.cause.Cause.{Cause}
 use Rattle.zarr_run_meaning.specs.declared.cause.Cause.TheVariants as cause
 use Rattle.zarr_run_meaning.specs.Causes.{IsTarget, AreTargets, Gives, IsGiven, HasTooLarge, HasTooLargeChunk, WriteRefuses, StopsAt, ReadRefuses, EraseRefuses, EraseStops}
 use Rattle.zarr_run_meaning.specs.Requests.{Target, WriteAsked}
-use Rattle.zarr_run_meaning.specs.Steps.{refused_after}
+use Rattle.zarr_run_meaning.specs.Steps.{refused_after, CountsRefusal}
 use Rattle.zarr_run_boxes.specs.declared.refusal.Refusal.{Refusal}
 
 -- the count of refused store calls after a command
@@ -27,10 +27,15 @@ abbrev pub refused_by : {A : Type 0} → ℕ → Result A Refusal → ℕ
 refused_by count (Ok value) = count
 refused_by count (Err refusal) = refused_after refusal.cause count
 
--- the count of refused store calls after a read
+-- the count of refused store calls after a command on one chunk
 abbrev pub refused_with : {A : Type 0} → ℕ → Result A Cause → ℕ
 refused_with count (Ok value) = count
 refused_with count (Err c) = refused_after c count
+
+-- the count of refused store calls before and after a read: it stays where the read is done, and else is what its refusal says
+abbrev pub CountsRead : {A : Type 0} → Result A Cause → ℕ → ℕ → Type 0
+CountsRead (Ok value) before after = after ≡ before
+CountsRead (Err c) before after = CountsRefusal c before after
 
 -- nothing was changed before the refusal
 pub record IsUntouched (refusal : Refusal) (old new : StoreMap) : Type 0 where

@@ -6,7 +6,7 @@ ghost use Rattle.zarr_codecs_meaning.specs.Payloads.{cells_in};
 ghost use Rattle.zarr_codecs_arrays.specs.Views.{payload_of};
 ghost use Rattle.zarr_array_core.specs.Outcomes.{ReadStops};
 ghost use Rattle.zarr_array_core.specs.Views.{document_of, path_of};
-ghost use Rattle.zarr_run_boxes.specs.Outcomes.{GivesCovered, CoveredReadRefused, cause_of, refused_with};
+ghost use Rattle.zarr_run_boxes.specs.Outcomes.{CountsRead, GivesCovered, CoveredReadRefused, cause_of};
 
 use crate::refusal::cause_of;
 use crate::targets::small_chunks_intersecting;
@@ -58,7 +58,7 @@ pub(crate) fn read_covered<
         (S.held store.old) (region_of region.now)) }
     ensures held { S.held store.new ≡ S.held store.old }
     ensures honest { S.is_honest store.new ≡ S.is_honest store.old }
-    ensures refused { S.refused_calls store.new ≡ refused_with (S.refused_calls store.old) result }
+    ensures refused { CountsRead result (S.refused_calls store.old) (S.refused_calls store.new) }
     ensures accepted { S.accepted_writes store.new ≡ S.accepted_writes store.old }
 {
     let alloc = rooms.alloc();

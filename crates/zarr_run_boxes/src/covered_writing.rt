@@ -48,10 +48,10 @@ pub(crate) fn write_covered<
     requires covered { IsCovered (document_of C.meaning array.now).grid (region_of region.now) }
     ensures ok { OnHonestOk S.ReadableStorageTraits store.old store.new result
         (WritesCovered (array_of C.ArrayToBytesCodecTraits array.now)
-        (box_asked (region_of region.now) write.entry)) }
+        (box_asked S.supports_set_partial (region_of region.now) write.entry)) }
     ensures err { IfHonestErr S.ReadableStorageTraits store.old store.new result
         (CoveredWriteRefused (array_of C.ArrayToBytesCodecTraits array.now)
-        (box_asked (region_of region.now) write.entry)) }
+        (box_asked S.supports_set_partial (region_of region.now) write.entry)) }
     ensures store { CalledMany S.ReadableStorageTraits (chunks_met
         (document_of C.meaning array.now) (region_of region.now)) store.old store.new result }
 {
@@ -162,10 +162,10 @@ fn write_elements<R: Threads + Sync, C: ArrayToBytesCodecTraits + Sync, S: Writa
     requires covered { IsCovered (document_of C.meaning array.now).grid (region_of region.now) }
     ensures ok { OnHonestOk S.ReadableStorageTraits store.old store.new result
         (WritesCovered (array_of C.ArrayToBytesCodecTraits array.now)
-        (elements_asked (region_of region.now) write.entry)) }
+        (elements_asked S.supports_set_partial (region_of region.now) write.entry)) }
     ensures err { IfHonestErr S.ReadableStorageTraits store.old store.new result
         (CoveredWriteRefused (array_of C.ArrayToBytesCodecTraits array.now)
-        (elements_asked (region_of region.now) write.entry)) }
+        (elements_asked S.supports_set_partial (region_of region.now) write.entry)) }
     ensures store { CalledMany S.ReadableStorageTraits (chunks_met
         (document_of C.meaning array.now) (region_of region.now)) store.old store.new result }
 {

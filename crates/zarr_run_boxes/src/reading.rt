@@ -4,7 +4,7 @@ ghost use Rattle.zarr_grids_boxes.specs.Subsets.{region_of};
 ghost use Rattle.zarr_codecs_arrays.specs.Views.{payload_of};
 ghost use Rattle.zarr_run_meaning.specs.Requests.{in_box, in_chunk};
 ghost use Rattle.zarr_array_core.specs.Views.{document_of, path_of};
-ghost use Rattle.zarr_run_boxes.specs.Outcomes.{ReadsTarget, ReadRefused, refused_with};
+ghost use Rattle.zarr_run_boxes.specs.Outcomes.{CountsRead, ReadsTarget, ReadRefused};
 
 use crate::covered_reading::read_covered;
 use crate::targets::{chunk_region, is_covered};
@@ -37,7 +37,7 @@ pub fn read_box<R: Threads + Sync, C: ArrayToBytesCodecTraits + Sync, S: Readabl
         (in_box (region_of region.now))) }
     ensures held { S.held store.new ≡ S.held store.old }
     ensures honest { S.is_honest store.new ≡ S.is_honest store.old }
-    ensures refused { S.refused_calls store.new ≡ refused_with (S.refused_calls store.old) result }
+    ensures refused { CountsRead result (S.refused_calls store.old) (S.refused_calls store.new) }
     ensures accepted { S.accepted_writes store.new ≡ S.accepted_writes store.old }
 {
     if !is_covered(array, region) {
@@ -64,7 +64,7 @@ pub fn read_chunk<R: Threads + Sync, C: ArrayToBytesCodecTraits + Sync, S: Reada
         (in_chunk chunk.now)) }
     ensures held { S.held store.new ≡ S.held store.old }
     ensures honest { S.is_honest store.new ≡ S.is_honest store.old }
-    ensures refused { S.refused_calls store.new ≡ refused_with (S.refused_calls store.old) result }
+    ensures refused { CountsRead result (S.refused_calls store.old) (S.refused_calls store.new) }
     ensures accepted { S.accepted_writes store.new ≡ S.accepted_writes store.old }
 {
     let region = chunk_region(rooms.alloc(), array, chunk)?;

@@ -34,12 +34,13 @@ pub fn write_box<R: Threads + Sync, C: ArrayToBytesCodecTraits + Sync, S: Writab
     region: &ArraySubset,
     write: CellWrite,
 ) -> Result<(), Refusal>
+    // A chunk is encoded in part only where the store takes ranges of a value.
     ensures ok { OnHonestOk S.ReadableStorageTraits store.old store.new result
         (WritesTarget (array_of C.ArrayToBytesCodecTraits array.now)
-        (asked_of (in_box (region_of region.now)) write.entry)) }
+        (asked_of S.supports_set_partial (in_box (region_of region.now)) write.entry)) }
     ensures err { IfHonestErr S.ReadableStorageTraits store.old store.new result
         (WriteRefused (array_of C.ArrayToBytesCodecTraits array.now)
-        (asked_of (in_box (region_of region.now)) write.entry)) }
+        (asked_of S.supports_set_partial (in_box (region_of region.now)) write.entry)) }
     // By at most one writing call for each chunk that is written.
     ensures store { CalledMany S.ReadableStorageTraits (chunks_met
         (document_of C.meaning array.now) (region_of region.now)) store.old store.new result }
@@ -62,10 +63,10 @@ pub fn write_chunk<R: Threads + Sync, C: ArrayToBytesCodecTraits + Sync, S: Writ
 ) -> Result<(), Refusal>
     ensures ok { OnHonestOk S.ReadableStorageTraits store.old store.new result
         (WritesTarget (array_of C.ArrayToBytesCodecTraits array.now)
-        (asked_of (in_chunk chunk.now) write.entry)) }
+        (asked_of S.supports_set_partial (in_chunk chunk.now) write.entry)) }
     ensures err { IfHonestErr S.ReadableStorageTraits store.old store.new result
         (WriteRefused (array_of C.ArrayToBytesCodecTraits array.now)
-        (asked_of (in_chunk chunk.now) write.entry)) }
+        (asked_of S.supports_set_partial (in_chunk chunk.now) write.entry)) }
     ensures store { CalledMany S.ReadableStorageTraits 1 store.old store.new result }
 {
     match chunk_region(rooms.alloc(), array, chunk) {

@@ -7,14 +7,14 @@ use Rattle.zarr_codecs_metadata.specs.Chains.{ReadsCodecs}
 use Rattle.zarr_run_commands.specs.Answers.{answer_json}
 use Rattle.zarr_run_commands.specs.Lines.{Says}
 use Rattle.zarr_array_meaning.specs.StoreMaps.{StoreMap}
-use Rattle.zarr_run_meaning.specs.Requests.{Request, Answer, path_of}
+use Rattle.zarr_run_meaning.specs.Requests.{Request, Answer, over_store, path_of}
 use Rattle.zarr_run_meaning.specs.Steps.{Step}
 use Rattle.zarr_run_meaning.specs.Worlds.{Held, World, held_at}
 use Rattle.zarr_run_opening.specs.Sessions.{Agrees, State, IsIn, array_at, document_of}
 use Rattle.zarr_run_opening.specs.declared.held.HeldArray.{HeldArray}
 use Rattle.zarr_run_lines.specs.declared.lines.LinesFault.{LinesFault}
 use Rattle.zarr_run_lines.specs.declared.lines.LinesFault.TheVariants.{Read}
-use Rattle.zarr_run_lines.specs.Lines.{lines_of, type_at, LineStep, Answers, Leaves, StandsAfterSome, output}
+use Rattle.zarr_run_lines.specs.Lines.{lines_of, type_at, Setting, LineStep, Answers, Leaves, StandsAfterSome, output}
 use Rattle.zarr_run_lines.specs.Sessions.{LeadsTo}
 
 -- an array and what the world holds have the same data type
@@ -32,24 +32,24 @@ same-type meaning reads state world request path type is at e =
     e ∙ types-agree meaning reads state.1.0 (array_at state.0 path) (held_at path world.arrays) (is.agree path) ∙ ap (λ p. option_map (λ h. h.document.elements.type) (held_at p world.arrays)) at
 
 -- what a command does is what its line does
-pub step-line : (reads : ReadsCodecs) (line : List ℕ) (request : Request) (answer : Answer) (type : Option DataType) (old new : World) → Says line (Some request) → Step reads old request answer new
-    → type ≡ type_at new request → LineStep reads old line (compact_text (answer_json type answer)) new
-step-line reads line request answer type old new says step e = (Some request, says, (answer, step, ap (λ t. compact_text (answer_json t answer)) e))
+pub step-line : (setting : Setting) (line : List ℕ) (request : Request) (answer : Answer) (type : Option DataType) (old new : World) → Says line (Some request) → Step setting.0 old (over_store setting.1 request) answer new
+    → type ≡ type_at new request → LineStep setting old line (compact_text (answer_json type answer)) new
+step-line setting line request answer type old new says step e = (Some request, says, (answer, step, ap (λ t. compact_text (answer_json t answer)) e))
 
 -- nothing was done
-pub left-alone : {B : Type 0} (meaning : B → ByteCodec) (reads : ReadsCodecs) (state : State B) (line : List ℕ) → LeadsTo meaning reads state state (λ old new. Leaves reads old line new)
-left-alone meaning reads state line old is = (old, is, inl refl)
+pub left-alone : {B : Type 0} (meaning : B → ByteCodec) (setting : Setting) (state : State B) (line : List ℕ) → LeadsTo meaning setting.0 state state (λ old new. Leaves setting old line new)
+left-alone meaning setting state line old is = (old, is, inl refl)
 
 -- a fault line
-pub no-command : {B T E : Type 0} (meaning : B → ByteCodec) (reads : ReadsCodecs) (r : Result T E) (state : State B) (line pending pending' : List ℕ) → Says line None
-    → pending' ≡ (if is_ok r then pending ++ (codes "{\"fault\":\"line\"}" ++ 10 ∷ []) else pending) → OnOk r (LeadsTo meaning reads state state (Answers reads line (output (Some pending) (Some pending'))))
-no-command meaning reads (Ok x) state line pending pending' says grew = λ old is. (old, is, (codes "{\"fault\":\"line\"}", (None, says, (refl, refl)), grew))
-no-command meaning reads (Err e) state line pending pending' says grew = tt
+pub no-command : {B T E : Type 0} (meaning : B → ByteCodec) (setting : Setting) (r : Result T E) (state : State B) (line pending pending' : List ℕ) → Says line None
+    → pending' ≡ (if is_ok r then pending ++ (codes "{\"fault\":\"line\"}" ++ 10 ∷ []) else pending) → OnOk r (LeadsTo meaning setting.0 state state (Answers setting line (output (Some pending) (Some pending'))))
+no-command meaning setting (Ok x) state line pending pending' says grew = λ old is. (old, is, (codes "{\"fault\":\"line\"}", (None, says, (refl, refl)), grew))
+no-command meaning setting (Err e) state line pending pending' says grew = tt
 
 -- no line was run
-pub none-run : {B : Type 0} (meaning : B → ByteCodec) (reads : ReadsCodecs) (state : State B) (input : Option (List ℕ)) → LeadsTo meaning reads state state (StandsAfterSome reads input)
-none-run meaning reads state None old is = (old, is, ([], [], (refl, refl), tt))
-none-run meaning reads state (Some text) old is = (old, is, ([], [], (refl, refl), (lines_of text, refl)))
+pub none-run : {B : Type 0} (meaning : B → ByteCodec) (setting : Setting) (state : State B) (input : Option (List ℕ)) → LeadsTo meaning setting.0 state state (StandsAfterSome setting input)
+none-run meaning setting state None old is = (old, is, ([], [], (refl, refl), tt))
+none-run meaning setting state (Some text) old is = (old, is, ([], [], (refl, refl), (lines_of text, refl)))
 
 -- ---- outcomes
 

@@ -1,9 +1,8 @@
 -- Lines one by one.
 use Rattle.std.proofs.Common.{◌≡◌, ◌≢◌, ℕ, suc, ◌-◌, ◌==◌, nat_lt, List, [], ◌∷◌, ◌++◌, length, Bool, true, false, cond, refl, sym, ap, ◌∙◌, subst, arith, append_assoc}
 use Rattle.std.specs.Io.BufRead.{take_through, drop_through, first_piece, strip_last}
-use Rattle.zarr_codecs_metadata.specs.Chains.{ReadsCodecs}
 use Rattle.zarr_run_meaning.specs.Worlds.{World}
-use Rattle.zarr_run_lines.specs.Lines.{lines_of, onto_first, LineStep, RunsLines}
+use Rattle.zarr_run_lines.specs.Lines.{lines_of, onto_first, Setting, LineStep, RunsLines}
 
 onto_cond : (b : Bool) (x : ℕ) (p q : List ℕ) → cond b (x ∷ p) (x ∷ q) ≡ x ∷ cond b p q
 onto_cond true x p q = refl
@@ -43,8 +42,8 @@ shape : (text rest more : List ℕ) → (text ++ 10 ∷ rest) ++ more ≡ text +
 shape text rest more = append_assoc text (10 ∷ rest) more
 
 -- one more line
-pub runs-more : (reads : ReadsCodecs) (done : List (List ℕ)) (old mid new : World) (out line text : List ℕ) → RunsLines reads done old mid out → LineStep reads mid line text new
-    → RunsLines reads (done ++ line ∷ []) old new (out ++ (text ++ 10 ∷ []))
-runs-more reads [] old mid new out line text ran step = (text, [], new, subst (λ w. LineStep reads w line text new) ran.0 step, (refl, refl), ap (λ o. o ++ (text ++ 10 ∷ [])) ran.1)
-runs-more reads (l ∷ done) old mid new out line text (first, rest, w, one, more, is) step =
-    (first, rest ++ (text ++ 10 ∷ []), w, one, runs-more reads done w mid new rest line text more step, ap (λ o. o ++ (text ++ 10 ∷ [])) is ∙ shape first rest (text ++ 10 ∷ []))
+pub runs-more : (setting : Setting) (done : List (List ℕ)) (old mid new : World) (out line text : List ℕ) → RunsLines setting done old mid out → LineStep setting mid line text new
+    → RunsLines setting (done ++ line ∷ []) old new (out ++ (text ++ 10 ∷ []))
+runs-more setting [] old mid new out line text ran step = (text, [], new, subst (λ w. LineStep setting w line text new) ran.0 step, (refl, refl), ap (λ o. o ++ (text ++ 10 ∷ [])) ran.1)
+runs-more setting (l ∷ done) old mid new out line text (first, rest, w, one, more, is) step =
+    (first, rest ++ (text ++ 10 ∷ []), w, one, runs-more setting done w mid new rest line text more step, ap (λ o. o ++ (text ++ 10 ∷ [])) is ∙ shape first rest (text ++ 10 ∷ []))

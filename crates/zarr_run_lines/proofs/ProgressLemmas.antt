@@ -2,9 +2,8 @@
 use Rattle.std.proofs.Common.{◌≡◌, ℕ, ◌+◌, ◌≤◌, ◌^◌, List, [], ◌∷◌, ◌++◌, length, Option, Some, None, IfSome, Result, Ok, Err, OnOk, refl, sym, ap, ◌∙◌, subst, inl, inr, arith, append_assoc, append-nil, length-append}
 use Rattle.std.specs.Io.BufRead.{drop_through}
 use Rattle.std.specs.Io.KnownBytes.{Appends, Keeps, append_known}
-use Rattle.zarr_codecs_metadata.specs.Chains.{ReadsCodecs}
 use Rattle.zarr_run_meaning.specs.Worlds.{World}
-use Rattle.zarr_run_lines.specs.Lines.{lines_of, output, Answers, Leaves, StandsAfterSome, RunsSome, RunsAll, IsWithinLimits}
+use Rattle.zarr_run_lines.specs.Lines.{lines_of, Setting, output, Answers, Leaves, StandsAfterSome, RunsSome, RunsAll, IsWithinLimits}
 use Rattle.zarr_run_lines.specs.Reading.{Reader, up_to, IsLeft, TakesLine, HasRead, HasRun}
 use Rattle.zarr_run_lines.proofs.LinesLemmas.{lines_of-first, runs-more}
 
@@ -86,8 +85,8 @@ none-yet : (before : Option (List ℕ)) (pending : List ℕ) → pending ≡ [] 
 none-yet None pending e = tt
 none-yet (Some held) pending e = ap (λ p. held ++ p) e
 
-pub run-start : (reads : ReadsCodecs) (before : Option (List ℕ)) (pending : List ℕ) (old : World) → pending ≡ [] → HasRun reads [] (output before (append_known before pending)) old old
-run-start reads before pending old none = record { out = []; ran = (refl, refl); answers = none-yet before pending none }
+pub run-start : (setting : Setting) (before : Option (List ℕ)) (pending : List ℕ) (old : World) → pending ≡ [] → HasRun setting [] (output before (append_known before pending)) old old
+run-start setting before pending old none = record { out = []; ran = (refl, refl); answers = none-yet before pending none }
 
 more-answers : (before after after' : Option (List ℕ)) (pending pending' pending'' out more : List ℕ) → Appends before (append_known after pending) out → pending' ≡ pending ++ more
     → Keeps (append_known after pending') (append_known after' pending'') → Appends before (append_known after' pending'') (out ++ more)
@@ -97,47 +96,47 @@ more-answers (Some xs) (Some ys) None pending pending' pending'' out more grew i
 more-answers (Some xs) (Some ys) (Some zs) pending pending' pending'' out more grew is kept =
     kept ∙ ap (λ p. ys ++ p) is ∙ sym (append_assoc ys pending more) ∙ ap (λ l. l ++ more) grew ∙ append_assoc xs out more
 
-pub run-line : (reads : ReadsCodecs) (done : List (List ℕ)) (before after after' : Option (List ℕ)) (pending pending' pending'' line : List ℕ) (old mid new : World)
-    → HasRun reads done (output before (append_known after pending)) old mid → Answers reads line (output (Some pending) (Some pending')) mid new → Keeps (append_known after pending') (append_known after' pending'')
-    → HasRun reads (done ++ line ∷ []) (output before (append_known after' pending'')) old new
-run-line reads done before after after' pending pending' pending'' line old mid new p (text, step, is) kept = record {
+pub run-line : (setting : Setting) (done : List (List ℕ)) (before after after' : Option (List ℕ)) (pending pending' pending'' line : List ℕ) (old mid new : World)
+    → HasRun setting done (output before (append_known after pending)) old mid → Answers setting line (output (Some pending) (Some pending')) mid new → Keeps (append_known after pending') (append_known after' pending'')
+    → HasRun setting (done ++ line ∷ []) (output before (append_known after' pending'')) old new
+run-line setting done before after after' pending pending' pending'' line old mid new p (text, step, is) kept = record {
   out = p.out ++ (text ++ 10 ∷ []);
-  ran = runs-more reads done old mid new p.out line text p.ran step;
+  ran = runs-more setting done old mid new p.out line text p.ran step;
   answers = more-answers before after after' pending pending' pending'' p.out (text ++ 10 ∷ []) p.answers is kept;
 }
 
 -- ---- both
 
 -- a line that was answered has run
-pub answers-leave : (reads : ReadsCodecs) (line before after : List ℕ) (old new : World) → Answers reads line (output (Some before) (Some after)) old new → Leaves reads old line new
-answers-leave reads line before after old new (text, step, is) = inr (text, step)
+pub answers-leave : (setting : Setting) (line before after : List ℕ) (old new : World) → Answers setting line (output (Some before) (Some after)) old new → Leaves setting old line new
+answers-leave setting line before after old new (text, step, is) = inr (text, step)
 
 -- after a fault before a line
-pub stands-before : (reads : ReadsCodecs) (input : Option (List ℕ)) (left : Reader) (before after : Option (List ℕ)) (lines : ℕ) (done : List (List ℕ)) (old new : World)
-    → HasRead input left lines done → HasRun reads done (output before after) old new → StandsAfterSome reads input old new
-stands-before reads input left before after lines done old new read run = (done, run.out, run.ran, taken-first input left lines done read)
+pub stands-before : (setting : Setting) (input : Option (List ℕ)) (left : Reader) (before after : Option (List ℕ)) (lines : ℕ) (done : List (List ℕ)) (old new : World)
+    → HasRead input left lines done → HasRun setting done (output before after) old new → StandsAfterSome setting input old new
+stands-before setting input left before after lines done old new read run = (done, run.out, run.ran, taken-first input left lines done read)
 
 -- after a fault in a line
-pub stands-in : (reads : ReadsCodecs) (input : Option (List ℕ)) (left later : Reader) (before after : Option (List ℕ)) (lines lines' : ℕ) (done : List (List ℕ)) (line : List ℕ) (old mid new : World)
-    → HasRead input left lines done → Takes left later line → lines' + 1 ≡ lines → HasRun reads done (output before after) old mid → Leaves reads mid line new → StandsAfterSome reads input old new
-stands-in reads input left later before after lines lines' done line old mid new read takes one run (inl same) =
-    subst (λ w. StandsAfterSome reads input old w) (sym same) (stands-before reads input left before after lines done old mid read run)
-stands-in reads input left later before after lines lines' done line old mid new read takes one run (inr (text, step)) = (
+pub stands-in : (setting : Setting) (input : Option (List ℕ)) (left later : Reader) (before after : Option (List ℕ)) (lines lines' : ℕ) (done : List (List ℕ)) (line : List ℕ) (old mid new : World)
+    → HasRead input left lines done → Takes left later line → lines' + 1 ≡ lines → HasRun setting done (output before after) old mid → Leaves setting mid line new → StandsAfterSome setting input old new
+stands-in setting input left later before after lines lines' done line old mid new read takes one run (inl same) =
+    subst (λ w. StandsAfterSome setting input old w) (sym same) (stands-before setting input left before after lines done old mid read run)
+stands-in setting input left later before after lines lines' done line old mid new read takes one run (inr (text, step)) = (
   done ++ line ∷ [],
   run.out ++ (text ++ 10 ∷ []),
-  runs-more reads done old mid new run.out line text run.ran step,
+  runs-more setting done old mid new run.out line text run.ran step,
   taken-first input later lines' (done ++ line ∷ []) (read-line input left later lines lines' done line read takes one),
 )
 
 -- with all answers
-pub runs-some : (reads : ReadsCodecs) (input : Option (List ℕ)) (left : Reader) (before after : Option (List ℕ)) (lines : ℕ) (done : List (List ℕ)) (old new : World)
-    → HasRead input left lines done → HasRun reads done (output before after) old new → RunsSome reads input (output before after) old new
-runs-some reads input left before after lines done old new read run = (done, run.out, run.ran, run.answers, taken-first input left lines done read)
+pub runs-some : (setting : Setting) (input : Option (List ℕ)) (left : Reader) (before after : Option (List ℕ)) (lines : ℕ) (done : List (List ℕ)) (old new : World)
+    → HasRead input left lines done → HasRun setting done (output before after) old new → RunsSome setting input (output before after) old new
+runs-some setting input left before after lines done old new read run = (done, run.out, run.ran, run.answers, taken-first input left lines done read)
 
 -- at the end of the input
-pub runs-all : (reads : ReadsCodecs) (input : Option (List ℕ)) (left : Reader) (before after : Option (List ℕ)) (lines : ℕ) (done : List (List ℕ)) (old new : World)
-    → HasRead input left lines done → Ends left → HasRun reads done (output before after) old new → RunsAll reads input (output before after) old new
-runs-all reads input left before after lines done old new read ends run = (done, run.out, run.ran, run.answers, taken-all input left lines done read ends)
+pub runs-all : (setting : Setting) (input : Option (List ℕ)) (left : Reader) (before after : Option (List ℕ)) (lines : ℕ) (done : List (List ℕ)) (old new : World)
+    → HasRead input left lines done → Ends left → HasRun setting done (output before after) old new → RunsAll setting input (output before after) old new
+runs-all setting input left before after lines done old new read ends run = (done, run.out, run.ran, run.answers, taken-all input left lines done read ends)
 
 -- ---- after the answers that were pending were written
 
@@ -147,17 +146,17 @@ flushed (Some xs) None after' pending pending' out grew kept none = absurd grew
 flushed (Some xs) (Some ys) None pending pending' out grew kept none = absurd kept
 flushed (Some xs) (Some ys) (Some zs) pending pending' out grew kept none = sym (append-nil zs) ∙ sym (ap (λ p. zs ++ p) none) ∙ kept ∙ grew
 
-pub all-written : (reads : ReadsCodecs) (input before after after' : Option (List ℕ)) (pending pending' : List ℕ) (old new : World) → RunsAll reads input (output before (append_known after pending)) old new
-    → Keeps (append_known after pending) (append_known after' pending') → pending' ≡ [] → RunsAll reads input (output before after') old new
-all-written reads input before after after' pending pending' old new ran kept none = (ran.0, ran.1, ran.2, flushed before after after' pending pending' ran.1 ran.3 kept none, ran.4)
+pub all-written : (setting : Setting) (input before after after' : Option (List ℕ)) (pending pending' : List ℕ) (old new : World) → RunsAll setting input (output before (append_known after pending)) old new
+    → Keeps (append_known after pending) (append_known after' pending') → pending' ≡ [] → RunsAll setting input (output before after') old new
+all-written setting input before after after' pending pending' old new ran kept none = (ran.0, ran.1, ran.2, flushed before after after' pending pending' ran.1 ran.3 kept none, ran.4)
 
-pub some-written : (reads : ReadsCodecs) (input before after after' : Option (List ℕ)) (pending pending' : List ℕ) (old new : World) → RunsSome reads input (output before (append_known after pending)) old new
-    → Keeps (append_known after pending) (append_known after' pending') → pending' ≡ [] → RunsSome reads input (output before after') old new
-some-written reads input before after after' pending pending' old new ran kept none = (ran.0, ran.1, ran.2, flushed before after after' pending pending' ran.1 ran.3 kept none, ran.4)
+pub some-written : (setting : Setting) (input before after after' : Option (List ℕ)) (pending pending' : List ℕ) (old new : World) → RunsSome setting input (output before (append_known after pending)) old new
+    → Keeps (append_known after pending) (append_known after' pending') → pending' ≡ [] → RunsSome setting input (output before after') old new
+some-written setting input before after after' pending pending' old new ran kept none = (ran.0, ran.1, ran.2, flushed before after after' pending pending' ran.1 ran.3 kept none, ran.4)
 
-pub stands-all : (reads : ReadsCodecs) (input before after : Option (List ℕ)) (old new : World) → RunsAll reads input (output before after) old new → StandsAfterSome reads input old new
-stands-all reads None before after old new ran = (ran.0, ran.1, ran.2, tt)
-stands-all reads (Some text) before after old new ran = (ran.0, ran.1, ran.2, ([], ran.4 ∙ sym (append-nil ran.0)))
+pub stands-all : (setting : Setting) (input before after : Option (List ℕ)) (old new : World) → RunsAll setting input (output before after) old new → StandsAfterSome setting input old new
+stands-all setting None before after old new ran = (ran.0, ran.1, ran.2, tt)
+stands-all setting (Some text) before after old new ran = (ran.0, ran.1, ran.2, ([], ran.4 ∙ sym (append-nil ran.0)))
 
 -- ---- outcomes
 

@@ -2,9 +2,8 @@
 use Rattle.std.specs.Prelude.{◌≡◌, ◌≢◌, ℕ, ◌+◌, ◌≤◌, List, [], ◌++◌, length, take, Option, Some}
 use Rattle.std.specs.Io.BufRead.{first_piece, drop_through}
 use Rattle.std.specs.Io.KnownBytes.{Appends}
-use Rattle.zarr_codecs_metadata.specs.Chains.{ReadsCodecs}
 use Rattle.zarr_run_meaning.specs.Worlds.{World}
-use Rattle.zarr_run_lines.specs.Lines.{lines_of, Output, RunsLines}
+use Rattle.zarr_run_lines.specs.Lines.{lines_of, Setting, Output, RunsLines}
 
 -- a reader: the bytes that it has, if they are known, and how many may still be read
 pub record Reader : Type 0 where
@@ -32,7 +31,7 @@ pub record HasRead (input : Option (List ℕ)) (left : Reader) (lines : ℕ) (do
   pub first : (text : List ℕ) → input ≡ Some text → (rest : List ℕ) × IsLeft left rest × (lines_of text ≡ done ++ lines_of rest) × (length text + left.limit ≤ 4294967296 + length rest)
 
 -- these lines were run, and an output has grown by their answers
-pub record HasRun (reads : ReadsCodecs) (done : List (List ℕ)) (written : Output) (old new : World) : Type 0 where
+pub record HasRun (setting : Setting) (done : List (List ℕ)) (written : Output) (old new : World) : Type 0 where
   pub out : List ℕ
-  pub ran : RunsLines reads done old new out
+  pub ran : RunsLines setting done old new out
   pub answers : Appends written.before written.after out

@@ -70,12 +70,12 @@ fn run_command<H: Threads + Sync, S: WritableStorageTraits, B: BytesToBytesCodec
     ensures ok { IsTrue (S.is_honest (store_of session.old)) → OnOk result
         (LeadsTo B.meaning B.reads (state_of S.held S.refused_calls session.old)
         (state_of S.held S.refused_calls session.new)
-        (Answers B.reads line.old.items
+        (Answers (B.reads, S.supports_set_partial) line.old.items
         (output (Some pending.old.items) (Some pending.new.items)))) }
     ensures err { IsTrue (S.is_honest (store_of session.old)) → OnErr result
         (LeadsTo B.meaning B.reads (state_of S.held S.refused_calls session.old)
         (state_of S.held S.refused_calls session.new)
-        (λ old new. Leaves B.reads old line.old.items new)) }
+        (λ old new. Leaves (B.reads, S.supports_set_partial) old line.old.items new)) }
     ensures honest { S.is_honest (store_of session.new) ≡ S.is_honest (store_of session.old) }
 {
     let Some(command) = take_command(alloc, commands, line)? else {
@@ -106,12 +106,12 @@ pub(crate) fn answer_line<
     ensures ok { IsTrue (S.is_honest (store_of session.old)) → OnOk result
         (LeadsTo B.meaning B.reads (state_of S.held S.refused_calls session.old)
         (state_of S.held S.refused_calls session.new)
-        (Answers B.reads line.old.items
+        (Answers (B.reads, S.supports_set_partial) line.old.items
         (output (Some pending.old.items) (Some pending.new.items)))) }
     ensures err { IsTrue (S.is_honest (store_of session.old)) → OnErr result
         (LeadsTo B.meaning B.reads (state_of S.held S.refused_calls session.old)
         (state_of S.held S.refused_calls session.new)
-        (λ old new. Leaves B.reads old line.old.items new)) }
+        (λ old new. Leaves (B.reads, S.supports_set_partial) old line.old.items new)) }
     ensures honest { S.is_honest (store_of session.new) ≡ S.is_honest (store_of session.old) }
     ensures fault { IfErr result (λ fault. fault ≡ LinesFault.Memory) }
 {

@@ -52,18 +52,18 @@ pub fn run_lines<
     ensures ok { IsTrue (S.is_honest (store_of session.old)) → OnOk result
         (LeadsTo B.meaning B.reads (state_of S.held S.refused_calls session.old)
         (state_of S.held S.refused_calls session.new)
-        (RunsAll B.reads (R.remaining reader)
+        (RunsAll (B.reads, S.supports_set_partial) (R.remaining reader)
         (output (W.contents writer.old) (W.contents writer.new)))) }
     ensures limits { OnOk result (IfSome (R.remaining reader) IsWithinLimits) }
     ensures err { IsTrue (S.is_honest (store_of session.old)) → OnErr result
         (LeadsTo B.meaning B.reads (state_of S.held S.refused_calls session.old)
         (state_of S.held S.refused_calls session.new)
-        (StandsAfterSome B.reads (R.remaining reader))) }
+        (StandsAfterSome (B.reads, S.supports_set_partial) (R.remaining reader))) }
     ensures read { IsTrue (S.is_honest (store_of session.old)) → IfErr result
         (λ fault. fault ≡ LinesFault.Read →
         LeadsTo B.meaning B.reads (state_of S.held S.refused_calls session.old)
         (state_of S.held S.refused_calls session.new)
-        (RunsSome B.reads (R.remaining reader)
+        (RunsSome (B.reads, S.supports_set_partial) (R.remaining reader)
         (output (W.contents writer.old) (W.contents writer.new)))) }
     ensures honest { S.is_honest (store_of session.new) ≡ S.is_honest (store_of session.old) }
 {
@@ -97,18 +97,20 @@ fn answer_lines<
     ensures ok { IsTrue (S.is_honest (store_of session.old)) → OnOk result
         (LeadsTo B.meaning B.reads (state_of S.held S.refused_calls session.old)
         (state_of S.held S.refused_calls session.new)
-        (RunsAll B.reads (R.remaining reader) (output (W.contents writer.old)
+        (RunsAll (B.reads, S.supports_set_partial) (R.remaining reader)
+        (output (W.contents writer.old)
         (append_known (W.contents writer.new) pending.new.items)))) }
     ensures limits { OnOk result (IfSome (R.remaining reader) IsWithinLimits) }
     ensures err { IsTrue (S.is_honest (store_of session.old)) → OnErr result
         (LeadsTo B.meaning B.reads (state_of S.held S.refused_calls session.old)
         (state_of S.held S.refused_calls session.new)
-        (StandsAfterSome B.reads (R.remaining reader))) }
+        (StandsAfterSome (B.reads, S.supports_set_partial) (R.remaining reader))) }
     ensures read { IsTrue (S.is_honest (store_of session.old)) → IfErr result
         (λ fault. fault ≡ LinesFault.Read →
         LeadsTo B.meaning B.reads (state_of S.held S.refused_calls session.old)
         (state_of S.held S.refused_calls session.new)
-        (RunsSome B.reads (R.remaining reader) (output (W.contents writer.old)
+        (RunsSome (B.reads, S.supports_set_partial) (R.remaining reader)
+        (output (W.contents writer.old)
         (append_known (W.contents writer.new) pending.new.items)))) }
     ensures honest { S.is_honest (store_of session.new) ≡ S.is_honest (store_of session.old) }
 {

@@ -1,3 +1,4 @@
+pub mod RefusedCounts
 pub mod FillLemmas
 pub mod FoundTables
 pub mod TableLemmas

@@ -6,6 +6,7 @@ use Rattle.zarr_codecs_meaning.specs.Payloads.{Payload}
 use Rattle.zarr_codecs_options.specs.declared.codec_options.CodecOptions.{CodecOptions}
 use Rattle.zarr_codecs_options.specs.declared.subchunk_write_order.SubchunkWriteOrder.{SubchunkWriteOrder}
 use Rattle.zarr_codecs_types.specs.Given.{GivenCells}
+use Rattle.zarr_array_meaning.specs.Writes.{allowed}
 use Rattle.zarr_run_meaning.specs.declared.cause.Cause.{Cause}
 
 -- the cells that a command means: those of a box, or those of a chunk
@@ -53,6 +54,11 @@ pub data Answer : Type 0 where
   cells : Payload → Answer
   compacted : (changed : Bool) → Answer
   refused : (cause : Cause) (applied : ℕ) → Answer
+
+-- a command as it is run over a store that takes ranges of a value, or doesn't: only where it does is a chunk encoded in part
+abbrev pub over_store : Bool → Request → Request
+over_store takes_ranges (write path target given options) = write path target given (allowed takes_ranges options)
+over_store takes_ranges request = request
 
 -- the path that a command names
 abbrev pub path_of : Request → List ℕ

@@ -19,22 +19,29 @@ use Rattle.zarr_run_meaning.specs.Changes.{Creates, Reopens, Opens, Writes, Writ
 use Rattle.zarr_run_meaning.specs.Requests.{Target, WriteAsked, Refusal, refusal, cause_in, applied_in, Request, create, reopen, write, read, erase, compact, rewrite, path_of, Answer, done, cells, compacted, refused}
 use Rattle.zarr_run_meaning.specs.Worlds.{Held, World, array_of, held_at}
 
--- the count of refused store calls rises by one with the cause Store, and with no other
+-- the count of refused store calls where at most the call that a refusal tells of was refused: one more with the cause Store
 abbrev pub refused_after : Cause → ℕ → ℕ
 refused_after cause.Store count = counted count 1
 refused_after c count = count
 
+-- the count of refused store calls before and after a command that is refused: it rises by one with the cause Store; with any other it stays, or rises by one where a call was refused and what else was found comes first
+abbrev pub CountsRefusal : Cause → ℕ → ℕ → Type 0
+CountsRefusal cause.Store before after = after ≡ counted before 1
+CountsRefusal c before after = (after ≡ before) ⊎ (after ≡ counted before 1)
+
 -- a command that is refused before it changed anything
 pub record Stays (c : Cause) (n : ℕ) (old new : World) : Type 0 where
   pub applied : n ≡ 0
-  pub is : new ≡ record old { refused = refused_after c old.refused }
+  pub is : new ≡ record old { refused = new.refused }
+  pub count : CountsRefusal c old.refused new.refused
 
 -- a create of a document of version 2 that is refused once its attributes are stored: no array is added, and no other key changed
 pub record LeavesAttributes (path : List ℕ) (tree : Data) (c : Cause) (old new : World) : Type 0 where
   pub by : (c ≡ cause.Store) ⊎ (c ≡ cause.Memory)
   pub fresh : HasNoDocument path old.store
   pub stores : StoresAttributes path tree old.store new.store
-  pub is : new ≡ record old { store = new.store; refused = refused_after c old.refused }
+  pub is : new ≡ record old { store = new.store; refused = new.refused }
+  pub count : CountsRefusal c old.refused new.refused
 
 -- a write that stopped at a chunk: of the chunks that the box intersects exactly those before it are written
 pub record WritesFirst (h : Held) (asked : WriteAsked) (why : Refusal) (old new : World) : Type 0 where
@@ -44,7 +51,7 @@ pub record WritesFirst (h : Held) (asked : WriteAsked) (why : Refusal) (old new 
   pub small : ¬ HasTooLarge h.document box
   pub stops : StopsAt (write_to (array_of h) box values asked.options) old.store (applied_in why) (cause_in why)
   pub writes : WritesChunks h (write_to (array_of h) box values asked.options) (take (applied_in why) (intersecting h.document.grid box)) old new
-  pub count : new.refused ≡ refused_after (cause_in why) old.refused
+  pub count : CountsRefusal (cause_in why) old.refused new.refused
 
 -- an erasure that stopped at a chunk: exactly the chunks before it are erased
 pub record ErasesFirst (h : Held) (chunks : Region) (why : Refusal) (old new : World) : Type 0 where
@@ -53,14 +60,14 @@ pub record ErasesFirst (h : Held) (chunks : Region) (why : Refusal) (old new : W
   pub stops : EraseStops (cause_in why)
   pub fewer : applied_in why < product chunks.shape
   pub erases : ErasesChunks h (take (applied_in why) (places chunks.start chunks.shape)) old new
-  pub count : new.refused ≡ refused_after (cause_in why) old.refused
+  pub count : CountsRefusal (cause_in why) old.refused new.refused
 
 -- a rewrite that stopped once so many chunks were stored anew: exactly the first of those that have a key
 pub record RewritesFirst (h : Held) (options : CodecOptions) (why : Refusal) (old new : World) : Type 0 where
   pub small : ¬ HasTooLargeKeyed (array_of h) old.store
   pub stops : RewriteStopsAt (array_of h) old.store options.store_empty_chunks (applied_in why) (cause_in why)
   pub rewrites : RewritesChunks h options (take (applied_in why) (keyed_chunks (array_of h) old.store)) old new
-  pub count : new.refused ≡ refused_after (cause_in why) old.refused
+  pub count : CountsRefusal (cause_in why) old.refused new.refused
 
 -- a refusal of a command on a held array: there is none, or the array refuses
 abbrev pub RefusesHeld : Option Held → (Held → Refusal → World → World → Type 0) → Refusal → World → World → Type 0

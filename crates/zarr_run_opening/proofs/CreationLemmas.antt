@@ -21,6 +21,7 @@ use Rattle.zarr_run_meaning.specs.Worlds.{Held, World, held_at, IsTableAt}
 use Rattle.zarr_run_meaning.specs.declared.cause.Cause.{Cause}
 use Rattle.zarr_run_meaning.specs.declared.cause.Cause.TheVariants as cause
 use Rattle.zarr_run_meaning.proofs.FoundTables.{table_found}
+use Rattle.zarr_run_meaning.proofs.RefusedCounts.{counts_refusal}
 use Rattle.zarr_grids_keys.proofs.HeadLemmas.{chunk_key-no_own_document}
 use Rattle.zarr_grids_keys.proofs.RelatedLemmas.{is_related-comm, is_related-refl, key_under-unrelated}
 use Rattle.zarr_array_meaning.specs.Texts.{HasNoDocument, StoresAttributes, StoresDocument}
@@ -142,7 +143,9 @@ module _ (B : Type 0) (meaning : B → ByteCodec) (reads : ReadsCodecs) (path : 
       left_in c = record w { store = store'; refused = refused_after c w.refused }
 
       leaves_attributes : (c : Cause) → (c ≡ cause.Store) ⊎ (c ≡ cause.Memory) → LeavesAttributes path (written_document d) c w (left_in c)
-      leaves_attributes c by = let P : StoreMap → Type 0 = λ (s : StoreMap). StoresAttributes path (written_document d) s store' in record { by = by; fresh = has_none none; stores = subst P (sym k.store) attributes; is = refl }
+      leaves_attributes c by =
+          let P : StoreMap → Type 0 = λ (s : StoreMap). StoresAttributes path (written_document d) s store' in
+          record { by = by; fresh = has_none none; stores = subst P (sym k.store) attributes; is = refl; count = counts_refusal c w.refused }
 
       storing_left : (c : Cause) → StoringRefused path store c → Step reads w (create path d order) (refused c 0) (left_in c)
       storing_left cause.PathTaken why = absurd (not_both why none)

@@ -18,6 +18,7 @@ use Rattle.zarr_run_meaning.specs.Steps.{Stays, refused_after}
 use Rattle.zarr_run_meaning.specs.Tables.{Table}
 use Rattle.zarr_run_meaning.specs.Worlds.{Held, World, held_at, is_taken, IsTableAt}
 use Rattle.zarr_run_meaning.specs.declared.cause.Cause.{Cause}
+use Rattle.zarr_run_meaning.proofs.RefusedCounts.{counts_refusal}
 use Rattle.zarr_run_opening.specs.Arrays.{IsTakenIn, IsFreeIn, KeepsArrays}
 use Rattle.zarr_run_opening.specs.Sessions.{Arrays, array_at, IsHeld, Agrees, IsIn}
 use Rattle.zarr_run_opening.specs.declared.held.HeldArray.{HeldArray}
@@ -113,7 +114,7 @@ module _ (B : Type 0) (meaning : B → ByteCodec) (reads : ReadsCodecs) where
   }
 
 pub stays : (c : Cause) (w : World) → Stays c 0 w (record w { refused = refused_after c w.refused })
-stays c w = record { applied = refl; is = refl }
+stays c w = record { applied = refl; is = refl; count = counts_refusal c w.refused }
 
 -- ---- one key put
 get-put : (m : StoreMap) (k v q : List ℕ) → get (insert m k v) q ≡ cond (bytes_eq q k) (Some v) (get m q)

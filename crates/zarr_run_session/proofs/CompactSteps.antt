@@ -11,20 +11,20 @@ use Rattle.zarr_array_meaning.specs.Arrays.{Array}
 use Rattle.zarr_array_meaning.specs.Documents.{Document}
 use Rattle.zarr_array_meaning.specs.StoreMaps.{StoreMap}
 use Rattle.zarr_run_boxes.specs.Compacting.{CompactsTarget, CompactRefused}
-use Rattle.zarr_run_boxes.specs.Outcomes.{refused_with}
 use Rattle.zarr_run_meaning.specs.declared.cause.Cause.{Cause}
 use Rattle.zarr_run_meaning.specs.declared.cause.Cause.TheVariants as cause
 use Rattle.zarr_run_meaning.specs.Causes.{CompactRefuses}
 use Rattle.zarr_run_meaning.specs.Requests.{refusal, compact, Answer, compacted, refused}
-use Rattle.zarr_run_meaning.specs.Steps.{RefusesCompact, Step, refused_after}
+use Rattle.zarr_run_meaning.specs.Steps.{CountsRefusal, RefusesCompact, Step}
 use Rattle.zarr_run_meaning.specs.Worlds.{Held, World, array_of, held_at, writes_exactly}
 use Rattle.zarr_run_opening.specs.Sessions.{Arrays, array_at, document_of, IsIn, StepsFrom}
 use Rattle.zarr_run_opening.specs.declared.held.HeldArray.{HeldArray}
 use Rattle.zarr_run_opening.proofs.HoldsLemmas.{agreed_held}
 use Rattle.zarr_run_session.specs.Finding.{IsFound}
 use Rattle.zarr_run_session.specs.Replies.{answer_changed}
+use Rattle.zarr_run_session.specs.Sessions.{CountsAnswer}
 use Rattle.zarr_run_session.proofs.Alike.{compacts_alike, compact_refused_alike}
-use Rattle.zarr_run_session.proofs.HeldSteps.{LeadsTo, refused_at, refused_held, stays_at, short_of_memory, in_untouched}
+use Rattle.zarr_run_session.proofs.HeldSteps.{LeadsTo, refused_at, refused_held, counts_from, stays_at, short_of_memory, in_untouched}
 use Rattle.zarr_run_session.proofs.Lifting.{world_after, has_table, in_after}
 
 module _ (B : Type 0) (meaning : B → ByteCodec) (reads : ReadsCodecs) (arrays : Arrays B) (store store' : StoreMap) (n n' : ℕ) (path chunk : List ℕ) (options : CodecOptions) where
@@ -47,35 +47,35 @@ module _ (B : Type 0) (meaning : B → ByteCodec) (reads : ReadsCodecs) (arrays 
         (after, step, in_after B meaning reads arrays store store' n n' w (compact path chunk options) (compacted changed) h.path h.table k step)
 
     -- the compaction was refused
-    compact_refused : (c : Cause) → n' ≡ refused_after c n → store' ≡ store → CompactRefuses (array_of h) w.store chunk c → LeadsTo meaning reads w (compact path chunk options) (refused c 0) arrays store' n'
-    compact_refused c calls same refuses =
-        let after : World = record w { refused = refused_after c w.refused } in
+    compact_refused : (c : Cause) → CountsRefusal c n n' → store' ≡ store → CompactRefuses (array_of h) w.store chunk c → LeadsTo meaning reads w (compact path chunk options) (refused c 0) arrays store' n'
+    compact_refused c counts same refuses =
+        let after : World = record w { refused = n' } in
         let P : Cause → Type 0 = λ c. CompactRefuses (array_of h) w.store chunk c in
         let step : Step reads w (compact path chunk options) (refused c 0) after =
         refused_at reads (compact path chunk options) c 0 w after node (λ is. subst P is refuses)
-        (refused_held (held_at path w.arrays) h (RefusesCompact chunk) (refusal c 0) w after found (refuses, stays_at c 0 w refl)) in
-        (after, step, in_untouched B meaning reads arrays store store' n n' w c k same calls)
+        (refused_held (held_at path w.arrays) h (RefusesCompact chunk) (refusal c 0) w after found (refuses, stays_at c 0 n' w refl (counts_from c w.refused n n' k.refused counts))) in
+        (after, step, in_untouched B meaning reads arrays store store' n n' w k same)
 
-    compact_short : (c : Cause) → n' ≡ refused_after c n → store' ≡ store → c ≡ cause.Memory → LeadsTo meaning reads w (compact path chunk options) (refused c 0) arrays store' n'
-    compact_short c calls same is =
-        let step = short_of_memory reads (compact path chunk options) c 0 w refl is in
-        (record w { refused = refused_after c w.refused }, step, in_untouched B meaning reads arrays store store' n n' w c k same calls)
+    compact_short : (c : Cause) → CountsRefusal c n n' → store' ≡ store → c ≡ cause.Memory → LeadsTo meaning reads w (compact path chunk options) (refused c 0) arrays store' n'
+    compact_short c counts same is =
+        let step = short_of_memory reads (compact path chunk options) c 0 n' w refl is (counts_from c w.refused n n' k.refused counts) in
+        (record w { refused = n' }, step, in_untouched B meaning reads arrays store store' n n' w k same)
 
-    compact_answered : (result : Result Bool Cause) → n' ≡ refused_with n result → IfOk result (λ changed. CompactsTarget (array_of h) chunk changed store store') → IfErr result (λ c. CompactRefused (array_of h) chunk c store) → OnErr result (store' ≡ store)
+    compact_answered : (result : Result Bool Cause) → CountsAnswer (answer_changed result) n n' → IfOk result (λ changed. CompactsTarget (array_of h) chunk changed store store') → IfErr result (λ c. CompactRefused (array_of h) chunk c store) → OnErr result (store' ≡ store)
         → LeadsTo meaning reads w (compact path chunk options) (answer_changed result) arrays store' n'
-    compact_answered (Ok changed) calls ok err kept =
+    compact_answered (Ok changed) counts ok err kept =
         let P : StoreMap → Type 0 = λ s. CompactsTarget (array_of h) chunk changed s store' in
-        compact_done changed calls (subst P (sym k.store) ok)
-    compact_answered (Err c) calls ok err kept =
+        compact_done changed counts (subst P (sym k.store) ok)
+    compact_answered (Err c) counts ok err kept =
         let P : StoreMap → Type 0 = λ s. CompactRefuses (array_of h) s chunk c in
-        ⊎_elim (λ why. compact_refused c calls kept (subst P (sym k.store) why)) (compact_short c calls kept) err
+        ⊎_elim (λ why. compact_refused c counts kept (subst P (sym k.store) why)) (compact_short c counts kept) err
 
   -- what was answered and left for the array that is found is a step of each world
-  pub compact_steps : (array : HeldArray B) (result : Result Bool Cause) (answer : Answer) → IsFound arrays path array → n' ≡ refused_with n result → answer ≡ answer_changed result
+  pub compact_steps : (array : HeldArray B) (result : Result Bool Cause) (answer : Answer) → IsFound arrays path array → CountsAnswer answer n n' → answer ≡ answer_changed result
       → IfOk result (λ changed. CompactsTarget (record { path = path_of array.core; document = document_of meaning array; exact = is_exact array_function array.core }) chunk changed store store')
       → IfErr result (λ c. CompactRefused (record { path = path_of array.core; document = document_of meaning array; exact = is_exact array_function array.core }) chunk c store) → OnErr result (store' ≡ store)
       → StepsFrom (meaning, reads) (arrays, (store, n)) (compact path chunk options, answer) (arrays, (store', n'))
-  compact_steps array result answer is calls says ok err kept w k =
+  compact_steps array result answer is counts says ok err kept w k =
       let held = agreed_held B meaning reads store (array_at arrays path) (held_at path w.arrays) array (k.agree path) is.found in
       let h = held.0 in
       let exact = is_exact array_function array.core in
@@ -83,8 +83,9 @@ module _ (B : Type 0) (meaning : B → ByteCodec) (reads : ReadsCodecs) (arrays 
       let Done : List ℕ → Document → Type 0 = λ p d. IfOk result (λ changed. CompactsTarget (at p d) chunk changed store store') in
       let Why : List ℕ → Document → Type 0 = λ p d. IfErr result (λ c. CompactRefused (at p d) chunk c store) in
       let A : Answer → Type 0 = λ a. LeadsTo meaning reads w (compact path chunk options) a arrays store' n' in
+      let C : Answer → Type 0 = λ a. CountsAnswer a n n' in
       let done = subst (λ d. Done h.path d) (sym held.2.document) (subst (λ p. Done p (document_of meaning array)) (sym held.2.path) ok) in
       let why = subst (λ d. Why h.path d) (sym held.2.document) (subst (λ p. Why p (document_of meaning array)) (sym held.2.path) err) in
-      subst A (sym says) (compact_answered w k h is.node held.1 result calls
+      subst A (sym says) (compact_answered w k h is.node held.1 result (subst C says counts)
       (compacts_alike h.path h.document exact (writes_exactly h) chunk store store' result done)
       (compact_refused_alike h.path h.document exact (writes_exactly h) store chunk result why) kept)

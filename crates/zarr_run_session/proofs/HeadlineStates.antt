@@ -82,7 +82,7 @@ module _ (B : Type 0) (codecs : Codecs B) (good : ReadsGood codecs.1) (old new :
 
 -- ---- runs over a store
 
-module _ (reads : ReadsCodecs) (good : ReadsGood reads) (old new : Contents) (es : Exchanges) (runs : RunsOver reads old es.0 es.1 new) where
+module _ (reads : ReadsCodecs) (good : ReadsGood reads) (old new : Contents) (es : Exchanges) (runs : RunsOver reads old es new) where
   fresh : BeginsFresh reads old es → AsksFresh reads (world_over old.0 old.1) es
   fresh begins =
       let P : StoreMap → Type 0 = λ s. All (AsksOwned (world_over s old.1)) es.0 in

@@ -25,15 +25,17 @@ use Rattle.zarr_run_meaning.specs.declared.cause.Cause.TheVariants as cause
 use Rattle.zarr_run_meaning.specs.Causes.{IsTarget, ReadRefuses}
 use Rattle.zarr_run_meaning.specs.Changes.{Reads}
 use Rattle.zarr_run_meaning.specs.Requests.{Target, in_box, in_chunk, refusal, read}
-use Rattle.zarr_run_meaning.specs.Steps.{RefusesHeld, RefusesRead, RefusesAt, refused_after}
+use Rattle.zarr_run_meaning.specs.Steps.{CountsRefusal, RefusesHeld, RefusesRead, RefusesAt}
 use Rattle.zarr_run_meaning.specs.Tables.{Table, cell}
 use Rattle.zarr_run_meaning.specs.Worlds.{Held, World, held_at, IsTableAt}
 use Rattle.zarr_run_opening.specs.Sessions.{Arrays, array_at, document_of, IsHeld, IsIn, StepsFrom}
 use Rattle.zarr_run_opening.specs.declared.held.HeldArray.{HeldArray}
-use Rattle.zarr_run_opening.proofs.HoldsLemmas.{agreed_held, in_refused, stays}
-use Rattle.zarr_run_boxes.specs.Outcomes.{ReadsTarget, ReadRefused, refused_with}
+use Rattle.zarr_run_opening.proofs.HoldsLemmas.{agreed_held}
+use Rattle.zarr_run_boxes.specs.Outcomes.{ReadsTarget, ReadRefused}
 use Rattle.zarr_run_session.specs.Finding.{IsFound}
 use Rattle.zarr_run_session.specs.Replies.{answer_with}
+use Rattle.zarr_run_session.specs.Sessions.{CountsAnswer}
+use Rattle.zarr_run_session.proofs.HeldSteps.{counts_from, stays_at, short_of_memory, in_untouched}
 
 -- ---- the cells that are read are the table's
 
@@ -97,39 +99,40 @@ module _ (B : Type 0) (meaning : B → ByteCodec) (reads : ReadsCodecs) (arrays 
         table = λ lossless. reads_table h.0.path h.0.document w.store r.box r.values h.0.table lossless (target_filled h.0.document.grid target r.box formed r.is) r.read shows;
       }
 
-  abbrev after : Cause → World
-  after c = record w { refused = refused_after c w.refused }
+  module _ (n' : ℕ) where
+    abbrev after : World
+    after = record w { refused = n' }
 
-  held_refuses : (c : Cause) → ReadRefuses (core.path_of array.core) (document_of meaning array) store target c → RefusesHeld (held_at path w.arrays) (RefusesRead target) (refusal c 0) w (after c)
-  held_refuses c why =
-      let P : Option Held → Type 0 = λ o. RefusesHeld o (RefusesRead target) (refusal c 0) w (after c) in
-      subst P (sym h.1) (in_world (λ q d s. ReadRefuses q d s target c) why, stays c w)
+    held_refuses : (c : Cause) → CountsRefusal c n n' → ReadRefuses (core.path_of array.core) (document_of meaning array) store target c → RefusesHeld (held_at path w.arrays) (RefusesRead target) (refusal c 0) w after
+    held_refuses c counts why =
+        let P : Option Held → Type 0 = λ o. RefusesHeld o (RefusesRead target) (refusal c 0) w after in
+        subst P (sym h.1) (in_world (λ q d s. ReadRefuses q d s target c) why, stays_at c 0 n' w refl (counts_from c w.refused n n' k.refused counts))
 
-  read_refuses : (options : CodecOptions) (c : Cause) → ReadRefuses (core.path_of array.core) (document_of meaning array) store target c → RefusesAt reads (read path target options) (refusal c 0) w (after c)
-  read_refuses options cause.Region why = (found.node, held_refuses cause.Region why)
-  read_refuses options cause.Size why = (found.node, held_refuses cause.Size why)
-  read_refuses options cause.Fit why = (found.node, held_refuses cause.Fit why)
-  read_refuses options cause.Damage why = (found.node, held_refuses cause.Damage why)
-  read_refuses options cause.Store why = (found.node, held_refuses cause.Store why)
-  read_refuses options c why = absurd why
+    read_refuses : (options : CodecOptions) (c : Cause) → CountsRefusal c n n' → ReadRefuses (core.path_of array.core) (document_of meaning array) store target c → RefusesAt reads (read path target options) (refusal c 0) w after
+    read_refuses options cause.Region counts why = (found.node, held_refuses cause.Region counts why)
+    read_refuses options cause.Size counts why = (found.node, held_refuses cause.Size counts why)
+    read_refuses options cause.Fit counts why = (found.node, held_refuses cause.Fit counts why)
+    read_refuses options cause.Damage counts why = (found.node, held_refuses cause.Damage counts why)
+    read_refuses options cause.Store counts why = (found.node, held_refuses cause.Store counts why)
+    read_refuses options c counts why = absurd why
 
-  read_refused : (options : CodecOptions) (c : Cause) → ReadRefused (core.path_of array.core) (document_of meaning array) store target c → RefusesAt reads (read path target options) (refusal c 0) w (after c)
-  read_refused options c (inl why) = read_refuses options c why
-  read_refused options c (inr is) = subst (λ c. RefusesAt reads (read path target options) (refusal c 0) w (after c)) (sym is) (inl (stays cause.Memory w))
+    read_refused : (options : CodecOptions) (c : Cause) → CountsRefusal c n n' → ReadRefused (core.path_of array.core) (document_of meaning array) store target c → RefusesAt reads (read path target options) (refusal c 0) w after
+    read_refused options c counts (inl why) = read_refuses options c counts why
+    read_refused options c counts (inr is) = short_of_memory reads (read path target options) c 0 n' w refl is (counts_from c w.refused n n' k.refused counts)
 
 module _ (B : Type 0) (meaning : B → ByteCodec) (reads : ReadsCodecs) (arrays : Arrays B) (store store' : StoreMap) (n n' : ℕ) (path : List ℕ) (target : Target) (options : CodecOptions) (array : HeldArray B) (found : IsFound arrays path array) (formed : IsFormed target) (same : store' ≡ store) where
   -- a read in each world
   pub read_steps : (result : Result ArrayBytes Cause) → IfOk result (λ bytes. ReadsTarget (core.path_of array.core) (document_of meaning array) store target (payload_of bytes))
-      → IfErr result (ReadRefused (core.path_of array.core) (document_of meaning array) store target) → n' ≡ refused_with n result
+      → IfErr result (ReadRefused (core.path_of array.core) (document_of meaning array) store target) → CountsAnswer (answer_with result) n n'
       → StepsFrom (meaning, reads) (arrays, (store, n)) (read path target options, answer_with result) (arrays, (store', n'))
-  read_steps (Ok bytes) ok err calls w k =
+  read_steps (Ok bytes) ok err counts w k =
       let P : StoreMap → ℕ → Type 0 = λ s m. IsIn meaning reads (arrays, (s, m)) w in (
         w,
         (read_done B meaning reads arrays store n path target array found w k formed (payload_of bytes) ok, refl),
-        subst (λ s. P s n') (sym same) (subst (λ m. P store m) (sym calls) k),
+        subst (λ s. P s n') (sym same) (subst (λ m. P store m) (sym counts) k),
       )
-  read_steps (Err c) ok err calls w k = (
-    record w { refused = refused_after c w.refused },
-    read_refused B meaning reads arrays store n path target array found w k options c err,
-    in_refused B meaning reads arrays arrays store store' n n' c w k (λ q. refl) same calls,
+  read_steps (Err c) ok err counts w k = (
+    record w { refused = n' },
+    read_refused B meaning reads arrays store n path target array found w k n' options c counts err,
+    in_untouched B meaning reads arrays store store' n n' w k same,
   )

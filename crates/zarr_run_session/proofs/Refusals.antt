@@ -1,5 +1,5 @@
 -- Commands that name no array that is held.
-use Rattle.std.proofs.Common.{◌≡◌, ℕ, List, sym, subst, Option, None}
+use Rattle.std.proofs.Common.{◌≡◌, ℕ, List, refl, sym, subst, inl, Option, None}
 use Rattle.zarr_grids_boxes.specs.Boxes.{Region}
 use Rattle.zarr_codecs_meaning.specs.Chains.{ByteCodec}
 use Rattle.zarr_codecs_metadata.specs.Chains.{ReadsCodecs}
@@ -12,17 +12,18 @@ use Rattle.zarr_run_meaning.specs.Requests.{Target, Refusal, refusal, Request, w
 use Rattle.zarr_run_meaning.specs.Steps.{RefusesHeld, RefusesWrite, RefusesRead, RefusesErase, RefusesCompact, RefusesRewrite, Refuses, RefusesAt}
 use Rattle.zarr_run_meaning.specs.Worlds.{Held, World, held_at}
 use Rattle.zarr_run_opening.specs.Sessions.{Arrays, array_at, IsIn, StepsFrom}
-use Rattle.zarr_run_opening.proofs.HoldsLemmas.{agreed_none, stays}
+use Rattle.zarr_run_opening.proofs.HoldsLemmas.{agreed_none}
 use Rattle.zarr_run_session.specs.Finding.{NotFound}
+use Rattle.zarr_run_session.proofs.HeldSteps.{stays_at}
 
 -- where no array is held, a command on one is refused
 held_none : (o : Option Held) (refuses : Held → Refusal → World → World → Type 0) (w : World) → o ≡ None → RefusesHeld o refuses (refusal cause.NoArray 0) w w
-held_none o refuses w none = let P : Option Held → Type 0 = λ o. RefusesHeld o refuses (refusal cause.NoArray 0) w w in subst P (sym none) (stays cause.NoArray w)
+held_none o refuses w none = let P : Option Held → Type 0 = λ o. RefusesHeld o refuses (refusal cause.NoArray 0) w w in subst P (sym none) (stays_at cause.NoArray 0 w.refused w refl (inl refl))
 
 module _ (B : Type 0) (meaning : B → ByteCodec) (reads : ReadsCodecs) (arrays : Arrays B) (store : StoreMap) (n : ℕ) (path : List ℕ) where
   not_found : (request : Request) (c : Cause) → NotFound arrays (path_of request) c → ((w : World) → held_at (path_of request) w.arrays ≡ None → Refuses reads request (refusal cause.NoArray 0) w w)
       → (w : World) → IsIn meaning reads (arrays, (store, n)) w → RefusesAt reads request (refusal c 0) w w
-  not_found request cause.Path none refuses w k = (none, stays cause.Path w)
+  not_found request cause.Path none refuses w k = (none, stays_at cause.Path 0 w.refused w refl (inl refl))
   not_found request cause.NoArray none refuses w k =
       (none.0, refuses w (agreed_none B meaning reads store (array_at arrays (path_of request)) (held_at (path_of request) w.arrays) (k.agree (path_of request)) none.1))
   not_found request c none refuses w k = absurd none

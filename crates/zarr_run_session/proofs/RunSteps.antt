@@ -8,12 +8,12 @@ use Rattle.zarr_run_meaning.specs.Requests.{Request, Answer}
 use Rattle.zarr_run_meaning.specs.Runs.{Run, world_over}
 use Rattle.zarr_run_meaning.specs.Steps.{Step}
 use Rattle.zarr_run_meaning.specs.Worlds.{World, held_at, IsTableAt}
-use Rattle.zarr_run_commands.specs.Commands.{asked, answered}
+use Rattle.zarr_run_commands.specs.Commands.{answered}
 use Rattle.zarr_run_commands.specs.declared.command.Command.{Command}
 use Rattle.zarr_run_commands.specs.declared.command.Reply.{Reply}
 use Rattle.zarr_run_opening.specs.Sessions.{State, IsIn, StepsFrom, array_at}
 use Rattle.zarr_run_opening.proofs.HoldsLemmas.{agreed_some}
-use Rattle.zarr_run_session.specs.Sessions.{Contents, RunsFrom, RunsOver}
+use Rattle.zarr_run_session.specs.Sessions.{Exchanges, Contents, RunsFrom, RunsOver}
 
 -- ---- one step more
 
@@ -29,11 +29,11 @@ module _ (B : Type 0) (meaning : B → ByteCodec) (reads : ReadsCodecs) (old : S
   pub runs_none : RunsFrom (meaning, reads) old ([], []) old
   runs_none before k = (before, refl, k)
 
-  -- the next of the commands
-  pub runs_more : (mid new : State B) (commands : List Command) (n : ℕ) (other : Command) (replies : List Reply) (reply : Reply) → n < length commands
+  -- the next of the commands, whatever commands ask
+  pub runs_more : (asked : Command → Request) (mid new : State B) (commands : List Command) (n : ℕ) (other : Command) (replies : List Reply) (reply : Reply) → n < length commands
       → RunsFrom (meaning, reads) old (map asked (take n commands), map answered replies) mid → StepsFrom (meaning, reads) mid (asked (get_or commands n other), answered reply) new
       → RunsFrom (meaning, reads) old (map asked (take (n + 1) commands), map answered (replies ++ reply ∷ [])) new
-  runs_more mid new commands n other replies reply low ran steps before k =
+  runs_more asked mid new commands n other replies reply low ran steps before k =
       let r = ran before k in
       let s = steps r.0 r.2 in (
         s.0,
@@ -50,8 +50,8 @@ module _ (B : Type 0) (meaning : B → ByteCodec) (reads : ReadsCodecs) (old : S
       (a.2.node, a.2.says, subst (λ s. IsTableAt h.path h.document s h.table) (sym k.store) a.2.table)
 
 -- a run of a session that began with no array
-pub runs_over : (B : Type 0) (meaning : B → ByteCodec) (reads : ReadsCodecs) (old new : State B) (contents : Contents) (requests : List Request) (answers : List Answer) → IsIn meaning reads old (world_over contents.0 contents.1)
-    → RunsFrom (meaning, reads) old (requests, answers) new → RunsOver reads contents requests answers new.1
-runs_over B meaning reads old new contents requests answers begins ran =
+pub runs_over : (B : Type 0) (meaning : B → ByteCodec) (reads : ReadsCodecs) (old new : State B) (contents : Contents) (es : Exchanges) → IsIn meaning reads old (world_over contents.0 contents.1)
+    → RunsFrom (meaning, reads) old es new → RunsOver reads contents es new.1
+runs_over B meaning reads old new contents es begins ran =
     let r = ran (world_over contents.0 contents.1) begins in
     (r.0, r.1, r.2.store, r.2.refused, tables_in B meaning reads new r.0 r.2)

@@ -1,5 +1,5 @@
 -- What a write of cells answered and left for one array is a step of each world that the session was in.
-use Rattle.std.proofs.Common.{◌≡◌, ◌∙◌, ℕ, List, take, sym, ap, subst, ⊎_elim, inl, inr, Bool, IsTrue, Option, Some, Result, Ok, Err, OnOk, IfErr}
+use Rattle.std.proofs.Common.{◌≡◌, ◌∙◌, ℕ, List, take, sym, subst, ⊎_elim, inl, inr, Bool, IsTrue, Option, Some, Result, Ok, Err, OnOk, IfErr}
 use Rattle.zarr_grids_boxes.specs.Boxes.{Region}
 use Rattle.zarr_grids_chunks.specs.Grids.{intersecting}
 use Rattle.zarr_grids_keys.specs.Paths.{is_node_path}
@@ -12,21 +12,22 @@ use Rattle.zarr_array_meaning.specs.Documents.{Document}
 use Rattle.zarr_array_meaning.specs.StoreMaps.{StoreMap}
 use Rattle.zarr_array_meaning.specs.Writes.{Write, write_to}
 use Rattle.zarr_array_meaning.proofs.Weaker.{with_exact, damaged_with, room_with, refused_with, oversized_with, wrote_weaker}
-use Rattle.zarr_run_boxes.specs.Outcomes.{WritesTarget, WriteRefused, WroteFirst, refused_by}
+use Rattle.zarr_run_boxes.specs.Outcomes.{WritesTarget, WriteRefused, WroteFirst}
 use Rattle.zarr_run_boxes.specs.declared.refusal.Refusal.{Refusal}
 use Rattle.zarr_run_meaning.specs.declared.cause.Cause.{Cause}
 use Rattle.zarr_run_meaning.specs.declared.cause.Cause.TheVariants as cause
 use Rattle.zarr_run_meaning.specs.Causes.{WriteRefuses, ChunkRefuses, StopsAt}
 use Rattle.zarr_run_meaning.specs.Requests as ask
 use Rattle.zarr_run_meaning.specs.Requests.{WriteAsked, Request, write, Answer, done, refused}
-use Rattle.zarr_run_meaning.specs.Steps.{RefusesWrite, Step, refused_after}
+use Rattle.zarr_run_meaning.specs.Steps.{CountsRefusal, RefusesWrite, Step}
 use Rattle.zarr_run_meaning.specs.Worlds.{Held, World, array_of, held_at, writes_exactly}
 use Rattle.zarr_run_opening.specs.Sessions.{Arrays, array_at, document_of, IsIn, StepsFrom}
 use Rattle.zarr_run_opening.specs.declared.held.HeldArray.{HeldArray}
 use Rattle.zarr_run_opening.proofs.HoldsLemmas.{agreed_held}
 use Rattle.zarr_run_session.specs.Finding.{IsFound}
 use Rattle.zarr_run_session.specs.Replies.{answer_after}
-use Rattle.zarr_run_session.proofs.HeldSteps.{LeadsTo, refused_at, refused_held, stays_at, short_of_memory, in_untouched}
+use Rattle.zarr_run_session.specs.Sessions.{CountsAnswer}
+use Rattle.zarr_run_session.proofs.HeldSteps.{LeadsTo, refused_at, refused_held, counts_from, stays_at, short_of_memory, in_untouched}
 use Rattle.zarr_run_session.proofs.Lifting.{world_after, table_written, written, in_after}
 
 -- why a write stops at a chunk, where the values that it leaves are told of in fewer cases
@@ -102,8 +103,8 @@ module _ (B : Type 0) (meaning : B → ByteCodec) (reads : ReadsCodecs) (arrays 
         (after, step, in_after B meaning reads arrays store store' n n' w request done h.path table k step)
 
     -- the write stopped at a chunk
-    write_stopped : (c : Cause) (m : ℕ) → n' ≡ refused_after c n → WroteFirst (array_of h) asked (record { cause = c; applied = m }) w.store store' → LeadsTo meaning reads w request (refused c m) arrays store' n'
-    write_stopped c m calls first =
+    write_stopped : (c : Cause) (m : ℕ) → CountsRefusal c n n' → WroteFirst (array_of h) asked (record { cause = c; applied = m }) w.store store' → LeadsTo meaning reads w request (refused c m) arrays store' n'
+    write_stopped c m counts first =
         let chunks = take m (intersecting h.document.grid first.box) in
         let made = write_to (array_of h) first.box first.values asked.options in
         let table = table_written h made chunks in
@@ -116,7 +117,7 @@ module _ (B : Type 0) (meaning : B → ByteCodec) (reads : ReadsCodecs) (arrays 
           small = first.small;
           stops = first.stops;
           writes = written h made chunks w store' n' first.wrote;
-          count = calls ∙ ap (refused_after c) (sym k.refused);
+          count = counts_from c w.refused n n' k.refused counts;
         }) in
         let step : Step reads w request (refused c m) after =
         refused_at reads request c m w after node (λ is. subst P is first.stops.refuses)
@@ -124,38 +125,38 @@ module _ (B : Type 0) (meaning : B → ByteCodec) (reads : ReadsCodecs) (arrays 
         (after, step, in_after B meaning reads arrays store store' n n' w request (refused c m) h.path table k step)
 
     -- the write was refused before a chunk was touched
-    write_refused : (c : Cause) (m : ℕ) → n' ≡ refused_after c n → m ≡ 0 → store' ≡ store → WriteRefuses h.document asked.target asked.cells c → LeadsTo meaning reads w request (refused c m) arrays store' n'
-    write_refused c m calls none same refuses =
-        let after : World = record w { refused = refused_after c w.refused } in
+    write_refused : (c : Cause) (m : ℕ) → CountsRefusal c n n' → m ≡ 0 → store' ≡ store → WriteRefuses h.document asked.target asked.cells c → LeadsTo meaning reads w request (refused c m) arrays store' n'
+    write_refused c m counts none same refuses =
+        let after : World = record w { refused = n' } in
         let P : Cause → Type 0 = λ c. WriteRefuses h.document asked.target asked.cells c in
         let step : Step reads w request (refused c m) after =
         refused_at reads request c m w after node (λ is. subst P is refuses)
-        (refused_held (held_at path w.arrays) h (RefusesWrite asked) (ask.refusal c m) w after found (inl (refuses, stays_at c m w none))) in
-        (after, step, in_untouched B meaning reads arrays store store' n n' w c k same calls)
+        (refused_held (held_at path w.arrays) h (RefusesWrite asked) (ask.refusal c m) w after found (inl (refuses, stays_at c m n' w none (counts_from c w.refused n n' k.refused counts)))) in
+        (after, step, in_untouched B meaning reads arrays store store' n n' w k same)
 
-    write_short : (c : Cause) (m : ℕ) → n' ≡ refused_after c n → m ≡ 0 → store' ≡ store → c ≡ cause.Memory → LeadsTo meaning reads w request (refused c m) arrays store' n'
-    write_short c m calls none same is =
-        let step = short_of_memory reads request c m w none is in
-        (record w { refused = refused_after c w.refused }, step, in_untouched B meaning reads arrays store store' n n' w c k same calls)
+    write_short : (c : Cause) (m : ℕ) → CountsRefusal c n n' → m ≡ 0 → store' ≡ store → c ≡ cause.Memory → LeadsTo meaning reads w request (refused c m) arrays store' n'
+    write_short c m counts none same is =
+        let step = short_of_memory reads request c m n' w none is (counts_from c w.refused n n' k.refused counts) in
+        (record w { refused = n' }, step, in_untouched B meaning reads arrays store store' n n' w k same)
 
-    write_answered : (result : Result (Unit {0}) Refusal) → n' ≡ refused_by n result → OnOk result (WritesTarget (array_of h) asked store store') → IfErr result (λ refusal. WriteRefused (array_of h) asked refusal store store')
+    write_answered : (result : Result (Unit {0}) Refusal) → CountsAnswer (answer_after result) n n' → OnOk result (WritesTarget (array_of h) asked store store') → IfErr result (λ refusal. WriteRefused (array_of h) asked refusal store store')
         → LeadsTo meaning reads w request (answer_after result) arrays store' n'
-    write_answered (Ok x) calls ok err =
+    write_answered (Ok x) counts ok err =
         let P : StoreMap → Type 0 = λ s. WritesTarget (array_of h) asked s store' in
-        write_done calls (subst P (sym k.store) ok)
-    write_answered (Err refusal) calls ok err =
+        write_done counts (subst P (sym k.store) ok)
+    write_answered (Err refusal) counts ok err =
         let P : StoreMap → Type 0 = λ s. WroteFirst (array_of h) asked refusal s store' in
         ⊎_elim
-        (λ whole. ⊎_elim (write_refused refusal.cause refusal.applied calls whole.0.applied whole.0.same) (write_short refusal.cause refusal.applied calls whole.0.applied whole.0.same) whole.1)
-        (λ first. write_stopped refusal.cause refusal.applied calls (subst P (sym k.store) first))
+        (λ whole. ⊎_elim (write_refused refusal.cause refusal.applied counts whole.0.applied whole.0.same) (write_short refusal.cause refusal.applied counts whole.0.applied whole.0.same) whole.1)
+        (λ first. write_stopped refusal.cause refusal.applied counts (subst P (sym k.store) first))
         err
 
   -- what was answered and left for the array that is found is a step of each world
-  pub write_steps : (array : HeldArray B) (result : Result (Unit {0}) Refusal) (answer : Answer) → IsFound arrays path array → n' ≡ refused_by n result → answer ≡ answer_after result
+  pub write_steps : (array : HeldArray B) (result : Result (Unit {0}) Refusal) (answer : Answer) → IsFound arrays path array → CountsAnswer answer n n' → answer ≡ answer_after result
       → OnOk result (WritesTarget (record { path = path_of array.core; document = document_of meaning array; exact = is_exact array_function array.core }) asked store store')
       → IfErr result (λ refusal. WriteRefused (record { path = path_of array.core; document = document_of meaning array; exact = is_exact array_function array.core }) asked refusal store store')
       → StepsFrom (meaning, reads) (arrays, (store, n)) (request, answer) (arrays, (store', n'))
-  write_steps array result answer is calls says ok err w k =
+  write_steps array result answer is counts says ok err w k =
       let held = agreed_held B meaning reads store (array_at arrays path) (held_at path w.arrays) array (k.agree path) is.found in
       let h = held.0 in
       let exact = is_exact array_function array.core in
@@ -163,8 +164,9 @@ module _ (B : Type 0) (meaning : B → ByteCodec) (reads : ReadsCodecs) (arrays 
       let Done : List ℕ → Document → Type 0 = λ p d. OnOk result (WritesTarget (at p d) asked store store') in
       let Why : List ℕ → Document → Type 0 = λ p d. IfErr result (λ refusal. WriteRefused (at p d) asked refusal store store') in
       let A : Answer → Type 0 = λ a. LeadsTo meaning reads w request a arrays store' n' in
+      let C : Answer → Type 0 = λ a. CountsAnswer a n n' in
       let done = subst (λ d. Done h.path d) (sym held.2.document) (subst (λ p. Done p (document_of meaning array)) (sym held.2.path) ok) in
       let why = subst (λ d. Why h.path d) (sym held.2.document) (subst (λ p. Why p (document_of meaning array)) (sym held.2.path) err) in
-      subst A (sym says) (write_answered w k h is.node held.1 result calls
+      subst A (sym says) (write_answered w k h is.node held.1 result (subst C says counts)
       (writes_weaker (at h.path h.document) (writes_exactly h) held.2.exact asked store store' result done)
       (refused_weaker (at h.path h.document) (writes_exactly h) held.2.exact asked store store' result why))

@@ -8,7 +8,7 @@ use Rattle.zarr_run_meaning.specs.Laws.{HasTables}
 use Rattle.zarr_run_meaning.specs.Requests as ask
 use Rattle.zarr_run_meaning.specs.Requests.{Request, Answer}
 use Rattle.zarr_run_meaning.specs.Runs.{Run, world_over}
-use Rattle.zarr_run_meaning.specs.Steps.{refused_after}
+use Rattle.zarr_run_meaning.specs.Steps.{CountsRefusal}
 use Rattle.zarr_run_meaning.specs.Worlds.{World}
 use Rattle.zarr_run_opening.specs.Sessions.{Codecs, State, IsIn, array_at, document_of}
 use Rattle.zarr_run_opening.specs.declared.held.HeldArray.{HeldArray}
@@ -26,10 +26,10 @@ store_of session = session.store
 abbrev pub type_at : {S B : Type 0} → (B → ByteCodec) → Session S B → List ℕ → Option DataType
 type_at {S} {B} meaning session path = option_map (λ (array : HeldArray B). (document_of meaning array).elements.type) (array_at session.arrays path)
 
--- the count of refused store calls after a command with this answer, whatever the store is: one more with the cause `Store`, and as before with any other answer
-abbrev pub refused_with : ℕ → Answer → ℕ
-refused_with count (ask.refused c n) = refused_after c count
-refused_with count answer = count
+-- the count of refused store calls before and after a command with this answer, whatever the store is: after a refusal as its cause says, after any other answer as before
+abbrev pub CountsAnswer : Answer → ℕ → ℕ → Type 0
+CountsAnswer (ask.refused c n) before after = CountsRefusal c before after
+CountsAnswer answer before after = after ≡ before
 
 -- commands with their answers
 abbrev pub Exchanges : Type 0
@@ -44,5 +44,5 @@ abbrev pub Contents : Type 0
 Contents = StoreMap × ℕ
 
 -- a run of commands leads from a world with no array over the old contents to one over the new contents, whose arrays have tables
-abbrev pub RunsOver : ReadsCodecs → Contents → List Request → List Answer → Contents → Type 0
-RunsOver reads old requests answers new = (world : World) × Run reads (world_over old.0 old.1) requests answers world × (world.store ≡ new.0) × (world.refused ≡ new.1) × HasTables reads world
+abbrev pub RunsOver : ReadsCodecs → Contents → Exchanges → Contents → Type 0
+RunsOver reads old es new = (world : World) × Run reads (world_over old.0 old.1) es.0 es.1 world × (world.store ≡ new.0) × (world.refused ≡ new.1) × HasTables reads world

@@ -17,6 +17,7 @@ use zarr_run_opening::{create, reopen};
 impl<S: WritableStorageTraits, B: BytesToBytesCodecTraits + Sync> Session<S, B> {
     ghost use Rattle.serde_json.specs.View.{view};
     ghost use Rattle.zarr_grids_boxes.specs.Subsets.{region_of};
+    ghost use Rattle.zarr_array_meaning.specs.Writes.{allowed};
     ghost use Rattle.zarr_run_commands.specs.Commands.{answered, given};
     ghost use Rattle.zarr_run_meaning.specs.Requests as ask;
     ghost use Rattle.zarr_run_session.specs.Commands.{Ran};
@@ -59,7 +60,8 @@ impl<S: WritableStorageTraits, B: BytesToBytesCodecTraits + Sync> Session<S, B> 
         options: &CodecOptions,
     ) -> Reply
         ensures { Ran (S.ReadableStorageTraits, B.BytesToBytesCodecTraits) self.old (
-          ask.write path.now (ask.in_box (region_of region.now)) (given cells.now) options.now,
+          ask.write path.now (ask.in_box (region_of region.now)) (given cells.now)
+              (allowed S.supports_set_partial options.now),
           answered result,
         ) self.new }
     {
@@ -87,7 +89,8 @@ impl<S: WritableStorageTraits, B: BytesToBytesCodecTraits + Sync> Session<S, B> 
         options: &CodecOptions,
     ) -> Reply
         ensures { Ran (S.ReadableStorageTraits, B.BytesToBytesCodecTraits) self.old (
-          ask.write path.now (ask.in_chunk chunk.now) (given cells.now) options.now,
+          ask.write path.now (ask.in_chunk chunk.now) (given cells.now)
+              (allowed S.supports_set_partial options.now),
           answered result,
         ) self.new }
     {

@@ -1,6 +1,6 @@
 //! Lists of commands.
-ghost use Rattle.std.specs.Prelude.{◌≡◌, ◌<◌, ◌≤◌, ◌+◌, ◌++◌, ◌∷◌, [], IsTrue, map, vec_len, vec_capacity, IfOk, IfErr, OnErr};
-ghost use Rattle.zarr_run_commands.specs.Commands.{asked, answered};
+ghost use Rattle.std.specs.Prelude.{◌≡◌, ◌<◌, ◌≤◌, ◌+◌, ◌++◌, ◌∷◌, [], IsTrue, vec_len, vec_capacity, IfOk, IfErr, OnErr};
+ghost use Rattle.zarr_run_session.specs.Commands.{exchanges_over};
 ghost use Rattle.zarr_run_session.specs.Headline.{TablesFrom, AloneFrom, TablesOver, AloneOver};
 ghost use Rattle.zarr_run_session.specs.Sessions.{RunsFrom, RunsOver, state_of, store_of};
 
@@ -30,16 +30,16 @@ pub fn run_on<R: Threads + Sync, S: WritableStorageTraits, B: BytesToBytesCodecT
 ) -> Result<Vec<Reply>, AllocError>
     ensures runs { IsTrue (S.is_honest (store_of session.old)) → IfOk result (λ replies.
         RunsFrom (B.meaning, B.reads) (state_of S.held S.refused_calls session.old)
-        (map asked commands.now, map answered replies.items)
+        (exchanges_over S.supports_set_partial commands.now replies.items)
         (state_of S.held S.refused_calls session.new)) }
     // the tables, what rewrites leave and tight layout: of all arrays, and of one alone
     ensures tables { IsTrue (S.is_honest (store_of session.old)) → IfOk result (λ replies.
         TablesFrom (B.meaning, B.reads) (state_of S.held S.refused_calls session.old)
-        (map asked commands.now, map answered replies.items)
+        (exchanges_over S.supports_set_partial commands.now replies.items)
         (state_of S.held S.refused_calls session.new)) }
     ensures alone { IsTrue (S.is_honest (store_of session.old)) → IfOk result (λ replies.
         AloneFrom (B.meaning, B.reads) (state_of S.held S.refused_calls session.old)
-        (map asked commands.now, map answered replies.items)
+        (exchanges_over S.supports_set_partial commands.now replies.items)
         (state_of S.held S.refused_calls session.new)) }
     ensures honest { S.is_honest (store_of session.new) ≡ S.is_honest (store_of session.old) }
     ensures err { OnErr result (session.new ≡ session.old) }
@@ -74,16 +74,16 @@ pub fn run<R: Threads + Sync, S: WritableStorageTraits + Drop, B: BytesToBytesCo
 ) -> Result<(Vec<Reply>, S), GiveBack<S, AllocError>>
     ensures runs { IsTrue (S.is_honest store) → IfOk result (λ end.
         RunsOver B.reads (S.held store, S.refused_calls store)
-        (map asked commands.now) (map answered end.0.items)
+        (exchanges_over S.supports_set_partial commands.now end.0.items)
         (S.held end.1, S.refused_calls end.1)) }
     // the tables, what rewrites leave and tight layout: of all arrays, and of one alone
     ensures tables { IsTrue (S.is_honest store) → IfOk result (λ end.
         TablesOver B.reads (S.held store, S.refused_calls store)
-        (map asked commands.now, map answered end.0.items)
+        (exchanges_over S.supports_set_partial commands.now end.0.items)
         (S.held end.1, S.refused_calls end.1)) }
     ensures alone { IsTrue (S.is_honest store) → IfOk result (λ end.
         AloneOver B.reads (S.held store, S.refused_calls store)
-        (map asked commands.now, map answered end.0.items)
+        (exchanges_over S.supports_set_partial commands.now end.0.items)
         (S.held end.1, S.refused_calls end.1)) }
     ensures honest { IfOk result (λ end. S.is_honest end.1 ≡ S.is_honest store) }
     ensures back { IfErr result (λ refusal. refusal.storage ≡ store) }

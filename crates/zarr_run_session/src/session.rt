@@ -62,34 +62,34 @@ impl<S: WritableStorageTraits, B: BytesToBytesCodecTraits> Session<S, B> {
 
 impl<S: WritableStorageTraits, B: BytesToBytesCodecTraits + Sync> Session<S, B> {
     ghost use Rattle.std.specs.Prelude.{◌≡◌};
-    ghost use Rattle.zarr_run_commands.specs.Commands.{asked, answered};
+    ghost use Rattle.zarr_run_commands.specs.Commands.{answered};
     ghost use Rattle.zarr_run_opening.specs.Sessions.{StepsFrom};
-    ghost use Rattle.zarr_run_session.specs.Commands.{BoundsWrites, OverHonest, Ran};
+    ghost use Rattle.zarr_run_session.specs.Commands.{BoundsWrites, OverHonest, Ran, exchange_over};
     ghost use Rattle.zarr_run_session.specs.Headline.{KeepsTables, KeepsAlone, RewritesAfresh, KeepsTight};
-    ghost use Rattle.zarr_run_session.specs.Sessions.{refused_with, store_of};
+    ghost use Rattle.zarr_run_session.specs.Sessions.{CountsAnswer, store_of};
 
-    /// Runs one command. A refused one changes at most what it says it applied, or stores a version
-    /// 2 document's attributes. Over an honest store each array whose codecs keep every bit answers
-    /// as a table; a rewrite without empty chunks, in order C or without shards, leaves what
-    /// storing its cells afresh leaves. Exactly `Store` counts a refused call.
+    /// Runs one command. A refused one changes at most what `applied` says, or stores a version 2
+    /// document's attributes. Over an honest store each array whose codecs keep every bit answers
+    /// as a table; a rewrite without empty chunks, in order C or without shards, leaves its cells
+    /// stored afresh. `Store` counts one refused call, another refusal at most one.
     pub fn step<R: Threads + Sync>(&mut self, rt: &R, command: &Command) -> Reply
         ensures steps { OverHonest (S.ReadableStorageTraits, B.BytesToBytesCodecTraits) self.old
-            (asked command.now, answered result) self.new StepsFrom }
+            (exchange_over S.supports_set_partial command.now result) self.new StepsFrom }
         // all tables and one alone, what rewrites leave, and tight layout
         ensures tables { OverHonest (S.ReadableStorageTraits, B.BytesToBytesCodecTraits) self.old
-            (asked command.now, answered result) self.new KeepsTables }
+            (exchange_over S.supports_set_partial command.now result) self.new KeepsTables }
         ensures alone { OverHonest (S.ReadableStorageTraits, B.BytesToBytesCodecTraits) self.old
-            (asked command.now, answered result) self.new KeepsAlone }
+            (exchange_over S.supports_set_partial command.now result) self.new KeepsAlone }
         ensures canon { OverHonest (S.ReadableStorageTraits, B.BytesToBytesCodecTraits) self.old
-            (asked command.now, answered result) self.new RewritesAfresh }
+            (exchange_over S.supports_set_partial command.now result) self.new RewritesAfresh }
         ensures tight { OverHonest (S.ReadableStorageTraits, B.BytesToBytesCodecTraits) self.old
-            (asked command.now, answered result) self.new KeepsTight }
+            (exchange_over S.supports_set_partial command.now result) self.new KeepsTight }
         // the store
         ensures writes { BoundsWrites (S.ReadableStorageTraits, B.BytesToBytesCodecTraits) self.old
-            (asked command.now, answered result) self.new }
+            (exchange_over S.supports_set_partial command.now result) self.new }
         ensures honest { S.is_honest (store_of self.new) ≡ S.is_honest (store_of self.old) }
-        ensures refused { S.refused_calls (store_of self.new)
-            ≡ refused_with (S.refused_calls (store_of self.old)) (answered result) }
+        ensures refused { CountsAnswer (answered result)
+            (S.refused_calls (store_of self.old)) (S.refused_calls (store_of self.new)) }
     {
         self.answer(rt, command)
     }
@@ -97,7 +97,7 @@ impl<S: WritableStorageTraits, B: BytesToBytesCodecTraits + Sync> Session<S, B> 
     /// The answer to a command, by the function of its kind.
     fn answer<R: Threads + Sync>(&mut self, rt: &R, command: &Command) -> Reply
         ensures { Ran (S.ReadableStorageTraits, B.BytesToBytesCodecTraits) self.old
-            (asked command.now, answered result) self.new }
+            (exchange_over S.supports_set_partial command.now result) self.new }
     {
         match command {
             Command::Create {

@@ -78,7 +78,7 @@ pub fn run_words<
 >(rt: &H, words: &[String], reader: R, writer: &mut W, errors: &mut E) -> ExitCode
     ensures success { takes program (map string_bytes words.now) ≡ true →
         root_in (map string_bytes words.now) ≡ None → exit_status result ≡ 0 →
-        RunsAllFrom reads_reversing (world_over empty 0) (R.remaining reader)
+        RunsAllFrom (reads_reversing, true) (world_over empty 0) (R.remaining reader)
         (output (W.contents writer.old) (W.contents writer.new)) }
     ensures silence { exit_status result ≡ 0 → errors.new ≡ errors.old }
     ensures failure { exit_status result ≢ 0 →
@@ -126,7 +126,7 @@ fn run_root<H: Files + AllocGlobal + Threads + Clone + Drop + Sync, R: Read + Dr
     writer: &mut W,
 ) -> Result<(), Fault>
     ensures { root.entry ≡ None → OnOk result
-        (RunsAllFrom reads_reversing (world_over empty 0) (R.remaining reader)
+        (RunsAllFrom (reads_reversing, true) (world_over empty 0) (R.remaining reader)
         (output (W.contents writer.old) (W.contents writer.new))) }
 {
     match root {
@@ -156,7 +156,8 @@ fn run_memory<H: AllocGlobal + Threads + Sync, R: Read + Drop, W: Write>(
     reader: R,
     writer: &mut W,
 ) -> Result<(), Fault>
-    ensures { OnOk result (RunsAllFrom reads_reversing (world_over empty 0) (R.remaining reader)
+    ensures { OnOk result
+        (RunsAllFrom (reads_reversing, true) (world_over empty 0) (R.remaining reader)
         (output (W.contents writer.old) (W.contents writer.new))) }
 {
     run_store(rt, rt.alloc(), MemoryStore::new(rt.alloc()), reader, writer)
@@ -172,7 +173,8 @@ pub fn run_store<H: Threads + Sync, S: WritableStorageTraits + Drop, R: Read + D
     writer: &mut W,
 ) -> Result<(), Fault>
     ensures { IsTrue (S.is_honest store) → OnOk result
-        (RunsAllFrom reads_reversing (world_over (S.held store) (S.refused_calls store))
+        (RunsAllFrom (reads_reversing, S.supports_set_partial)
+        (world_over (S.held store) (S.refused_calls store))
         (R.remaining reader) (output (W.contents writer.old) (W.contents writer.new))) }
 {
     let mut session = Session::<S, ReverseCodec>::new(alloc, store);

@@ -38,7 +38,11 @@ const OPTIONS: &str = r#"- {"op":"write_box","path":"","box":[],"cells":[],"opti
 p {"op":"write_chunk","path":"","chunk":[],"cells":[],"options":{"partial":true}}
 e {"op":"read_box","path":"","box":[],"options":{"empty":true,"workers":false}}
 w {"op":"read_chunk","path":"","chunk":[],"options":{"workers":true}}
-- {"op":"read_chunk","path":"","chunk":[]}"#;
+- {"op":"read_chunk","path":"","chunk":[]}
+p {"options":{"empty":false,"partial":true},"path":"","op":"read_box","box":[]}
+p {"op":"read_box","path":"","box":[],"options": { "partial" : true } }
+- {"op":"read_box","path":"","box":[],"options":{"partial":true,"partial":false}}
+e {"op":"read_box","path":"","box":[],"options":{"partial":true},"options":{"empty":true}}"#;
 
 /// Whether of some options just the one with this letter is true.
 fn are_options(options: CodecOptions, want: &str) -> bool {

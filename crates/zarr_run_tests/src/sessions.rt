@@ -179,9 +179,13 @@ const CHANGES: [(&str, &str); 4] = [
     (REOPEN, DONE),
 ];
 
-/// A session over a store in memory that counts calls, and gives so many values as they are.
-fn test_session(alloc: Global, calls_before: u64) -> Session<TestStore, ReverseCodec> {
-    let store = TestStore {
+/// A session over a store in memory that counts calls, gives so many values as they are, and takes
+/// ranges or none.
+fn test_session<const TAKES_RANGES: bool>(
+    alloc: Global,
+    calls_before: u64,
+) -> Session<TestStore<TAKES_RANGES>, ReverseCodec> {
+    let store: TestStore<TAKES_RANGES> = TestStore {
         inner: MemoryStore::new(alloc),
         calls_before,
         fetches: 0,
@@ -192,7 +196,7 @@ fn test_session(alloc: Global, calls_before: u64) -> Session<TestStore, ReverseC
 
 #[test]
 fn a_document_that_changes_is_noticed(rt: HostRuntime) {
-    let mut session = test_session(rt.alloc(), 3);
+    let mut session = test_session::<true>(rt.alloc(), 3);
     assert!(rt; matches!(talks(&rt, &mut session, &CHANGES), Ok(true)));
 }
 
@@ -235,7 +239,7 @@ fn has_chunks(alloc: Global, store: &mut MemoryStore) -> bool {
 /// How many values are fetched, and how many are written in part, where all is answered and stored.
 fn count_calls<R: AllocGlobal + Threads + Sync>(rt: &R) -> Result<Option<(u64, u64)>, AllocError> {
     let alloc = rt.alloc();
-    let mut session = test_session(alloc, u64::MAX);
+    let mut session = test_session::<true>(alloc, u64::MAX);
     let is_done = talks(rt, &mut session, &TWO_WRITES)?;
     let mut store = session.close();
     let is_stored = is_done && has_chunks(alloc, &mut store.inner);
@@ -245,4 +249,37 @@ fn count_calls<R: AllocGlobal + Threads + Sync>(rt: &R) -> Result<Option<(u64, u
 #[test]
 fn parts_are_written_into_values_that_nobody_reads(rt: HostRuntime) {
     assert!(rt; matches!(count_calls(&rt), Ok(Some((1, 3)))));
+}
+
+/// A chunk, and fill that is written over it in two parts.
+const FILLED: [(&str, &str); 4] = [
+    (CREATE, DONE),
+    (
+        r#"{"op":"write_chunk","path":"/a","chunk":[0,0],"cells":[1,2,3,4]}"#,
+        DONE,
+    ),
+    (
+        r#"{"op":"write_box","path":"/a","box":[[0,1],[0,2]],"cells":[0,0],"options":{"partial":true}}"#,
+        DONE,
+    ),
+    (
+        r#"{"op":"write_box","path":"/a","box":[[1,2],[0,2]],"cells":[0,0],"options":{"partial":true}}"#,
+        DONE,
+    ),
+];
+
+#[test]
+fn a_chunk_filled_in_parts_keeps_its_key(rt: HostRuntime) {
+    let mut session = test_session::<true>(rt.alloc(), u64::MAX);
+    assert!(rt; matches!(talks(&rt, &mut session, &FILLED), Ok(true)));
+    let mut store = session.close();
+    assert!(rt; store.patches == 2 && has_keys(&mut store.inner, 2));
+}
+
+#[test]
+fn a_store_that_takes_no_ranges_keeps_no_chunk_of_fill(rt: HostRuntime) {
+    let mut session = test_session::<false>(rt.alloc(), u64::MAX);
+    assert!(rt; matches!(talks(&rt, &mut session, &FILLED), Ok(true)));
+    let mut store = session.close();
+    assert!(rt; store.patches == 0 && has_keys(&mut store.inner, 1));
 }

@@ -7,17 +7,18 @@ use zarr_run::{
 };
 
 /// A store in memory that counts the values of chunks of the array at `/a` that were fetched, and
-/// the calls of `set_partial`. After some calls of `get` it gives one other value: the last of its
-/// bytes but two is 9 there, which in a document is the number of its format.
+/// the calls of `set_partial`, and takes ranges or none. After some calls of `get` it gives one
+/// other value: the last of its bytes but two is 9 there, which in a document is the number of its
+/// format.
 #[derive(Drop)]
-pub(crate) struct TestStore {
+pub(crate) struct TestStore<const TAKES_RANGES: bool> {
     pub inner: MemoryStore,
     pub calls_before: u64,
     pub fetches: u64,
     pub patches: u64,
 }
 
-impl TestStore {
+impl<const TAKES_RANGES: bool> TestStore<TAKES_RANGES> {
     /// Counts a call of `get`, and tells whether it gives another value.
     fn count_fetch(&mut self, key: &StoreKey) -> bool
         ensures { self.new.inner ≡ self.old.inner }
@@ -40,7 +41,7 @@ fn change(value: &mut Vec<u8>)
     }
 }
 
-impl ReadableStorageTraits for TestStore {
+impl<const TAKES_RANGES: bool> ReadableStorageTraits for TestStore<TAKES_RANGES> {
     ghost held = { λ s. s.inner.held };
 
     ghost is_honest = { λ _. false };
@@ -79,13 +80,11 @@ impl ReadableStorageTraits for TestStore {
     }
 }
 
-impl WritableStorageTraits for TestStore {
-    ghost use Rattle.std.specs.Prelude.{true};
-
-    ghost supports_set_partial = { true };
+impl<const TAKES_RANGES: bool> WritableStorageTraits for TestStore<TAKES_RANGES> {
+    ghost supports_set_partial = { TAKES_RANGES };
 
     fn supports_set_partial(&self) -> bool {
-        true
+        TAKES_RANGES
     }
 
     fn set(&mut self, key: &StoreKey, value: &[u8]) -> Result<(), StorageError> {

@@ -1,7 +1,11 @@
-use Rattle.std.proofs.Common.{◌∙◌, sym}
+use Rattle.std.proofs.Common.{◌∙◌, IfErr, sym, rules}
+use Rattle.zarr_grids_boxes.specs.Boxes.{Region}
 use Rattle.zarr_grids_boxes.specs.Subsets.{region_of}
 use Rattle.zarr_array_core.specs.Views.{document_of, path_of}
+use Rattle.zarr_array_meaning.specs.Documents.{Document}
+use Rattle.zarr_run_boxes.specs.Outcomes.{ChunksRefused}
 use Rattle.zarr_run_boxes.proofs.Boxes.{none_gives}
+use Rattle.zarr_run_boxes.proofs.ReadCounts.{reads_no_chunks, reads_nothing}
 use Rattle.zarr_run_boxes.proofs.covered_reading.read_covered.Goals as goal
 
 pub returns-then-count-eq0-clause-ok : goal.returns-then-count-eq0-clause-ok
@@ -9,3 +13,16 @@ returns-then-count-eq0-clause-ok g c =
     let count = rw c.deref.ensures.value at c.in-Some.ensures in
     λ honest. none_gives (path_of c.args.array.now) (document_of g.C.ArrayToBytesCodecTraits.meaning c.args.array.now) (g.S.ReadableStorageTraits.held c.args.store.now) (region_of c.args.region.now) c.no_cells.result
     (sym count.1 ∙ c.if-count-eq0.true) c.no_cells.ensures.ok
+
+pub returns-then-count-eq0-clause-refused : goal.returns-then-count-eq0-clause-refused
+returns-then-count-eq0-clause-refused g c = reads_nothing c.no_cells.result (g.S.ReadableStorageTraits.refused_calls c.args.store.now) c.no_cells.ensures.err
+
+pub returns-in_err-chunks-clause-refused : goal.returns-in_err-chunks-clause-refused
+returns-in_err-chunks-clause-refused g c =
+    let document : Document = document_of g.C.ArrayToBytesCodecTraits.meaning c.args.array.now in
+    let region : Region = region_of c.args.region.now in
+    let told : IfErr c.from_residual.result (ChunksRefused document region) = search rules in
+    reads_no_chunks document region c.from_residual.result (g.S.ReadableStorageTraits.refused_calls c.args.store.now) told
+
+pub returns-in-Ok-clause-refused : goal.returns-in-Ok-clause-refused
+returns-in-Ok-clause-refused g c = c.in-Ok.ensures.refused

@@ -13,7 +13,7 @@ write_covered-requires-clause-covered g c κs within = chunk_covered (document_o
 
 pub returns-in-Ok-clause-err : goal.returns-in-Ok-clause-err
 returns-in-Ok-clause-err g c =
-    λ honest. refused_target (array_of g.C.ArrayToBytesCodecTraits c.args.array.now) (asked_of (in_chunk c.args.chunk.now) c.args.write) (region_of c.in-Ok.region)
+    λ honest. refused_target (array_of g.C.ArrayToBytesCodecTraits c.args.array.now) (asked_of g.S.WritableStorageTraits.supports_set_partial (in_chunk c.args.chunk.now) c.args.write) (region_of c.in-Ok.region)
     (g.S.ReadableStorageTraits.held c.args.store.now) (g.S.ReadableStorageTraits.held c.write_covered.new.store) c.write_covered.result
     c.in-Ok.ensures.ok (c.write_covered.ensures.err honest)
 

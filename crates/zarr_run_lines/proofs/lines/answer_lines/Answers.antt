@@ -5,7 +5,7 @@ use Rattle.zarr_run_lines.proofs.ProgressLemmas.{read-start, read-line, read-lim
 use Rattle.zarr_run_lines.proofs.lines.answer_lines.Goals as goal
 
 pub returns-in_err-reader-clause-err : goal.returns-in_err-reader-clause-err
-returns-in_err-reader-clause-err g c honest = on-fault g.B.BytesToBytesCodecTraits.meaning _ _ _ _ _ (none-run g.B.BytesToBytesCodecTraits.meaning _ _ _)
+returns-in_err-reader-clause-err g c honest = on-fault g.B.BytesToBytesCodecTraits.meaning _ _ _ _ _ (none-run g.B.BytesToBytesCodecTraits.meaning (g.B.BytesToBytesCodecTraits.reads, g.S.WritableStorageTraits.supports_set_partial) _ _)
 
 pub loop-line-init : goal.loop-line-init
 loop-line-init g c = (
@@ -35,7 +35,7 @@ returns-in_err-answer_line-clause-err g c honest =
     on-fault g.B.BytesToBytesCodecTraits.meaning _ _ _ _ _ (λ old is.
     let ran = now.3 honest old is in
     let left = c.in_err-answer_line.ensures.err (subst IsTrue (sym now.2) honest) ran.0 ran.1 in
-    let leaves : Leaves g.B.BytesToBytesCodecTraits.reads ran.0 c.next_line.new.line.items left.0 = left.2 in
+    let leaves : Leaves (g.B.BytesToBytesCodecTraits.reads, g.S.WritableStorageTraits.supports_set_partial) ran.0 c.next_line.new.line.items left.0 = left.2 in
     (left.0, left.1, stands-in _ _ _ _ _ _ _ _ now.0 _ _ _ _ now.1 (c.in_ok-next_line.ensures.line more) (c.in_ok-next_line.ensures.lines more) ran.2 leaves))
 
 pub returns-in_err-answer_line-clause-honest : goal.returns-in_err-answer_line-clause-honest
@@ -51,7 +51,7 @@ loop-line-preserved g c =
       λ honest old is.
           let ran = now.3 honest old is in
           let done = c.in_ok-answer_line.ensures.ok (subst IsTrue (sym now.2) honest) ran.0 ran.1 in
-          let answers : Answers g.B.BytesToBytesCodecTraits.reads c.next_line.new.line.items (output (Some c.loop-line.pending.items) (Some c.answer_line.new.pending.items)) ran.0 done.0 = done.2 in
+          let answers : Answers (g.B.BytesToBytesCodecTraits.reads, g.S.WritableStorageTraits.supports_set_partial) c.next_line.new.line.items (output (Some c.loop-line.pending.items) (Some c.answer_line.new.pending.items)) ran.0 done.0 = done.2 in
           (done.0, done.1, run-line _ now.0 _ _ _ _ _ _ _ _ _ _ ran.2 answers c.in_ok-write_before_wait.ensures.kept),
     )
 
@@ -62,7 +62,7 @@ returns-in_err-write_before_wait-clause-err g c honest =
     on-fault g.B.BytesToBytesCodecTraits.meaning _ _ _ _ _ (λ old is.
     let ran = now.3 honest old is in
     let done = c.in_ok-answer_line.ensures.ok (subst IsTrue (sym now.2) honest) ran.0 ran.1 in
-    let answers : Answers g.B.BytesToBytesCodecTraits.reads c.next_line.new.line.items (output (Some c.loop-line.pending.items) (Some c.answer_line.new.pending.items)) ran.0 done.0 = done.2 in
+    let answers : Answers (g.B.BytesToBytesCodecTraits.reads, g.S.WritableStorageTraits.supports_set_partial) c.next_line.new.line.items (output (Some c.loop-line.pending.items) (Some c.answer_line.new.pending.items)) ran.0 done.0 = done.2 in
     (done.0, done.1, stands-in _ _ _ _ _ _ _ _ now.0 _ _ _ _ now.1 (c.in_ok-next_line.ensures.line more) (c.in_ok-next_line.ensures.lines more) ran.2 (answers-leave _ _ _ _ _ _ answers)))
 
 pub returns-in_err-write_before_wait-clause-honest : goal.returns-in_err-write_before_wait-clause-honest

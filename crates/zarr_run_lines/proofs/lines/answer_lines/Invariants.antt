@@ -14,7 +14,7 @@ invariant-loop-line g l = (done : List (List ℕ))
     × (g.S.ReadableStorageTraits.is_honest (store_of l.session) ≡ g.S.ReadableStorageTraits.is_honest (store_of l.fn.session))
     × (IsTrue (g.S.ReadableStorageTraits.is_honest (store_of l.fn.session)) → LeadsTo g.B.BytesToBytesCodecTraits.meaning g.B.BytesToBytesCodecTraits.reads
     (state_of g.S.ReadableStorageTraits.held g.S.ReadableStorageTraits.refused_calls l.fn.session) (state_of g.S.ReadableStorageTraits.held g.S.ReadableStorageTraits.refused_calls l.session)
-    (HasRun g.B.BytesToBytesCodecTraits.reads done (output (g.W.Write.contents l.fn.writer) (append_known (g.W.Write.contents l.writer) l.pending.items))))
+    (HasRun (g.B.BytesToBytesCodecTraits.reads, g.S.WritableStorageTraits.supports_set_partial) done (output (g.W.Write.contents l.fn.writer) (append_known (g.W.Write.contents l.writer) l.pending.items))))
 
 abbrev pub decreases-loop-line : goal.decreases-loop-line
 decreases-loop-line g l = l.limits.lines

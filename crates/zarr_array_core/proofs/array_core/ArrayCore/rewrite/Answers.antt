@@ -7,6 +7,7 @@ use Rattle.zarr_array_core.specs.Calls.{calls_of}
 use Rattle.zarr_array_core.specs.Outcomes.{refused_with}
 use Rattle.zarr_array_core.specs.Rewriting.{counted_chunk}
 use Rattle.zarr_array_core.specs.declared.error.ChunkError.{ChunkError}
+use Rattle.zarr_array_core.proofs.KeyedTurns.{keyed_turn_next, keyed_turns_all, keyed_turns_stop}
 use Rattle.zarr_array_core.proofs.KnownArrays.{rewrite_known}
 use Rattle.zarr_array_core.proofs.NthChunks.{nth_here}
 use Rattle.zarr_array_core.proofs.Rewritten.{so_far_next, so_far_all, so_far_stops, stops_before}
@@ -57,6 +58,17 @@ returns-in-Err-clause-counts g c = λ honest.
     let step = c.in-Err.ensures.store.0 in
     (omega (arith, step.counts.0, kept.counts.0), omega (arith, step.counts.1, kept.counts.1))
 
+pub returns-in-Err-clause-turns : goal.returns-in-Err-clause-turns
+returns-in-Err-clause-turns g c = λ honest.
+    let chunks : Region = region_of c.args.chunks.now in
+    let walk = rewrite_known g.C.ArrayToBytesCodecTraits (g.met.C.ArrayToBytesCodecTraits g.world.𝓛 g.world.𝓜 g.world.𝓡 ((λ s x. x), (λ x. x), (λ x. x), λ x. x)).lawful c.args.self.now chunks (sym c.args.chunks.now.same) c.requires.all in
+    let total : c.unwrap-count.result ≡ product chunks.shape = search rules in
+    let below : c.loop-n.n < product chunks.shape = omega (arith, c.loop-n-test.true) in
+    let kept = c.loop-n.invariant in
+    let step = c.in-Err.ensures.store in
+    keyed_turns_stop g.S.ReadableStorageTraits (array_of g.C.ArrayToBytesCodecTraits c.args.self.now) c.args.options.now.store_empty_chunks chunks c.loop-n.n c.loop-n.applied c.args.store.now c.loop-n.store c.rewrite_chunk.new.store walk (omega arith)
+    (kept.so_far honest) (record { honest = step.0.honest; counts = step.0.counts; held = step.1 (rw kept.honest honest) }) (kept.turns honest)
+
 -- one chunk more
 after : (had : Bool) (applied old mid new : ℕ) → CountsUpTo applied old mid → CountsUpTo (calls_of {E = ChunkError} (Ok had)) mid new → CountsUpTo (counted_chunk applied had) old new
 after true applied old mid new first next = (omega (arith, first.0, next.0), omega (arith, first.1, next.1))
@@ -84,6 +96,9 @@ loop-n-preserved g c =
       so_far = λ honest.
           so_far_next array c.args.options.now.store_empty_chunks chunks c.loop-n.n c.loop-n.applied c.counted_chunk-applied.result c.place_into.new.place here.0 c.in-Ok.had (g.S.ReadableStorageTraits.held c.args.store.now) (g.S.ReadableStorageTraits.held c.loop-n.store)
           (g.S.ReadableStorageTraits.held c.rewrite_chunk.new.store) walk below at_place here.1 is (step.ok (rw kept.honest honest)) (kept.so_far honest);
+      turns = λ honest.
+          keyed_turn_next g.S.ReadableStorageTraits array c.args.options.now.store_empty_chunks chunks c.loop-n.n c.loop-n.applied c.place_into.new.place here.0 c.in-Ok.had c.args.store.now c.loop-n.store c.rewrite_chunk.new.store
+          walk below at_place here.1 step.store.0.honest step.store.0.counts (step.ok (rw kept.honest honest)) (kept.so_far honest) (kept.turns honest);
       few = subst (λ (k : ℕ). k ≤ c.loop-n.n + 1) (sym is) few;
       honest = step.store.0.honest ∙ kept.honest;
       refused = step.store.0.refused ∙ kept.refused;
@@ -115,3 +130,10 @@ returns-clause-counts g c = λ honest.
     let total : c.unwrap-count.result ≡ product chunks.shape = search rules in
     let many = (so_far_all array c.args.options.now.store_empty_chunks chunks c.loop-n.n c.loop-n.applied (g.S.ReadableStorageTraits.held c.args.store.now) (g.S.ReadableStorageTraits.held c.loop-n.store) walk (omega arith) (c.loop-n.invariant.so_far honest)).1 in
     subst (λ (k : ℕ). CountsUpTo k (g.S.ReadableStorageTraits.accepted_writes c.args.store.now) (g.S.ReadableStorageTraits.accepted_writes c.loop-n.store)) many c.loop-n.invariant.counts
+
+pub returns-clause-turns : goal.returns-clause-turns
+returns-clause-turns g c = λ honest.
+    let chunks : Region = region_of c.args.chunks.now in
+    let walk = rewrite_known g.C.ArrayToBytesCodecTraits (g.met.C.ArrayToBytesCodecTraits g.world.𝓛 g.world.𝓜 g.world.𝓡 ((λ s x. x), (λ x. x), (λ x. x), λ x. x)).lawful c.args.self.now chunks (sym c.args.chunks.now.same) c.requires.all in
+    let total : c.unwrap-count.result ≡ product chunks.shape = search rules in
+    keyed_turns_all g.S.ReadableStorageTraits (array_of g.C.ArrayToBytesCodecTraits c.args.self.now) chunks c.loop-n.n c.args.store.now c.loop-n.store walk (omega arith) (c.loop-n.invariant.turns honest)

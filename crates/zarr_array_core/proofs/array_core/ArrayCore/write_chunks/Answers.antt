@@ -3,6 +3,7 @@ use Rattle.zarr_codecs_arrays.specs.Views.{payload_of}
 use Rattle.zarr_grids_boxes.specs.Boxes.{Region, product, place_at}
 use Rattle.zarr_grids_boxes.specs.Subsets.{region_of}
 use Rattle.zarr_grids_overlay.specs.Overlays.{extent_of}
+use Rattle.zarr_array_core.specs.Arrays.{array_of}
 use Rattle.zarr_array_core.specs.Outcomes.{refused_with}
 use Rattle.zarr_array_core.specs.BoxWrites.{write_of}
 use Rattle.zarr_array_core.specs.Views.{document_of}
@@ -10,6 +11,7 @@ use Rattle.zarr_array_core.specs.declared.error.ChunkError.TheVariants as error
 use Rattle.zarr_array_core.proofs.BoxWalks.{walk_of}
 use Rattle.zarr_array_core.proofs.ChunksWritten.{wrote_none, wrote_next, wrote_all, write_stops}
 use Rattle.zarr_array_core.proofs.NthChunks.{nth_here, shares_here}
+use Rattle.zarr_array_core.proofs.Turns.{once_at, turn_next, turns_all, turns_stop}
 use Rattle.zarr_array_core.proofs.array_core.ArrayCore.write_chunks.Goals as goal
 
 pub returns-then-is_err-clause-err : goal.returns-then-is_err-clause-err
@@ -75,6 +77,10 @@ loop-n-preserved g c =
       wrote = λ honest.
           let made = step.ok (rw kept.honest honest) in
           wrote_next write chunks c.loop-n.n c.place_into.new.place made.0 made.1 old mid new walk below at_place made.2 made.3 made.4 (kept.wrote honest);
+      turns = λ honest.
+          let made = step.ok (rw kept.honest honest) in
+          let once = once_at g.S.ReadableStorageTraits write.array c.place_into.new.place made.1 c.loop-n.store c.write_at.new.store step.store.0.honest step.store.0.counts made.4 in
+          turn_next g.S.ReadableStorageTraits write.array chunks c.loop-n.n c.place_into.new.place c.args.store.now c.loop-n.store c.write_at.new.store at_place once (kept.turns honest);
       honest = step.store.0.honest ∙ kept.honest;
       refused = step.store.0.refused ∙ kept.refused;
       counts = (omega (arith, step.store.0.counts.0, kept.counts.0), omega (arith, step.store.0.counts.1, kept.counts.1));
@@ -89,6 +95,16 @@ returns-in-Err-clause-store g c =
       refused = step.refused ∙ ap (refused_with c.in-Err.error) kept.refused;
       counts = (omega (arith, step.counts.0, kept.counts.0), omega (arith, step.counts.1, kept.counts.1));
     }
+
+pub returns-in-Err-clause-turns : goal.returns-in-Err-clause-turns
+returns-in-Err-clause-turns g c = λ honest.
+    let chunks : Region = region_of c.args.chunks.now in
+    let total : c.unwrap-count.result ≡ product chunks.shape = search rules in
+    let below : c.loop-n.n < product chunks.shape = omega (arith, c.loop-n-test.true) in
+    let kept = c.loop-n.invariant in
+    let step = c.in-Err.ensures.store in
+    turns_stop g.S.ReadableStorageTraits (array_of g.C.ArrayToBytesCodecTraits c.args.self.now) chunks c.loop-n.n c.args.store.now c.loop-n.store c.write_at.new.store (sym c.args.chunks.now.same) (omega arith)
+    (record { honest = step.0.honest; counts = step.0.counts; held = step.1 (rw kept.honest honest) }) (kept.turns honest)
 
 pub returns-clause-store : goal.returns-clause-store
 returns-clause-store g c =
@@ -109,3 +125,9 @@ returns-clause-ok g c = λ honest.
     let walk = walk_of g.C.ArrayToBytesCodecTraits g.met.C.ArrayToBytesCodecTraits.lawful array c.args.write.now chunks (sym c.args.write.now.region.same) (sym c.args.chunks.now.same) c.requires.rank c.requires.intersecting c.requires.values in
     let total : c.unwrap-count.result ≡ product chunks.shape = search rules in
     wrote_all write chunks c.loop-n.n old (g.S.ReadableStorageTraits.held c.loop-n.store) walk (omega arith) (c.loop-n.invariant.wrote honest)
+
+pub returns-clause-turns : goal.returns-clause-turns
+returns-clause-turns g c = λ honest.
+    let chunks : Region = region_of c.args.chunks.now in
+    let total : c.unwrap-count.result ≡ product chunks.shape = search rules in
+    turns_all g.S.ReadableStorageTraits (array_of g.C.ArrayToBytesCodecTraits c.args.self.now) chunks c.loop-n.n c.args.store.now c.loop-n.store (sym c.args.chunks.now.same) (omega arith) (c.loop-n.invariant.turns honest)

@@ -1,10 +1,11 @@
-use Rattle.std.proofs.Common.{◌∙◌, ℕ, ap, subst, sym}
+use Rattle.std.proofs.Common.{◌∙◌, ℕ, List, ap, subst, sym}
 use Rattle.zarr_codecs_arrays.specs.Views.{payload_of}
 use Rattle.std.specs.List.{list_all}
 use Rattle.zarr_codecs_meaning.specs.Types.{is_value}
 use Rattle.zarr_grids_boxes.specs.Boxes.{product}
 use Rattle.zarr_grids_boxes.specs.Subsets.{region_of}
-use Rattle.zarr_array_core.specs.Arrays.{CalledMany}
+use Rattle.zarr_array_core.specs.Arrays.{CalledMany, array_of}
+use Rattle.zarr_array_core.specs.Turns.{HadTurns}
 use Rattle.zarr_array_core.specs.Views.{document_of}
 use Rattle.zarr_array_core.proofs.ChunksWritten.{some_chunk}
 use Rattle.zarr_array_core.proofs.NthChunks.{length-intersecting}
@@ -32,3 +33,8 @@ returns-clause-store g c =
     let document = document_of g.C.ArrayToBytesCodecTraits.meaning c.args.self.now in
     let all = length-intersecting document.grid (region_of c.args.target.region.now) (region_of c.args.target.chunks.now) (sym c.args.target.chunks.now.same) c.requires.intersecting in
     subst (λ (n : ℕ). CalledMany g.S.ReadableStorageTraits n c.args.store.now c.write_chunks.new.store c.write_chunks.result) (sym all) c.write_chunks.ensures.store
+
+pub returns-clause-turns : goal.returns-clause-turns
+returns-clause-turns g c =
+    let array = array_of g.C.ArrayToBytesCodecTraits c.args.self.now in
+    subst (λ (chunks : List (List ℕ)). HadTurns g.S.ReadableStorageTraits (record { array = array; chunks = chunks }) c.args.store.now c.write_chunks.new.store c.write_chunks.result) c.requires.intersecting.listed c.write_chunks.ensures.turns

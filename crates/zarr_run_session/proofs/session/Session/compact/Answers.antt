@@ -34,7 +34,7 @@ returns g c = record {
       let outcome = c.compact.ensures in
       compact_steps g.row.B.Denot codec.meaning codec.reads c.args.self.now.arrays (readable.held old) (readable.held new) (readable.refused_calls old) (readable.refused_calls new)
       c.args.path.now c.args.chunk.now c.args.options.now c.in-Ok.array.now c.compact.result (answered c.reply_to_compaction.result)
-      c.in-Ok.ensures.ok outcome.store.0.refused c.reply_to_compaction.ensures (outcome.ok honest) (outcome.err honest) (outcome.store.1 honest);
+      c.in-Ok.ensures.ok (compaction_counts c.compact.result _ _ _ c.reply_to_compaction.ensures outcome.store.0.refused) c.reply_to_compaction.ensures (outcome.ok honest) (outcome.err honest) (outcome.store.1 honest);
   writes = λ honest world is. compact_bound world c.args.path.now c.args.chunk.now c.args.options.now c.compact.result _ _ _ c.reply_to_compaction.ensures c.compact.ensures.store.0.counts;
   honest = c.compact.ensures.store.0.honest;
   refused = compaction_counts c.compact.result _ _ _ c.reply_to_compaction.ensures c.compact.ensures.store.0.refused;

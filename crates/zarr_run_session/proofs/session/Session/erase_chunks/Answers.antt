@@ -31,7 +31,7 @@ returns g c = record {
       let codec = g.B.BytesToBytesCodecTraits in
       erase_steps g.row.B.Denot codec.meaning codec.reads c.args.self.now.arrays (readable.held old) (readable.held new) (readable.refused_calls old) (readable.refused_calls new)
       c.args.path.now (region_of c.args.chunks.now) c.in-Ok.array.now c.erase_chunks.result (answered c.reply_to_change.result)
-      c.in-Ok.ensures.ok c.erase_chunks.ensures.store.refused c.reply_to_change.ensures (c.erase_chunks.ensures.ok honest) (c.erase_chunks.ensures.err honest);
+      c.in-Ok.ensures.ok (change_counts c.erase_chunks.result _ _ _ c.reply_to_change.ensures c.erase_chunks.ensures.store.refused) c.reply_to_change.ensures (c.erase_chunks.ensures.ok honest) (c.erase_chunks.ensures.err honest);
   writes = λ honest world is. erase_bound world c.args.path.now (region_of c.args.chunks.now) c.erase_chunks.result _ _ _ c.reply_to_change.ensures c.erase_chunks.ensures.store.counts;
   honest = c.erase_chunks.ensures.store.honest;
   refused = change_counts c.erase_chunks.result _ _ _ c.reply_to_change.ensures c.erase_chunks.ensures.store.refused;

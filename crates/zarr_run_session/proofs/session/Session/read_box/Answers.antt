@@ -35,7 +35,7 @@ returns g c = record {
       (read_steps g.row.B.Denot g.B.BytesToBytesCodecTraits.meaning g.B.BytesToBytesCodecTraits.reads session.arrays
       (held session.store) (held c.read_box.new.store) (calls session.store) (calls c.read_box.new.store) c.args.path.now
       (ask.in_box (region_of c.args.region.now)) c.args.options.now c.in-Ok.array.now c.in-Ok.ensures.ok (sym c.args.region.now.same)
-      outcome.held c.read_box.result (outcome.ok honest) (outcome.err honest) outcome.refused);
+      outcome.held c.read_box.result (outcome.ok honest) (outcome.err honest) (read_counts c.read_box.result _ _ _ refl outcome.refused));
   writes = λ honest world is. read_bound world c.args.path.now (ask.in_box (region_of c.args.region.now)) c.args.options.now c.read_box.result _ _ _ c.reply_to_read.ensures c.read_box.ensures.accepted;
   honest = c.read_box.ensures.honest;
   refused = read_counts c.read_box.result _ _ _ c.reply_to_read.ensures c.read_box.ensures.refused;

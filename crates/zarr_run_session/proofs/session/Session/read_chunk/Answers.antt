@@ -34,7 +34,7 @@ returns g c = record {
       (read_steps g.row.B.Denot g.B.BytesToBytesCodecTraits.meaning g.B.BytesToBytesCodecTraits.reads session.arrays
       (held session.store) (held c.read_chunk.new.store) (calls session.store) (calls c.read_chunk.new.store) c.args.path.now
       (ask.in_chunk c.args.chunk.now) c.args.options.now c.in-Ok.array.now c.in-Ok.ensures.ok tt
-      outcome.held c.read_chunk.result (outcome.ok honest) (outcome.err honest) outcome.refused);
+      outcome.held c.read_chunk.result (outcome.ok honest) (outcome.err honest) (read_counts c.read_chunk.result _ _ _ refl outcome.refused));
   writes = λ honest world is. read_bound world c.args.path.now (ask.in_chunk c.args.chunk.now) c.args.options.now c.read_chunk.result _ _ _ c.reply_to_read.ensures c.read_chunk.ensures.accepted;
   honest = c.read_chunk.ensures.honest;
   refused = read_counts c.read_chunk.result _ _ _ c.reply_to_read.ensures c.read_chunk.ensures.refused;

@@ -34,7 +34,7 @@ returns g c = record {
       let outcome = c.rewrite.ensures in
       rewrite_steps g.row.B.Denot codec.meaning codec.reads c.args.self.now.arrays (readable.held old) (readable.held new) (readable.refused_calls old) (readable.refused_calls new)
       c.args.path.now c.args.options.now c.in-Ok.array.now c.rewrite.result (answered c.reply_to_change.result)
-      c.in-Ok.ensures.ok outcome.store.refused c.reply_to_change.ensures (outcome.ok honest) (outcome.err honest);
+      c.in-Ok.ensures.ok (change_counts c.rewrite.result _ _ _ c.reply_to_change.ensures outcome.store.refused) c.reply_to_change.ensures (outcome.ok honest) (outcome.err honest);
   writes = λ honest world is.
       let old = c.args.self.now.store in
       let readable = g.S.ReadableStorageTraits in

@@ -1,5 +1,5 @@
-use Rattle.zarr_run_commands.specs.Commands.{asked, answered}
 use Rattle.zarr_run_meaning.proofs.GoodDocuments.{lawful_good}
+use Rattle.zarr_run_session.specs.Commands.{exchange_over}
 use Rattle.zarr_run_session.specs.Sessions.{state_of}
 use Rattle.zarr_run_session.proofs.HeadlineStates.{keeps_tables, keeps_alone, rewrites_afresh, keeps_tight}
 use Rattle.zarr_run_session.proofs.session.Session.step.Goals as goal
@@ -13,7 +13,7 @@ returns-clause-tables g c = λ honest.
     let readable = g.S.ReadableStorageTraits in
     keeps_tables g.row.B.Denot (codec.meaning, codec.reads) (lawful_good codec.reads (g.met.B.BytesToBytesCodecTraits g.world.𝓛 g.world.𝓜 g.world.𝓡 ((λ s x. x), (λ x. x), (λ x. x), λ x. x)).reads_lawful)
     (state_of readable.held readable.refused_calls c.args.self.now) (state_of readable.held readable.refused_calls c.answer.new.self)
-    (asked c.args.command.now, answered c.answer.result) (c.answer.ensures.steps honest)
+    (exchange_over g.S.WritableStorageTraits.supports_set_partial c.args.command.now c.answer.result) (c.answer.ensures.steps honest)
 
 pub returns-clause-alone : goal.returns-clause-alone
 returns-clause-alone g c = λ honest.
@@ -21,7 +21,7 @@ returns-clause-alone g c = λ honest.
     let readable = g.S.ReadableStorageTraits in
     keeps_alone g.row.B.Denot (codec.meaning, codec.reads) (lawful_good codec.reads (g.met.B.BytesToBytesCodecTraits g.world.𝓛 g.world.𝓜 g.world.𝓡 ((λ s x. x), (λ x. x), (λ x. x), λ x. x)).reads_lawful)
     (state_of readable.held readable.refused_calls c.args.self.now) (state_of readable.held readable.refused_calls c.answer.new.self)
-    (asked c.args.command.now, answered c.answer.result) (c.answer.ensures.steps honest)
+    (exchange_over g.S.WritableStorageTraits.supports_set_partial c.args.command.now c.answer.result) (c.answer.ensures.steps honest)
 
 pub returns-clause-canon : goal.returns-clause-canon
 returns-clause-canon g c = λ honest.
@@ -29,7 +29,7 @@ returns-clause-canon g c = λ honest.
     let readable = g.S.ReadableStorageTraits in
     rewrites_afresh g.row.B.Denot (codec.meaning, codec.reads) (lawful_good codec.reads (g.met.B.BytesToBytesCodecTraits g.world.𝓛 g.world.𝓜 g.world.𝓡 ((λ s x. x), (λ x. x), (λ x. x), λ x. x)).reads_lawful)
     (state_of readable.held readable.refused_calls c.args.self.now) (state_of readable.held readable.refused_calls c.answer.new.self)
-    (asked c.args.command.now, answered c.answer.result) (c.answer.ensures.steps honest)
+    (exchange_over g.S.WritableStorageTraits.supports_set_partial c.args.command.now c.answer.result) (c.answer.ensures.steps honest)
 
 pub returns-clause-tight : goal.returns-clause-tight
 returns-clause-tight g c = λ honest.
@@ -37,7 +37,7 @@ returns-clause-tight g c = λ honest.
     let readable = g.S.ReadableStorageTraits in
     keeps_tight g.row.B.Denot (codec.meaning, codec.reads) (lawful_good codec.reads (g.met.B.BytesToBytesCodecTraits g.world.𝓛 g.world.𝓜 g.world.𝓡 ((λ s x. x), (λ x. x), (λ x. x), λ x. x)).reads_lawful)
     (state_of readable.held readable.refused_calls c.args.self.now) (state_of readable.held readable.refused_calls c.answer.new.self)
-    (asked c.args.command.now, answered c.answer.result) (c.answer.ensures.steps honest)
+    (exchange_over g.S.WritableStorageTraits.supports_set_partial c.args.command.now c.answer.result) (c.answer.ensures.steps honest)
 
 pub returns-clause-writes : goal.returns-clause-writes
 returns-clause-writes g c = c.answer.ensures.writes
