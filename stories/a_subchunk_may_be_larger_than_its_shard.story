@@ -1,4 +1,4 @@
-A subchunk may be larger than the shard that it is in, which is then the whole of it.
+A subchunk may be larger than its shard: it is then the whole shard.
 
 > {"op":"create","path":"/a","document":$zeros{"shape":[3],"chunk_grid":{"name":"regular","configuration":{"chunk_shape":[3]}},"codecs":[{"name":"sharding_indexed","configuration":{"chunk_shape":[4],"codecs":["bytes"],"index_codecs":[{"name":"bytes","configuration":{"endian":"little"}}]}}]},"order":"C"}
 > {"op":"create","path":"/w","document":$zeros{"shape":[2,3],"chunk_grid":{"name":"regular","configuration":{"chunk_shape":[2,3]}},"codecs":[{"name":"sharding_indexed","configuration":{"chunk_shape":[4,2],"codecs":["bytes"],"index_codecs":[{"name":"bytes","configuration":{"endian":"little"}}]}}]},"order":"C"}
