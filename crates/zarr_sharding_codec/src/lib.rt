@@ -6,6 +6,7 @@ mod array_to_bytes;
 mod as_is;
 mod assembling;
 pub mod box_reading;
+mod box_updating;
 pub mod chain_metadata;
 pub mod codec;
 pub mod configuration;
