@@ -31,5 +31,5 @@ pub use zarr_sharding_codec::{
 };
 pub use zarr_sharding_configurations::ShardingCodecConfiguration;
 pub use zarr_sharding_decoder::{OpenedIndex, ShardingPartialDecoder, open_shard};
-pub use zarr_sharding_index::{FetchedIndex, IndexLayout, ShardIndex, ShardingIndexLocation};
+pub use zarr_sharding_index::{FetchedIndex, IndexLayout, PresentPairs, ShardingIndexLocation};
 pub use zarr_sharding_state::{GivenChanges, KnownShard, ShardChanges, SliceChange};
