@@ -2,11 +2,12 @@
 ghost use Rattle.std.specs.Prelude.{◌≡◌, IfOk, true};
 ghost use Rattle.zarr_codecs_meaning.specs.Fits.{is_plain};
 ghost use Rattle.zarr_codecs_arrays.specs.Views.{elements_of, payload_of};
+ghost use Rattle.zarr_codecs_traits.specs.Arrays.{coded_array};
 ghost use Rattle.zarr_codecs_traits.specs.Outcomes.{Encodes};
+ghost use Rattle.zarr_sharding_changes.specs.Gapless.{IsGapless};
 
 use std::alloc::{AllocError, Global};
 use zarr_codecs_arrays::{ArrayBytes, CodecError};
-use zarr_codecs_options::CodecOptions;
 use zarr_codecs_traits::{ArrayToBytesCodecTraits, WholeArray};
 
 /// A codec between arrays and bytes, so far as codecs that stand around it need to know more of it
@@ -30,14 +31,15 @@ pub fn encode_row_major<A: InnerCodec>(
     alloc: Global,
     bytes: ArrayBytes,
     array: WholeArray<'_>,
-    options: &CodecOptions,
 ) -> Result<Vec<u8>, CodecError>
-    ensures { Encodes (A.meaning codec.now) true (elements_of array.entry.elements.now)
-        array.entry.shape.now (payload_of bytes) result }
+    ensures encodes { Encodes (coded_array (A.meaning codec.now) array.entry) true
+        (payload_of bytes) result }
+    ensures gapless { IfOk result
+        (λ value. IsGapless (A.meaning codec.now) array.entry.shape.now value.items) }
 {
     if codec.encoding_is_function() {
-        return codec.encode(alloc, bytes, array.elements, array.shape, options);
+        return codec.encode_in_order(alloc, bytes, array.elements, array.shape);
     }
     let row_major = codec.row_major(alloc)?;
-    row_major.encode(alloc, bytes, array.elements, array.shape, options)
+    row_major.encode_in_order(alloc, bytes, array.elements, array.shape)
 }

@@ -32,6 +32,7 @@ use Rattle.zarr_codecs_arrays.proofs.FixedCells.{fixed_in-whole, flat_map-fixed_
 use Rattle.zarr_codecs_regions.proofs.Extracts.{element_bytes, bytes_of_place, place_width, elements_are, element_within, array_laid}
 use Rattle.zarr_codecs_regions.proofs.InsideArray.{all_places, inside_places}
 use Rattle.zarr_codecs_traits.specs.Indexers.{shape_has, numbers_of}
+use Rattle.zarr_codecs_traits.specs.Arrays.{coded}
 use Rattle.zarr_codecs_traits.specs.PartEncoding.{EncodesPart, cells_with_box}
 use Rattle.zarr_codecs_traits.specs.Patches.{any_too_far, cut_patches, overwritten, patched, patches_in, written_at}
 use Rattle.zarr_codecs_traits.specs.declared.byte_range.ByteRange.{ByteRange}
@@ -298,7 +299,7 @@ given_cells type given count cells fit valid =
 
 pub part_encodes : (order : Option Endianness) (part : BoxPart) (given : List ℕ) (cells : List Cell) (patches : ValuePatches) → fits (bytes order) (elements_of part.elements.now).type [] ≡ true
     → IsValid (elements_of part.elements.now).type (fixed given) (product part.region.now.shape.items) cells → PatchesPart (bytes order) part given (patches_in patches)
-    → EncodesPart (bytes order) true (elements_of part.elements.now) part.shape.now (region_of part.region.now) (fixed given) (Ok (Some patches))
+    → EncodesPart (coded (bytes order) (elements_of part.elements.now) part.shape.now) true (region_of part.region.now) (fixed given) (Ok (Some patches))
 part_encodes order part given cells patches fit valid h =
     let elements = elements_of part.elements.now in
     let shape = part.shape.now in

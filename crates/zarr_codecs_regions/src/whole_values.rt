@@ -5,15 +5,16 @@ ghost use Rattle.zarr_codecs_meaning.specs.Fits.{fits, is_plain};
 ghost use Rattle.zarr_codecs_meaning.specs.Laws.{IsLawfulChain};
 ghost use Rattle.zarr_codecs_types.specs.Views.{type_of};
 ghost use Rattle.zarr_codecs_arrays.specs.Views.{elements_of, payload_of};
+ghost use Rattle.zarr_codecs_traits.specs.Arrays.{coded};
 ghost use Rattle.zarr_codecs_traits.specs.Outcomes.{Decodes, Encodes};
+ghost use Rattle.zarr_sharding_changes.specs.Gapless.{IsGapless};
 
 use std::alloc::{AllocError, Global};
 use zarr_codecs_arrays::{ArrayBytes, CodecError, Elements};
-use zarr_codecs_options::CodecOptions;
 use zarr_codecs_types::DataType;
 
 /// A codec between arrays and bytes, so far as `encode_whole` needs it. Each call that is named
-/// after one of `ArrayToBytesCodecTraits` does what that one does.
+/// after one of `ArrayToBytesCodecTraits` does what that one does, in order.
 pub trait WholeValues: Sized {
     /// The chain that it does.
     ghost meaning: { Self → Chain };
@@ -38,10 +39,11 @@ pub trait WholeValues: Sized {
         bytes: ArrayBytes,
         elements: &Elements,
         shape: &[u64],
-        options: &CodecOptions,
     ) -> Result<Vec<u8>, CodecError>
-        ensures { Encodes (meaning self.now) (is_function self.now) (elements_of elements.now)
-            shape.now (payload_of bytes) result };
+        ensures encodes { Encodes (coded (meaning self.now) (elements_of elements.now) shape.now)
+            (is_function self.now) (payload_of bytes) result }
+        ensures gapless { IfOk result
+            (λ value. IsGapless (meaning self.now) shape.now value.items) };
 
     /// As `decode`.
     fn decode_value(
@@ -50,10 +52,9 @@ pub trait WholeValues: Sized {
         value: Vec<u8>,
         elements: &Elements,
         shape: &[u64],
-        options: &CodecOptions,
     ) -> Result<ArrayBytes, CodecError>
-        ensures { Decodes (meaning self.now) (elements_of elements.now) shape.now value.items
-            result };
+        ensures { Decodes (coded (meaning self.now) (elements_of elements.now) shape.now)
+            value.items result };
 
     /// Whether an array that became all fill keeps a value. A codec that makes shards takes it
     /// away.

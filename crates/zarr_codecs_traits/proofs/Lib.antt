@@ -3,3 +3,6 @@ pub mod PartValues
 mod Intervals
 pub mod Refusals
 pub mod Damage
+pub mod WrittenWhole
+mod Made
+mod CountedReads

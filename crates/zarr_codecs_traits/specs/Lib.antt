@@ -1,4 +1,5 @@
 pub mod Indexers
+pub mod Arrays
 pub mod Outcomes
 pub mod Sources
 pub mod ReadBytes
@@ -7,6 +8,8 @@ pub mod Writes
 pub mod Targets
 pub mod PartEncoding
 pub mod PartWriting
+pub mod ShardWrites
 pub mod Representations
 pub mod Capabilities
 pub mod Compactions
+pub mod Pieces

@@ -4,3 +4,4 @@ pub mod Overlays
 pub mod Slices
 pub mod Compacting
 pub mod Compactions
+pub mod HeldShards

@@ -5,5 +5,7 @@ pub mod Laws
 pub mod WorkedChanges
 pub mod WorkedCompaction
 pub mod Compactions
+pub mod Gapless
+pub mod HeldShards
 pub mod WorkedCompactions
 pub mod Refusals

@@ -1,6 +1,6 @@
 //! Worked examples and laws of shards under change. Each function does nothing: its contract is the
 //! law.
-ghost use Rattle.zarr_sharding_changes.specs.Laws.{ChangesWritten, RegionWritten, PartOverlaid, PartKept, CompactedStands, CompactedEncoded, PlainKept};
+ghost use Rattle.zarr_sharding_changes.specs.Laws.{ChangesWritten, RegionWritten, PartOverlaid, PartKept, CompactedStands, CompactedEncoded, PlainGapless, PlainKept, UnmetKept};
 ghost use Rattle.zarr_sharding_changes.specs.WorkedChanges.{ChangeRows};
 ghost use Rattle.zarr_sharding_changes.specs.WorkedCompaction.{CompactionRows};
 ghost use Rattle.zarr_sharding_changes.specs.WorkedCompactions.{ChainCompactionRows};
@@ -55,4 +55,14 @@ pub fn chain_compaction_rows()
 /// Compaction leaves each value of a chain without a shard as it is, damaged or not.
 pub fn plain_kept()
     ensures { PlainKept }
+{}
+
+/// A subchunk that a write in part doesn't change keeps its pair and its slice.
+pub fn unmet_kept()
+    ensures { UnmetKept }
+{}
+
+/// Each value of a chain without a shard has no gaps.
+pub fn plain_gapless()
+    ensures { PlainGapless }
 {}
