@@ -1,7 +1,6 @@
 //! Types, codecs and shards that are made by their constructors and anew of their configurations,
 //! as no call of calls/ makes them. What codecs make of values, and of metadata, is shown there.
 
-use crate::stop::{Stop, expect};
 use std::alloc::Global;
 use zarr_codecs::{
     ArrayToArrayCodecTraits, ArrayToBytesCodec, ArrayToBytesCodecTraits, BytesCodec, CodecChain,
@@ -11,6 +10,7 @@ use zarr_codecs::{
 };
 use zarr_codecs_reverse::ReverseCodec;
 use zarr_grids::ChunkShape;
+use zarr_scarcity_scripts::{Stop, expect};
 use zarr_sharding::{ShardingCodec, ShardingCodecBuilder, ShardingCodecConfiguration};
 
 type Chain = CodecChain<ReverseCodec>;

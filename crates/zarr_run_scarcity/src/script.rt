@@ -1,9 +1,9 @@
 //! The commands of a script at two arrays, and what each one changes.
 
-use crate::stop::Stop;
 use crate::tables::{Array, Cells, Keys};
 use std::alloc::Global;
 use zarr_run::{ArrayBytes, Cause, Command, Reply, read_command};
+use zarr_scarcity_scripts::Stop;
 
 /// What a line asks of its array.
 #[derive(Clone, Copy)]

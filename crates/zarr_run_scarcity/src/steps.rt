@@ -1,7 +1,6 @@
 //! The commands of a script, step by step, over a store that may refuse a call.
 
 use crate::script::{Line, Script, command, is_by_store, is_refused_by_chance};
-use crate::stop::{Stop, expect};
 use crate::tables::Tables;
 use std::alloc::Global;
 use std::thread::Threads;
@@ -9,6 +8,7 @@ use zarr_run::{
     BytesToBytesCodecTraits, CallKind, Command, MemoryStore, RefusingStore, Reply, ReverseCodec,
     WritableStorageTraits,
 };
+use zarr_scarcity_scripts::{Stop, expect};
 
 type Session = zarr_run::Session<RefusingStore<MemoryStore>, ReverseCodec>;
 

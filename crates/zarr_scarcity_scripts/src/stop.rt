@@ -1,14 +1,13 @@
 //! How a script ends before its end.
 
-use serde_json::Error;
 use std::alloc::{AllocError, AllocFailed};
-use zarr_codecs::CodecError;
-use zarr_grids::{ChunkShapeError, PluginCreateError};
-use zarr_run::StorageError;
+use zarr_codecs_arrays::CodecError;
+use zarr_grids_boxes::ChunkShapeError;
+use zarr_grids_metadata::PluginCreateError;
 
 /// Why a script did not come to its end.
 #[derive(Clone, Copy)]
-pub(crate) enum Stop {
+pub enum Stop {
     /// Memory ran out.
     Short,
     /// An answer was another one.
@@ -16,7 +15,7 @@ pub(crate) enum Stop {
 }
 
 /// Goes on where the answer was the one that is expected.
-pub(crate) fn expect(is_expected: bool) -> Result<(), Stop> {
+pub fn expect(is_expected: bool) -> Result<(), Stop> {
     if is_expected {
         Ok(())
     } else {
@@ -24,9 +23,11 @@ pub(crate) fn expect(is_expected: bool) -> Result<(), Stop> {
     }
 }
 
-/// Why a script stops at an error.
-fn refused(is_memory: bool) -> Stop {
-    if is_memory { Stop::Short } else { Stop::Other }
+impl Stop {
+    /// Why a script stops at an error.
+    pub fn at_error(is_memory: bool) -> Stop {
+        if is_memory { Stop::Short } else { Stop::Other }
+    }
 }
 
 impl From<AllocError> for Stop {
@@ -43,25 +44,13 @@ impl<T: Drop> From<AllocFailed<T>> for Stop {
 
 impl From<PluginCreateError> for Stop {
     fn from(error: PluginCreateError) -> Stop {
-        refused(matches!(error, PluginCreateError::Memory))
+        Stop::at_error(matches!(error, PluginCreateError::Memory))
     }
 }
 
 impl From<CodecError> for Stop {
     fn from(error: CodecError) -> Stop {
-        refused(matches!(error, CodecError::Memory))
-    }
-}
-
-impl From<StorageError> for Stop {
-    fn from(error: StorageError) -> Stop {
-        refused(matches!(error, StorageError::Memory))
-    }
-}
-
-impl From<Error> for Stop {
-    fn from(error: Error) -> Stop {
-        refused(error.is_memory())
+        Stop::at_error(matches!(error, CodecError::Memory))
     }
 }
 

@@ -1,14 +1,11 @@
 //! The script as lines, and its first lines as a list of commands.
 
 use crate::script::{PLAIN, command};
-use crate::stop::{Stop, expect};
-use crate::tables::Tables;
+use crate::tables::{Tables, keys_of};
 use std::alloc::{AllocError, Global};
 use std::thread::Threads;
-use zarr_run::{
-    Command, LinesFault, MemoryStore, ReadableStorageTraits, Reply, ReverseCodec, Session,
-    run_lines,
-};
+use zarr_run::{Command, LinesFault, MemoryStore, Reply, ReverseCodec, Session, run_lines};
+use zarr_scarcity_scripts::{Stop, expect};
 
 /// The answers with ample memory.
 const ANSWERS: &str = r#"{"done":true}
@@ -133,7 +130,7 @@ fn run_list<R: AllocGlobal + Threads + Sync>(rt: &R) -> Result<(), Stop> {
     match reply_all(rt, MemoryStore::new(alloc), commands.as_slice()) {
         Ok((replies, mut store)) => expect_replies(replies.as_slice(), &mut store),
         Err(mut store) => {
-            expect(store.list()?.is_empty())?;
+            expect(keys_of(&mut store)?.is_empty())?;
             match reply_all(rt, store, commands.as_slice()) {
                 Ok((replies, mut store)) => expect_replies(replies.as_slice(), &mut store),
                 Err(_) => Err(Stop::Other),

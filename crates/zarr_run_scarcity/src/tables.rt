@@ -3,8 +3,8 @@
 use crate::script::{
     Asks, Line, Names, Script, applied_in, gives_cells, is_compacted, is_done, is_refused,
 };
-use crate::stop::Stop;
-use zarr_run::{Cause, MemoryStore, ReadableStorageTraits, Reply, StoreKey};
+use zarr_run::{Cause, MemoryStore, ReadableStorageTraits, Reply, StorageError, StoreKey};
+use zarr_scarcity_scripts::Stop;
 
 /// An array of a script: one of 4 by 4 in chunks of 2 by 2, with cells of one byte; or one of one
 /// dimension, with cells of two.
@@ -166,7 +166,7 @@ impl Tables {
     /// Whether a store has the documents and the chunk keys of the arrays that are stored, and no
     /// others.
     pub(crate) fn agree_with(&self, script: Script, store: &mut MemoryStore) -> Result<bool, Stop> {
-        let found = store.list()?;
+        let found = keys_of(store)?;
         let square = count_keys(found.as_slice(), &self.square, script.square);
         let row = count_keys(found.as_slice(), &self.row, script.row);
         match (square, row) {
@@ -181,6 +181,14 @@ impl Tables {
             square: unheld(self.square),
             row: unheld(self.row),
         }
+    }
+}
+
+/// The keys of a store.
+pub(crate) fn keys_of(store: &mut MemoryStore) -> Result<Vec<StoreKey>, Stop> {
+    match store.list() {
+        Ok(keys) => Ok(keys),
+        Err(error) => Err(Stop::at_error(matches!(error, StorageError::Memory))),
     }
 }
 

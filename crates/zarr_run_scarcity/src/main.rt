@@ -1,0 +1,52 @@
+//! Scripts of sessions in which any allocation may be refused.
+//!
+//! The first byte of standard input names the script: `s` for a session's commands, `r` for these
+//! over stores that refuse each of their calls in turn, `p` and `q` the same at arrays in shards,
+//! `v` and `w` at arrays of version 2, `l` for a session's lines.
+//! It prints `as stated` if each answer is the one with ample memory and an honest store, which is
+//! typed in here, or says that memory ran out or the store refused, and has made just the change
+//! that it says.
+#![tactic(auto)]
+
+mod lines;
+mod older;
+mod script;
+mod shards;
+mod steps;
+mod tables;
+
+use crate::older::OLDER;
+use crate::script::PLAIN;
+use crate::shards::SHARDS;
+use std::process::ExitCode;
+use std::thread::Threads;
+use zarr_scarcity_scripts::{Stop, read_letter, tell};
+
+/// Runs the script with this letter.
+fn run<R: AllocGlobal + Threads + Sync>(rt: &R, letter: u8) -> Result<(), Stop> {
+    match letter {
+        b's' => steps::run(rt, PLAIN),
+        b'r' => steps::run_over_refusals(rt, PLAIN),
+        b'p' => steps::run(rt, SHARDS),
+        b'q' => steps::run_over_refusals(rt, SHARDS),
+        b'v' => steps::run(rt, OLDER),
+        b'w' => steps::run_over_refusals(rt, OLDER),
+        b'l' => lines::run(rt),
+        _ => Err(Stop::Other),
+    }
+}
+
+/// Runs a script, and once more where memory ran out in it: one allocation is refused, so the
+/// second run has ample memory.
+fn run_twice<R: AllocGlobal + Threads + Sync>(rt: &R, letter: u8) -> Result<(), Stop> {
+    match run(rt, letter) {
+        Err(Stop::Short) => run(rt, letter),
+        said => said,
+    }
+}
+
+fn main(rt: HostRuntime) -> ExitCode {
+    let letter = read_letter(&mut rt.stdin());
+    let came = run_twice(&rt, letter);
+    tell(&mut rt.stdout(), came)
+}
