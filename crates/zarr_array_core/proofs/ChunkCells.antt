@@ -10,7 +10,7 @@ use Rattle.zarr_codecs_meaning.proofs.Lists.{each_passes, each_get}
 use Rattle.zarr_array_meaning.specs.Boxes.{cell_of_box}
 use Rattle.zarr_array_meaning.specs.Chunks.{decoded_in, number_in, holds_box}
 use Rattle.zarr_array_meaning.specs.Writes.{Write}
-use Rattle.zarr_array_elements.specs.Boxes.{AreTakenOut, ArePutOver}
+use Rattle.zarr_array_elements.specs.Boxes.{AreTakenOut, ArePutOver, cells_at}
 use Rattle.zarr_array_elements.proofs.FixedCells.{number_below}
 use Rattle.zarr_array_core.specs.ChunkValues.{CellsBecome}
 
@@ -54,7 +54,7 @@ whole_become write box made stored taken region_rank box_rank rank fine values h
     }
 
 -- a chunk of which a part may stay
-pub part_become : (write : Write) (box : Region) (before made : List Cell) (stored : Option (List ℕ)) → ArePutOver write.array.document.elements.fill box write.region write.cells before made → length box.start ≡ length box.shape
+pub part_become : (write : Write) (box : Region) (before made : List Cell) (stored : Option (List ℕ)) → ArePutOver write.array.document.elements.fill (cells_at write.region write.cells) (cells_at box before) made → length box.start ≡ length box.shape
     → is_value write.array.document.elements.type write.array.document.elements.fill ≡ true → list_all (is_value write.array.document.elements.type) write.cells ≡ true → list_all (is_value write.array.document.elements.type) before ≡ true
     → decoded_in write.array.document box stored ≡ Some before → CellsBecome write box stored made
 part_become write box before made stored put box_rank fine values stored_values decoded =

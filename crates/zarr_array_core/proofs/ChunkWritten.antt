@@ -23,10 +23,11 @@ use Rattle.zarr_grids_cover.proofs.ChunkLaws.{chunks_apart}
 use Rattle.zarr_grids_keys.specs.Keys.{chunk_key}
 use Rattle.zarr_codecs_meaning.specs.Chains.{Chain}
 use Rattle.zarr_codecs_meaning.specs.Chunks.{chunk_decoded, chunk_part, IsStored}
+use Rattle.zarr_codecs_meaning.specs.Encoding.{ordered}
 use Rattle.zarr_codecs_meaning.specs.Fits.{fits, is_lossless, is_plain}
 use Rattle.zarr_codecs_meaning.specs.Laws.{AreCells, IsLawfulChain}
 use Rattle.zarr_codecs_meaning.specs.Standing.{Stands, ChunkStands}
-use Rattle.zarr_codecs_meaning.specs.Types.{Cell, Elements, of_bytes, absent, present, is_value, is_fill, same_cell}
+use Rattle.zarr_codecs_meaning.specs.Types.{Cell, Elements, of_bytes, absent, present, cell_bytes, components, is_value, is_fill, same_cell}
 use Rattle.zarr_codecs_meaning.proofs.Chunks.{stored_decoded, stored_part, stored_once}
 use Rattle.zarr_codecs_meaning.proofs.DecodedElements.{all_filled}
 use Rattle.zarr_codecs_meaning.proofs.Lists.{some_same}
@@ -36,15 +37,17 @@ use Rattle.zarr_array_meaning.specs.Arrays.{Array, value_at}
 use Rattle.zarr_array_meaning.specs.Boxes.{cell_of_box}
 use Rattle.zarr_array_meaning.specs.Chunks.{number_in, fits_box, part_at, ReadsCell, holds_box, is_listed}
 use Rattle.zarr_array_meaning.specs.Documents.{Document}
+use Rattle.zarr_array_meaning.specs.ElementBytes.{KeepsBytes}
 use Rattle.zarr_array_meaning.specs.Standing.{ChunkStandsAt, ChunkTightAt, IsLossless, IsGood, AreValues}
 use Rattle.zarr_array_meaning.specs.StoreMaps.{StoreMap}
 use Rattle.zarr_array_meaning.specs.Writes.{Write}
-use Rattle.zarr_array_meaning.specs.Writing.{ChunkBecomes, IsKeyed, HasKeys, StopsInto, Takes, WroteChunks, cell_read, given_cell, goes_into_shard, keeps_fill, may_be_in_part, opens_in, takes_cells, written_over}
+use Rattle.zarr_array_meaning.specs.Writing.{ChunkBecomes, IsKeyed, HasKeys, StopsInto, Takes, WroteChunks, cell_read, given_cell, goes_into_shard, is_in_part, keeps_fill, may_be_in_part, opens_in, takes_cells, written_over}
 use Rattle.zarr_array_core.specs.ChunkValues.{CellsBecome, ChangesValue, IsNewValue, MakesValue, PutsPart, with_value}
 use Rattle.zarr_array_meaning.proofs.HeldBoxes.{held_place, not_held}
 use Rattle.zarr_array_meaning.proofs.TakenParts.{part_of_decoded, read_of_decoded, takes_decoded}
-use Rattle.zarr_array_core.proofs.InParts.{parts_of_write}
+use Rattle.zarr_array_core.proofs.InParts.{keeps_bits, parts_of_write}
 use Rattle.zarr_array_core.proofs.ChunkCells.{all_in_range}
+use Rattle.zarr_array_core.proofs.PlainBytes.{order_of, told_bytes}
 use Rattle.zarr_array_elements.proofs.FixedCells.{cell_of_places, number_below}
 use Rattle.zarr_array_core.proofs.Listed.{listed_one, one_listed}
 
@@ -348,6 +351,33 @@ becomes_at write box stored cells fit becomes = record {
       kept.2 place out inside ∙ sym (read_of_decoded write.array.document box stored place kept.0 fit (number_below box place inside) kept.1);
 }
 
+-- a chunk that is written in part has a key
+fill_kept : (write : Write) (box : Region) → is_in_part write.array.document write.options write.region box ≡ true → keeps_fill write box ≡ true
+fill_kept write box t = ap (λ (b : Bool). (write.options.store_empty_chunks && not (goes_into_shard write box)) || b) t ∙ or-true (write.options.store_empty_chunks && not (goes_into_shard write box)) where
+  or-true : (b : Bool) → (b || true) ≡ true
+  or-true true = refl
+  or-true false = refl
+
+-- and where it was decoded, the cells that stay have the bytes that they had
+made_keeps : (write : Write) (box : Region) (stored made : Option (List ℕ)) → IsGood write.array.document → is_in_part write.array.document write.options write.region box ≡ true → MakesValue write box stored made → KeepsBytes write box stored made
+made_keeps write box None made good t makes = tt
+made_keeps write box (Some value) None good t makes = absurd (false≢true (sym (makes.is.absent refl).0 ∙ fill_kept write box t))
+made_keeps write box (Some value) (Some new) good t makes = λ place out inside.
+    let document = write.array.document in
+    let elements = document.elements in
+    let parts = parts_of_write document write.options write.region box t in
+    let lossless = keeps_bits document.chain elements.type parts.0 in
+    let kept = makes.becomes.kept parts.1 in
+    let n = number_in box place in
+    let below = number_below box place inside in
+    let before : chunk_part document.chain elements box.shape (Some value) (n ∷ []) ≡ Some (get_or kept.0 n elements.fill ∷ []) = part_of_decoded document.chain elements box.shape (Some value) kept.0 n makes.fit below kept.1 in
+    let after : chunk_part document.chain elements box.shape (Some new) (n ∷ []) ≡ Some (get_or makes.cells n elements.fill ∷ []) =
+    stored_part document.chain elements box.shape (Some new) makes.cells (n ∷ []) good.lawful lossless (cells_are write box (Some value) makes.cells good makes.becomes)
+    (stored_where document box (Some new) makes.cells makes.fit (makes.is.stands lossless)) (ap (λ (b : Bool). b && true) (lt-ltb n (product box.shape) below)) in
+    told_bytes document.chain elements box.shape new n (get_or makes.cells n elements.fill) parts.0 makes.fit below after
+    ∙ (ap (λ (cell : Cell). ordered (order_of document.chain) (components elements.type) (cell_bytes cell)) (kept.2 place out inside)
+    ∙ sym (told_bytes document.chain elements box.shape value n (get_or kept.0 n elements.fill) parts.0 makes.fit below before))
+
 keyed_here : (write : Write) (chunk : List ℕ) (box : Region) (old : StoreMap) (made : Option (List ℕ)) (w : IsWrite write chunk box old made)
     → IsKeyed write box (value_at write.array old chunk) (value_at write.array (new_store write.array old chunk made) chunk)
 keyed_here write chunk box old made w = record {
@@ -356,6 +386,9 @@ keyed_here write chunk box old made w = record {
   key = λ whole. ap is_some (value_same old (chunk_key write.array.path write.array.document.keys chunk) made) ∙ called_for made (keeps_fill write box) (is_fill write.array.document.elements.fill w.makes.cells) w.makes.is.absent w.makes.is.present;
   taken = λ into. absurd (false≢true (sym w.whole ∙ into));
   encodes = λ one whole held value is. w.makes.is.encodes one value (sym (value_same old (chunk_key write.array.path write.array.document.keys chunk) made) ∙ is);
+  bytes = λ t.
+      subst (λ (o : Option (List ℕ)). KeepsBytes write box (value_at write.array old chunk) o) (sym (value_same old (chunk_key write.array.path write.array.document.keys chunk) made))
+      (made_keeps write box (value_at write.array old chunk) made w.good t w.makes);
 }
 
 -- ---- one chunk written
@@ -405,10 +438,7 @@ module _ (write : Write) (chunk : List ℕ) (box : Region) (old : StoreMap) (mad
       none-some listed (sym w.puts.lost ∙ stored_decoded write.array.document.chain write.array.document.elements box.shape (value_at write.array old chunk) listed w.good.lawful lossless are st)
 
   stays_stored : keeps_fill write box ≡ true
-  stays_stored = ap (λ (b : Bool). (write.options.store_empty_chunks && not (goes_into_shard write box)) || b) w.puts.in_part ∙ or-true (write.options.store_empty_chunks && not (goes_into_shard write box)) where
-    or-true : (b : Bool) → (b || true) ≡ true
-    or-true true = refl
-    or-true false = refl
+  stays_stored = fill_kept write box w.puts.in_part
 
   -- the write isn't into a shard
   whole : goes_into_shard write box ≡ false
@@ -455,6 +485,7 @@ module _ (write : Write) (chunk : List ℕ) (box : Region) (old : StoreMap) (mad
     key = λ _. ap is_some stored_now ∙ (w.puts.some ∙ sym (ap (λ (b : Bool). b || not (is_fill write.array.document.elements.fill cells_then)) stays_stored));
     taken = λ into. absurd (false≢true (sym whole ∙ into));
     encodes = λ one _ decodes value is. absurd (false≢true (sym (ap is_some w.puts.lost) ∙ decodes part));
+    bytes = λ _. subst (λ (o : Option (List ℕ)). KeepsBytes write box (value_at write.array old chunk) o) (sym stored_now) w.puts.bytes;
   }
 
   shows_there : IsLossless write.array.document → (place : List ℕ) → is_in_box box.start box.shape place ≡ true

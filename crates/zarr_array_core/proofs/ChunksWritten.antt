@@ -19,6 +19,7 @@ use Rattle.zarr_codecs_meaning.specs.Types.{Cell, is_value}
 use Rattle.zarr_array_meaning.specs.Arrays.{value_at}
 use Rattle.zarr_array_meaning.specs.Chunks.{number_in, decoded_in, part_at, ReadsCell, is_listed}
 use Rattle.zarr_array_meaning.specs.Documents.{Document}
+use Rattle.zarr_array_meaning.specs.ElementBytes.{KeepsBytes}
 use Rattle.zarr_array_meaning.specs.Standing.{ChunkStandsAt, ChunkTightAt, IsGood, AreValues}
 use Rattle.zarr_array_meaning.specs.StoreMaps.{StoreMap}
 use Rattle.zarr_array_meaning.specs.Writes.{Write}
@@ -177,6 +178,7 @@ wrote_more write cs c box old mid new is first next = record {
     key = k.key;
     taken = λ into lossless cells are st. k.taken into lossless cells are (subst (λ (o : Option (List ℕ)). ChunkStands write.array.document.chain write.array.document.elements other.shape o cells) (sym same) st);
     encodes = λ one whole decodes value is. k.encodes one whole (λ part. ap (λ (o : Option (List ℕ)). is_some (decoded_in write.array.document other o)) same ∙ decodes part) value is;
+    bytes = λ t. subst (λ (o : Option (List ℕ)). KeepsBytes write other o (value_at write.array new d)) same (k.bytes t);
   }
 
   keyed_before : (d : List ℕ) (other : Region) → value_at write.array new d ≡ value_at write.array mid d → IsKeyed write other (value_at write.array old d) (value_at write.array mid d) → IsKeyed write other (value_at write.array old d) (value_at write.array new d)
@@ -186,6 +188,7 @@ wrote_more write cs c box old mid new is first next = record {
     key = λ whole. ap is_some same ∙ k.key whole;
     taken = λ into lossless cells are st. ap is_some same ∙ k.taken into lossless cells are st;
     encodes = λ one whole decodes value is. k.encodes one whole decodes value (sym same ∙ is);
+    bytes = λ t. subst (λ (o : Option (List ℕ)). KeepsBytes write other (value_at write.array old d) o) (sym same) (k.bytes t);
   }
 
   stands_moved : (d : List ℕ) (other : Region) → value_at write.array new d ≡ value_at write.array mid d → ChunkStandsAt write.array.document other (value_at write.array mid d) (given_cell write) → ChunkStandsAt write.array.document other (value_at write.array new d) (given_cell write)

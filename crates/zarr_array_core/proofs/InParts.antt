@@ -40,7 +40,7 @@ inner_partly (transpose order) chain h = h
 inner_partly (reshape entries) chain h = (and_parts (is_plain chain) (encodes_in_part chain) h).1
 inner_partly squeeze chain h = h
 
-inner : (codec : ArrayCodec) (chain : Chain) → IsInPart (after_array_codec codec chain) → IsInPart chain
+pub inner : (codec : ArrayCodec) (chain : Chain) → IsInPart (after_array_codec codec chain) → IsInPart chain
 inner codec chain is = record { partly = inner_partly codec chain is.partly; plain = is.plain }
 
 -- what a write in part is
@@ -98,7 +98,7 @@ none_met (then_bytes chain codec) elements shape value numbers is h = absurd (fa
 none_met (sharded subchunk within index location) elements shape value numbers is h = absurd (false≢true is.plain)
 
 -- each bit is kept
-keeps_bits : (chain : Chain) (type : DataType) → IsInPart chain → is_lossless chain type ≡ true
+pub keeps_bits : (chain : Chain) (type : DataType) → IsInPart chain → is_lossless chain type ≡ true
 keeps_bits (bytes order) type is = refl
 keeps_bits (packbits padding first last) type is = absurd (false≢true is.partly)
 keeps_bits (vlen index «data» width location) type is = absurd (false≢true is.partly)

@@ -11,6 +11,7 @@ pub mod ChunkCells
 pub mod PartBoxes
 pub mod PartPatches
 pub mod ZeroFills
+pub mod PlainBytes
 pub mod ChunkWritten
 pub mod OneKey
 pub mod IntoShards

@@ -20,7 +20,7 @@ use Rattle.zarr_array_meaning.specs.Documents.{Document}
 use Rattle.zarr_array_core.specs.Parts.{DecodesElements, IsPlaced, IsLost, MetChunk, ValueStops}
 use Rattle.zarr_array_core.specs.declared.error.ChunkError.{ChunkError}
 use Rattle.zarr_array_core.specs.declared.error.ChunkError.TheVariants as error
-use Rattle.zarr_array_elements.specs.Boxes.{cells_of, ArePutOver}
+use Rattle.zarr_array_elements.specs.Boxes.{cells_of, ArePutOver, cells_at}
 use Rattle.zarr_array_elements.proofs.FixedPuts.{known, counted}
 use Rattle.zarr_array_elements.proofs.Meeting.{IsMeeting, meeting}
 use Rattle.zarr_array_core.proofs.Selected.{chunk_length, chunk_single, chunk_lost}
@@ -44,7 +44,7 @@ part_shows document region box shared part stored payload place meet is t =
 
 -- ---- the part over the box
 pub placed : (met : MetChunk) (shared part : Region) (payload : Payload) (old new : List Cell) → IsMeeting met.region met.box shared part
-    → IsPart met.document.chain met.document.elements met.box.shape met.stored (in_box part) payload → ArePutOver met.document.elements.fill met.region shared (cells_of met.document.elements.type payload) old new → IsPlaced met old new
+    → IsPart met.document.chain met.document.elements met.box.shape met.stored (in_box part) payload → ArePutOver met.document.elements.fill (cells_at shared (cells_of met.document.elements.type payload)) (cells_at met.region old) new → IsPlaced met old new
 placed met shared part payload old new meet is over =
     let cells = known met.document.elements.type payload is.cells is.lists in
     record {

@@ -29,12 +29,14 @@ use Rattle.zarr_codecs_traits.specs.Sources.{refused_after}
 use Rattle.zarr_array_meaning.specs.Boxes.{cell_of_box}
 use Rattle.zarr_array_meaning.specs.Chunks.{number_in, fits_box}
 use Rattle.zarr_array_meaning.specs.Documents.{Document}
+use Rattle.zarr_array_meaning.specs.ElementBytes.{KeepsBytes}
 use Rattle.zarr_array_meaning.specs.Writes.{Write}
 use Rattle.zarr_array_meaning.specs.Writing.{opens_in}
 use Rattle.zarr_array_meaning.proofs.TakenParts.{part_of_decoded}
-use Rattle.zarr_array_core.specs.ChunkValues.{CellsBecome, IsPutRefusal, PutsCells, PutStops, put_refusal_of}
+use Rattle.zarr_array_core.specs.ChunkValues.{CellsBecome, IsPutRefusal, PutsCells, PutStops, plain_write, put_refusal_of}
 use Rattle.zarr_array_core.proofs.ChunkPayloads.{AreArrayElements, listed_none, not_counted}
-use Rattle.zarr_array_core.proofs.InParts.{IsInPart, stopped_closed, no_codec_refuses, none_long, none_passes}
+use Rattle.zarr_array_core.proofs.InParts.{IsInPart, keeps_bits, stopped_closed, no_codec_refuses, none_long, none_passes}
+use Rattle.zarr_array_core.proofs.PlainBytes.{IsPartWrite, become_plain, cells_plain, fits_plain, fixed_of_fit, keeps_filled, large_plain, puts_back}
 use Rattle.zarr_array_elements.proofs.ByNumber.{AreDistinct}
 use Rattle.zarr_array_elements.proofs.FixedCells.{number_below}
 use Rattle.zarr_array_elements.proofs.Meeting.{IsMeeting, meeting}
@@ -233,6 +235,15 @@ puts_filled write box old value lawful fine fit stands puts = record {
       (filled_read write.array.document box value n lawful lossless fine fit (number_below box place t) (stands lossless)) (puts.shows lossless place t);
 }
 
+-- where a codec that was given plain bytes left none
+pub fills_bytes : (write : Write) (box : Region) (old : Option (List ℕ)) (value : List ℕ) → IsLawfulChain write.array.document.chain → IsPartWrite write box → (is_lossless write.array.document.chain write.array.document.elements.type ≡ true → Stands write.array.document.chain write.array.document.elements box.shape value (replicate (product box.shape) write.array.document.elements.fill))
+    → PutsCells (plain_write write) box old None → PutsCells write box old (Some value) × KeepsBytes write box old (Some value)
+fills_bytes write box old value lawful is stands puts =
+    let lossless = keeps_bits write.array.document.chain write.array.document.elements.type is.chain in (
+      puts_filled write box old value lawful is.fine is.fit stands (puts_back write box is old None puts),
+      keeps_filled write box is old value (λ n below. filled_read write.array.document box value n lawful lossless is.fine is.fit below (stands lossless)) puts,
+    )
+
 -- ---- why a codec puts nothing
 
 -- an error that is damage, or of memory
@@ -304,6 +315,24 @@ pub record IsPutCall (write : Write) (box shared part : Region) (shape start : L
   pub small : ¬ IsTooLarge write.array.document.elements.type (product box.shape)
   pub becomes : CellsBecome write shared None sub
   pub counted : IsCounted write.array.document.elements.type payload (product shared.shape) sub
+
+-- the same call, where the elements are plain bytes
+pub plain_call : (write : Write) (box shared part : Region) (shape start : List ℕ) (payload : Payload) (sub : List Cell) → IsInPart write.array.document.chain → IsPutCall write box shared part shape start payload sub → IsPutCall (plain_write write) box shared part shape start payload sub
+plain_call write box shared part shape start payload sub is call =
+    let chain = write.array.document.chain in
+    let type = write.array.document.elements.type in
+    let one_size = fixed_of_fit chain type box.shape is call.fit in
+    record {
+      same = call.same;
+      seen = call.seen;
+      from = call.from;
+      whole = call.whole;
+      share = call.share;
+      fit = fits_plain chain type box.shape is call.fit;
+      small = λ large. call.small (large_plain type (product box.shape) one_size large);
+      becomes = become_plain write shared sub one_size call.becomes;
+      counted = record { lists = cells_plain type payload one_size ∙ call.counted.lists; many = call.counted.many };
+    }
 
 module _ (write : Write) (box shared part : Region) (shape start : List ℕ) (payload : Payload) (sub : List Cell) (call : IsPutCall write box shared part shape start payload sub) where
   pub are_put : ArePut write box payload sub

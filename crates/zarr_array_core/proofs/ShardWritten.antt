@@ -29,6 +29,7 @@ use Rattle.zarr_array_core.specs.Outcomes.{ChunkStops}
 use Rattle.zarr_array_core.specs.declared.error.ChunkError.{ChunkError}
 use Rattle.zarr_array_core.specs.declared.error.ChunkError.TheVariants as error
 use Rattle.zarr_array_core.proofs.ChunkWritten.{IsChange, at_each, at_one, becomes_at, box_rank, cell_with, kept_apart, length-at_places, listed_cells, new_store, same_at_places, stored_where, tight_apart, value_other, value_same, wrote_changed}
+use Rattle.zarr_array_core.proofs.InParts.{parts_of_write}
 use Rattle.zarr_array_core.proofs.IntoShards.{IsIntoShard, shard_write}
 use Rattle.zarr_array_core.proofs.Listed.{one_listed}
 
@@ -118,6 +119,7 @@ module _ (write : Write) (chunk : List ℕ) (box : Region) (old : StoreMap) (mad
         (λ none. subst (λ (o : Option (List ℕ)). ChunkStands write.array.document.chain write.array.document.elements box.shape o (cells_over write box before)) none (w.puts.stands lossless before are st))
         ∙ ap (λ (cs : List Cell). not (is_fill fill cs)) same);
     encodes = λ one whole. absurd (false≢true (sym whole ∙ w.into));
+    bytes = λ t. absurd (false≢true (sym is.shard ∙ (parts_of_write write.array.document write.options write.region box t).0.plain));
   }
 
   shows_there : IsLossless write.array.document → (place : List ℕ) → is_in_box box.start box.shape place ≡ true

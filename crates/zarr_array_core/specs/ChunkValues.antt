@@ -1,5 +1,5 @@
 -- The value of one chunk after a write.
-use Rattle.std.specs.Prelude.{◌≡◌, ◌⊎◌, ℕ, List, length, Option, Some, None, is_some, Bool, IsTrue, true, false, MatchBool, Result, Ok, Err}
+use Rattle.std.specs.Prelude.{◌≡◌, ◌⊎◌, ℕ, ◌*◌, List, length, map, Option, Some, None, is_some, Bool, IsTrue, true, false, MatchBool, Result, Ok, Err}
 use Rattle.std.specs.FinMap.{insert, remove}
 use Rattle.std.specs.List.{list_all}
 use Rattle.zarr_grids_boxes.specs.Boxes.{Region, product, is_in_box}
@@ -8,7 +8,7 @@ use Rattle.zarr_codecs_meaning.specs.Encoding.{encoded}
 use Rattle.zarr_codecs_meaning.specs.Fits.{is_lossless}
 use Rattle.zarr_codecs_meaning.specs.Refusals.{CodecRefuses, PassesIndex}
 use Rattle.zarr_codecs_meaning.specs.Standing.{ChunkStands}
-use Rattle.zarr_codecs_meaning.specs.Types.{Cell, is_value, is_fill}
+use Rattle.zarr_codecs_meaning.specs.Types.{Cell, Component, DataType, Elements, components, custom, is_value, is_fill, unsigned}
 use Rattle.zarr_codecs_arrays.specs.declared.error.CodecError.{CodecError}
 use Rattle.zarr_codecs_arrays.specs.declared.error.CodecError.TheVariants as codec_error
 use Rattle.zarr_array_core.specs.Outcomes.{IsStoreRefusal}
@@ -18,6 +18,7 @@ use Rattle.zarr_array_meaning.specs.Arrays.{Array}
 use Rattle.zarr_array_meaning.specs.Boxes.{cell_of_box}
 use Rattle.zarr_array_meaning.specs.Chunks.{ReadsCell, decoded_in, fits_box, holds_box, part_at}
 use Rattle.zarr_array_meaning.specs.Documents.{Document}
+use Rattle.zarr_array_meaning.specs.ElementBytes.{KeepsBytes}
 use Rattle.zarr_array_meaning.specs.Standing.{IsLossless}
 use Rattle.zarr_array_meaning.specs.StoreMaps.{StoreMap}
 use Rattle.zarr_array_meaning.specs.Writes.{Write}
@@ -108,6 +109,24 @@ NewValueStops write box stored error.Damage = (fits_box write.array.document box
 NewValueStops write box stored error.Memory = Unit {0}
 NewValueStops write box stored e = NotEncoded write box stored e
 
+-- ---- elements as plain bytes
+
+-- a component of as many bytes whose bits are all its own, so that any bytes are one
+abbrev pub plain_component : Component → Component
+plain_component c = record { width = c.byte_count * 8; byte_count = c.byte_count; sign = unsigned }
+
+-- the type of elements with such components: any bytes of that size are one
+abbrev pub plain_type : DataType → DataType
+plain_type type = custom (map plain_component (components type))
+
+-- such elements, with the fill value of those of an array
+abbrev pub plain_elements : Elements → Elements
+plain_elements elements = record { type = plain_type elements.type; fill = elements.fill }
+
+-- the write of the same cells to an array of such elements
+abbrev pub plain_write : Write → Write
+plain_write write = record write { array = record write.array { document = record write.array.document { elements = plain_elements write.array.document.elements } } }
+
 -- ---- a part written over what isn't decoded
 
 -- each place of a chunk is read as the given cells in the box, and as before at its other places
@@ -138,13 +157,14 @@ abbrev pub put_refusal_of : CodecError → ChunkError
 put_refusal_of codec_error.Damage = error.Damage
 put_refusal_of e = error.Memory
 
--- a chunk that fits, whose value isn't decoded but opens, is written in part
+-- a chunk that fits, whose value isn't decoded but opens, is written in part, and its other elements keep their bytes
 pub record PutsPart (write : Write) (box : Region) (stored made : Option (List ℕ)) : Type 0 where
   pub fit : fits_box write.array.document box ≡ true
   pub in_part : is_in_part write.array.document write.options write.region box ≡ true
   pub lost : decoded_in write.array.document box stored ≡ None
   pub some : is_some made ≡ true
   pub puts : PutsCells write box stored made
+  pub bytes : KeepsBytes write box stored made
 
 -- what a write makes of a chunk, if it puts no part of it into its shard: the value of its new cells, or one into which these were put
 abbrev pub ChangesValue : Write → Region → Option (List ℕ) → Option (List ℕ) → Type 0

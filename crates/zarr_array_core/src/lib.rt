@@ -16,6 +16,7 @@ pub mod limits;
 mod moving;
 mod part_putting;
 mod part_writing;
+mod plain_bytes;
 pub mod reading;
 pub mod region_chunks;
 pub mod rewriting;

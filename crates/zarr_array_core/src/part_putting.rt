@@ -1,11 +1,15 @@
 //! A part of a chunk put into its value, of which other elements aren't decoded.
-ghost use Rattle.std.specs.Prelude.{◌≡◌};
+ghost use Rattle.std.specs.Prelude.{◌≡◌, Some, true, IfSome};
 ghost use Rattle.zarr_array_core.specs.ChunkValues.{IsPutRefusal, put_refusal_of};
+ghost use Rattle.zarr_array_storage.specs.Stores.{value_bytes};
+ghost use Rattle.zarr_codecs_meaning.specs.Types.{are_bytes};
+ghost use Rattle.zarr_codecs_traits.specs.Sources.{source_contents};
 
 use crate::array_core::ArrayCore;
 use crate::chunk_value::BoxWrite;
 use crate::error::ChunkError;
 use crate::moving::{overlap_in, seen_from};
+use crate::plain_bytes::as_plain_bytes;
 use crate::rooms::ChunkRooms;
 use crate::store_calls::{get, set};
 use zarr_array_storage::WritableStorageTraits;
@@ -27,20 +31,40 @@ fn of_putting(error: CodecError) -> ChunkError
     }
 }
 
+/// A source of what is stored for a chunk.
+fn source_of(stored: Option<Vec<u8>>) -> MemorySource
+    ensures contents { source_contents result ≡ value_bytes stored }
+    ensures bytes { IfSome (value_bytes stored) (λ value. are_bytes value ≡ true) }
+{
+    match stored {
+        Some(value) => source_of_value(value),
+        None => MemorySource::new(None),
+    }
+}
+
+/// A source of a value.
+fn source_of_value(value: Vec<u8>) -> MemorySource
+    ensures contents { source_contents result ≡ Some value.items }
+    ensures bytes { are_bytes value.items ≡ true }
+{
+    MemorySource::new(Some(value))
+}
+
 impl<C: ArrayToBytesCodecTraits> ArrayCore<C> {
     ghost use Rattle.std.specs.Prelude.{◌≡◌, List, Some, None, true, false, IsTrue, IfOk, OnOk, IfErr};
     ghost use Rattle.std.specs.FinMap as map;
     ghost use Rattle.zarr_array_core.specs.Arrays.{array_of, Called, IfHonestErr, OnHonestOk};
-    ghost use Rattle.zarr_array_core.specs.ChunkValues.{ChangeStops, ChangesValue, PutsCells, PutStops};
+    ghost use Rattle.zarr_array_core.specs.ChunkValues.{ChangeStops, ChangesValue, PutsCells, PutStops, plain_elements, plain_write};
     ghost use Rattle.zarr_array_core.specs.IntoShards.{ChangesAt};
     ghost use Rattle.zarr_array_core.specs.BoxWrites.{write_of, WritesTo};
     ghost use Rattle.zarr_array_core.specs.Views.{document_of};
     ghost use Rattle.zarr_array_meaning.specs.Chunks.{fits_box, holds_box};
+    ghost use Rattle.zarr_array_meaning.specs.ElementBytes.{KeepsBytes};
     ghost use Rattle.zarr_array_meaning.specs.Writing.{is_in_part};
     ghost use Rattle.zarr_array_storage.specs.Stores.{value_bytes};
     ghost use Rattle.zarr_codecs_arrays.specs.Views.{payload_of};
     ghost use Rattle.zarr_codecs_meaning.specs.Chunks.{chunk_decoded};
-    ghost use Rattle.zarr_codecs_meaning.specs.Types.{Cell};
+    ghost use Rattle.zarr_codecs_meaning.specs.Types.{Cell, is_fixed};
     ghost use Rattle.zarr_codecs_traits.specs.Indexers.{in_box};
     ghost use Rattle.zarr_codecs_traits.specs.PartWriting.{IsEncodedInto, NotEncodedInto};
     ghost use Rattle.zarr_codecs_traits.specs.Sources.{refused_after as refused_calls, source_contents};
@@ -48,26 +72,30 @@ impl<C: ArrayToBytesCodecTraits> ArrayCore<C> {
     ghost use Rattle.zarr_grids_overlay.specs.Overlays.{extent_of};
 
     /// Puts elements in the place of those of a box of a chunk of this shape, in the value that a
-    /// source holds.
-    fn encode_into<'x>(
-        &'x self,
+    /// source holds. They are put as plain bytes, so that the bytes of the others stay, whatever
+    /// they are.
+    fn encode_into(
+        &self,
         source: &mut MemorySource,
         write: &BoxWrite,
         given: ArrayBytes,
-        shape: &'x [u64],
-        part: &'x ArraySubset,
+        shape: &[u64],
+        part: &ArraySubset,
     ) -> Result<(), CodecError>
+        requires { is_fixed (document_of C.meaning self.now).elements.type ≡ true }
         ensures ok { OnOk result ((cells : List Cell)
             × IsEncodedInto (document_of C.meaning self.now).chain
-            (C.is_function self.now.codecs) (document_of C.meaning self.now).elements shape.now
+            (C.is_function self.now.codecs)
+            (plain_elements (document_of C.meaning self.now).elements) shape.now
             (in_box (region_of part.now)) (payload_of given) cells (source_contents source.old)
             (source_contents source.new)) }
         ensures cause { NotEncodedInto (document_of C.meaning self.now).chain
-            (document_of C.meaning self.now).elements shape.now (in_box (region_of part.now))
-            (payload_of given) (source_contents source.old) result }
+            (plain_elements (document_of C.meaning self.now).elements) shape.now
+            (in_box (region_of part.now)) (payload_of given) (source_contents source.old) result }
         ensures refused { refused_calls 0 result ≡ 0 }
     {
-        let elements = &self.elements;
+        let plain = as_plain_bytes(write.alloc, &self.elements)?;
+        let elements = &plain;
         let indexer = Indexer::Subset(part);
         let asked = ArrayPart {
             elements,
@@ -78,7 +106,8 @@ impl<C: ArrayToBytesCodecTraits> ArrayCore<C> {
             .partial_encode(write.alloc, source, given, asked, write.options)
     }
 
-    /// Puts the elements of a box that lie in a chunk into the value that a source holds for it.
+    /// Puts the elements of a box that lie in a chunk into the value that a source holds for it, as
+    /// plain bytes.
     fn put_into(
         &self,
         rooms: &mut ChunkRooms,
@@ -93,8 +122,8 @@ impl<C: ArrayToBytesCodecTraits> ArrayCore<C> {
             write.now.options.now (write_of C.ArrayToBytesCodecTraits self.now write.now).region
             (region_of own.now) ≡ true }
         ensures ok { OnOk result (PutsCells
-            (write_of C.ArrayToBytesCodecTraits self.now write.now) (region_of own.now)
-            (source_contents source.old) (source_contents source.new)) }
+            (plain_write (write_of C.ArrayToBytesCodecTraits self.now write.now))
+            (region_of own.now) (source_contents source.old) (source_contents source.new)) }
         ensures err { IfErr result (PutStops (document_of C.meaning self.now)
             (region_of own.now) (source_contents source.old)) }
     {
@@ -107,8 +136,9 @@ impl<C: ArrayToBytesCodecTraits> ArrayCore<C> {
         }
     }
 
-    /// What is stored for a chunk after the elements of a box that lie in it were put there. Where
-    /// the codecs leave no value, it is the fill value encoded.
+    /// What is stored for a chunk after the elements of a box that lie in it were put there: its
+    /// other elements keep their bytes. Where the codecs leave no value, it is the fill value
+    /// encoded.
     fn value_with_part(
         &self,
         rooms: &mut ChunkRooms,
@@ -125,10 +155,13 @@ impl<C: ArrayToBytesCodecTraits> ArrayCore<C> {
         ensures ok { IfOk result (λ value. PutsCells
             (write_of C.ArrayToBytesCodecTraits self.now write.now) (region_of own.now)
             (value_bytes stored) (Some value.items)) }
+        ensures bytes { IfOk result (λ value. KeepsBytes
+            (write_of C.ArrayToBytesCodecTraits self.now write.now) (region_of own.now)
+            (value_bytes stored) (Some value.items)) }
         ensures err { IfErr result (PutStops (document_of C.meaning self.now)
             (region_of own.now) (value_bytes stored)) }
     {
-        let mut source = MemorySource::new(stored);
+        let mut source = source_of(stored);
         self.put_into(rooms, &mut source, write, own)?;
         match source.into_value() {
             Some(value) => Ok(value),

@@ -12,7 +12,7 @@ use Rattle.zarr_codecs_meaning.specs.Places.{gather}
 use Rattle.zarr_codecs_meaning.specs.Types.{Cell}
 use Rattle.zarr_array_meaning.specs.Boxes.{cell_of_box}
 use Rattle.zarr_array_meaning.specs.Chunks.{number_in}
-use Rattle.zarr_array_elements.specs.Boxes.{IsWithin, AreTakenOut, ArePutOver}
+use Rattle.zarr_array_elements.specs.Boxes.{IsWithin, AreTakenOut, ArePutOver, cells_at}
 use Rattle.zarr_array_elements.specs.Renumbering.{renumbered}
 use Rattle.zarr_array_elements.proofs.FixedCells.{number_below}
 use Rattle.zarr_array_elements.proofs.Moved.{numbers_there, length-there, number_there, number_of_place, one_place, there_below}
@@ -95,7 +95,7 @@ cell_shown : (fill : Cell) (box : Region) (cells : List Cell) (numbers place : L
 cell_shown fill box cells numbers place many t = get_or-map (λ n. get_or cells n fill) numbers (number_in box place) 0 fill (let b = number_below box place t in omega (arith, b, many))
 
 pub numbered_put : (fill : Cell) (box at_box : Region) (cells part : List Cell) (numbers : List ℕ) → ArePut box at_box cells part numbers
-    → ArePutOver fill box at_box part (gather fill cells numbers) (gather fill (cells ++ part) (numbers_after box at_box cells numbers))
+    → ArePutOver fill (cells_at at_box part) (cells_at box (gather fill cells numbers)) (gather fill (cells ++ part) (numbers_after box at_box cells numbers))
 numbered_put fill box at_box cells part numbers are =
     let after = numbers_after box at_box cells numbers in
     let long = length-after box at_box cells part numbers are in
@@ -155,7 +155,7 @@ gather_one fill (suc n) = ap (λ cells. fill ∷ cells) (gather_one fill n)
 -- ---- elements taken out of those of a box, and put over those of another
 
 pub put_taken : (fill : Cell) (box from shared : Region) (given part before made : List Cell) → ((place : List ℕ) → is_in_box shared.start shared.shape place ≡ (is_in_box from.start from.shape place && is_in_box box.start box.shape place))
-    → AreTakenOut fill shared from given part → ArePutOver fill box shared part before made → ArePutOver fill box from given before made
+    → AreTakenOut fill shared from given part → ArePutOver fill (cells_at shared part) (cells_at box before) made → ArePutOver fill (cells_at from given) (cells_at box before) made
 put_taken fill box from shared given part before made both taken put = record {
   many = put.many;
   put = λ place r t.

@@ -9,7 +9,7 @@ use Rattle.zarr_codecs_meaning.specs.Types.{DataType, Cell, of_bytes, byte_width
 use Rattle.zarr_codecs_meaning.proofs.Lists.{every, length-flat_map}
 use Rattle.zarr_codecs_arrays.specs.Outcomes.{IsCounted}
 use Rattle.zarr_array_meaning.specs.Boxes.{cell_of_box}
-use Rattle.zarr_array_elements.specs.Boxes.{cells_of, AreOfBox, IsWithin, AreTakenOut, ArePutOver}
+use Rattle.zarr_array_elements.specs.Boxes.{cells_of, AreOfBox, IsWithin, AreTakenOut, ArePutOver, cells_at}
 use Rattle.zarr_array_elements.proofs.FixedCells.{text_at, texts_width, texts_laid, cell_laid, length-fixed_cells}
 use Rattle.zarr_array_elements.proofs.Payloads.{fixed_elements, fixed_listed}
 
@@ -62,7 +62,7 @@ cell_kept width region box given before after fill place put r t =
 
 -- ---- as the elements of payloads
 
-pub fixed_put : (width : ℕ) (region box : Region) (given before after : List ℕ) (fill : Cell) → IsPut width region box given before after → ArePutOver fill box region (fixed_cells width given) (fixed_cells width before) (fixed_cells width after)
+pub fixed_put : (width : ℕ) (region box : Region) (given before after : List ℕ) (fill : Cell) → IsPut width region box given before after → ArePutOver fill (cells_at region (fixed_cells width given)) (cells_at box (fixed_cells width before)) (fixed_cells width after)
 fixed_put width region box given before after fill put = record {
   many = length-fixed_cells width (product box.shape) after put.some (length-put width region box given before after put);
   put = λ place r t. cell_written width region box given before after fill place put r t;

@@ -23,8 +23,19 @@ pub record AreTakenOut (other : Cell) (box from : Region) (given made : List Cel
   pub many : length made ≡ product box.shape
   pub same : (place : List ℕ) → is_in_box box.start box.shape place ≡ true → cell_of_box box made other place ≡ cell_of_box from given other place
 
+-- cells, and the box whose places they stand at, row-major
+pub record BoxCells : Type 0 where
+  pub region : Region
+  pub cells : List Cell
+
+-- these cells at the places of a box
+abbrev pub cells_at : Region → List Cell → BoxCells
+cells_at region cells = record { region = region; cells = cells }
+
 -- the cells of a box after those of another were put over them: the other's where it has the place, and else those before
-pub record ArePutOver (other : Cell) (box from : Region) (given before made : List Cell) : Type 0 where
-  pub many : length made ≡ product box.shape
-  pub put : (place : List ℕ) → is_in_box from.start from.shape place ≡ true → is_in_box box.start box.shape place ≡ true → cell_of_box box made other place ≡ cell_of_box from given other place
-  pub kept : (place : List ℕ) → is_in_box from.start from.shape place ≡ false → is_in_box box.start box.shape place ≡ true → cell_of_box box made other place ≡ cell_of_box box before other place
+pub record ArePutOver (other : Cell) (given before : BoxCells) (made : List Cell) : Type 0 where
+  pub many : length made ≡ product before.region.shape
+  pub put : (place : List ℕ) → is_in_box given.region.start given.region.shape place ≡ true → is_in_box before.region.start before.region.shape place ≡ true
+      → cell_of_box before.region made other place ≡ cell_of_box given.region given.cells other place
+  pub kept : (place : List ℕ) → is_in_box given.region.start given.region.shape place ≡ false → is_in_box before.region.start before.region.shape place ≡ true
+      → cell_of_box before.region made other place ≡ cell_of_box before.region before.cells other place

@@ -4,7 +4,7 @@ ghost use Rattle.zarr_grids_boxes.specs.Boxes.{Region, product};
 ghost use Rattle.zarr_grids_boxes.specs.Subsets.{region_of};
 ghost use Rattle.zarr_codecs_meaning.specs.Types.{byte_width, IsTooLarge};
 ghost use Rattle.zarr_codecs_arrays.specs.Views.{payload_of, elements_of};
-ghost use Rattle.zarr_array_elements.specs.Boxes.{cells_of, AreOfBox, IsWithin, ArePutOver};
+ghost use Rattle.zarr_array_elements.specs.Boxes.{cells_of, AreOfBox, IsWithin, ArePutOver, cells_at};
 ghost use Rattle.zarr_array_elements.specs.Views.{cells_shown, AreShown};
 
 use crate::cutting::element_width;
@@ -68,9 +68,9 @@ impl BoxElements {
         ensures shown { IfOk result
             (AreShown (elements_of elements.now) (region_of region.now)) }
         ensures cells { IfOk result (λ shown. ArePutOver (elements_of elements.now).fill
-            (region_of region.now) (region_of at.now)
-            (cells_of (elements_of elements.now).type (payload_of given.now))
-            (cells_shown (elements_of elements.now) self)
+            (cells_at (region_of at.now)
+            (cells_of (elements_of elements.now).type (payload_of given.now)))
+            (cells_at (region_of region.now) (cells_shown (elements_of elements.now) self))
             (cells_shown (elements_of elements.now) shown)) }
     {
         match self {

@@ -4,7 +4,7 @@ ghost use Rattle.zarr_grids_boxes.specs.Boxes.{product};
 ghost use Rattle.zarr_grids_boxes.specs.Subsets.{region_of};
 ghost use Rattle.zarr_codecs_arrays.specs.Outcomes.{IsCounted};
 ghost use Rattle.zarr_codecs_arrays.specs.Views.{payload_of, elements_of};
-ghost use Rattle.zarr_array_elements.specs.Boxes.{cells_of, AreOfBox, IsWithin, ArePutOver};
+ghost use Rattle.zarr_array_elements.specs.Boxes.{cells_of, AreOfBox, IsWithin, ArePutOver, cells_at};
 ghost use Rattle.zarr_array_elements.specs.Views.{AreNumbered, cells_numbered};
 
 use crate::concat::append;
@@ -88,9 +88,9 @@ impl NumberedElements {
         ensures shown { IfOk result
             (AreNumbered (elements_of elements.now) (product region.now.shape.items)) }
         ensures cells { IfOk result (λ made. ArePutOver (elements_of elements.now).fill
-            (region_of region.now) (region_of at.now)
-            (cells_of (elements_of elements.now).type (payload_of given.now))
-            (cells_numbered (elements_of elements.now) self)
+            (cells_at (region_of at.now)
+            (cells_of (elements_of elements.now).type (payload_of given.now)))
+            (cells_at (region_of region.now) (cells_numbered (elements_of elements.now) self))
             (cells_numbered (elements_of elements.now) made)) }
     {
         let places = numbers_in(alloc, region, at)?;

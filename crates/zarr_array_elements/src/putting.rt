@@ -5,7 +5,7 @@ ghost use Rattle.zarr_grids_boxes.specs.Subsets.{region_of};
 ghost use Rattle.zarr_grids_overlay.specs.Overlays.{IsOverlaid};
 ghost use Rattle.zarr_codecs_meaning.specs.Types.{IsTooLarge};
 ghost use Rattle.zarr_codecs_arrays.specs.Views.{payload_of, elements_of};
-ghost use Rattle.zarr_array_elements.specs.Boxes.{cells_of, AreOfBox, ArePutOver};
+ghost use Rattle.zarr_array_elements.specs.Boxes.{cells_of, AreOfBox, ArePutOver, cells_at};
 
 use crate::cutting::{element_width, take_out};
 use crate::numbered::NumberedElements;
@@ -38,9 +38,10 @@ pub fn put_over(
     ensures counted { IfOk result (λ made. AreOfBox (elements_of elements.now).type
         (payload_of made) (region_of region.now)) }
     ensures cells { IfOk result (λ made. ArePutOver (elements_of elements.now).fill
-        (region_of region.now) (region_of from.now)
-        (cells_of (elements_of elements.now).type (payload_of given.now))
-        (cells_of (elements_of elements.now).type (payload_of before))
+        (cells_at (region_of from.now)
+        (cells_of (elements_of elements.now).type (payload_of given.now)))
+        (cells_at (region_of region.now)
+        (cells_of (elements_of elements.now).type (payload_of before)))
         (cells_of (elements_of elements.now).type (payload_of made))) }
 {
     match given {
@@ -75,9 +76,10 @@ fn put_numbered(
     ensures counted { IfOk result (λ made. AreOfBox (elements_of elements.now).type
         (payload_of made) (region_of region.now)) }
     ensures cells { IfOk result (λ made. ArePutOver (elements_of elements.now).fill
-        (region_of region.now) (region_of from.now)
-        (cells_of (elements_of elements.now).type (payload_of given.now))
-        (cells_of (elements_of elements.now).type (payload_of before))
+        (cells_at (region_of from.now)
+        (cells_of (elements_of elements.now).type (payload_of given.now)))
+        (cells_at (region_of region.now)
+        (cells_of (elements_of elements.now).type (payload_of before)))
         (cells_of (elements_of elements.now).type (payload_of made))) }
 {
     let Ok(shared) = from.overlap(alloc, region) else {

@@ -63,6 +63,7 @@ module _ (write : Write) (weak : Bool) (less : IsTrue weak → IsTrue write.arra
     key = k.key;
     taken = k.taken;
     encodes = λ is. k.encodes (less is);
+    bytes = k.bytes;
   }
 
 -- what a write says holds as well where each value is told of in fewer cases

@@ -9,6 +9,7 @@ pub mod Boxes
 pub mod Standing
 pub mod Arrays
 pub mod Writes
+pub mod ElementBytes
 pub mod Writing
 pub mod Compacting
 pub mod Rewriting

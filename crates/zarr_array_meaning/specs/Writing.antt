@@ -19,6 +19,7 @@ use Rattle.zarr_array_meaning.specs.Arrays.{value_at}
 use Rattle.zarr_array_meaning.specs.Boxes.{cell_of_box, lies_in_any, replaced_in}
 use Rattle.zarr_array_meaning.specs.Chunks.{stored_at, fits_box, decoded_in, part_at, ReadsCell, holds_box, is_listed, KeepsOtherKeys}
 use Rattle.zarr_array_meaning.specs.Documents.{Document}
+use Rattle.zarr_array_meaning.specs.ElementBytes.{KeepsBytes}
 use Rattle.zarr_array_meaning.specs.Standing.{ChunkStandsAt, ChunkTightAt, IsLossless, AreValues}
 use Rattle.zarr_array_meaning.specs.StoreMaps.{StoreMap}
 use Rattle.zarr_array_meaning.specs.Writes.{Write}
@@ -126,7 +127,7 @@ pub record IsOversized (write : Write) (box : Region) (stored : Option (List ℕ
       ⊎ ((value : List ℕ) × (encoded write.array.document.chain write.array.document.elements box.shape cells ≡ Some value) × (2 ^ 63 ≤ length value))
       ⊎ ((goes_into_shard write box ≡ true) × PassesLength write.array.document.chain write.array.document.elements box.shape stored cells)
 
--- a chunk that was written has its new cells, and a key exactly where these are not all fill or such a chunk is stored, whatever the chain keeps of them; its value is what encoding makes of these cells, where that depends on them alone (`exact`), as without shards, and the box holds the whole chunk or the chunk was decoded before. Where a part was put into its shard, it has a key exactly where its cells aren't all fill, if what was stored stood for cells
+-- a chunk that was written has its new cells, and a key exactly where these are not all fill or such a chunk is stored, whatever the chain keeps of them; its value is what encoding makes of these cells, where that depends on them alone (`exact`), as without shards, and the box holds the whole chunk or the chunk was decoded before. Where a part was put into its shard, it has a key exactly where its cells aren't all fill, if what was stored stood for cells; where it was written in part, each other element keeps its bytes, also where they are no value
 pub record IsKeyed (write : Write) (box : Region) (old new : Option (List ℕ)) : Type 0 where
   pub cells : List Cell
   pub becomes : ChunkBecomes write box old cells
@@ -135,6 +136,7 @@ pub record IsKeyed (write : Write) (box : Region) (old new : Option (List ℕ)) 
       → ChunkStands write.array.document.chain write.array.document.elements box.shape old before → is_some new ≡ not (is_fill write.array.document.elements.fill cells)
   pub encodes : IsTrue write.array.exact → goes_into_shard write box ≡ false → (holds_box write.region box ≡ false → is_some (decoded_in write.array.document box old) ≡ true)
       → (value : List ℕ) → new ≡ Some value → encoded write.array.document.chain write.array.document.elements box.shape cells ≡ Some value
+  pub bytes : is_in_part write.array.document write.options write.region box ≡ true → KeepsBytes write box old new
 
 -- of these chunks each that is stored even if all its cells are fill has a key; no other has a value that stands for the fill value alone
 pub record HasKeys (write : Write) (chunks : List (List ℕ)) (store : StoreMap) : Type 0 where

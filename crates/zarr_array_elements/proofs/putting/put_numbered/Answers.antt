@@ -7,7 +7,7 @@ use Rattle.zarr_grids_boxes.proofs.Places.{both}
 use Rattle.zarr_codecs_meaning.specs.Types.{Cell, IsTooLarge}
 use Rattle.zarr_codecs_arrays.specs.Outcomes.{IsCounted}
 use Rattle.zarr_codecs_arrays.specs.Views.{payload_of, elements_of}
-use Rattle.zarr_array_elements.specs.Boxes.{cells_of, IsWithin, ArePutOver}
+use Rattle.zarr_array_elements.specs.Boxes.{cells_of, IsWithin, ArePutOver, cells_at}
 use Rattle.zarr_array_elements.specs.Views.{AreNumbered, cells_numbered}
 use Rattle.zarr_array_elements.proofs.ByNumber.{put_taken}
 use Rattle.zarr_array_elements.proofs.Meeting.{IsMeeting, meeting, starts_alike}
@@ -84,7 +84,7 @@ returns-clause-cells c =
     let part = cells_of elements.type (payload_of c.in_ok-part.part) in
     let before = cells_of elements.type (payload_of c.args.before) in
     let made = cells_numbered elements c.in_ok-made.made in
-    let put : ArePutOver elements.fill region shared part before made = subst (λ (cells : List Cell). ArePutOver elements.fill region shared part cells made) c.in_ok-whole.ensures.cells c.in_ok-made.ensures.cells in
+    let put : ArePutOver elements.fill (cells_at shared part) (cells_at region before) made = subst (λ (cells : List Cell). ArePutOver elements.fill (cells_at shared part) (cells_at region cells) made) c.in_ok-whole.ensures.cells c.in_ok-made.ensures.cells in
     let all = put_taken elements.fill region from shared given part before made meet.both c.in_ok-part.ensures.cells put in
-    IfOk-weaker c.gather.result (λ bytes. cells_of elements.type (payload_of bytes) ≡ made) (λ bytes. ArePutOver elements.fill region from given before (cells_of elements.type (payload_of bytes)))
-    (λ bytes h. subst (ArePutOver elements.fill region from given before) (sym h) all) (c.gather.ensures.cells (product region.shape) c.in_ok-made.ensures.shown)
+    IfOk-weaker c.gather.result (λ bytes. cells_of elements.type (payload_of bytes) ≡ made) (λ bytes. ArePutOver elements.fill (cells_at from given) (cells_at region before) (cells_of elements.type (payload_of bytes)))
+    (λ bytes h. subst (ArePutOver elements.fill (cells_at from given) (cells_at region before)) (sym h) all) (c.gather.ensures.cells (product region.shape) c.in_ok-made.ensures.shown)

@@ -6,7 +6,7 @@ use Rattle.zarr_codecs_meaning.specs.Payloads.{fixed, fixed_cells}
 use Rattle.zarr_codecs_meaning.specs.Types.{Cell}
 use Rattle.zarr_codecs_arrays.specs.Views.{payload_of, elements_of}
 use Rattle.zarr_codecs_arrays.specs.declared.array_bytes.ArrayBytes.{ArrayBytes}
-use Rattle.zarr_array_elements.specs.Boxes.{cells_of, AreOfBox, ArePutOver}
+use Rattle.zarr_array_elements.specs.Boxes.{cells_of, AreOfBox, ArePutOver, cells_at}
 use Rattle.zarr_array_elements.proofs.FixedPuts.{IsPut, AreSizedOf, sized_of, length-put, fixed_put, fixed_known, fixed_counted}
 use Rattle.zarr_array_elements.proofs.putting.put_over.Goals as goal
 
@@ -60,6 +60,6 @@ returns-in-Fixed-Some-clause-cells c =
     let first : cells_of type (payload_of c.args.given.now) ≡ fixed_cells width given = ap (λ (b : ArrayBytes). cells_of type (payload_of b)) c.in-Fixed.is ∙ there.are in
     let second : cells_of type (payload_of c.args.before) ≡ fixed_cells width old = ap (λ (b : ArrayBytes). cells_of type (payload_of b)) c.in-Fixed-Some.is-0 ∙ sized.are in
     let third : cells_of type (fixed made) ≡ fixed_cells width made = fixed_known type width (product box.shape) made c.in-Fixed-Some.ensures.sized c.in-Fixed-Some.ensures.some (length-put width from box given old made put) in
-    subst (λ (cells : List Cell). ArePutOver fill box from cells (cells_of type (payload_of c.args.before)) (cells_of type (fixed made))) (sym first)
-    (subst (λ (cells : List Cell). ArePutOver fill box from (fixed_cells width given) cells (cells_of type (fixed made))) (sym second)
-    (subst (ArePutOver fill box from (fixed_cells width given) (fixed_cells width old)) (sym third) (fixed_put width from box given old made fill put)))
+    subst (λ (cells : List Cell). ArePutOver fill (cells_at from cells) (cells_at box (cells_of type (payload_of c.args.before))) (cells_of type (fixed made))) (sym first)
+    (subst (λ (cells : List Cell). ArePutOver fill (cells_at from (fixed_cells width given)) (cells_at box cells) (cells_of type (fixed made))) (sym second)
+    (subst (ArePutOver fill (cells_at from (fixed_cells width given)) (cells_at box (fixed_cells width old))) (sym third) (fixed_put width from box given old made fill put)))

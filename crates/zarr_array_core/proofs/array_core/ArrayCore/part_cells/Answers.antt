@@ -5,7 +5,7 @@ use Rattle.zarr_grids_overlay.specs.Overlays.{extent_of}
 use Rattle.zarr_codecs_meaning.specs.Chunks.{chunk_decoded}
 use Rattle.zarr_codecs_arrays.specs.Outcomes.{IsCounted}
 use Rattle.zarr_codecs_arrays.specs.Views.{payload_of}
-use Rattle.zarr_array_elements.specs.Boxes.{ArePutOver}
+use Rattle.zarr_array_elements.specs.Boxes.{ArePutOver, cells_at}
 use Rattle.zarr_array_storage.specs.Stores.{value_bytes}
 use Rattle.zarr_array_core.specs.BoxWrites.{write_of}
 use Rattle.zarr_array_core.specs.Views.{document_of, array_cells}
@@ -34,7 +34,7 @@ returns-clause-ok g c =
     let given = array_cells c.args.self.now c.args.write.now.bytes.now in
     let before = array_cells c.args.self.now c.in_ok-before.before in
     let made = array_cells c.args.self.now c.in_ok-put_over.field-0 in
-    let put : ArePutOver document.elements.fill box region given before made = subst (λ (r : Region). ArePutOver document.elements.fill box r given before made) c.args.write.now.same_box c.in_ok-put_over.ensures.cells in
+    let put : ArePutOver document.elements.fill (cells_at region given) (cells_at box before) made = subst (λ (r : Region). ArePutOver document.elements.fill (cells_at r given) (cells_at box before) made) c.args.write.now.same_box c.in_ok-put_over.ensures.cells in
     let is : chunk_decoded document.chain document.elements box.shape stored ≡ Some before = subst (λ (shape : List ℕ). chunk_decoded document.chain document.elements shape stored ≡ Some before) c.shape.ensures c.in_ok-before.ensures.ok in
     let values = decoded_chunk_values document.chain document.elements box.shape stored before c.args.self.now.elements.fills c.requires.fit is in
     part_become (write_of g.C.ArrayToBytesCodecTraits c.args.self.now c.args.write.now) box before made stored put (sym c.args.own.now.same) c.args.self.now.elements.fills c.requires.values values is

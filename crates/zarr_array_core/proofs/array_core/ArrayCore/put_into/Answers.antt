@@ -8,13 +8,14 @@ use Rattle.zarr_array_meaning.specs.Chunks.{holds_box}
 use Rattle.zarr_codecs_arrays.specs.Views.{payload_of}
 use Rattle.zarr_codecs_traits.specs.Sources.{source_contents}
 use Rattle.zarr_array_core.specs.BoxWrites.{write_of}
-use Rattle.zarr_array_core.specs.ChunkValues.{PutStops}
+use Rattle.zarr_array_core.specs.ChunkValues.{PutStops, plain_write, put_refusal_of}
 use Rattle.zarr_array_core.specs.declared.error.ChunkError.{ChunkError}
 use Rattle.zarr_array_core.specs.Views.{array_cells, document_of}
 use Rattle.zarr_array_elements.proofs.Meeting.{meeting, starts_alike}
 use Rattle.zarr_array_elements.proofs.Shared.{large_grows, shared_held, shared_smaller}
 use Rattle.zarr_array_core.proofs.InParts.{parts_of_write}
-use Rattle.zarr_array_core.proofs.PutParts.{IsPutCall, shared_is, was_put, was_refused}
+use Rattle.zarr_array_core.proofs.PlainBytes.{fixed_of_fit, stops_plain}
+use Rattle.zarr_array_core.proofs.PutParts.{IsPutCall, plain_call, shared_is, was_put, was_refused}
 use Rattle.zarr_array_core.proofs.SeenFrom.{later_start}
 use Rattle.zarr_array_core.proofs.array_core.ArrayCore.put_into.Goals as goal
 
@@ -54,8 +55,16 @@ seen_from-part-requires g c =
     let shared : region_of c.in_ok-shared.shared ≡ overlapped region box = shared_is (region_of c.args.write.now.subset.now) region box (region_of c.in_ok-shared.shared) c.args.write.now.same_box c.in_ok-shared.ensures in
     subst (λ (os : List ℕ). IsAtMost os c.in_ok-shared.shared.start.items) (sym c.start.ensures) (subst (λ (r : Region). IsAtMost box.start r.start) (sym shared) (later_start region.start box.start c.requires.writes.rank))
 
+pub encode_into-requires : goal.encode_into-requires
+encode_into-requires g c =
+    let document = document_of g.C.ArrayToBytesCodecTraits.meaning c.args.self.now in
+    let region : Region = extent_of c.args.write.now.region in
+    let box : Region = region_of c.args.own.now in
+    fixed_of_fit document.chain document.elements.type box.shape (parts_of_write document c.args.write.now.options.now region box c.requires.in_part).0 c.requires.fit
+
 pub returns-in-Ok-clause-ok : goal.returns-in-Ok-clause-ok
 returns-in-Ok-clause-ok g c =
+    let document = document_of g.C.ArrayToBytesCodecTraits.meaning c.args.self.now in
     let region : Region = extent_of c.args.write.now.region in
     let box : Region = region_of c.args.own.now in
     let shared = region_of c.in_ok-shared.shared in
@@ -65,8 +74,10 @@ returns-in-Ok-clause-ok g c =
     let sub = array_cells c.args.self.now c.in_ok-bytes.bytes in
     let same : shared ≡ overlapped region box = shared_is (region_of c.args.write.now.subset.now) region box shared c.args.write.now.same_box c.in_ok-shared.ensures in
     let call : IsPutCall write box shared part c.shape.result.now c.start.result.now payload sub = record { same = same; seen = c.seen_from-part.ensures; from = c.start.ensures; whole = c.shape.ensures; share = c.requires.writes.shares; fit = c.requires.fit; small = c.requires.writes.small; becomes = c.in_ok-bytes.ensures.ok None; counted = c.in_ok-bytes.ensures.counted } in
+    let chain = (parts_of_write document c.args.write.now.options.now region box c.requires.in_part).0 in
+    let plain = plain_call write box shared part c.shape.result.now c.start.result.now payload sub chain call in
     let found = c.in-Ok.ensures.ok in
-    was_put write box shared part c.shape.result.now c.start.result.now payload sub call (g.C.ArrayToBytesCodecTraits.is_function c.args.self.now.codecs) found.0 (source_contents c.args.source.now) (source_contents c.encode_into.new.source) found.1
+    was_put (plain_write write) box shared part c.shape.result.now c.start.result.now payload sub plain (g.C.ArrayToBytesCodecTraits.is_function c.args.self.now.codecs) found.0 (source_contents c.args.source.now) (source_contents c.encode_into.new.source) found.1
 
 pub of_putting-requires : goal.of_putting-requires
 of_putting-requires g c =
@@ -80,7 +91,9 @@ of_putting-requires g c =
     let sub = array_cells c.args.self.now c.in_ok-bytes.bytes in
     let same : shared ≡ overlapped region box = shared_is (region_of c.args.write.now.subset.now) region box shared c.args.write.now.same_box c.in_ok-shared.ensures in
     let call : IsPutCall write box shared part c.shape.result.now c.start.result.now payload sub = record { same = same; seen = c.seen_from-part.ensures; from = c.start.ensures; whole = c.shape.ensures; share = c.requires.writes.shares; fit = c.requires.fit; small = c.requires.writes.small; becomes = c.in_ok-bytes.ensures.ok None; counted = c.in_ok-bytes.ensures.counted } in
-    (was_refused write box shared part c.shape.result.now c.start.result.now payload sub call (source_contents c.args.source.now) c.in-Err.error (parts_of_write document c.args.write.now.options.now region box c.requires.in_part).0 c.in-Err.ensures.cause c.in-Err.ensures.refused).0
+    let chain = (parts_of_write document c.args.write.now.options.now region box c.requires.in_part).0 in
+    let plain = plain_call write box shared part c.shape.result.now c.start.result.now payload sub chain call in
+    (was_refused (plain_write write) box shared part c.shape.result.now c.start.result.now payload sub plain (source_contents c.args.source.now) c.in-Err.error chain c.in-Err.ensures.cause c.in-Err.ensures.refused).0
 
 pub returns-clause-err : goal.returns-clause-err
 returns-clause-err g c =
@@ -94,5 +107,8 @@ returns-clause-err g c =
     let sub = array_cells c.args.self.now c.in_ok-bytes.bytes in
     let same : shared ≡ overlapped region box = shared_is (region_of c.args.write.now.subset.now) region box shared c.args.write.now.same_box c.in_ok-shared.ensures in
     let call : IsPutCall write box shared part c.shape.result.now c.start.result.now payload sub = record { same = same; seen = c.seen_from-part.ensures; from = c.start.ensures; whole = c.shape.ensures; share = c.requires.writes.shares; fit = c.requires.fit; small = c.requires.writes.small; becomes = c.in_ok-bytes.ensures.ok None; counted = c.in_ok-bytes.ensures.counted } in
-    subst (λ (e : ChunkError). PutStops document box (source_contents c.args.source.now) e) (sym c.of_putting.ensures)
-    (was_refused write box shared part c.shape.result.now c.start.result.now payload sub call (source_contents c.args.source.now) c.in-Err.error (parts_of_write document c.args.write.now.options.now region box c.requires.in_part).0 c.in-Err.ensures.cause c.in-Err.ensures.refused).1
+    let chain = (parts_of_write document c.args.write.now.options.now region box c.requires.in_part).0 in
+    let plain = plain_call write box shared part c.shape.result.now c.start.result.now payload sub chain call in
+    let old = source_contents c.args.source.now in
+    let told = was_refused (plain_write write) box shared part c.shape.result.now c.start.result.now payload sub plain old c.in-Err.error chain c.in-Err.ensures.cause c.in-Err.ensures.refused in
+    subst (λ (e : ChunkError). PutStops document box old e) (sym c.of_putting.ensures) (stops_plain write box old (put_refusal_of c.in-Err.error) chain told.1)

@@ -3,6 +3,7 @@ use Rattle.std.specs.FinMap.{get, insert}
 use Rattle.zarr_grids_boxes.specs.Boxes.{Region}
 use Rattle.zarr_grids_boxes.specs.Subsets.{region_of}
 use Rattle.zarr_grids_overlay.specs.Overlays.{extent_of}
+use Rattle.zarr_array_meaning.specs.ElementBytes.{KeepsBytes}
 use Rattle.zarr_array_meaning.specs.StoreMaps.{StoreMap}
 use Rattle.zarr_array_meaning.specs.Writing.{is_in_part}
 use Rattle.zarr_array_storage.specs.Stores.{value_bytes}
@@ -28,7 +29,10 @@ returns-clause-ok g c = λ honest.
     let puts : PutsCells write box (get held key) (Some value) =
     subst (λ (o : Option (List ℕ)). PutsCells write box o (Some value)) (c.in_ok-stored.ensures.value honest)
     (subst (λ (v : List ℕ). PutsCells write box (value_bytes c.in_ok-stored.stored) (Some v)) (sym c.as_slice.ensures.value) c.in_ok-value.ensures.ok) in
-    let part : PutsPart write box (get held key) (Some value) = record { fit = c.requires.fit; in_part = in_part; lost = c.requires.lost honest; some = refl; puts = puts } in
+    let keeps : KeepsBytes write box (get held key) (Some value) =
+    subst (λ (o : Option (List ℕ)). KeepsBytes write box o (Some value)) (c.in_ok-stored.ensures.value honest)
+    (subst (λ (v : List ℕ). KeepsBytes write box (value_bytes c.in_ok-stored.stored) (Some v)) (sym c.as_slice.ensures.value) c.in_ok-value.ensures.bytes) in
+    let part : PutsPart write box (get held key) (Some value) = record { fit = c.requires.fit; in_part = in_part; lost = c.requires.lost honest; some = refl; puts = puts; bytes = keeps } in
     on_ok c.set.result (new ≡ insert (g.S.ReadableStorageTraits.held c.get.new.store) key value)
     ((made : Option (List ℕ)) × ChangesValue write box (get held key) made × (new ≡ with_value held key made))
     (λ set. (Some value, inr part, set ∙ ap (λ (m : StoreMap). insert m key value) c.in_ok-stored.ensures.held)) (c.set.ensures.ok still)

@@ -6,7 +6,7 @@ use Rattle.zarr_codecs_meaning.specs.Payloads.{fixed, fixed_cells}
 use Rattle.zarr_codecs_meaning.specs.Types.{Cell}
 use Rattle.zarr_codecs_arrays.specs.Views.{payload_of, elements_of}
 use Rattle.zarr_codecs_arrays.specs.declared.array_bytes.ArrayBytes.{ArrayBytes}
-use Rattle.zarr_array_elements.specs.Boxes.{cells_of, AreOfBox, ArePutOver}
+use Rattle.zarr_array_elements.specs.Boxes.{cells_of, AreOfBox, ArePutOver, cells_at}
 use Rattle.zarr_array_elements.specs.Views.{AreShown, AreSized, cells_shown}
 use Rattle.zarr_array_elements.specs.declared.box_elements.BoxElements.{BoxElements}
 use Rattle.zarr_array_elements.proofs.FixedPuts.{IsPut, sized_of, length-put, fixed_put}
@@ -51,5 +51,5 @@ returns-in-Fixed-given-clause-cells c =
     let over : IsOverlaid width box at_box before given made = subst (λ (bs : List ℕ). IsOverlaid width box at_box before bs made) c.as_slice.ensures.value c.put_fixed-made.ensures in
     let put : IsPut width at_box box given before made = record { some = old.some; region_rank = sym c.args.at.now.same; box_rank = sym c.args.region.now.same; given_long = sized.long; before_long = old.long; over = over } in
     let first : cells_of elements.type (payload_of c.args.given.now) ≡ fixed_cells width given = ap (λ (b : ArrayBytes). cells_of elements.type (payload_of b)) c.in-Fixed-given.is ∙ sized.are in
-    subst (λ (cells : List Cell). ArePutOver elements.fill box at_box cells (cells_shown elements c.args.self) (fixed_cells width made)) (sym first)
-    (subst (λ (s : BoxElements). ArePutOver elements.fill box at_box (fixed_cells width given) (cells_shown elements s) (fixed_cells width made)) (sym c.in-Fixed.is) (fixed_put width at_box box given before made elements.fill put))
+    subst (λ (cells : List Cell). ArePutOver elements.fill (cells_at at_box cells) (cells_at box (cells_shown elements c.args.self)) (fixed_cells width made)) (sym first)
+    (subst (λ (s : BoxElements). ArePutOver elements.fill (cells_at at_box (fixed_cells width given)) (cells_at box (cells_shown elements s)) (fixed_cells width made)) (sym c.in-Fixed.is) (fixed_put width at_box box given before made elements.fill put))

@@ -5,7 +5,7 @@ use Rattle.zarr_codecs_meaning.specs.Payloads.{Payload, cells_in}
 use Rattle.zarr_codecs_meaning.specs.Places.{gather}
 use Rattle.zarr_codecs_meaning.specs.Types.{Cell, Elements}
 use Rattle.zarr_codecs_arrays.specs.Views.{payload_of, elements_of}
-use Rattle.zarr_array_elements.specs.Boxes.{cells_of, AreOfBox, IsWithin, ArePutOver}
+use Rattle.zarr_array_elements.specs.Boxes.{cells_of, AreOfBox, IsWithin, ArePutOver, cells_at}
 use Rattle.zarr_array_elements.specs.Renumbering.{renumbered}
 use Rattle.zarr_array_elements.specs.Views.{AreNumbered}
 use Rattle.zarr_array_elements.specs.declared.numbered.NumberedElements.{NumberedElements}
@@ -74,5 +74,5 @@ returns-clause-cells c =
     let new : c.renumber-numbers.result.items ≡ numbers_after box at_box cells numbers =
     numbers_are box at_box cells c.args.self.count numbers numbers c.in_ok-places.places.items c.as_slice.result.now c.renumber-numbers.result.items c.requires.shown.counted.many c.as_slice.ensures.value c.in_ok-places.ensures refl c.renumber-numbers.ensures in
     let said : cells_in elements.type (payload_of c.in_ok-all.all) ≡ Some (cells ++ part) = c.in_ok-all.ensures cells part c.requires.shown.counted.lists c.requires.given.lists in
-    subst (λ (zs : List Cell). ArePutOver elements.fill box at_box part (gather elements.fill cells numbers) (gather elements.fill zs c.renumber-numbers.result.items)) (sym (known elements.type (payload_of c.in_ok-all.all) (cells ++ part) said))
-    (subst (λ (ns : List ℕ). ArePutOver elements.fill box at_box part (gather elements.fill cells numbers) (gather elements.fill (cells ++ part) ns)) (sym new) (numbered_put elements.fill box at_box cells part numbers are))
+    subst (λ (zs : List Cell). ArePutOver elements.fill (cells_at at_box part) (cells_at box (gather elements.fill cells numbers)) (gather elements.fill zs c.renumber-numbers.result.items)) (sym (known elements.type (payload_of c.in_ok-all.all) (cells ++ part) said))
+    (subst (λ (ns : List ℕ). ArePutOver elements.fill (cells_at at_box part) (cells_at box (gather elements.fill cells numbers)) (gather elements.fill (cells ++ part) ns)) (sym new) (numbered_put elements.fill box at_box cells part numbers are))
