@@ -17,5 +17,5 @@ pub mod then_bytes;
 mod then_bytes_values;
 pub mod whole_arrays;
 
-pub use inner_codec::InnerCodec;
 pub use then_bytes::ThenBytes;
+pub use zarr_sharding_inner::InnerCodec;

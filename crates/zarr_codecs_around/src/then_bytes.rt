@@ -6,7 +6,7 @@ ghost use Rattle.zarr_codecs_traits.specs.Compactions.{Compacts};
 ghost use Rattle.zarr_codecs_around.specs.ThenBytes.{codec_of, then_meaning};
 
 use crate::byte_codecs::{copies, decode_all, encode_all, encode_made, represent_all};
-use crate::inner_codec::{InnerCodec, encode_row_major};
+use crate::inner_codec::encode_row_major;
 use crate::stored_parts::decode_stored_part;
 use std::alloc::{AllocError, Global};
 use zarr_codecs_arrays::{ArrayBytes, CodecError, Elements};
@@ -17,6 +17,7 @@ use zarr_codecs_traits::{
     BytesRepresentation, BytesToBytesCodecTraits, ValuePatches, WholeArray, read_value,
 };
 use zarr_codecs_types::DataType;
+use zarr_sharding_inner::InnerCodec;
 
 /// A codec between arrays and bytes, and the caller's bytes to bytes codecs after it, in the order
 /// in which they encode. Where there are any, values are read and written whole, and what the codec

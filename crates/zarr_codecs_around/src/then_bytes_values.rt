@@ -1,7 +1,6 @@
 //! What reading and writing values whole, and codecs around it, need of a codec with bytes codecs
 //! after it.
 use crate::byte_codecs::copies;
-use crate::inner_codec::InnerCodec;
 use crate::then_bytes::ThenBytes;
 use std::alloc::{AllocError, Global};
 use zarr_codecs_arrays::{ArrayBytes, CodecError, Elements};
@@ -9,6 +8,7 @@ use zarr_codecs_options::CodecOptions;
 use zarr_codecs_regions::WholeValues;
 use zarr_codecs_traits::{ArrayToBytesCodecTraits, BytesToBytesCodecTraits};
 use zarr_codecs_types::DataType;
+use zarr_sharding_inner::InnerCodec;
 
 impl<A: InnerCodec, B: BytesToBytesCodecTraits> WholeValues for ThenBytes<A, B> {
     ghost use Rattle.zarr_codecs_around.specs.ThenBytes.{then_function, then_lawful, then_meaning};

@@ -14,3 +14,4 @@ pub mod Refused
 pub mod LongIndex
 pub mod Alone
 pub mod Copied
+pub mod Plain

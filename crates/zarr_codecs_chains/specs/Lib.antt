@@ -7,3 +7,4 @@ pub mod Names
 pub mod Configured
 pub mod Refusals
 pub mod Chosen
+pub mod Plain

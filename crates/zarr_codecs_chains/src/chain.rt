@@ -3,7 +3,6 @@ use crate::array_to_bytes::ArrayToBytesCodec;
 use crate::bytes_chain::BytesChain;
 use crate::copying::copy_chain;
 use crate::decoding::decode_chain;
-use crate::depth::any_too_deep;
 use crate::encoding::encode_chain;
 use crate::fitting::fits_chain;
 use crate::reading::read_allowed;
@@ -16,6 +15,7 @@ use zarr_codecs_around::whole_arrays::represent_after;
 use zarr_codecs_array_to_array::ArrayToArrayCodec;
 use zarr_codecs_arrays::{ArrayBytes, CodecError, Elements};
 use zarr_codecs_bytes::BytesCodec;
+use zarr_codecs_configurations::any_too_deep;
 use zarr_codecs_options::CodecOptions;
 use zarr_codecs_traits::{
     ArrayPart, ArrayToBytesCodecTraits, BytesPartialDecoderTraits, BytesPartialEncoderTraits,

@@ -1,8 +1,8 @@
 //! What codecs that stand around a chain need to know of it.
 use crate::chain::CodecChain;
 use std::alloc::{AllocError, Global};
-use zarr_codecs_around::InnerCodec;
 use zarr_codecs_traits::{ArrayToBytesCodecTraits, BytesToBytesCodecTraits};
+use zarr_sharding_inner::InnerCodec;
 
 impl<B: BytesToBytesCodecTraits> InnerCodec for CodecChain<B> {
     fn makes_no_shard(&self) -> bool {

@@ -6,6 +6,7 @@ mod allowing;
 pub mod array_to_bytes;
 mod bytes_chain;
 pub mod chain;
+pub mod chain_metadata;
 mod chosen;
 mod coders;
 mod copying;
@@ -18,16 +19,18 @@ pub mod optional;
 mod reading;
 mod representing;
 mod selecting;
+mod sharding;
 pub mod vlen;
 mod whole_values;
 mod writing;
 
 pub use array_to_bytes::ArrayToBytesCodec;
 pub use chain::CodecChain;
-pub use depth::any_too_deep;
 pub use optional::OptionalCodec;
 pub use reading::read_allowed;
 pub use vlen::VlenCodec;
 pub use zarr_codecs_bytes::{BytesCodec, BytesCodecConfiguration, Endianness};
-pub use zarr_codecs_configurations::{OptionalCodecConfiguration, VlenCodecConfiguration};
+pub use zarr_codecs_configurations::{
+    OptionalCodecConfiguration, VlenCodecConfiguration, any_too_deep,
+};
 pub use zarr_codecs_sections::{VlenIndexDataType, VlenIndexLocation};

@@ -10,7 +10,7 @@ use zarr_codecs_chains::{ArrayToBytesCodec, BytesCodec, CodecChain};
 use zarr_codecs_options::SubchunkWriteOrder;
 use zarr_codecs_traits::BytesToBytesCodecTraits;
 use zarr_sharding_arrays::ArrayChain;
-use zarr_sharding_codec::{ShardingCodecOptions, TakesShardingOptions};
+use zarr_sharding_inner::{ShardingCodecOptions, TakesShardingOptions};
 
 /// Gives the shards of an array a write order, at every depth. It needs no memory.
 pub(crate) fn set_write_order<B: BytesToBytesCodecTraits>(

@@ -19,17 +19,19 @@
 //!   away: a `SliceChange` for each subchunk that changed.
 #![tactic(auto)]
 
-pub use zarr_codecs_around::InnerCodec;
 pub use zarr_codecs_options::SubchunkWriteOrder;
 pub use zarr_sharding_arrays::{ArrayChain, ShardedChain};
 pub use zarr_sharding_cells::{ShardState, ShardingPartialEncoder};
 pub use zarr_sharding_chains::ShardingCodecBuilder;
 pub use zarr_sharding_codec::{
-    AskedElements, ChainOfMetadata, IndexCodec, IndexedPlaces, NumberedElements, NumberedPlaces,
-    NumberedSubchunk, OpenedShard, ShardInSource, ShardingCodec, ShardingCodecOptions,
-    TakesShardingOptions, TestedPart,
+    AskedElements, IndexedPlaces, NumberedElements, NumberedPlaces, NumberedSubchunk, OpenedShard,
+    ShardInSource, ShardingCodec, TestedPart,
 };
 pub use zarr_sharding_configurations::ShardingCodecConfiguration;
 pub use zarr_sharding_decoder::{OpenedIndex, ShardingPartialDecoder, open_shard};
 pub use zarr_sharding_index::{FetchedIndex, IndexLayout, ShardIndex, ShardingIndexLocation};
+pub use zarr_sharding_inner::{
+    ChainOfMetadata, IndexChainOfMetadata, IndexCodec, InnerCodec, ShardingCodecOptions,
+    TakesShardingOptions,
+};
 pub use zarr_sharding_state::{GivenChanges, KnownShard, ShardChanges, SliceChange};

@@ -20,6 +20,7 @@ use Rattle.zarr_codecs_around.specs.ArrayMetadata.{array_codecs_of, begins_with_
 use Rattle.zarr_codecs_around.specs.Codecs.{codecs_in}
 use Rattle.zarr_codecs_around.specs.Views.{codecs_of, with_array_codecs, with_codecs}
 use Rattle.zarr_codecs_chains.specs.Names.{NamesChain}
+use Rattle.zarr_codecs_chains.specs.Refusals.{RefusesChain}
 use Rattle.zarr_codecs_chains.specs.declared.chain.CodecChain.{CodecChain}
 use Rattle.zarr_codecs_chains.proofs.ReadsBack.{with_in}
 use Rattle.zarr_sharding_metadata.specs.Metadata.{ShardPoints, names_shard, shard_of, shard_points_in}
@@ -195,18 +196,18 @@ pub unconfigured_refused : (reads : ReadsCodecs) (inner : ReadsInner) (refuses :
     → shard_points_in (configuration_members point.configuration) ≡ None → cause ≡ plugin.MetadataInvalid → RefusesFirst reads inner refuses (point ∷ points) cause
 unconfigured_refused reads inner refuses point points cause named none is =
     named_refused reads inner refuses point points cause named
-    (subst (λ (o : Option ShardPoints). MatchOption o (cause ≡ plugin.MetadataInvalid) (λ given. RefusesShard reads inner refuses given cause ⊎ ((chain : Chain) × (shard_of inner (allowed_chain reads) given ≡ Some chain) × (codecs_in reads points ≡ None)))) (sym none) is)
+    (subst (λ (o : Option ShardPoints). MatchOption o (cause ≡ plugin.MetadataInvalid) (λ given. RefusesShard inner refuses (RefusesChain reads) given cause ⊎ ((chain : Chain) × (shard_of inner (allowed_chain reads) given ≡ Some chain) × (codecs_in reads points ≡ None)))) (sym none) is)
 
 given_refused : (reads : ReadsCodecs) (inner : ReadsInner) (refuses : RefusesInner) (point : ExtensionPoint) (points : List ExtensionPoint) (given : ShardPoints) (cause : PluginCreateError) → names_shard point.name ≡ true
-    → shard_points_in (configuration_members point.configuration) ≡ Some given → RefusesShard reads inner refuses given cause ⊎ ((chain : Chain) × (shard_of inner (allowed_chain reads) given ≡ Some chain) × (codecs_in reads points ≡ None))
+    → shard_points_in (configuration_members point.configuration) ≡ Some given → RefusesShard inner refuses (RefusesChain reads) given cause ⊎ ((chain : Chain) × (shard_of inner (allowed_chain reads) given ≡ Some chain) × (codecs_in reads points ≡ None))
     → RefusesFirst reads inner refuses (point ∷ points) cause
 given_refused reads inner refuses point points given cause named is refused =
     named_refused reads inner refuses point points cause named
-    (subst (λ (o : Option ShardPoints). MatchOption o (cause ≡ plugin.MetadataInvalid) (λ given. RefusesShard reads inner refuses given cause ⊎ ((chain : Chain) × (shard_of inner (allowed_chain reads) given ≡ Some chain) × (codecs_in reads points ≡ None)))) (sym is) refused)
+    (subst (λ (o : Option ShardPoints). MatchOption o (cause ≡ plugin.MetadataInvalid) (λ given. RefusesShard inner refuses (RefusesChain reads) given cause ⊎ ((chain : Chain) × (shard_of inner (allowed_chain reads) given ≡ Some chain) × (codecs_in reads points ≡ None)))) (sym is) refused)
 
 -- the codecs in it are refused
 pub inside_refused : (reads : ReadsCodecs) (inner : ReadsInner) (refuses : RefusesInner) (point : ExtensionPoint) (points : List ExtensionPoint) (given : ShardPoints) (cause : PluginCreateError) → names_shard point.name ≡ true
-    → shard_points_in (configuration_members point.configuration) ≡ Some given → RefusesShard reads inner refuses given cause → RefusesFirst reads inner refuses (point ∷ points) cause
+    → shard_points_in (configuration_members point.configuration) ≡ Some given → RefusesShard inner refuses (RefusesChain reads) given cause → RefusesFirst reads inner refuses (point ∷ points) cause
 inside_refused reads inner refuses point points given cause named is refused = given_refused reads inner refuses point points given cause named is (inl refused)
 
 -- one of the caller's codecs after it is refused

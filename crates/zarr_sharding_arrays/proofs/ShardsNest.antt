@@ -12,11 +12,12 @@ use Rattle.zarr_codecs_metadata.specs.Chains.{ReadsCodecs, allowed_chain, bytes_
 use Rattle.zarr_codecs_array_to_array.specs.Refusals.{cause_of, names_array_codec}
 use Rattle.zarr_codecs_around.specs.ArrayMetadata.{array_codecs_of}
 use Rattle.zarr_codecs_around.specs.Codecs.{codecs_in}
+use Rattle.zarr_codecs_chains.specs.Plain.{RefusesPlain, RefusesUnless}
 use Rattle.zarr_codecs_chains.specs.Refusals.{RefusesChain}
 use Rattle.zarr_sharding_metadata.specs.Metadata.{ShardPoints, array_chain_of, chain_within, names_shard, shard_of, shard_points_in}
 use Rattle.zarr_sharding_metadata.specs.Nesting.{inner_points, points_inside, shard_in, shard_stands, sharded_chain_of, shards_nest}
 use Rattle.zarr_sharding_metadata.proofs.Nested.{inner_said, none_said, plain_said, shard_said, zero_said}
-use Rattle.zarr_sharding_codec.specs.Configured.{RefusesPlain, RefusesShard, RefusesUnless}
+use Rattle.zarr_sharding_codec.specs.Configured.{RefusesShard}
 use Rattle.zarr_sharding_arrays.specs.Refusals.{EitherCause, ReadsInner, RefusesArray, RefusesFirst, RefusesInner, RefusesNamed, RefusesSharded, RefusesWithin}
 
 -- ---- a chain that is said where fewer shards may stand is said where more may
@@ -136,21 +137,21 @@ inner_refused : (reads : ReadsCodecs) (one two : ReadsInner) (p q : RefusesInner
     → ((inside : List ExtensionPoint) → inner_points points ≡ Some inside → p inside cause → q inside cause) → RefusesSharded reads one p points cause → RefusesSharded reads two q points cause
 inner_refused reads one two p q [] cause same more refused = refused
 inner_refused reads one two p q (point ∷ points) cause same more refused = at (array_codec_in point) (λ same more refused. inner_refused reads one two p q points cause same more refused) same more refused where
-  shard : (given : ShardPoints) → one given.inner ≡ two given.inner → (p given.inner cause → q given.inner cause) → RefusesShard reads one p given cause → RefusesShard reads two q given cause
+  shard : (given : ShardPoints) → one given.inner ≡ two given.inner → (p given.inner cause → q given.inner cause) → RefusesShard one p (RefusesChain reads) given cause → RefusesShard two q (RefusesChain reads) given cause
   shard given same more (inl refused) = inl (more refused)
   shard given same more (inr (chain, said, index)) = inr (chain, sym same ∙ said, index)
 
   alternatives : (given : ShardPoints) → one given.inner ≡ two given.inner → (p given.inner cause → q given.inner cause)
-      → RefusesShard reads one p given cause ⊎ ((chain : Chain) × (shard_of one (allowed_chain reads) given ≡ Some chain) × (codecs_in reads points ≡ None))
-      → RefusesShard reads two q given cause ⊎ ((chain : Chain) × (shard_of two (allowed_chain reads) given ≡ Some chain) × (codecs_in reads points ≡ None))
+      → RefusesShard one p (RefusesChain reads) given cause ⊎ ((chain : Chain) × (shard_of one (allowed_chain reads) given ≡ Some chain) × (codecs_in reads points ≡ None))
+      → RefusesShard two q (RefusesChain reads) given cause ⊎ ((chain : Chain) × (shard_of two (allowed_chain reads) given ≡ Some chain) × (codecs_in reads points ≡ None))
   alternatives given same more (inl refused) = inl (shard given same more refused)
   alternatives given same more (inr (chain, said, none)) =
       inr (chain, ap (option_and_then (λ i. option_map (λ x. sharded given.subchunk i x given.location) (allowed_chain reads given.index))) (sym same) ∙ said, none)
 
   named : (b : Bool) (o : Option ShardPoints) (other : Type 0) → ((inside : List ExtensionPoint) → (if b then option_map (λ (given : ShardPoints). given.inner) o else None) ≡ Some inside → one inside ≡ two inside)
       → ((inside : List ExtensionPoint) → (if b then option_map (λ (given : ShardPoints). given.inner) o else None) ≡ Some inside → p inside cause → q inside cause)
-      → EitherCause b (MatchOption o (cause ≡ plugin.MetadataInvalid) (λ given. RefusesShard reads one p given cause ⊎ ((chain : Chain) × (shard_of one (allowed_chain reads) given ≡ Some chain) × (codecs_in reads points ≡ None)))) other
-      → EitherCause b (MatchOption o (cause ≡ plugin.MetadataInvalid) (λ given. RefusesShard reads two q given cause ⊎ ((chain : Chain) × (shard_of two (allowed_chain reads) given ≡ Some chain) × (codecs_in reads points ≡ None)))) other
+      → EitherCause b (MatchOption o (cause ≡ plugin.MetadataInvalid) (λ given. RefusesShard one p (RefusesChain reads) given cause ⊎ ((chain : Chain) × (shard_of one (allowed_chain reads) given ≡ Some chain) × (codecs_in reads points ≡ None)))) other
+      → EitherCause b (MatchOption o (cause ≡ plugin.MetadataInvalid) (λ given. RefusesShard two q (RefusesChain reads) given cause ⊎ ((chain : Chain) × (shard_of two (allowed_chain reads) given ≡ Some chain) × (codecs_in reads points ≡ None)))) other
   named true None other same more refused = refused
   named true (Some given) other same more refused = alternatives given (same given.inner refl) (more given.inner refl) refused
   named false o other same more refused = refused

@@ -8,10 +8,11 @@ use Rattle.zarr_codecs_metadata.specs.Chains.{ReadsCodecs, allowed_chain, any_to
 use Rattle.zarr_codecs_array_to_array.specs.Refusals.{cause_of, names_array_codec}
 use Rattle.zarr_codecs_around.specs.ArrayMetadata.{array_codecs_of}
 use Rattle.zarr_codecs_around.specs.Codecs.{codecs_in}
+use Rattle.zarr_codecs_chains.specs.Plain.{RefusesPlain}
 use Rattle.zarr_codecs_chains.specs.Refusals.{RefusesChain}
 use Rattle.zarr_sharding_metadata.specs.Metadata.{chain_within, names_shard, shard_of, shard_points_in}
 use Rattle.zarr_sharding_metadata.specs.Nesting.{shard_stands}
-use Rattle.zarr_sharding_codec.specs.Configured.{RefusesPlain, RefusesShard}
+use Rattle.zarr_sharding_codec.specs.Configured.{RefusesShard}
 
 -- what extension points say as the chain of a shard's subchunks
 abbrev pub ReadsInner : Type 0
@@ -30,7 +31,7 @@ EitherCause false one other = other
 abbrev pub RefusesNamed : ReadsCodecs → ReadsInner → RefusesInner → ExtensionPoint → List ExtensionPoint → PluginCreateError → Type 0
 RefusesNamed reads inner refuses point points cause =
     MatchOption (shard_points_in (configuration_members point.configuration)) (cause ≡ plugin.MetadataInvalid)
-    (λ given. RefusesShard reads inner refuses given cause ⊎ ((chain : Chain) × (shard_of inner (allowed_chain reads) given ≡ Some chain) × (codecs_in reads points ≡ None)))
+    (λ given. RefusesShard inner refuses (RefusesChain reads) given cause ⊎ ((chain : Chain) × (shard_of inner (allowed_chain reads) given ≡ Some chain) × (codecs_in reads points ≡ None)))
 
 -- why extension points are refused as a shard and the caller's codecs after it: there are none, the first is refused by its name, or the shard or what stands after it is refused
 abbrev pub RefusesFirst : ReadsCodecs → ReadsInner → RefusesInner → List ExtensionPoint → PluginCreateError → Type 0

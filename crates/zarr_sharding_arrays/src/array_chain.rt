@@ -10,11 +10,11 @@ ghost use Rattle.zarr_sharding_arrays.specs.Refusals.{RefusesArray};
 use crate::nesting::shards_nest;
 use crate::sharded_chain::ShardedChain;
 use std::alloc::{AllocError, Global};
+use zarr_codecs_chains::chain_metadata::shard_stands;
 use zarr_codecs_chains::{CodecChain, any_too_deep, read_allowed};
 use zarr_codecs_traits::BytesToBytesCodecTraits;
 use zarr_grids_metadata::{MetadataV3, PluginCreateError};
-use zarr_sharding_codec::ChainOfMetadata;
-use zarr_sharding_codec::chain_metadata::shard_stands;
+use zarr_sharding_inner::ChainOfMetadata;
 
 /// The codec chain of an array: one without shards, one with a shard, or one with a shard whose
 /// subchunks are shards.

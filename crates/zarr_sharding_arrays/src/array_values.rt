@@ -8,7 +8,7 @@ use zarr_codecs_traits::{
     BytesRepresentation, BytesToBytesCodecTraits, ValuePatches,
 };
 use zarr_codecs_types::DataType;
-use zarr_sharding_codec::{ShardingCodecOptions, TakesShardingOptions};
+use zarr_sharding_inner::{ShardingCodecOptions, TakesShardingOptions};
 
 impl<B: BytesToBytesCodecTraits> ArrayToBytesCodecTraits for ArrayChain<B> {
     ghost use Rattle.zarr_sharding_arrays.specs.ArrayChains.{array_function, array_lawful, array_meaning};

@@ -7,9 +7,9 @@ ghost use Rattle.zarr_sharding_arrays.specs.Metadata.{shard_inside};
 
 use std::alloc::{AllocError, Global};
 use zarr_codecs_array_to_array::ArrayToArrayCodec;
+use zarr_codecs_chains::chain_metadata::shard_stands;
 use zarr_grids_metadata::{MetadataV3, PluginCreateError};
 use zarr_sharding_codec::ShardingCodecConfiguration;
-use zarr_sharding_codec::chain_metadata::shard_stands;
 
 /// Whether metadata names a shard, after the array to array codecs that it begins with, among whose
 /// subchunks' codecs a shard is named in turn. `Err` only where an allocation failed.

@@ -4,6 +4,7 @@ ghost use Rattle.zarr_codecs_around.specs.Views.{codecs_of};
 ghost use Rattle.zarr_sharding_arrays.specs.Reshapes.{any_reshape};
 
 use std::alloc::{AllocError, Global};
+use zarr_codecs_around::ThenBytes;
 use zarr_codecs_around::array_codecs::AfterArrayCodecs;
 use zarr_codecs_around::array_metadata::array_copies;
 use zarr_codecs_around::part_reading::decode_part_after;
@@ -11,7 +12,6 @@ use zarr_codecs_around::part_writing::encode_part_after;
 use zarr_codecs_around::whole_arrays::{
     compact_after, decode_after, encode_after, fits_after, represent_after,
 };
-use zarr_codecs_around::{InnerCodec, ThenBytes};
 use zarr_codecs_array_to_array::ArrayToArrayCodec;
 use zarr_codecs_arrays::{ArrayBytes, CodecError, Elements};
 use zarr_codecs_chains::CodecChain;
@@ -23,6 +23,7 @@ use zarr_codecs_traits::{
 };
 use zarr_codecs_types::DataType;
 use zarr_sharding_codec::ShardingCodec;
+use zarr_sharding_inner::InnerCodec;
 
 /// A codec chain with a shard: array to array codecs in the order in which they encode, the codec
 /// `sharding_indexed` over the codecs `I` of its subchunks and a chain of its index, and the

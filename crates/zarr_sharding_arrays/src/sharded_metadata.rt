@@ -18,16 +18,17 @@ ghost use Rattle.zarr_sharding_arrays.specs.Views.{sharded_meaning};
 use crate::nesting::names_shard;
 use crate::sharded_chain::ShardedChain;
 use std::alloc::{AllocError, Global};
+use zarr_codecs_around::ThenBytes;
 use zarr_codecs_around::array_metadata::{
     array_metadatas, first_array_codecs, points_of, rest_after,
 };
 use zarr_codecs_around::byte_metadata::{push_metadatas, read_codecs};
-use zarr_codecs_around::{InnerCodec, ThenBytes};
 use zarr_codecs_chains::CodecChain;
 use zarr_codecs_traits::BytesToBytesCodecTraits;
 use zarr_grids_metadata::{ExtensionPoint, MetadataV3, PluginCreateError};
 use zarr_sharding_codec::configuration::read_allowed_shard;
-use zarr_sharding_codec::{ChainOfMetadata, ShardingCodec, ShardingCodecConfiguration};
+use zarr_sharding_codec::{ShardingCodec, ShardingCodecConfiguration};
+use zarr_sharding_inner::{ChainOfMetadata, InnerCodec};
 
 impl<B: BytesToBytesCodecTraits, I: InnerCodec + ChainOfMetadata> ChainOfMetadata
     for ShardedChain<B, I> {

@@ -2,14 +2,14 @@
 //! of codecs around a shard.
 use crate::sharded_chain::ShardedChain;
 use std::alloc::{AllocError, Global};
+use zarr_codecs_around::ThenBytes;
 use zarr_codecs_around::array_metadata::array_copies;
-use zarr_codecs_around::{InnerCodec, ThenBytes};
 use zarr_codecs_arrays::{ArrayBytes, CodecError, Elements};
 use zarr_codecs_options::CodecOptions;
 use zarr_codecs_regions::WholeValues;
 use zarr_codecs_traits::{ArrayToBytesCodecTraits, BytesToBytesCodecTraits};
 use zarr_codecs_types::DataType;
-use zarr_sharding_codec::{ShardingCodecOptions, TakesShardingOptions};
+use zarr_sharding_inner::{InnerCodec, ShardingCodecOptions, TakesShardingOptions};
 
 impl<B: BytesToBytesCodecTraits, I: InnerCodec> WholeValues for ShardedChain<B, I> {
     ghost use Rattle.zarr_sharding_arrays.specs.Views.{sharded_function, sharded_lawful, sharded_meaning};

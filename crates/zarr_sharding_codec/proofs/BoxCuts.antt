@@ -75,6 +75,16 @@ box_met shape subchunk region met is =
       all = λ t low. met_number shape subchunk region met t is (omega (arith, low, count));
     }
 
+-- a box with no place meets none
+pub none_met : (shape subchunk numbers met : List ℕ) → met ≡ [] → length numbers ≡ 0 → AreMet shape subchunk numbers met
+none_met shape subchunk numbers met none no_place =
+    let long = ap (λ (ns : List ℕ). length ns) none in
+    record {
+      below = λ i low. absurd (omega (arith, low, long));
+      rising = λ i j less low. absurd (omega (arith, low, long));
+      all = λ t low. absurd (omega (arith, low, no_place));
+    }
+
 -- ---- what of a box lies in one of them
 
 -- a box's part in a subchunk: the overlap of both, as it stands in either
@@ -181,6 +191,13 @@ module _ (shape subchunk : List ℕ) (region cut moved target : Region) (k : ℕ
       let many = lie.many in
       record {
         many = omega (arith, many, cuts, positions, size);
+        rising = λ i j less low.
+            let one = number_at region.shape target i is.target_long (omega (arith, less, low, positions)) in
+            let two = number_at region.shape target j is.target_long (omega (arith, low, positions)) in
+            let most = ends_at_most target.start target.shape region.shape is.target_long (sym (inside_rank region.shape target is.target_in)) (omega (arith, low, positions))
+            (λ p h. each_place (is_in_box (zeros region.shape) region.shape) target.start target.shape p (sym is.target_long) (inside_places region.shape target is.target_in) h) in
+            let rise = numbers_rise target.start target.shape region.shape i j is.target_long most less (omega (arith, low, positions)) in
+            omega (arith, one, two, rise);
         low = λ i low.
             let at_ = number_at region.shape target i is.target_long (omega (arith, low, positions)) in
             let under = ravel_below (place_at target.start target.shape i) region.shape (target_index i (omega (arith, low, positions))) in

@@ -1,15 +1,9 @@
 -- Shards as their configurations give them.
-use Rattle.std.proofs.Common.{◌≡◌, List, Bool, true, false, ap, refl, sym, subst, Option, None, option_map, option_and_then}
+use Rattle.std.proofs.Common.{◌≡◌, List, ap, Option, None, option_map, option_and_then}
 use Rattle.zarr_grids_metadata.specs.ExtensionPoints.{ExtensionPoint}
-use Rattle.zarr_grids_metadata.specs.declared.error.PluginCreateError.{PluginCreateError}
-use Rattle.zarr_grids_metadata.specs.declared.error.PluginCreateError.TheVariants as plugin
 use Rattle.zarr_codecs_meaning.specs.Chains.{Chain}
 use Rattle.zarr_codecs_meaning.specs.Chains.Chain.{sharded}
-use Rattle.zarr_codecs_metadata.specs.Chains.{ReadsCodecs}
-use Rattle.zarr_codecs_chains.specs.Refusals.{RefusesChain}
 use Rattle.zarr_sharding_metadata.specs.Metadata.{ShardPoints, shard_of}
-use Rattle.zarr_sharding_metadata.specs.Nesting.{shard_stands}
-use Rattle.zarr_sharding_codec.specs.Configured.{RefusesPlain, RefusesUnless}
 
 -- the shard of a configuration, by what is said of its chains
 pub shard_made : (inner index : List ExtensionPoint → Option Chain) (given : ShardPoints) (i x : Option Chain) → inner given.inner ≡ i → index given.index ≡ x
@@ -19,11 +13,3 @@ shard_made inner index given i x one two = ap (λ (o : Option Chain × Option Ch
 -- there is none where its subchunks have none
 pub no_inner : (inner index : List ExtensionPoint → Option Chain) (given : ShardPoints) → inner given.inner ≡ None → shard_of inner index given ≡ None
 no_inner inner index given one = ap (option_and_then (λ a. option_map (λ b. sharded given.subchunk a b given.location) (index given.index))) one
-
--- a shard that stands where none may is too deep
-pub too_deep : (reads : ReadsCodecs) (points : List ExtensionPoint) → shard_stands points ≡ true → RefusesPlain reads points plugin.TooDeep
-too_deep reads points stands = subst (λ (b : Bool). RefusesUnless b (RefusesChain reads points plugin.TooDeep) plugin.TooDeep) (sym stands) refl
-
--- where none stands, a chain is refused as without shards
-pub as_plain : (reads : ReadsCodecs) (points : List ExtensionPoint) (cause : PluginCreateError) → shard_stands points ≡ false → RefusesChain reads points cause → RefusesPlain reads points cause
-as_plain reads points cause none refused = subst (λ (b : Bool). RefusesUnless b (RefusesChain reads points cause) cause) (sym none) refused

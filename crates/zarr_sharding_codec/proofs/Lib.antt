@@ -41,4 +41,5 @@ pub mod MetBox
 pub mod NumberedSubchunks
 pub mod BoxCuts
 pub mod BoxRead
+pub mod BoxWritten
 pub mod AsIs

@@ -141,7 +141,7 @@ module _ (places rest group others : List AskedPlace) (front : IsFront places re
 
 -- ---- one subchunk more
 
-are_more : (stored : Stored) (new : Put) (changes : List Change) (change : Change) → AreUpdated stored new changes → IsUpdated stored new change → AreUpdated stored new (changes ++ change ∷ [])
+pub are_more : (stored : Stored) (new : Put) (changes : List Change) (change : Change) → AreUpdated stored new changes → IsUpdated stored new change → AreUpdated stored new (changes ++ change ∷ [])
 are_more stored new [] change are is = (is, tt)
 are_more stored new (c ∷ cs) change are is = (are.0, are_more stored new cs change are.1 is)
 
@@ -175,6 +175,71 @@ pub record IsWriting (s : AskedShard) (cells : List Cell) (places : List AskedPl
   pub moved : IsPermutation (asked_places s.shape s.subchunk s.numbers) places
   pub stable : (k : ℕ) → places_in k places ≡ places_in k (asked_places s.shape s.subchunk s.numbers)
 
+-- places are all those that are asked for in the subchunk with a number, in their order, and there is one
+pub record IsWholeGroup (s : AskedShard) (cells : List Cell) (k : ℕ) (group : List AskedPlace) : Type 0 where
+  pub many : length cells ≡ length s.numbers
+  pub below : k < length s.pairs
+  pub met : IsMet (put_as s cells) k
+  pub all : group ≡ places_in k (asked_places s.shape s.subchunk s.numbers)
+
+module _ (s : AskedShard) (exact : Bool) (cells : List Cell) (k : ℕ) (group : List AskedPlace) (has : IsWholeGroup s cells k group) where
+  asked_at : (i : ℕ) → asked_place s.shape s.subchunk s.numbers (0 + i) ≡ record { subchunk = subchunk_of s.shape s.subchunk (get_or s.numbers i 0); inside = inside_of s.shape s.subchunk (get_or s.numbers i 0); position = 0 + i }
+  asked_at i =
+      let start : 0 + i ≡ i = omega arith in
+      ap (λ j. record { subchunk = subchunk_of s.shape s.subchunk (get_or s.numbers j 0); inside = inside_of s.shape s.subchunk (get_or s.numbers j 0); position = 0 + i }) start
+
+  insides_are : insides group ≡ numbers_in s.shape s.subchunk k s.numbers
+  insides_are = ap insides has.all ∙ insides_asked s.shape s.subchunk k (asked_place s.shape s.subchunk s.numbers) s.numbers 0 (λ i low. asked_at i)
+
+  given_are : gather s.elements.fill cells (positions group) ≡ given_in s.shape s.subchunk k s.numbers cells
+  given_are =
+      let g : ℕ → Cell = λ n. get_or cells n s.elements.fill in
+      ap (λ (ps : List AskedPlace). map g (positions ps)) has.all
+      ∙ given_asked s.shape s.subchunk k (asked_place s.shape s.subchunk s.numbers) g s.numbers cells 0 s.elements.fill has.many (λ i low. asked_at i) (λ i low. let start : 0 + i ≡ i = omega arith in ap g start)
+
+  put_is : (before : List Cell) → group_put s.elements.fill group cells before ≡ cells_put (put_as s cells) k before
+  put_is before = ap (λ ns. put ns (gather s.elements.fill cells (positions group)) before) insides_are ∙ ap (λ (cs : List Cell). put (numbers_in s.shape s.subchunk k s.numbers) cs before) given_are
+
+  pub part_updated : (change : Change) → IsGroupUpdated (stored_as s exact) (part_shape s.shape s.subchunk k) k group cells change → IsUpdated (stored_as s exact) (put_as s cells) change
+  part_updated change is =
+      let low = has.below in
+      let number = is.number in
+      let met = has.met in
+      let here = subst (λ (cs : List Cell). IsPieceStored s.inner exact s.elements (part_shape s.shape s.subchunk k, cs) change.1) (put_is is.before) is.slice in
+      record {
+        below = omega (arith, low, number);
+        met = record { at_ = met.at_; below = met.below; is = met.is ∙ sym number };
+        before = is.before;
+        held = ap (λ n. piece_decoded s.inner s.elements s.value (part_shape s.shape s.subchunk n) (get_or s.pairs n absent_pair)) number ∙ is.held;
+        slice = subst (λ (n : ℕ). IsPieceStored s.inner exact s.elements (part_shape s.shape s.subchunk n, cells_put (put_as s cells) n is.before) change.1) (sym number) here;
+      }
+
+  pub part_unwritten : (e : CodecError) → UpdatesGroup (stored_as s exact) (part_shape s.shape s.subchunk k) k group cells (Err e) → UpdatesSlices (stored_as s exact) (put_as s cells) (Err e)
+  part_unwritten error.Damage why = record { number = k; below = has.below; met = has.met; lost = why }
+  part_unwritten error.Codec why = record {
+    number = k;
+    below = has.below;
+    met = has.met;
+    before = why.before;
+    held = why.held;
+    some = subst (λ (cs : List Cell). is_fill s.elements.fill cs ≡ false) (put_is why.before) why.some;
+    is = subst (CodecRefuses s.inner s.elements (part_shape s.shape s.subchunk k)) (put_is why.before) why.is;
+  }
+  part_unwritten error.Size (inl large) = inl (record { number = k; below = has.below; met = has.met; is = large })
+  part_unwritten error.Size (inr why) =
+      inr (record {
+        number = k;
+        below = has.below;
+        met = has.met;
+        before = why.before;
+        held = why.held;
+        some = subst (λ (cs : List Cell). is_fill s.elements.fill cs ≡ false) (put_is why.before) why.some;
+        is = subst (PassesIndex s.inner s.elements (part_shape s.shape s.subchunk k)) (put_is why.before) why.is;
+      })
+  part_unwritten error.Memory why = tt
+  part_unwritten error.Source why = tt
+  part_unwritten e why = absurd why
+
 module _ (s : AskedShard) (exact : Bool) (cells : List Cell) (places rest group others : List AskedPlace) (writing : IsWriting s cells places) (front : IsFront places rest group others) where
   pub front_asked : Each (IsAsked s) group
   front_asked = group_asked s places rest group others writing.moved (record { done = front.cut.done; split = front.cut.split }) front.all
@@ -182,71 +247,19 @@ module _ (s : AskedShard) (exact : Bool) (cells : List Cell) (places rest group 
   first_asked : IsAsked s (get_or group 0 no_place)
   first_asked = each_at (IsAsked s) group 0 no_place front_asked front.some
 
-  pub number_below : number_of group < length s.pairs
-  number_below = subchunk_below s (get_or group 0 no_place) writing.can first_asked
-
-  group_places : group ≡ places_in (number_of group) (asked_places s.shape s.subchunk s.numbers)
-  group_places = sym (group_is places rest group others front) ∙ writing.stable (number_of group)
-
-  asked_at : (i : ℕ) → asked_place s.shape s.subchunk s.numbers (0 + i) ≡ record { subchunk = subchunk_of s.shape s.subchunk (get_or s.numbers i 0); inside = inside_of s.shape s.subchunk (get_or s.numbers i 0); position = 0 + i }
-  asked_at i =
-      let start : 0 + i ≡ i = omega arith in
-      ap (λ j. record { subchunk = subchunk_of s.shape s.subchunk (get_or s.numbers j 0); inside = inside_of s.shape s.subchunk (get_or s.numbers j 0); position = 0 + i }) start
-
-  insides_are : insides group ≡ numbers_in s.shape s.subchunk (number_of group) s.numbers
-  insides_are = ap insides group_places ∙ insides_asked s.shape s.subchunk (number_of group) (asked_place s.shape s.subchunk s.numbers) s.numbers 0 (λ i low. asked_at i)
-
-  given_are : gather s.elements.fill cells (positions group) ≡ given_in s.shape s.subchunk (number_of group) s.numbers cells
-  given_are =
-      let g : ℕ → Cell = λ n. get_or cells n s.elements.fill in
-      ap (λ (ps : List AskedPlace). map g (positions ps)) group_places
-      ∙ given_asked s.shape s.subchunk (number_of group) (asked_place s.shape s.subchunk s.numbers) g s.numbers cells 0 s.elements.fill writing.many (λ i low. asked_at i) (λ i low. let start : 0 + i ≡ i = omega arith in ap g start)
-
-  put_is : (before : List Cell) → group_put s.elements.fill group cells before ≡ cells_put (put_as s cells) (number_of group) before
-  put_is before = ap (λ ns. put ns (gather s.elements.fill cells (positions group)) before) insides_are ∙ ap (λ (cs : List Cell). put (numbers_in s.shape s.subchunk (number_of group) s.numbers) cs before) given_are
+  group_whole : IsWholeGroup s cells (number_of group) group
+  group_whole = record {
+    many = writing.many;
+    below = subchunk_below s (get_or group 0 no_place) writing.can first_asked;
+    met = record { at_ = (get_or group 0 no_place).position; below = first_asked.below; is = sym (ap (λ (p : AskedPlace). p.subchunk) first_asked.is) };
+    all = sym (group_is places rest group others front) ∙ writing.stable (number_of group);
+  }
 
   pub group_updated : (change : Change) → IsGroupUpdated (stored_as s exact) (part_shape s.shape s.subchunk (number_of group)) (number_of group) group cells change → IsUpdated (stored_as s exact) (put_as s cells) change
-  group_updated change is =
-      let low = number_below in
-      let number = is.number in
-      let place = ap (λ (p : AskedPlace). p.subchunk) first_asked.is in
-      let here = subst (λ (cs : List Cell). IsPieceStored s.inner exact s.elements (part_shape s.shape s.subchunk (number_of group), cs) change.1) (put_is is.before) is.slice in
-      record {
-        below = omega (arith, low, number);
-        met = record { at_ = (get_or group 0 no_place).position; below = first_asked.below; is = sym place ∙ sym number };
-        before = is.before;
-        held = ap (λ k. piece_decoded s.inner s.elements s.value (part_shape s.shape s.subchunk k) (get_or s.pairs k absent_pair)) number ∙ is.held;
-        slice = subst (λ (k : ℕ). IsPieceStored s.inner exact s.elements (part_shape s.shape s.subchunk k, cells_put (put_as s cells) k is.before) change.1) (sym number) here;
-      }
-
-  group_met : IsMet (put_as s cells) (number_of group)
-  group_met = record { at_ = (get_or group 0 no_place).position; below = first_asked.below; is = sym (ap (λ (p : AskedPlace). p.subchunk) first_asked.is) }
+  group_updated change is = part_updated s exact cells (number_of group) group group_whole change is
 
   pub group_unwritten : (e : CodecError) → UpdatesGroup (stored_as s exact) (part_shape s.shape s.subchunk (number_of group)) (number_of group) group cells (Err e) → UpdatesSlices (stored_as s exact) (put_as s cells) (Err e)
-  group_unwritten error.Damage why = record { number = number_of group; below = number_below; met = group_met; lost = why }
-  group_unwritten error.Codec why = record {
-    number = number_of group;
-    below = number_below;
-    met = group_met;
-    before = why.before;
-    held = why.held;
-    some = subst (λ (cs : List Cell). is_fill s.elements.fill cs ≡ false) (put_is why.before) why.some;
-    is = subst (CodecRefuses s.inner s.elements (part_shape s.shape s.subchunk (number_of group))) (put_is why.before) why.is;
-  }
-  group_unwritten error.Size (inl large) = inl (record { number = number_of group; below = number_below; met = group_met; is = large })
-  group_unwritten error.Size (inr why) =
-      inr (record {
-        number = number_of group;
-        below = number_below;
-        met = group_met;
-        before = why.before;
-        held = why.held;
-        some = subst (λ (cs : List Cell). is_fill s.elements.fill cs ≡ false) (put_is why.before) why.some;
-        is = subst (PassesIndex s.inner s.elements (part_shape s.shape s.subchunk (number_of group))) (put_is why.before) why.is;
-      })
-  group_unwritten error.Memory why = tt
-  group_unwritten error.Source why = tt
-  group_unwritten e why = absurd why
+  group_unwritten e why = part_unwritten s exact cells (number_of group) group group_whole e why
 
 -- ---- several subchunks
 
@@ -270,10 +283,10 @@ nothing_updated s exact cells places = record {
 }
 
 -- one change more, of a later subchunk
-number_front : (changes : List Change) (change : Change) (i : ℕ) → i < length changes → number_at (changes ++ change ∷ []) i ≡ number_at changes i
+pub number_front : (changes : List Change) (change : Change) (i : ℕ) → i < length changes → number_at (changes ++ change ∷ []) i ≡ number_at changes i
 number_front changes change i low = ap (λ (c : Change). c.0) (get_or-append changes (change ∷ []) (0, None) i low)
 
-number_last : (changes : List Change) (change : Change) → number_at (changes ++ change ∷ []) (length changes + 0) ≡ change.0
+pub number_last : (changes : List Change) (change : Change) → number_at (changes ++ change ∷ []) (length changes + 0) ≡ change.0
 number_last changes change = ap (λ (c : Change). c.0) (get_or-append-add changes (change ∷ []) 0 (0, None))
 
 pub updated_more : (s : AskedShard) (exact : Bool) (cells : List Cell) (places rest group others : List AskedPlace) (changes : List Change) (change : Change) → IsWriting s cells places → IsFront places rest group others → UpdatedSoFar s exact cells places rest changes

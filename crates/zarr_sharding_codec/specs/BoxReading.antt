@@ -4,9 +4,11 @@ use Rattle.zarr_codecs_meaning.specs.Places.{parts_of}
 use Rattle.zarr_codecs_traits.specs.Indexers.{shape_has, numbers_of}
 use Rattle.zarr_grids_boxes.specs.Boxes.{Region, product}
 use Rattle.zarr_grids_boxes.specs.Subsets.{region_of}
+use Rattle.zarr_sharding_codec.specs.PartWriting.{insides, positions}
 use Rattle.zarr_sharding_codec.specs.declared.box_reading.BoxCut.{BoxCut}
 use Rattle.zarr_sharding_codec.specs.declared.box_reading.BoxInside.{BoxInside}
 use Rattle.zarr_sharding_places.specs.Locating.{inside_of, part_shape, subchunk_of}
+use Rattle.zarr_sharding_places.specs.declared.locating.AskedPlace.{AskedPlace}
 
 -- the places with these numbers all lie in one subchunk, and there have those numbers
 pub record LieInside (shape subchunk numbers insides : List ℕ) (k : ℕ) : Type 0 where
@@ -34,9 +36,10 @@ pub record AreMet (shape subchunk numbers met : List ℕ) : Type 0 where
   pub rising : (i j : ℕ) → i < j → j < length met → get_or met i 0 < get_or met j 0
   pub all : (t : ℕ) → t < length numbers → HasNumber met (subchunk_of shape subchunk (get_or numbers t 0))
 
--- of the places with these numbers, those at some positions are the ones that lie in a subchunk, and there have these numbers
+-- of the places with these numbers, those at some rising positions are the ones that lie in a subchunk, and there have these numbers
 pub record StandIn (shape subchunk numbers positions insides : List ℕ) (k : ℕ) : Type 0 where
   pub many : length insides ≡ length positions
+  pub rising : (i j : ℕ) → i < j → j < length positions → get_or positions i 0 < get_or positions j 0
   pub low : (i : ℕ) → i < length positions → get_or positions i 0 < length numbers
   pub part : (i : ℕ) → i < length positions → subchunk_of shape subchunk (get_or numbers (get_or positions i 0) 0) ≡ k
   pub place : (i : ℕ) → i < length positions → inside_of shape subchunk (get_or numbers (get_or positions i 0) 0) ≡ get_or insides i 0
@@ -49,3 +52,8 @@ pub record IsCutOut (shape subchunk : List ℕ) (region : Region) (k : ℕ) (cut
   pub inside : shape_has cut.inside.shape.items (region_of cut.inside.region) ≡ true
   pub some : 0 < product (region_of cut.inside.region).shape
   pub stand : StandIn shape subchunk (numbers_of shape region) (numbers_of region.shape (region_of cut.target)) (numbers_of cut.inside.shape.items (region_of cut.inside.region)) k
+
+-- places of a subchunk are those of what of a box lies there: in their order they stand in the subchunk, and in the box with these lengths, as it does
+pub record IsCutGroup (lengths : List ℕ) (cut : BoxCut) (group : List AskedPlace) : Type 0 where
+  pub positions_are : positions group ≡ numbers_of lengths (region_of cut.target)
+  pub insides_are : insides group ≡ numbers_of cut.inside.shape.items (region_of cut.inside.region)

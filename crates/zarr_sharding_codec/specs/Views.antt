@@ -1,8 +1,8 @@
 -- What the codec of `src/` stands for.
-use Rattle.std.specs.Prelude.{◌≡◌, ℕ, List, Bool, true, false, ◌&&◌}
+use Rattle.std.specs.Prelude.{◌≡◌, ℕ, List, Bool, ◌&&◌}
 use Rattle.zarr_codecs_meaning.specs.Chains.{Chain, Location, sharded}
 use Rattle.zarr_codecs_options.specs.declared.subchunk_write_order.SubchunkWriteOrder.{SubchunkWriteOrder}
-use Rattle.zarr_codecs_options.specs.declared.subchunk_write_order.SubchunkWriteOrder.TheVariants.{C}
+use Rattle.zarr_sharding_inner.specs.Orders.{is_row_major}
 use Rattle.zarr_sharding_index.specs.Views.{location_of}
 use Rattle.zarr_sharding_codec.specs.declared.codec.ShardingCodec.{ShardingCodec}
 
@@ -13,11 +13,6 @@ shard_chain inner index codec = sharded codec.subchunk_shape (inner codec.inner_
 -- the order in which the subchunks are written
 abbrev pub order_of : {I X : Type 0} → ShardingCodec I X → SubchunkWriteOrder
 order_of codec = codec.subchunk_write_order
-
--- whether subchunks are written row-major
-abbrev pub is_row_major : SubchunkWriteOrder → Bool
-is_row_major C = true
-is_row_major order = false
 
 -- whether what is made of elements depends on these alone: subchunks are written row-major, and the codecs of subchunks and index are such
 abbrev pub makes_a_function : {I X : Type 0} → (I → Bool) → (X → Bool) → ShardingCodec I X → Bool

@@ -2,7 +2,6 @@
 
 use crate::codec::ShardingCodec;
 use crate::decoding::Shard;
-use crate::index_codec::IndexCodec;
 use crate::part_writing::TestedPart;
 use std::alloc::{AllocError, Global};
 use zarr_codecs_arrays::{ArrayBytes, CodecError, Elements};
@@ -15,6 +14,7 @@ use zarr_codecs_traits::{
 use zarr_codecs_types::DataType;
 use zarr_grids_boxes::walk::count_places;
 use zarr_sharding_compaction::{ShardLayout, compact_shard};
+use zarr_sharding_inner::IndexCodec;
 
 impl<I: ArrayToBytesCodecTraits, X: IndexCodec> ArrayToBytesCodecTraits for ShardingCodec<I, X> {
     ghost use Rattle.std.specs.Prelude.{◌≡◌, IfOk, true};

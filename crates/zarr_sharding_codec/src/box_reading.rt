@@ -334,7 +334,7 @@ impl<I: ArrayToBytesCodecTraits, X: ArrayToBytesCodecTraits> ShardingCodec<I, X>
 
     /// The numbers of the subchunks that the places of a box lie in, in order. `Err` only where an
     /// allocation failed, or there are 2^63 subchunks or more.
-    fn subchunks_met(
+    pub(crate) fn subchunks_met(
         &self,
         alloc: Global,
         shape: &[u64],
@@ -346,6 +346,9 @@ impl<I: ArrayToBytesCodecTraits, X: ArrayToBytesCodecTraits> ShardingCodec<I, X>
         ensures { IfOk result (λ met. AreMet shape.now (subchunk_of self.now)
             (numbers_of shape.now (region_of region.now)) met.items) }
     {
+        if region.is_empty() {
+            return Ok(Vec::new(alloc));
+        }
         let edges = self.subchunk_shape.as_slice();
         let grid = grid_of(alloc, shape, &self.subchunk_shape)?;
         let counts = grid.as_slice();
@@ -365,7 +368,7 @@ impl<I: ArrayToBytesCodecTraits, X: ArrayToBytesCodecTraits> ShardingCodec<I, X>
 
     /// What of a box lies in the subchunk with this number. `Err` where an allocation failed, and
     /// where no place of it does.
-    fn cut_at(
+    pub(crate) fn cut_at(
         &self,
         alloc: Global,
         shape: &[u64],

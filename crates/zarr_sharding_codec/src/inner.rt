@@ -1,10 +1,9 @@
 //! What codecs that stand around a shard need to know of it.
 use crate::codec::ShardingCodec;
-use crate::index_codec::IndexCodec;
 use std::alloc::{AllocError, Global};
-use zarr_codecs_around::InnerCodec;
 use zarr_codecs_options::SubchunkWriteOrder;
 use zarr_codecs_traits::ArrayToBytesCodecTraits;
+use zarr_sharding_inner::{IndexCodec, InnerCodec};
 
 impl<I: InnerCodec, X: IndexCodec> InnerCodec for ShardingCodec<I, X> {
     fn makes_no_shard(&self) -> bool {

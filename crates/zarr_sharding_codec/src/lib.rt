@@ -6,19 +6,17 @@ mod array_to_bytes;
 mod as_is;
 mod assembling;
 pub mod box_reading;
-pub mod chain_metadata;
+mod box_updating;
 pub mod codec;
 pub mod configuration;
 mod decoding;
 mod encoding;
 mod fitting;
-pub mod index_codec;
 mod inner;
-pub mod options;
+mod options;
 pub mod part_writing;
 pub mod partial;
 pub mod parts;
-mod plain_codecs;
 mod representing;
 mod slices;
 mod storing;
@@ -28,11 +26,11 @@ mod whole_subchunk;
 mod whole_values;
 
 pub use box_reading::IndexedPlaces;
-pub use chain_metadata::ChainOfMetadata;
 pub use codec::ShardingCodec;
-pub use index_codec::IndexCodec;
-pub use options::{ShardingCodecOptions, TakesShardingOptions};
 pub use part_writing::TestedPart;
 pub use partial::{NumberedPlaces, OpenedShard};
 pub use updating::{AskedElements, NumberedElements, NumberedSubchunk, ShardInSource};
 pub use zarr_sharding_configurations::ShardingCodecConfiguration;
+pub use zarr_sharding_inner::{
+    ChainOfMetadata, IndexChainOfMetadata, IndexCodec, ShardingCodecOptions, TakesShardingOptions,
+};

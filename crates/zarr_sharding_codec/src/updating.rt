@@ -8,6 +8,7 @@ ghost use Rattle.zarr_codecs_meaning.specs.Types.{Cell};
 ghost use Rattle.zarr_grids_boxes.specs.Boxes.{product};
 ghost use Rattle.zarr_sharding_codec.specs.PartWriting.{group_put, insides, positions};
 
+use crate::box_updating::BoxElements;
 use crate::codec::ShardingCodec;
 use crate::decoding::fill_piece;
 use crate::partial::NumberedPlaces;
@@ -16,7 +17,7 @@ use crate::subchunks::part_shape;
 use std::alloc::{AllocError, Global};
 use zarr_codecs_arrays::{ArrayBytes, CodecError, Elements};
 use zarr_codecs_options::CodecOptions;
-use zarr_codecs_regions::{gather_elements, numbers_asked, update_array_bytes};
+use zarr_codecs_regions::{gather_elements, update_array_bytes};
 use zarr_codecs_traits::{ArrayToBytesCodecTraits, BytesPartialDecoderTraits, Indexer};
 use zarr_sharding_index::IndexLayout;
 use zarr_sharding_places::{AskedPlace, insides_of, leading_group, positions_of};
@@ -147,13 +148,27 @@ impl<I: ArrayToBytesCodecTraits, X: ArrayToBytesCodecTraits> ShardingCodec<I, X>
                 }
             }
             None => {
-                let numbers = numbers_asked(alloc, given.shape, given.indexer)?;
-                let numbered = NumberedElements {
-                    shape: given.shape,
-                    numbers: numbers.as_slice(),
-                    bytes: &given.bytes,
-                };
-                self.update_slices(alloc, source, shard, numbered, options)
+                let shape = given.shape;
+                let indexer = given.indexer;
+                let bytes = &given.bytes;
+                match indexer {
+                    Indexer::Subset(region) => {
+                        let boxed = BoxElements {
+                            shape,
+                            region,
+                            bytes,
+                        };
+                        self.update_box(alloc, source, shard, boxed, options)
+                    }
+                    Indexer::List(numbers) => {
+                        let listed = NumberedElements {
+                            shape,
+                            numbers,
+                            bytes,
+                        };
+                        self.update_slices(alloc, source, shard, listed, options)
+                    }
+                }
             }
         }
     }

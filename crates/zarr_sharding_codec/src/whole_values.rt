@@ -1,12 +1,12 @@
 //! What reading and writing values whole needs of shards.
 use crate::codec::ShardingCodec;
-use crate::index_codec::IndexCodec;
 use std::alloc::{AllocError, Global};
 use zarr_codecs_arrays::{ArrayBytes, CodecError, Elements};
 use zarr_codecs_options::CodecOptions;
 use zarr_codecs_regions::WholeValues;
 use zarr_codecs_traits::ArrayToBytesCodecTraits;
 use zarr_codecs_types::DataType;
+use zarr_sharding_inner::IndexCodec;
 
 impl<I: ArrayToBytesCodecTraits, X: IndexCodec> WholeValues for ShardingCodec<I, X> {
     ghost use Rattle.zarr_sharding_codec.specs.Views.{makes_a_function, shard_chain};

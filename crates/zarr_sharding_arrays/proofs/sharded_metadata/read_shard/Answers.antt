@@ -5,6 +5,7 @@ use Rattle.zarr_grids_metadata.specs.ExtensionPoints.{ExtensionPoint, configurat
 use Rattle.zarr_grids_metadata.specs.Views.{point_view}
 use Rattle.zarr_grids_metadata.specs.declared.error.PluginCreateError.TheVariants.{Memory}
 use Rattle.zarr_codecs_array_to_array.specs.Refusals.{cause_of}
+use Rattle.zarr_codecs_chains.specs.Refusals.{RefusesChain}
 use Rattle.zarr_codecs_chains.specs.Views.{meaning_of}
 use Rattle.zarr_sharding_metadata.specs.Metadata.{shard_points_in}
 use Rattle.zarr_sharding_configurations.specs.Views.{shard_points}
@@ -73,5 +74,5 @@ returns-clause-refused g c = λ array.
     let point = point_view c.args.point in
     let given = shard_points c.in-Ok.configuration in
     let named = sym c.names_shard.ensures ∙ c.if-not-names_shard.false in
-    IfErr-weaker c.read_allowed_shard.result (λ e. e ≢ Memory → RefusesShard reads i.reads i.refuses given e) (λ e. e ≢ Memory → (points : List ExtensionPoint) → RefusesFirst reads i.reads i.refuses (point ∷ points) e)
+    IfErr-weaker c.read_allowed_shard.result (λ e. e ≢ Memory → RefusesShard i.reads i.refuses (RefusesChain reads) given e) (λ e. e ≢ Memory → (points : List ExtensionPoint) → RefusesFirst reads i.reads i.refuses (point ∷ points) e)
     (λ e refused. λ other points. inside_refused reads i.reads i.refuses point points given e named is (refused other)) c.read_allowed_shard.ensures.refused

@@ -15,7 +15,8 @@ use Rattle.zarr_sharding_state.specs.States.{end_of, pairs_in}
 use Rattle.zarr_sharding_state.specs.Views.{changes_of}
 use Rattle.zarr_codecs_traits.specs.Sources.{refused_after}
 use Rattle.zarr_sharding_codec.specs.Appending.{accepted_by}
-use Rattle.zarr_sharding_codec.specs.Views.{is_row_major, makes_a_function}
+use Rattle.zarr_sharding_inner.specs.Orders.{is_row_major}
+use Rattle.zarr_sharding_codec.specs.Views.{makes_a_function}
 use Rattle.zarr_sharding_codec.proofs.DecodedShard.{even_index}
 use Rattle.zarr_sharding_codec.proofs.EncodedShard.{index_part}
 use Rattle.zarr_sharding_codec.proofs.PartAppended.{IsRead, appended_read, not_opened, not_updated, not_written, placed_read, read_of, read_valid}

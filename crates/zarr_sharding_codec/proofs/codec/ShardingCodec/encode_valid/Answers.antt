@@ -9,7 +9,8 @@ use Rattle.zarr_sharding_index.specs.Stored.{index_fits}
 use Rattle.zarr_sharding_index.specs.Views.{location_of}
 use Rattle.zarr_sharding_index.proofs.StoredIndex.{index_below}
 use Rattle.zarr_sharding_codec.specs.Assembled.{Assembles}
-use Rattle.zarr_sharding_codec.specs.Views.{is_row_major, makes_a_function}
+use Rattle.zarr_sharding_inner.specs.Orders.{is_row_major}
+use Rattle.zarr_sharding_codec.specs.Views.{makes_a_function}
 use Rattle.zarr_sharding_codec.proofs.EncodedShard.{assembled_encodes, index_part, pieces_refused, slices_many}
 use Rattle.zarr_sharding_codec.proofs.Gapless.{assembles_gapless}
 use Rattle.zarr_sharding_codec.proofs.StoredLoop.{rank_fits}

@@ -7,11 +7,18 @@ use Rattle.zarr_codecs_meaning.proofs.Parts.{block}
 use Rattle.zarr_codecs_regions.proofs.InsideArray.{inside_rank}
 use Rattle.zarr_codecs_traits.specs.Indexers.{shape_has, numbers_of}
 use Rattle.zarr_sharding_codec.specs.BoxReading.{AreMet}
-use Rattle.zarr_sharding_codec.proofs.BoxCuts.{IsMetBox, box_met}
+use Rattle.zarr_sharding_codec.proofs.BoxCuts.{IsMetBox, box_met, none_met}
+use Rattle.zarr_sharding_codec.proofs.BoxInSubchunk.{numbers_many}
 use Rattle.zarr_sharding_codec.proofs.codec.ShardingCodec.subchunks_met.Goals as goal
 
 pub grid_of-requires-2 : goal.grid_of-requires-2
 grid_of-requires-2 g c = ap length (c.as_slice-ends.ensures.value) ∙ (c.in_ok-end.ensures.dimensionality ∙ (inside_rank c.args.shape.now (region_of c.args.region.now) c.requires.inside ∙ c.requires.rank))
+
+pub returns-then-is_empty : goal.returns-then-is_empty
+returns-then-is_empty g c =
+    let shape = c.args.shape.now in
+    let numbers = numbers_of shape (region_of c.args.region.now) in
+    none_met shape c.args.self.now.subchunk_shape numbers _ c.new.ensures.items (numbers_many shape (region_of c.args.region.now) c.args.region.now.same ∙ c.is_empty.ensures.0 c.if-is_empty.true)
 
 pub returns : goal.returns
 returns g c =

@@ -1,4 +1,4 @@
-use Rattle.std.proofs.Common.{◌≡◌, ◌∙◌, ◌+◌, ◌≤◌, ℕ, List, [], Option, Err, IfSome, ap, sym, refl, subst, arith, length, nat_lt, true, unwrap_or}
+use Rattle.std.proofs.Common.{◌≡◌, ◌∙◌, ◌+◌, ◌≤◌, ℕ, List, [], Option, Err, IfSome, ap, sym, refl, subst, arith, length, true, unwrap_or}
 use Rattle.std.specs.List.{list_all}
 use Rattle.zarr_codecs_arrays.specs.Outcomes.{IsValid}
 use Rattle.zarr_codecs_arrays.specs.Views.{elements_of, payload_of}
@@ -6,7 +6,8 @@ use Rattle.zarr_codecs_meaning.specs.Fits.{fits}
 use Rattle.zarr_codecs_meaning.proofs.Fitting.{fitted}
 use Rattle.zarr_codecs_meaning.proofs.Parts.{length-parts}
 use Rattle.zarr_codecs_regions.proofs.AskedPlaces as regions
-use Rattle.zarr_codecs_traits.specs.Indexers.{asked_of, numbers_asked}
+use Rattle.zarr_codecs_traits.specs.Indexers.{are_inside, asked_of, numbers_asked}
+use Rattle.zarr_codecs_traits.specs.declared.indexer.Indexer.{Indexer}
 use Rattle.zarr_grids_boxes.specs.Boxes.{product}
 use Rattle.zarr_sharding_index.specs.Views.{location_of}
 use Rattle.zarr_sharding_places.specs.Locating.{asked_places, part_shape}
@@ -68,7 +69,7 @@ replace_subchunk-requires-clause-pair g c =
     omega (arith, below, many)
 
 pub update_slices-requires-clause-below : goal.update_slices-requires-clause-below
-update_slices-requires-clause-below g c = subst (λ (ns : List ℕ). list_all (λ n. nat_lt n (product c.args.given.shape.now)) ns ≡ true) (sym c.as_slice.ensures.value) c.in_ok-numbers-in-None.ensures.within
+update_slices-requires-clause-below g c = subst (λ (i : Indexer). are_inside c.args.given.shape.now (asked_of i) ≡ true) c.in-List.is c.requires.inside
 
 pub returns-in_err-one_change-in-Ok-clause-given : goal.returns-in_err-one_change-in-Ok-clause-given
 returns-in_err-one_change-in-Ok-clause-given g c = λ honest.
@@ -192,17 +193,32 @@ returns-in-Some-clause-changes g c = λ honest of cells valid.
     let why = subst (λ (es : List ℕ). UpdatesGroup (stored_as s exact) es n (asked_places s.shape s.subchunk s.numbers) cells (Err c.in-Err.error)) here (c.in-Err.ensures.change honest of cells (asked_places s.shape s.subchunk s.numbers) new puts) in
     whole_unwritten s n can is exact cells valid.is.many c.in-Err.error why
 
+pub returns-in-Subset-clause-changes : goal.returns-in-Subset-clause-changes
+returns-in-Subset-clause-changes g c = λ honest of cells valid.
+    let self = c.args.self.now in
+    let elements = elements_of c.args.shard.elements.now in
+    let shape = c.args.given.shape.now in
+    let stored = stored_in (g.I.ArrayToBytesCodecTraits.meaning self.inner_codecs) (g.I.ArrayToBytesCodecTraits.is_function self.inner_codecs) elements (g.D.BytesPartialDecoderTraits.contents c.args.source.now) (pairs_in c.args.shard.known.now) in
+    subst (λ (i : Indexer). UpdatesSlices stored (put_at shape self.subchunk_shape (numbers_asked shape (asked_of i)) cells) c.update_box.result) (sym c.in-Subset.is)
+    (c.update_box.ensures.changes honest of cells (subst (λ (i : Indexer). IsValid elements.type (payload_of c.args.given.bytes) (length (numbers_asked shape (asked_of i))) cells) c.in-Subset.is valid))
+
+pub returns-in-Subset-clause-given : goal.returns-in-Subset-clause-given
+returns-in-Subset-clause-given g c = λ honest.
+    let count = g.D.BytesPartialDecoderTraits.given_bytes in
+    let shape = c.args.given.shape.now in
+    subst (λ (i : Indexer). count c.update_box.new.source ≤ count c.args.source.now + bytes_met shape c.args.self.now.subchunk_shape (numbers_asked shape (asked_of i)) (pairs_in c.args.shard.known.now)) (sym c.in-Subset.is) (c.update_box.ensures.given honest)
+
 pub returns-clause-changes : goal.returns-clause-changes
 returns-clause-changes g c = λ honest of cells valid.
     let self = c.args.self.now in
     let elements = elements_of c.args.shard.elements.now in
-    let are : c.as_slice.result.now ≡ numbers_asked c.args.given.shape.now (asked_of c.args.given.indexer) = c.as_slice.ensures.value ∙ c.in_ok-numbers-in-None.ensures.numbers in
+    let shape = c.args.given.shape.now in
     let stored = stored_in (g.I.ArrayToBytesCodecTraits.meaning self.inner_codecs) (g.I.ArrayToBytesCodecTraits.is_function self.inner_codecs) elements (g.D.BytesPartialDecoderTraits.contents c.args.source.now) (pairs_in c.args.shard.known.now) in
-    subst (λ (ns : List ℕ). UpdatesSlices stored (put_at c.args.given.shape.now self.subchunk_shape ns cells) c.update_slices.result) are
-    (c.update_slices.ensures.changes honest of cells (subst (λ (ns : List ℕ). IsValid elements.type (payload_of c.args.given.bytes) (length ns) cells) (sym are) valid))
+    subst (λ (i : Indexer). UpdatesSlices stored (put_at shape self.subchunk_shape (numbers_asked shape (asked_of i)) cells) c.update_slices.result) (sym c.in-List.is)
+    (c.update_slices.ensures.changes honest of cells (subst (λ (i : Indexer). IsValid elements.type (payload_of c.args.given.bytes) (length (numbers_asked shape (asked_of i))) cells) c.in-List.is valid))
 
 pub returns-clause-given : goal.returns-clause-given
 returns-clause-given g c = λ honest.
     let count = g.D.BytesPartialDecoderTraits.given_bytes in
-    let are : c.as_slice.result.now ≡ numbers_asked c.args.given.shape.now (asked_of c.args.given.indexer) = c.as_slice.ensures.value ∙ c.in_ok-numbers-in-None.ensures.numbers in
-    subst (λ (ns : List ℕ). count c.update_slices.new.source ≤ count c.args.source.now + bytes_met c.args.given.shape.now c.args.self.now.subchunk_shape ns (pairs_in c.args.shard.known.now)) are (c.update_slices.ensures.given honest)
+    let shape = c.args.given.shape.now in
+    subst (λ (i : Indexer). count c.update_slices.new.source ≤ count c.args.source.now + bytes_met shape c.args.self.now.subchunk_shape (numbers_asked shape (asked_of i)) (pairs_in c.args.shard.known.now)) (sym c.in-List.is) (c.update_slices.ensures.given honest)

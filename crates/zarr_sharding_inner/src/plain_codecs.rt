@@ -1,9 +1,7 @@
 //! Codecs in which there are no shards: options for shards leave them as they are.
 use crate::options::{ShardingCodecOptions, TakesShardingOptions};
 use zarr_codecs_bytes::BytesCodec;
-use zarr_codecs_chains::CodecChain;
 use zarr_codecs_packbits::PackBitsCodec;
-use zarr_codecs_traits::BytesToBytesCodecTraits;
 
 impl TakesShardingOptions for BytesCodec {
     ghost use Rattle.std.specs.Prelude.{[], true};
@@ -25,18 +23,6 @@ impl TakesShardingOptions for PackBitsCodec {
     ghost can_be_exact = { λ _. true };
 
     fn with_codec_specific_options(self, _: ShardingCodecOptions) -> PackBitsCodec {
-        self
-    }
-}
-
-impl<B: BytesToBytesCodecTraits> TakesShardingOptions for CodecChain<B> {
-    ghost use Rattle.std.specs.Prelude.{[], true};
-
-    ghost orders = { λ _. [] };
-
-    ghost can_be_exact = { λ _. true };
-
-    fn with_codec_specific_options(self, _: ShardingCodecOptions) -> CodecChain<B> {
         self
     }
 }

@@ -1,7 +1,7 @@
 use Rattle.std.proofs.Common.{◌≡◌, drop, map}
 use Rattle.zarr_grids_metadata.specs.Views.{point_of}
 use Rattle.zarr_sharding_metadata.specs.Nesting.{shard_stands}
-use Rattle.zarr_sharding_codec.proofs.chain_metadata.shard_stands.Given as goal
+use Rattle.zarr_codecs_chains.proofs.chain_metadata.shard_stands.Given as goal
 
 -- what is left names a shard where all of it does
 abbrev pub invariant-loop-metadata : goal.invariant-loop-metadata

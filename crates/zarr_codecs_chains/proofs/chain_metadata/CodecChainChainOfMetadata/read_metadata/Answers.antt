@@ -5,9 +5,9 @@ use Rattle.zarr_grids_metadata.specs.Views.{point_of}
 use Rattle.zarr_grids_metadata.specs.declared.error.PluginCreateError.TheVariants.{Memory}
 use Rattle.zarr_codecs_chains.specs.Refusals.{RefusesChain}
 use Rattle.zarr_sharding_metadata.proofs.Nested.{none_said}
-use Rattle.zarr_sharding_codec.specs.Configured.{RefusesPlain}
-use Rattle.zarr_sharding_codec.proofs.Configured.{as_plain, too_deep}
-use Rattle.zarr_sharding_codec.proofs.chain_metadata.CodecChainChainOfMetadata.read_metadata.Goals as goal
+use Rattle.zarr_codecs_chains.specs.Plain.{RefusesPlain}
+use Rattle.zarr_codecs_chains.proofs.Plain.{as_plain, too_deep}
+use Rattle.zarr_codecs_chains.proofs.chain_metadata.CodecChainChainOfMetadata.read_metadata.Goals as goal
 
 pub returns-then-stands-clause-err : goal.returns-then-stands-clause-err
 returns-then-stands-clause-err g c = λ other. none_said g.B.BytesToBytesCodecTraits.reads (map point_of c.args.codecs.now) (sym c.in_ok-stands.ensures ∙ c.if-stands.true)

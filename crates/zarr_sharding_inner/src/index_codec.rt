@@ -2,9 +2,8 @@
 ghost use Rattle.std.specs.Prelude.{◌≡◌, true};
 
 use zarr_codecs_bytes::BytesCodec;
-use zarr_codecs_chains::CodecChain;
 use zarr_codecs_packbits::PackBitsCodec;
-use zarr_codecs_traits::{ArrayToBytesCodecTraits, BytesToBytesCodecTraits};
+use zarr_codecs_traits::ArrayToBytesCodecTraits;
 
 /// A codec between arrays and bytes of which what it makes of elements depends on these alone, so
 /// that the bytes of a shard's index depend on its pairs alone.
@@ -19,12 +18,6 @@ impl IndexCodec for BytesCodec {
 }
 
 impl IndexCodec for PackBitsCodec {
-    ghost use Rattle.std.specs.Prelude.{refl};
-
-    ghost alike = { λ codec. refl };
-}
-
-impl<B: BytesToBytesCodecTraits> IndexCodec for CodecChain<B> {
     ghost use Rattle.std.specs.Prelude.{refl};
 
     ghost alike = { λ codec. refl };

@@ -5,13 +5,9 @@ ghost use Rattle.zarr_grids_metadata.specs.Views.{point_of};
 ghost use Rattle.zarr_grids_metadata.specs.declared.error.PluginCreateError.{PluginCreateError};
 ghost use Rattle.zarr_codecs_meaning.specs.Chains.{Chain};
 ghost use Rattle.zarr_codecs_metadata.specs.Allowed.{is_allowed};
-ghost use Rattle.zarr_sharding_metadata.specs.Nesting.{shard_stands};
-ghost use Rattle.zarr_sharding_metadata.specs.Metadata.{names_shard};
 
 use std::alloc::{AllocError, Global};
-use zarr_codecs_array_to_array::ArrayToArrayCodec;
-use zarr_codecs_chains::{CodecChain, read_allowed};
-use zarr_codecs_traits::{ArrayToBytesCodecTraits, BytesToBytesCodecTraits};
+use zarr_codecs_traits::ArrayToBytesCodecTraits;
 use zarr_grids_metadata::{MetadataV3, PluginCreateError};
 
 /// A chain that is read from the metadata of its codecs, and written as it: the codecs of a shard's
@@ -55,53 +51,40 @@ pub trait ChainOfMetadata: ArrayToBytesCodecTraits {
             (λ codecs. reads (map point_of codecs.items) ≡ Some (Self.meaning self.now)) };
 }
 
-impl<B: BytesToBytesCodecTraits> ChainOfMetadata for CodecChain<B> {
-    ghost use Rattle.zarr_codecs_metadata.specs.Chains.{allowed_chain};
-    ghost use Rattle.zarr_codecs_chains.specs.Names.{NamesChain};
-    ghost use Rattle.zarr_codecs_chains.specs.Views.{points_of};
-    ghost use Rattle.zarr_sharding_codec.specs.Configured.{RefusesPlain};
+/// A chain that is read from the metadata of its codecs, and written as it: the codecs of a shard's
+/// index. A shard doesn't stand there, and is refused by its name.
+pub trait IndexChainOfMetadata: ArrayToBytesCodecTraits {
+    /// The chain of this kind that metadata says, if it says one.
+    ghost reads: { List ExtensionPoint → Option Chain };
 
-    ghost reads = { allowed_chain B.reads };
+    /// Why metadata is refused.
+    ghost refuses: { List ExtensionPoint → PluginCreateError → Type 0 };
 
-    ghost refuses = { RefusesPlain B.reads };
+    /// Whether the codecs have the names that stand in metadata.
+    ghost names: { Self → List ExtensionPoint → Type 0 };
 
-    ghost names = { λ chain points. NamesChain chain points };
+    /// The metadata of the codecs, in their order.
+    ghost described: { Self → List ExtensionPoint };
 
-    ghost described = { points_of B.described };
+    /// The chain that the metadata of its codecs says, in their order, each codec under the name
+    /// that it has there, however deep it nests: who takes a caller's metadata tests the depth
+    /// first. It refuses as `ChainOfMetadata::read_metadata` does, but a shard is `NameUnsupported`
+    /// here. `Memory` where an allocation failed.
+    fn read_index_metadata(alloc: Global, codecs: &[MetadataV3]) -> Result<Self, PluginCreateError>
+        ensures ok { IfOk result
+            (λ chain. reads (map point_of codecs.now) ≡ Some (Self.meaning chain)) }
+        ensures names { IfOk result (λ chain. names chain (map point_of codecs.now)) }
+        ensures err { IfErr result (λ e. e ≢ PluginCreateError.Memory
+            → reads (map point_of codecs.now) ≡ None) }
+        ensures refused { IfErr result (λ e. e ≢ PluginCreateError.Memory
+            → refuses (map point_of codecs.now) e) };
 
-    fn read_metadata(
-        alloc: Global,
-        codecs: &[MetadataV3],
-    ) -> Result<CodecChain<B>, PluginCreateError> {
-        let stands = shard_stands(alloc, codecs)?;
-        if stands {
-            return Err(PluginCreateError::TooDeep);
-        }
-        read_allowed(alloc, codecs)
-    }
-
-    fn codec_metadatas(&self, alloc: Global) -> Result<Vec<MetadataV3>, AllocError> {
-        self.create_metadatas(alloc)
-    }
-}
-
-/// Whether metadata names a shard after the array to array codecs that it begins with. `Err` only
-/// where an allocation failed.
-pub fn shard_stands(alloc: Global, codecs: &[MetadataV3]) -> Result<bool, AllocError>
-    ensures { IfOk result (λ stands. stands ≡ shard_stands (map point_of codecs.now)) }
-{
-    for metadata in codecs {
-        match ArrayToArrayCodec::from_metadata(alloc, metadata) {
-            Ok(_codec) => {}
-            Err(PluginCreateError::Memory) => return Err(AllocError),
-            Err(_other) => return Ok(names_shard(metadata.name())),
-        }
-    }
-    Ok(false)
-}
-
-fn names_shard(name: &str) -> bool
-    ensures { result ≡ names_shard name.now }
-{
-    name == "sharding_indexed"
+    /// The metadata of the codecs under the names that they keep, of which `read_index_metadata`
+    /// makes an equal chain where array to array codecs stand only where they may. `Err` only where
+    /// an allocation failed.
+    fn index_metadatas(&self, alloc: Global) -> Result<Vec<MetadataV3>, AllocError>
+        ensures written { IfOk result
+            (λ codecs. map point_of codecs.items ≡ described self.now) }
+        ensures made_again { is_allowed (Self.meaning self.now) ≡ true → IfOk result
+            (λ codecs. reads (map point_of codecs.items) ≡ Some (Self.meaning self.now)) };
 }
