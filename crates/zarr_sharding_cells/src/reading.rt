@@ -57,7 +57,7 @@ impl<
             size: self.size,
         };
         let shard = OpenedShard {
-            index: self.known.index(),
+            pairs: self.known.pairs(),
             total: self.known.total(layout),
             elements: self.elements,
         };

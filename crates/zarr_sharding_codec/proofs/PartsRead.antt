@@ -19,7 +19,7 @@ use Rattle.zarr_codecs_traits.specs.Indexers.{Asked, are_inside, numbers_asked}
 use Rattle.zarr_codecs_traits.specs.Outcomes.{DecodesPart}
 use Rattle.zarr_codecs_traits.specs.Sources.{refused_after}
 use Rattle.zarr_sharding_index.specs.Held.{FetchesIndex, FetchesSlice, IsFetched, IsIndexHeld}
-use Rattle.zarr_sharding_index.specs.Views.{pairs_of}
+use Rattle.zarr_sharding_index.specs.Present.{all_pairs}
 use Rattle.zarr_sharding_index.specs.declared.held.FetchedIndex.{FetchedIndex}
 use Rattle.zarr_sharding_state.specs.Held.{are_absent}
 use Rattle.zarr_sharding_codec.specs.Reading.{IsTotalOf, Lists, ListsRead, places_decoded, shard_cells, slice_cells}
@@ -145,7 +145,7 @@ part_unfetched subchunk inner index location elements shape stored asked e fit i
 pub record IsOpened (index : Chain) (location : Location) (shape : List ℕ) (contents : Option (List ℕ)) (found : FetchedIndex) : Type 0 where
   pub value : List ℕ
   pub is : contents ≡ Some value
-  pub held : IsIndexHeld index location shape value (pairs_of found.index)
+  pub held : IsIndexHeld index location shape value (all_pairs found.pairs)
   pub total : found.total ≡ length value
 
 pub fetched_value : (index : Chain) (location : Location) (shape : List ℕ) (contents : Option (List ℕ)) (o : Option FetchedIndex) (found : FetchedIndex) → o ≡ Some found → IsFetched index location shape contents o → IsOpened index location shape contents found
@@ -157,7 +157,7 @@ fetched_value index location shape (Some value) (Some other) found is h =
     record {
       value = value;
       is = refl;
-      held = subst (λ (f : FetchedIndex). IsIndexHeld index location shape value (pairs_of f.index)) same h.0;
+      held = subst (λ (f : FetchedIndex). IsIndexHeld index location shape value (all_pairs f.pairs)) same h.0;
       total = subst (λ (f : FetchedIndex). f.total ≡ length value) same h.1;
     }
 

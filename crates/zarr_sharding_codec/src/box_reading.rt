@@ -62,7 +62,7 @@ impl<I: ArrayToBytesCodecTraits, X: ArrayToBytesCodecTraits> ShardingCodec<I, X>
     ghost use Rattle.zarr_sharding_codec.specs.BytesMet.{bytes_met};
     ghost use Rattle.zarr_sharding_codec.specs.Reading.{IsTotalOf, ListsRead, places_decoded, shard_cells};
     ghost use Rattle.zarr_sharding_codec.specs.Views.{inner_of, shard_chain, subchunk_of};
-    ghost use Rattle.zarr_sharding_index.specs.Views.{pairs_of};
+    ghost use Rattle.zarr_sharding_index.specs.Present.{all_pairs};
     ghost use Rattle.zarr_sharding_state.specs.States.{slice_length};
 
     /// The elements at the places that are asked for, which are the array's, of the shard that a
@@ -79,23 +79,23 @@ impl<I: ArrayToBytesCodecTraits, X: ArrayToBytesCodecTraits> ShardingCodec<I, X>
     ) -> Result<ArrayBytes, CodecError>
         requires fit { fits (shard_chain I.meaning X.meaning self.now)
             (elements_of shard.elements.now).type asked.shape.now ≡ true }
-        requires many { length (pairs_of shard.index.now)
+        requires many { length (all_pairs shard.pairs.now)
             ≡ length (parts_of asked.shape.now (subchunk_of self.now)) }
         requires inside { are_inside asked.shape.now (asked_of asked.indexer) ≡ true }
         requires small { product asked.shape.now < 2 ^ 63 }
         ensures part { IsTrue (D.is_honest source.old) → IsTotalOf (D.contents source.old)
-            (pairs_of shard.entry.index.now) shard.entry.total
+            (all_pairs shard.entry.pairs.now) shard.entry.total
             → ListsRead (elements_of shard.entry.elements.now) asked.entry.shape.now
             (shard_cells (I.meaning (inner_of self.now)) (elements_of shard.entry.elements.now)
             asked.entry.shape.now (subchunk_of self.now) (unwrap_or (D.contents source.old) [])
-            (pairs_of shard.entry.index.now)
+            (all_pairs shard.entry.pairs.now)
             (numbers_asked asked.entry.shape.now (asked_of asked.entry.indexer))) result }
         ensures refused { D.refused_calls source.new ≡
             refused_after (D.refused_calls source.old) result }
         ensures given { IsTrue (D.is_honest source.old) → D.given_bytes source.new
             ≤ D.given_bytes source.old + bytes_met asked.entry.shape.now (subchunk_of self.now)
             (numbers_asked asked.entry.shape.now (asked_of asked.entry.indexer))
-            (pairs_of shard.entry.index.now) }
+            (all_pairs shard.entry.pairs.now) }
         ensures follows { D.follows source.old source.new }
     {
         let shape = asked.shape;
@@ -121,22 +121,22 @@ impl<I: ArrayToBytesCodecTraits, X: ArrayToBytesCodecTraits> ShardingCodec<I, X>
     ) -> Result<ArrayBytes, CodecError>
         requires fit { fits (shard_chain I.meaning X.meaning self.now)
             (elements_of shard.elements.now).type asked.shape.now ≡ true }
-        requires many { length (pairs_of shard.index.now)
+        requires many { length (all_pairs shard.pairs.now)
             ≡ length (parts_of asked.shape.now (subchunk_of self.now)) }
         requires inside { shape_has asked.shape.now (region_of asked.region.now) ≡ true }
         ensures part { IsTrue (D.is_honest source.old) → IsTotalOf (D.contents source.old)
-            (pairs_of shard.entry.index.now) shard.entry.total
+            (all_pairs shard.entry.pairs.now) shard.entry.total
             → ListsRead (elements_of shard.entry.elements.now) asked.entry.shape.now
             (shard_cells (I.meaning (inner_of self.now)) (elements_of shard.entry.elements.now)
             asked.entry.shape.now (subchunk_of self.now) (unwrap_or (D.contents source.old) [])
-            (pairs_of shard.entry.index.now)
+            (all_pairs shard.entry.pairs.now)
             (numbers_of asked.entry.shape.now (region_of asked.entry.region.now))) result }
         ensures refused { D.refused_calls source.new ≡
             refused_after (D.refused_calls source.old) result }
         ensures given { IsTrue (D.is_honest source.old) → D.given_bytes source.new
             ≤ D.given_bytes source.old + bytes_met asked.entry.shape.now (subchunk_of self.now)
             (numbers_of asked.entry.shape.now (region_of asked.entry.region.now))
-            (pairs_of shard.entry.index.now) }
+            (all_pairs shard.entry.pairs.now) }
         ensures follows { D.follows source.old source.new }
     {
         if let Some(number) = self.subchunk_of_box(asked.shape, asked.region) {
@@ -163,22 +163,22 @@ impl<I: ArrayToBytesCodecTraits, X: ArrayToBytesCodecTraits> ShardingCodec<I, X>
     ) -> Result<ArrayBytes, CodecError>
         requires fit { fits (shard_chain I.meaning X.meaning self.now)
             (elements_of shard.elements.now).type asked.shape.now ≡ true }
-        requires many { length (pairs_of shard.index.now)
+        requires many { length (all_pairs shard.pairs.now)
             ≡ length (parts_of asked.shape.now (subchunk_of self.now)) }
         requires inside { shape_has asked.shape.now (region_of asked.region.now) ≡ true }
         ensures part { IsTrue (D.is_honest source.old) → IsTotalOf (D.contents source.old)
-            (pairs_of shard.entry.index.now) shard.entry.total
+            (all_pairs shard.entry.pairs.now) shard.entry.total
             → ListsRead (elements_of shard.entry.elements.now) asked.entry.shape.now
             (shard_cells (I.meaning (inner_of self.now)) (elements_of shard.entry.elements.now)
             asked.entry.shape.now (subchunk_of self.now) (unwrap_or (D.contents source.old) [])
-            (pairs_of shard.entry.index.now)
+            (all_pairs shard.entry.pairs.now)
             (numbers_of asked.entry.shape.now (region_of asked.entry.region.now))) result }
         ensures refused { D.refused_calls source.new ≡
             refused_after (D.refused_calls source.old) result }
         ensures given { IsTrue (D.is_honest source.old) → D.given_bytes source.new
             ≤ D.given_bytes source.old + bytes_met asked.entry.shape.now (subchunk_of self.now)
             (numbers_of asked.entry.shape.now (region_of asked.entry.region.now))
-            (pairs_of shard.entry.index.now) }
+            (all_pairs shard.entry.pairs.now) }
         ensures follows { D.follows source.old source.new }
     {
         let lengths = asked.region.shape();
@@ -215,24 +215,24 @@ impl<I: ArrayToBytesCodecTraits, X: ArrayToBytesCodecTraits> ShardingCodec<I, X>
     ) -> Result<ArrayBytes, CodecError>
         requires fit { fits (I.meaning (inner_of self.now)) (elements_of shard.elements.now).type
             found.now.shape.items ≡ true }
-        requires pair { found.now.number < length (pairs_of shard.index.now) }
+        requires pair { found.now.number < length (all_pairs shard.pairs.now) }
         requires inside { shape_has found.now.shape.items (region_of found.now.region) ≡ true }
         requires some { 0 < product (region_of found.now.region).shape }
         ensures part { IsTrue (D.is_honest source.old) → IsTotalOf (D.contents source.old)
-            (pairs_of shard.entry.index.now) shard.entry.total
+            (all_pairs shard.entry.pairs.now) shard.entry.total
             → ListsRead (elements_of shard.entry.elements.now) found.now.shape.items
             (places_decoded (I.meaning (inner_of self.now)) (elements_of shard.entry.elements.now)
             (unwrap_or (D.contents source.old) []) found.now.shape.items
-            (get_or (pairs_of shard.entry.index.now) found.now.number absent_pair)
+            (get_or (all_pairs shard.entry.pairs.now) found.now.number absent_pair)
             (numbers_of found.now.shape.items (region_of found.now.region))) result }
         ensures refused { D.refused_calls source.new ≡
             refused_after (D.refused_calls source.old) result }
         ensures given { IsTrue (D.is_honest source.old) → D.given_bytes source.new
             ≤ D.given_bytes source.old
-            + slice_length (get_or (pairs_of shard.entry.index.now) found.now.number absent_pair) }
+            + slice_length (get_or (all_pairs shard.entry.pairs.now) found.now.number absent_pair) }
         ensures follows { D.follows source.old source.new }
     {
-        let pair = shard.index.get(found.number as usize);
+        let pair = shard.pairs.get(found.number as usize);
         let region = &found.region;
         if is_absent(pair) {
             let Some(count) = count_places(region.shape()) else {
@@ -262,25 +262,25 @@ impl<I: ArrayToBytesCodecTraits, X: ArrayToBytesCodecTraits> ShardingCodec<I, X>
     ) -> Result<ArrayBytes, CodecError>
         requires fit { fits (I.meaning (inner_of self.now)) (elements_of shard.elements.now).type
             found.shape.now ≡ true }
-        requires pair { found.number < length (pairs_of shard.index.now) }
+        requires pair { found.number < length (all_pairs shard.pairs.now) }
         requires some { 0 < product found.shape.now }
         ensures part { IsTrue (D.is_honest source.old) → IsTotalOf (D.contents source.old)
-            (pairs_of shard.entry.index.now) shard.entry.total
+            (all_pairs shard.entry.pairs.now) shard.entry.total
             → ListsRead (elements_of shard.entry.elements.now) found.entry.shape.now
             (places_decoded (I.meaning (inner_of self.now)) (elements_of shard.entry.elements.now)
             (unwrap_or (D.contents source.old) []) found.entry.shape.now
-            (get_or (pairs_of shard.entry.index.now) found.entry.number absent_pair)
+            (get_or (all_pairs shard.entry.pairs.now) found.entry.number absent_pair)
             (place_numbers found.entry.shape.now)) result }
         ensures refused { D.refused_calls source.new ≡
             refused_after (D.refused_calls source.old) result }
         ensures given { IsTrue (D.is_honest source.old) → D.given_bytes source.new
             ≤ D.given_bytes source.old + slice_length
-            (get_or (pairs_of shard.entry.index.now) found.entry.number absent_pair) }
+            (get_or (all_pairs shard.entry.pairs.now) found.entry.number absent_pair) }
         ensures follows { D.follows source.old source.new }
     {
         let shape = found.shape;
         let elements = shard.elements;
-        let pair = shard.index.get(found.number);
+        let pair = shard.pairs.get(found.number);
         if is_absent(pair) {
             let Some(count) = count_places(shape) else {
                 return Err(CodecError::Memory);

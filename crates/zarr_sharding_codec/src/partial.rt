@@ -25,16 +25,16 @@ use zarr_grids_boxes::walk::count_places;
 use zarr_sharding_index::held::{fetch_index, fetch_slice};
 use zarr_sharding_index::pair::is_absent;
 use zarr_sharding_index::shapes::{grid_of, index_shape};
-use zarr_sharding_index::{FetchedIndex, IndexLayout, ShardIndex};
+use zarr_sharding_index::{FetchedIndex, IndexLayout, PresentPairs};
 use zarr_sharding_places::{
     AskedPlace, PlacedElements, insides_of, leading_group, places_by_subchunk, positions_of,
 };
 
-/// A shard whose index is known: the index, how many bytes the shard has with it, and what its
+/// A shard whose index is known: the pairs of it, how many bytes the shard has with it, and what its
 /// elements are.
 #[derive(Clone, Copy)]
 pub struct OpenedShard<'a> {
-    pub index: &'a ShardIndex,
+    pub pairs: &'a PresentPairs,
     pub total: u64,
     pub elements: &'a Elements,
 }
@@ -71,7 +71,7 @@ impl<I: ArrayToBytesCodecTraits, X: ArrayToBytesCodecTraits> ShardingCodec<I, X>
     ghost use Rattle.zarr_sharding_codec.specs.Views.{index_of, inner_of, place_of_index, shard_chain, subchunk_of};
     ghost use Rattle.zarr_sharding_index.specs.Held.{FetchesIndex};
     ghost use Rattle.zarr_sharding_index.specs.Stored.{index_fits};
-    ghost use Rattle.zarr_sharding_index.specs.Views.{pairs_of};
+    ghost use Rattle.zarr_sharding_index.specs.Present.{all_pairs};
     ghost use Rattle.zarr_sharding_places.specs.Groups.{places_in};
     ghost use Rattle.zarr_sharding_places.specs.Locating.{asked_places};
     ghost use Rattle.zarr_sharding_state.specs.States.{slice_length};
@@ -102,7 +102,7 @@ impl<I: ArrayToBytesCodecTraits, X: ArrayToBytesCodecTraits> ShardingCodec<I, X>
         match self.open_index(alloc, source, size, part.shape, options) {
             Ok(Some(fetched)) => {
                 let shard = OpenedShard {
-                    index: &fetched.index,
+                    pairs: &fetched.pairs,
                     total: fetched.total,
                     elements: part.elements,
                 };
@@ -159,7 +159,7 @@ impl<I: ArrayToBytesCodecTraits, X: ArrayToBytesCodecTraits> ShardingCodec<I, X>
             size,
         };
         match fetch_index(alloc, &self.index_codecs, source, layout, options) {
-            Ok(Some(found)) => if found.index.len() as u64 == count {
+            Ok(Some(found)) => if found.pairs.len() as u64 == count {
                 Ok(Some(found))
             } else {
                 Err(CodecError::Memory)
@@ -182,21 +182,21 @@ impl<I: ArrayToBytesCodecTraits, X: ArrayToBytesCodecTraits> ShardingCodec<I, X>
     ) -> Result<ArrayBytes, CodecError>
         requires fit { fits (shard_chain I.meaning X.meaning self.now)
             (elements_of shard.elements.now).type asked.shape.now ≡ true }
-        requires many { length (pairs_of shard.index.now)
+        requires many { length (all_pairs shard.pairs.now)
             ≡ length (parts_of asked.shape.now (subchunk_of self.now)) }
         requires below { list_all (λ n. nat_lt n (product asked.shape.now))
             asked.numbers.now ≡ true }
         ensures part { IsTrue (D.is_honest source.old) → IsTotalOf (D.contents source.old)
-            (pairs_of shard.entry.index.now) shard.entry.total
+            (all_pairs shard.entry.pairs.now) shard.entry.total
             → ListsRead (elements_of shard.entry.elements.now) asked.entry.shape.now
             (shard_cells (I.meaning (inner_of self.now)) (elements_of shard.entry.elements.now)
             asked.entry.shape.now (subchunk_of self.now) (unwrap_or (D.contents source.old) [])
-            (pairs_of shard.entry.index.now) asked.entry.numbers.now) result }
+            (all_pairs shard.entry.pairs.now) asked.entry.numbers.now) result }
         ensures refused { D.refused_calls source.new ≡
             refused_after (D.refused_calls source.old) result }
         ensures given { IsTrue (D.is_honest source.old) → D.given_bytes source.new
             ≤ D.given_bytes source.old + bytes_met asked.entry.shape.now (subchunk_of self.now)
-            asked.entry.numbers.now (pairs_of shard.entry.index.now) }
+            asked.entry.numbers.now (all_pairs shard.entry.pairs.now) }
         ensures follows { D.follows source.old source.new }
     {
         let places = self.places_of(alloc, asked)?;
@@ -255,26 +255,26 @@ impl<I: ArrayToBytesCodecTraits, X: ArrayToBytesCodecTraits> ShardingCodec<I, X>
         requires fit { fits (I.meaning (inner_of self.now)) (elements_of shard.elements.now).type
             part.shape.now ≡ true }
         requires some { 0 < length part.group.now }
-        requires pair { part.number < length (pairs_of shard.index.now) }
+        requires pair { part.number < length (all_pairs shard.pairs.now) }
         requires inside { list_all (λ n. nat_lt n (product part.shape.now))
             (map (λ place. place.inside) part.group.now) ≡ true }
         ensures part { IsTrue (D.is_honest source.old) → IsTotalOf (D.contents source.old)
-            (pairs_of shard.entry.index.now) shard.entry.total
+            (all_pairs shard.entry.pairs.now) shard.entry.total
             → ListsRead (elements_of shard.entry.elements.now) part.entry.shape.now
             (places_decoded (I.meaning (inner_of self.now)) (elements_of shard.entry.elements.now)
             (unwrap_or (D.contents source.old) []) part.entry.shape.now
-            (get_or (pairs_of shard.entry.index.now) part.entry.number absent_pair)
+            (get_or (all_pairs shard.entry.pairs.now) part.entry.number absent_pair)
             (map (λ place. place.inside) part.entry.group.now)) result }
         ensures refused { D.refused_calls source.new ≡
             refused_after (D.refused_calls source.old) result }
         ensures given { IsTrue (D.is_honest source.old) → D.given_bytes source.new
             ≤ D.given_bytes source.old + slice_length
-            (get_or (pairs_of shard.entry.index.now) part.entry.number absent_pair) }
+            (get_or (all_pairs shard.entry.pairs.now) part.entry.number absent_pair) }
         ensures follows { D.follows source.old source.new }
     {
         let elements = shard.elements;
         let group = part.group;
-        let pair = shard.index.get(part.number as usize);
+        let pair = shard.pairs.get(part.number as usize);
         if is_absent(pair) {
             return Ok(fill_elements(alloc, elements, group.len())?);
         }

@@ -145,7 +145,7 @@ impl<
         self.held.is_some()
     }
 
-    /// How many bytes are kept in memory, the source aside: 16 for each pair of the index, and none
+    /// How many bytes are kept in memory, the source aside: 24 for each present subchunk, and none
     /// where the source holds no value.
     pub fn size_held(&self) -> usize
         ensures { result ≡ pairs_length self.now }
@@ -154,12 +154,13 @@ impl<
     }
 }
 
-/// How many bytes the pairs of an index take, if there is one. `None` where these are too many.
+/// How many bytes the pairs of present subchunks take, if there is an index. `None` where these are
+/// too many.
 fn size_of_index(held: &Option<FetchedIndex>) -> Option<usize>
-    ensures { IfSome result (λ size. size ≡ 16 * count_fetched held.now) }
+    ensures { IfSome result (λ size. size ≡ 24 * count_fetched held.now) }
 {
     match held {
-        Some(found) => found.index.len().checked_mul(16),
+        Some(found) => found.pairs.count_present().checked_mul(24),
         None => Some(0),
     }
 }

@@ -63,7 +63,7 @@ impl<
             return Ok(fill_elements(alloc, self.elements, count as usize)?);
         };
         let shard = OpenedShard {
-            index: &fetched.index,
+            pairs: &fetched.pairs,
             total: fetched.total,
             elements: self.elements,
         };

@@ -10,6 +10,7 @@ ghost use Rattle.zarr_sharding_index.specs.Views.{location_of, pair_of};
 use crate::index::ShardIndex;
 use crate::location::ShardingIndexLocation;
 use crate::pair::slice_at;
+use crate::present::PresentPairs;
 use crate::stored::read_index;
 use std::alloc::Global;
 use zarr_codecs_arrays::CodecError;
@@ -24,10 +25,11 @@ pub struct IndexLayout<'a> {
     pub size: u64,
 }
 
-/// The index of a shard, and how many bytes the shard has.
+/// The index of a shard, of which the pairs of present subchunks are kept, and how many bytes the
+/// shard has.
 #[derive(Debug, Drop)]
 pub struct FetchedIndex {
-    pub index: ShardIndex,
+    pub pairs: PresentPairs,
     pub total: u64,
 }
 
@@ -86,7 +88,10 @@ pub fn fetch_index<X: ArrayToBytesCodecTraits, D: BytesPartialDecoderTraits>(
             let range = layout.location.index_range(layout.size, total);
             match fetch_slice(alloc, source, total, range) {
                 Ok(bytes) => match read_index(alloc, codec, bytes, layout.shape, options) {
-                    Ok(index) => Ok(Some(FetchedIndex { index, total })),
+                    Ok(index) => {
+                        let pairs = PresentPairs::from_index(alloc, &index)?;
+                        Ok(Some(FetchedIndex { pairs, total }))
+                    }
                     Err(error) => Err(error),
                 },
                 Err(error) => Err(error),
