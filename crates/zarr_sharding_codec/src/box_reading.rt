@@ -9,7 +9,6 @@ use crate::subchunks::{CutArray, subchunk_number, subchunk_region};
 use crate::updating::NumberedSubchunk;
 use std::alloc::{AllocError, Global};
 use zarr_codecs_arrays::{ArrayBytes, CodecError};
-use zarr_codecs_options::CodecOptions;
 use zarr_codecs_regions::{is_inside, numbers_asked};
 use zarr_codecs_traits::{ArrayToBytesCodecTraits, BytesPartialDecoderTraits, Indexer, WholeArray};
 use zarr_grids_boxes::ArraySubset;
@@ -75,7 +74,6 @@ impl<I: ArrayToBytesCodecTraits, X: ArrayToBytesCodecTraits> ShardingCodec<I, X>
         source: &mut D,
         shard: OpenedShard<'_>,
         asked: IndexedPlaces<'_>,
-        options: &CodecOptions,
     ) -> Result<ArrayBytes, CodecError>
         requires fit { fits (shard_chain I.meaning X.meaning self.now)
             (elements_of shard.elements.now).type asked.shape.now ≡ true }
@@ -101,11 +99,11 @@ impl<I: ArrayToBytesCodecTraits, X: ArrayToBytesCodecTraits> ShardingCodec<I, X>
         let shape = asked.shape;
         match asked.indexer {
             Indexer::Subset(region) => {
-                self.read_box(alloc, source, shard, AskedBox { shape, region }, options)
+                self.read_box(alloc, source, shard, AskedBox { shape, region })
             }
             Indexer::List(numbers) => {
                 let listed = NumberedPlaces { shape, numbers };
-                self.read_numbers(alloc, source, shard, listed, options)
+                self.read_numbers(alloc, source, shard, listed)
             }
         }
     }
@@ -117,7 +115,6 @@ impl<I: ArrayToBytesCodecTraits, X: ArrayToBytesCodecTraits> ShardingCodec<I, X>
         source: &mut D,
         shard: OpenedShard<'_>,
         asked: AskedBox<'_>,
-        options: &CodecOptions,
     ) -> Result<ArrayBytes, CodecError>
         requires fit { fits (shard_chain I.meaning X.meaning self.now)
             (elements_of shard.elements.now).type asked.shape.now ≡ true }
@@ -144,11 +141,11 @@ impl<I: ArrayToBytesCodecTraits, X: ArrayToBytesCodecTraits> ShardingCodec<I, X>
                 number: number as usize,
                 shape: asked.region.shape(),
             };
-            return self.read_whole(alloc, source, shard, found, options);
+            return self.read_whole(alloc, source, shard, found);
         }
         match self.subchunk_around(alloc, asked.shape, asked.region)? {
-            Some(found) => self.read_inside(alloc, source, shard, &found, options),
-            None => self.read_cuts(alloc, source, shard, asked, options),
+            Some(found) => self.read_inside(alloc, source, shard, &found),
+            None => self.read_cuts(alloc, source, shard, asked),
         }
     }
 
@@ -159,7 +156,6 @@ impl<I: ArrayToBytesCodecTraits, X: ArrayToBytesCodecTraits> ShardingCodec<I, X>
         source: &mut D,
         shard: OpenedShard<'_>,
         asked: AskedBox<'_>,
-        options: &CodecOptions,
     ) -> Result<ArrayBytes, CodecError>
         requires fit { fits (shard_chain I.meaning X.meaning self.now)
             (elements_of shard.elements.now).type asked.shape.now ≡ true }
@@ -195,7 +191,7 @@ impl<I: ArrayToBytesCodecTraits, X: ArrayToBytesCodecTraits> ShardingCodec<I, X>
         let mut all = filled;
         for j in 0..met.len() {
             let cut = self.cut_at(alloc, asked.shape, asked.region, met[j])?;
-            match self.read_inside(alloc, source, shard, &cut.inside, options) {
+            match self.read_inside(alloc, source, shard, &cut.inside) {
                 Ok(piece) => all = all.put(alloc, array, &cut.target, &piece)?,
                 Err(error) => return Err(error),
             }
@@ -211,7 +207,6 @@ impl<I: ArrayToBytesCodecTraits, X: ArrayToBytesCodecTraits> ShardingCodec<I, X>
         source: &mut D,
         shard: OpenedShard<'_>,
         found: &BoxInside,
-        options: &CodecOptions,
     ) -> Result<ArrayBytes, CodecError>
         requires fit { fits (I.meaning (inner_of self.now)) (elements_of shard.elements.now).type
             found.now.shape.items ≡ true }
@@ -244,7 +239,7 @@ impl<I: ArrayToBytesCodecTraits, X: ArrayToBytesCodecTraits> ShardingCodec<I, X>
             Ok(slice) => {
                 let shape = found.shape.as_slice();
                 let indexer = Indexer::Subset(region);
-                self.read_slice(alloc, slice, indexer, shape, shard.elements, options)
+                self.read_slice(alloc, slice, indexer, shape, shard.elements)
             }
             Err(error) => Err(error),
         }
@@ -258,7 +253,6 @@ impl<I: ArrayToBytesCodecTraits, X: ArrayToBytesCodecTraits> ShardingCodec<I, X>
         source: &mut D,
         shard: OpenedShard<'a>,
         found: NumberedSubchunk<'a>,
-        options: &CodecOptions,
     ) -> Result<ArrayBytes, CodecError>
         requires fit { fits (I.meaning (inner_of self.now)) (elements_of shard.elements.now).type
             found.shape.now ≡ true }
@@ -288,7 +282,7 @@ impl<I: ArrayToBytesCodecTraits, X: ArrayToBytesCodecTraits> ShardingCodec<I, X>
             return Ok(fill_elements(alloc, elements, count as usize)?);
         }
         match fetch_slice(alloc, source, shard.total, pair) {
-            Ok(slice) => self.decode_slice(alloc, slice, WholeArray { elements, shape }, options),
+            Ok(slice) => self.decode_slice(alloc, slice, WholeArray { elements, shape }),
             Err(error) => Err(error),
         }
     }

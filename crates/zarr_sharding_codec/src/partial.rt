@@ -15,7 +15,6 @@ use crate::subchunks::part_shape;
 use crate::whole_subchunk::are_equal;
 use std::alloc::{AllocError, Global};
 use zarr_codecs_arrays::{ArrayBytes, CodecError, Elements};
-use zarr_codecs_options::CodecOptions;
 use zarr_codecs_regions::count_asked;
 use zarr_codecs_traits::{
     ArrayPart, ArrayToBytesCodecTraits, BytesPartialDecoderTraits, Indexer, MemorySource,
@@ -63,6 +62,7 @@ impl<I: ArrayToBytesCodecTraits, X: ArrayToBytesCodecTraits> ShardingCodec<I, X>
     ghost use Rattle.zarr_codecs_meaning.specs.Fits.{fits};
     ghost use Rattle.zarr_codecs_meaning.specs.Places.{grid_of, index_shape, parts_of, place_numbers};
     ghost use Rattle.zarr_codecs_traits.specs.Indexers.{are_inside, asked_of, numbers_asked};
+    ghost use Rattle.zarr_codecs_traits.specs.Arrays.{coded_part};
     ghost use Rattle.zarr_codecs_traits.specs.Outcomes.{DecodesPart};
     ghost use Rattle.zarr_codecs_traits.specs.Sources.{refused_after};
     ghost use Rattle.zarr_grids_boxes.specs.Boxes.{product};
@@ -84,7 +84,6 @@ impl<I: ArrayToBytesCodecTraits, X: ArrayToBytesCodecTraits> ShardingCodec<I, X>
         source: &mut D,
         size: u64,
         part: ArrayPart<'_>,
-        options: &CodecOptions,
     ) -> Result<ArrayBytes, CodecError>
         requires fit { fits (shard_chain I.meaning X.meaning self.now)
             (elements_of part.elements.now).type part.shape.now ≡ true }
@@ -93,13 +92,13 @@ impl<I: ArrayToBytesCodecTraits, X: ArrayToBytesCodecTraits> ShardingCodec<I, X>
         requires inside { are_inside part.shape.now (asked_of part.indexer) ≡ true }
         requires small { product part.shape.now < 2 ^ 63 }
         ensures part { IsTrue (D.is_honest source.old) → DecodesPart
-            (shard_chain I.meaning X.meaning self.now) (elements_of part.entry.elements.now)
-            part.entry.shape.now (D.contents source.old) (asked_of part.entry.indexer) result }
+            (coded_part (shard_chain I.meaning X.meaning self.now) part.entry)
+            (D.contents source.old) (asked_of part.entry.indexer) result }
         ensures refused { D.refused_calls source.new ≡
             refused_after (D.refused_calls source.old) result }
         ensures follows { D.follows source.old source.new }
     {
-        match self.open_index(alloc, source, size, part.shape, options) {
+        match self.open_index(alloc, source, size, part.shape) {
             Ok(Some(fetched)) => {
                 let shard = OpenedShard {
                     index: &fetched.index,
@@ -110,7 +109,7 @@ impl<I: ArrayToBytesCodecTraits, X: ArrayToBytesCodecTraits> ShardingCodec<I, X>
                     shape: part.shape,
                     indexer: part.indexer,
                 };
-                self.read_asked(alloc, source, shard, asked, options)
+                self.read_asked(alloc, source, shard, asked)
             }
             Ok(None) => {
                 let Some(count) = count_asked(part.shape, part.indexer) else {
@@ -131,7 +130,6 @@ impl<I: ArrayToBytesCodecTraits, X: ArrayToBytesCodecTraits> ShardingCodec<I, X>
         source: &mut D,
         size: u64,
         shape: &[u64],
-        options: &CodecOptions,
     ) -> Result<Option<FetchedIndex>, CodecError>
         requires rank { length shape.now ≡ length (subchunk_of self.now) }
         requires fit { index_fits (X.meaning (index_of self.now))
@@ -158,7 +156,7 @@ impl<I: ArrayToBytesCodecTraits, X: ArrayToBytesCodecTraits> ShardingCodec<I, X>
             shape: pairs_shape.as_slice(),
             size,
         };
-        match fetch_index(alloc, &self.index_codecs, source, layout, options) {
+        match fetch_index(alloc, &self.index_codecs, source, layout) {
             Ok(Some(found)) => if found.index.len() as u64 == count {
                 Ok(Some(found))
             } else {
@@ -178,7 +176,6 @@ impl<I: ArrayToBytesCodecTraits, X: ArrayToBytesCodecTraits> ShardingCodec<I, X>
         source: &mut D,
         shard: OpenedShard<'_>,
         asked: NumberedPlaces<'_>,
-        options: &CodecOptions,
     ) -> Result<ArrayBytes, CodecError>
         requires fit { fits (shard_chain I.meaning X.meaning self.now)
             (elements_of shard.elements.now).type asked.shape.now ≡ true }
@@ -213,7 +210,7 @@ impl<I: ArrayToBytesCodecTraits, X: ArrayToBytesCodecTraits> ShardingCodec<I, X>
                 shape,
                 group,
             };
-            match self.read_group(alloc, source, shard, part, options) {
+            match self.read_group(alloc, source, shard, part) {
                 Ok(piece) => all = put_group(alloc, all, group, &piece, shard.elements)?,
                 Err(error) => return Err(error),
             }
@@ -250,7 +247,6 @@ impl<I: ArrayToBytesCodecTraits, X: ArrayToBytesCodecTraits> ShardingCodec<I, X>
         source: &mut D,
         shard: OpenedShard<'_>,
         part: GroupPlaces<'_>,
-        options: &CodecOptions,
     ) -> Result<ArrayBytes, CodecError>
         requires fit { fits (I.meaning (inner_of self.now)) (elements_of shard.elements.now).type
             part.shape.now ≡ true }
@@ -282,7 +278,7 @@ impl<I: ArrayToBytesCodecTraits, X: ArrayToBytesCodecTraits> ShardingCodec<I, X>
             Ok(slice) => {
                 let insides = insides_of(alloc, group)?;
                 let indexer = Indexer::List(insides.as_slice());
-                self.read_slice(alloc, slice, indexer, part.shape, elements, options)
+                self.read_slice(alloc, slice, indexer, part.shape, elements)
             }
             Err(error) => Err(error),
         }
@@ -297,7 +293,6 @@ impl<I: ArrayToBytesCodecTraits, X: ArrayToBytesCodecTraits> ShardingCodec<I, X>
         indexer: Indexer<'a>,
         shape: &'a [u64],
         elements: &'a Elements,
-        options: &CodecOptions,
     ) -> Result<ArrayBytes, CodecError>
         requires fit { fits (I.meaning (inner_of self.now)) (elements_of elements.now).type
             shape.now ≡ true }
@@ -309,7 +304,7 @@ impl<I: ArrayToBytesCodecTraits, X: ArrayToBytesCodecTraits> ShardingCodec<I, X>
         ensures no_source { (count : ℕ) → refused_after count result ≡ count }
     {
         if asks_all(shape, indexer) {
-            return self.decode_slice(alloc, slice, WholeArray { elements, shape }, options);
+            return self.decode_slice(alloc, slice, WholeArray { elements, shape });
         }
         let mut source = MemorySource::new(Some(slice));
         let part = ArrayPart {
@@ -318,7 +313,7 @@ impl<I: ArrayToBytesCodecTraits, X: ArrayToBytesCodecTraits> ShardingCodec<I, X>
             indexer,
         };
         self.inner_codecs
-            .partial_decode(alloc, &mut source, part, options)
+            .partial_decode_in_order(alloc, &mut source, part)
     }
 
     /// The elements of the subchunk that a slice holds, all of them. `Damage` where one of them
@@ -328,7 +323,6 @@ impl<I: ArrayToBytesCodecTraits, X: ArrayToBytesCodecTraits> ShardingCodec<I, X>
         alloc: Global,
         slice: Vec<u8>,
         array: WholeArray<'_>,
-        options: &CodecOptions,
     ) -> Result<ArrayBytes, CodecError>
         requires fit { fits (I.meaning (inner_of self.now)) (elements_of array.elements.now).type
             array.shape.now ≡ true }
@@ -342,7 +336,7 @@ impl<I: ArrayToBytesCodecTraits, X: ArrayToBytesCodecTraits> ShardingCodec<I, X>
             return Ok(ArrayBytes::Fixed(slice));
         }
         self.inner_codecs
-            .decode(alloc, slice, array.elements, array.shape, options)
+            .decode_in_order(alloc, slice, array.elements, array.shape)
     }
 }
 

@@ -13,7 +13,6 @@ use crate::pair::slice_at;
 use crate::stored::read_index;
 use std::alloc::Global;
 use zarr_codecs_arrays::CodecError;
-use zarr_codecs_options::CodecOptions;
 use zarr_codecs_traits::{ArrayToBytesCodecTraits, ByteRange, BytesPartialDecoderTraits};
 
 /// Where the index of a shard stands, its shape, and how many bytes it has.
@@ -38,7 +37,6 @@ pub fn decode_index<X: ArrayToBytesCodecTraits>(
     codec: &X,
     value: &[u8],
     layout: IndexLayout<'_>,
-    options: &CodecOptions,
 ) -> Result<ShardIndex, CodecError>
     requires fit { index_fits (X.meaning codec.now) layout.shape.now ≡ true }
     requires even { product layout.shape.now % 2 ≡ 0 }
@@ -52,7 +50,7 @@ pub fn decode_index<X: ArrayToBytesCodecTraits>(
     }
     let range = layout.location.index_range(layout.size, total);
     match slice_at(value, range) {
-        Some(bytes) => read_index(alloc, codec, bytes.to_vec(alloc)?, layout.shape, options),
+        Some(bytes) => read_index(alloc, codec, bytes.to_vec(alloc)?, layout.shape),
         None => Err(CodecError::Damage),
     }
 }
@@ -65,7 +63,6 @@ pub fn fetch_index<X: ArrayToBytesCodecTraits, D: BytesPartialDecoderTraits>(
     codec: &X,
     source: &mut D,
     layout: IndexLayout<'_>,
-    options: &CodecOptions,
 ) -> Result<Option<FetchedIndex>, CodecError>
     requires fit { index_fits (X.meaning codec.now) layout.shape.now ≡ true }
     requires even { product layout.shape.now % 2 ≡ 0 }
@@ -85,7 +82,7 @@ pub fn fetch_index<X: ArrayToBytesCodecTraits, D: BytesPartialDecoderTraits>(
             }
             let range = layout.location.index_range(layout.size, total);
             match fetch_slice(alloc, source, total, range) {
-                Ok(bytes) => match read_index(alloc, codec, bytes, layout.shape, options) {
+                Ok(bytes) => match read_index(alloc, codec, bytes, layout.shape) {
                     Ok(index) => Ok(Some(FetchedIndex { index, total })),
                     Err(error) => Err(error),
                 },

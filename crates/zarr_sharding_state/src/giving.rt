@@ -6,7 +6,6 @@ use crate::writing::{GivenChanges, ShardBytes, ShardChanges, append_bytes, take_
 use std::alloc::Global;
 use std::mem::replace;
 use zarr_codecs_arrays::CodecError;
-use zarr_codecs_options::CodecOptions;
 use zarr_codecs_traits::{ArrayToBytesCodecTraits, ByteRange, BytesPartialEncoderTraits};
 use zarr_sharding_index::held::IndexLayout;
 use zarr_sharding_index::stored::write_index;
@@ -44,7 +43,6 @@ impl KnownShard {
         source: &mut E,
         codecs: &X,
         given: GivenChanges<'_>,
-        options: &CodecOptions,
     ) -> Result<(), CodecError>
         requires fit { index_fits (X.meaning codecs.now) given.layout.shape.now ≡ true }
         requires size { given.layout.size
@@ -85,12 +83,12 @@ impl KnownShard {
                     number,
                     slice,
                 };
-                self.write_slice(alloc, source, codecs, given, options)
+                self.write_slice(alloc, source, codecs, given)
             }
             None => {
                 let changes = changes.as_slice();
                 let given = ShardChanges { layout, changes };
-                self.write_slices(alloc, source, codecs, given, options)
+                self.write_slices(alloc, source, codecs, given)
             }
         }
     }
@@ -102,7 +100,6 @@ impl KnownShard {
         source: &mut E,
         codecs: &X,
         given: GivenSlice<'_>,
-        options: &CodecOptions,
     ) -> Result<(), CodecError>
         requires fit { index_fits (X.meaning codecs.now) given.layout.shape.now ≡ true }
         requires size { given.layout.size
@@ -152,7 +149,7 @@ impl KnownShard {
         let pair = ByteRange { offset, length };
         let mut index = self.index.try_clone(alloc)?;
         index.put(number, pair);
-        match write_index(alloc, codecs, index, layout.shape, options) {
+        match write_index(alloc, codecs, index, layout.shape) {
             Ok(index) => {
                 let bytes = ShardBytes {
                     index,

@@ -8,7 +8,6 @@ use crate::writing::{
 };
 use std::alloc::Global;
 use zarr_codecs_arrays::CodecError;
-use zarr_codecs_options::CodecOptions;
 use zarr_codecs_traits::{
     ArrayToBytesCodecTraits, BytesPartialDecoderTraits, BytesPartialEncoderTraits,
 };
@@ -55,7 +54,6 @@ impl KnownShard {
         source: &mut D,
         codecs: &X,
         layout: IndexLayout<'_>,
-        options: &CodecOptions,
     ) -> Result<KnownShard, CodecError>
         requires fit { index_fits (X.meaning codecs.now) layout.shape.now ≡ true }
         requires even { product layout.shape.now % 2 ≡ 0 }
@@ -76,7 +74,7 @@ impl KnownShard {
             D.given_bytes source.new ≤ D.given_bytes source.old + layout.entry.size }
         ensures follows { D.follows source.old source.new }
     {
-        match fetch_index(alloc, codecs, source, layout, options) {
+        match fetch_index(alloc, codecs, source, layout) {
             Ok(fetched) => open_fetched(alloc, fetched, layout),
             Err(error) => Err(error),
         }
@@ -210,7 +208,6 @@ impl KnownShard {
         source: &mut E,
         codecs: &X,
         given: ShardChanges<'_>,
-        options: &CodecOptions,
     ) -> Result<(), CodecError>
         requires fit { index_fits (X.meaning codecs.now) given.layout.shape.now ≡ true }
         requires size { given.layout.size
@@ -259,7 +256,7 @@ impl KnownShard {
                 Err(error) => Err(error),
             }
         } else {
-            match write_index(alloc, codecs, index, layout.shape, options) {
+            match write_index(alloc, codecs, index, layout.shape) {
                 Ok(index) => {
                     let bytes = ShardBytes { index, slices };
                     self.append(alloc, source, layout.location, changes, bytes)

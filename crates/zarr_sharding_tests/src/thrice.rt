@@ -2,7 +2,9 @@
 //! another.
 use crate::samples::{NONE, Nested, Value, are, bytes_of, chunk_shape, elements, makes, nested};
 use std::alloc::Global;
-use zarr_codecs::{ArrayToBytesCodecTraits, BytesCodec, CodecError, CodecOptions};
+use std::marker::Sync;
+use std::thread::Threads;
+use zarr_codecs::{ArrayToBytesCodecTraits, BytesCodec, CodecError, CodecOptions, WholeArray};
 use zarr_sharding::{ShardingCodec, ShardingIndexLocation, SubchunkWriteOrder};
 
 /// Shards of [2,4], whose subchunks are shards of [2,2], and theirs shards of [1,2].
@@ -24,20 +26,23 @@ const STORED: Value<'static> = Value {
 };
 
 /// Whether the shard is decoded to these cells.
-fn reads(alloc: Global) -> Result<bool, CodecError> {
+fn reads(rt: &(impl Threads + Sync), alloc: Global) -> Result<bool, CodecError> {
     let (value, elements) = (bytes_of(alloc, STORED)?, elements(alloc, 0)?);
-    let codec = thrice(alloc)?;
-    let read = codec.decode(alloc, value, &elements, &[4, 4], &CodecOptions::default())?;
+    let array = WholeArray {
+        elements: &elements,
+        shape: &[4, 4],
+    };
+    let read = thrice(alloc)?.decode(rt, alloc, value, array, &CodecOptions::default())?;
     Ok(are(&read, &CELLS))
 }
 
 /// Whether these cells are encoded to the shard.
-fn writes(alloc: Global) -> Result<bool, CodecError> {
-    makes(alloc, &thrice(alloc)?, CELLS, STORED)
+fn writes(rt: &(impl Threads + Sync), alloc: Global) -> Result<bool, CodecError> {
+    makes(rt, alloc, &thrice(alloc)?, CELLS, STORED)
 }
 
 #[test]
 fn shards_nest_thrice(rt: HostRuntime) {
-    assert!(rt; matches!(writes(rt.alloc()), Ok(true)));
-    assert!(rt; matches!(reads(rt.alloc()), Ok(true)));
+    assert!(rt; matches!(writes(&rt, rt.alloc()), Ok(true)));
+    assert!(rt; matches!(reads(&rt, rt.alloc()), Ok(true)));
 }

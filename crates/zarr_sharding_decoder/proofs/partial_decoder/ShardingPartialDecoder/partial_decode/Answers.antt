@@ -4,6 +4,7 @@ use Rattle.zarr_codecs_meaning.specs.Chains.{sharded}
 use Rattle.zarr_codecs_meaning.specs.Places.{grid_of, index_shape, parts_of}
 use Rattle.zarr_codecs_meaning.proofs.Parts.{index_product, length-parts}
 use Rattle.zarr_codecs_traits.specs.Indexers.{asked_of, numbers_asked}
+use Rattle.zarr_codecs_traits.specs.Arrays.{coded}
 use Rattle.zarr_codecs_traits.specs.Outcomes.{DecodesPart}
 use Rattle.zarr_grids_boxes.specs.Boxes.{product}
 use Rattle.zarr_sharding_index.specs.Held.{IsIndexHeld}
@@ -52,5 +53,5 @@ returns-clause-part g c = λ honest.
     let held : IsIndexHeld index location (index_shape shape subchunk) found.value pairs = record { is = found.pairs; many = index_product shape subchunk ∙ ap (λ n. 2 * n) (sym count) } in
     let numbers = numbers_asked shape asked in
     let read = value_read inner elements shape subchunk contents found.value pairs numbers c.read_asked.result found.is (c.read_asked.ensures.part honest (value_total contents pairs c.in-Some.fetched.total found.value found.is found.total)) in
-    subst (λ (stored : Option (List ℕ)). DecodesPart (sharded subchunk inner index location) elements shape stored asked c.read_asked.result) (sym found.is)
+    subst (λ (stored : Option (List ℕ)). DecodesPart (coded (sharded subchunk inner index location) elements shape) stored asked c.read_asked.result) (sym found.is)
     (part_found subchunk inner index location elements shape found.value pairs numbers asked c.read_asked.result self.fit c.in_default.ensures refl held read)
