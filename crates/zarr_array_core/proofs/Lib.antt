@@ -6,6 +6,8 @@ pub mod Selected
 pub mod Placed
 pub mod ReadSoFar
 pub mod ReadCounts
+mod WholeLost
+pub mod Fetched
 pub mod ChunkPayloads
 pub mod ChunkCells
 pub mod PartBoxes
